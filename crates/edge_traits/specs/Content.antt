@@ -1,0 +1,31 @@
+-- What a sink holds, or a link sent, where it tells it. A version in memory stops telling once
+-- it is full, so each word here goes backwards: what is told now was told before.
+use Rattle.std.specs.Io.KnownBytes.{Consumes, IsAtEnd}
+use Rattle.std.specs.Prelude.{◌≡◌, ℕ, ◌<◌, List, [], ◌++◌, take, length, Option, Result, IfSome, IsSomeAnd, MatchResult}
+
+-- where it is told what is held now, it was told before, and xs were added
+abbrev pub Gains : {X : Type 0} → Option (List X) → Option (List X) → List X → Type 0
+Gains before now xs = IfSome now (λ after. IsSomeAnd before (λ held. after ≡ held ++ xs))
+
+-- the same, of some front of xs
+abbrev pub GainsFront : {X : Type 0} → Option (List X) → Option (List X) → List X → Type 0
+GainsFront {X} before now xs = IfSome now (λ after. IsSomeAnd before (λ held.
+    (front : List X) × (rest : List X) × (xs ≡ front ++ rest) × (after ≡ held ++ front)))
+
+-- a write took the first n octets of the piece at Ok n, and none where it failed
+abbrev pub WriteGains : {E : Type 0} → Option (List ℕ) → Option (List ℕ) → Result ℕ E → List ℕ → Type 0
+WriteGains before now result piece =
+    MatchResult result (λ n. Gains before now (take n piece)) (λ _. Gains before now [])
+
+-- a write takes at least one octet of a piece that has one, or it fails
+abbrev pub TakesSome : {E : Type 0} → Result ℕ E → List ℕ → Type 0
+TakesSome result piece = MatchResult result (λ n. 0 < length piece → 0 < n) (λ _. Unit {0})
+
+-- one read more: the octets that came are the next of those left, and stand at the input's end;
+-- none came only at the end
+pub record ReadsOn (before now : Option (List ℕ)) (input longer : List ℕ) (n : ℕ) : Type 0 where
+  pub came : List ℕ
+  pub count : length came ≡ n
+  pub read : Consumes before now came
+  pub kept : longer ≡ input ++ came
+  pub ends : n ≡ 0 → IsAtEnd now

@@ -1,0 +1,4 @@
+pub mod Faults
+pub mod Content
+pub mod Datagrams
+pub mod Outcome

@@ -1,0 +1,33 @@
+//! The outside as the gateway sees it: where octets come from, where they go, two datagram
+//! links and a clock.
+//!
+//! Each of `Source`, `Sink` and `Link` counts its faults, and a call may answer `Failed` only
+//! where that count rose. So a caller's contract can say "this run ended because a read failed"
+//! of every outside, also of one whose octets no contract can see. What an outside holds is told
+//! where it can be told: the versions in memory tell it, the adapters over std's reader and
+//! writer don't.
+//!
+//! Beside the traits stands what every command shares: `read_all`, `write_all`, the `Status`
+//! that a run ends with, and the words for what an answer means for the octets written
+//! (`specs/Outcome.antt`). The system's clock and UDP sockets have no adapter yet.
+#![tactic(auto)]
+
+mod clock;
+mod failing;
+mod gone;
+mod input;
+mod kept;
+mod link;
+mod output;
+mod sink;
+mod source;
+mod status;
+
+pub use clock::{Clock, MemClock};
+pub use failing::Failed;
+pub use input::{ReadRefused, read_all};
+pub use link::{LONGEST_DATAGRAM, Link, MemLink};
+pub use output::write_all;
+pub use sink::{MemSink, Sink, SureSink, Writing};
+pub use source::{MemSource, Reading, Source, SureSource};
+pub use status::Status;

@@ -1,0 +1,153 @@
+//! Where octets go.
+ghost use Rattle.std.specs.Prelude.{◌≡◌, ℕ, ◌+◌, ◌-◌, ◌<◌, ◌≤◌, ◌^◌, List, [], Bool, Option, None, Some, length, min, IfOk, IfSome};
+ghost use Rattle.std.specs.Io.{WritesAtMost};
+ghost use Rattle.edge_traits.specs.Faults.{HasCause, FailsAsTold};
+ghost use Rattle.edge_traits.specs.Content.{WriteGains, TakesSome};
+
+use crate::failing::{Failed, Failing};
+use crate::kept::Kept;
+use std::alloc::{AllocError, Global};
+use std::io::Write;
+
+/// Where octets go: a file, a pipe, or memory.
+pub trait Sink {
+    // The octets written so far, where they are told.
+    ghost held: { Self → Option (List ℕ) };
+
+    // How many faults there were, up to the greatest number that 64 bits show.
+    ghost faults: { Self → ℕ };
+
+    // Which of the calls to come are to fail, where it is told.
+    ghost failing: { Self → Option (List Bool) };
+
+    /// Writes the front of `piece`, and answers how many octets were taken: at least one of a
+    /// piece that has one. `Failed` takes none.
+    fn write(&mut self, piece: &[u8]) -> Result<usize, Failed>
+        ensures bound { WritesAtMost result piece.now }
+        ensures some { TakesSome result piece.now }
+        ensures octets { WriteGains (held self.old) (held self.new) result piece.now }
+        ensures cause { HasCause (faults self.old) (faults self.new) result }
+        ensures told { FailsAsTold (failing self.old) (failing self.new) result };
+}
+
+/// A sink in memory, with a list of the writes that are to fail. What has no room is taken and
+/// not kept, and from then on it tells no more what it holds.
+#[derive(Drop)]
+pub struct MemSink {
+    kept: Kept,
+    failing: Failing,
+    faults: u64,
+}
+
+impl MemSink {
+    /// An empty sink with room for so many octets, whose write i fails exactly where place i of
+    /// `failing` is true.
+    pub fn new(alloc: Global, room: usize, failing: &[bool]) -> Result<MemSink, AllocError>
+        ensures held { IfOk result (λ s. ⟦<MemSink as Sink>⟧.held s ≡ Some []) }
+        ensures failing { IfOk result (λ s. ⟦<MemSink as Sink>⟧.failing s ≡ Some failing.now) }
+        ensures faults { IfOk result (λ s. ⟦<MemSink as Sink>⟧.faults s ≡ 0) }
+    {
+        let kept = Kept::new(alloc, room)?;
+        let failing = Failing::new(alloc, failing)?;
+        Ok(MemSink {
+            kept,
+            failing,
+            faults: 0,
+        })
+    }
+
+    /// The octets written so far, as far as they were kept.
+    pub fn octets(&self) -> &[u8]
+        ensures { IfSome (⟦<MemSink as Sink>⟧.held self.now) (λ held. result.now ≡ held) }
+    {
+        self.kept.octets()
+    }
+}
+
+impl Sink for MemSink {
+    ghost held = { λ s. s.kept };
+
+    ghost faults = { λ s. s.faults };
+
+    ghost failing = { λ s. Some s.failing };
+
+    fn write(&mut self, piece: &[u8]) -> Result<usize, Failed> {
+        if self.failing.fails() {
+            self.faults = self.faults.saturating_add(1);
+            return Err(Failed);
+        }
+        self.kept.keep(piece);
+        Ok(piece.len())
+    }
+}
+
+/// A sink in memory whose writes never fail.
+#[derive(Drop)]
+pub struct SureSink {
+    kept: Kept,
+}
+
+impl SureSink {
+    /// An empty sink with room for so many octets.
+    pub fn new(alloc: Global, room: usize) -> Result<SureSink, AllocError>
+        ensures { IfOk result (λ s. ⟦<SureSink as Sink>⟧.held s ≡ Some []) }
+    {
+        let kept = Kept::new(alloc, room)?;
+        Ok(SureSink { kept })
+    }
+
+    /// The octets written so far, as far as they were kept.
+    pub fn octets(&self) -> &[u8]
+        ensures { IfSome (⟦<SureSink as Sink>⟧.held self.now) (λ held. result.now ≡ held) }
+    {
+        self.kept.octets()
+    }
+}
+
+impl Sink for SureSink {
+    ghost held = { λ s. s.kept };
+
+    ghost faults = { λ _. 0 };
+
+    ghost failing = { λ _. Some [] };
+
+    fn write(&mut self, piece: &[u8]) -> Result<usize, Failed> {
+        self.kept.keep(piece);
+        Ok(piece.len())
+    }
+}
+
+/// A sink over std's writer. It counts a fault at each error, and at each write that takes
+/// nothing of a piece that has an octet; it can't tell what it holds.
+#[derive(Drop)]
+pub struct Writing<W: Drop> {
+    writer: W,
+    faults: u64,
+}
+
+impl<W: Write + Drop> Writing<W> {
+    /// A sink over this writer, with no fault yet.
+    pub fn new(writer: W) -> Writing<W>
+        ensures { ⟦<Writing<W> as Sink>⟧.faults result ≡ 0 }
+    {
+        Writing { writer, faults: 0 }
+    }
+}
+
+impl<W: Write + Drop> Sink for Writing<W> {
+    ghost held = { λ _. None };
+
+    ghost faults = { λ s. s.faults };
+
+    ghost failing = { λ _. None };
+
+    fn write(&mut self, piece: &[u8]) -> Result<usize, Failed> {
+        match self.writer.write(piece) {
+            Ok(n) if n > 0 || piece.is_empty() => Ok(n),
+            _ => {
+                self.faults = self.faults.saturating_add(1);
+                Err(Failed)
+            }
+        }
+    }
+}

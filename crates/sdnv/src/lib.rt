@@ -10,6 +10,11 @@
 
 mod fault;
 mod reading;
+mod writing;
 
 pub use fault::SdnvFault;
 pub use reading::read;
+pub use writing::{len, spells_shortest, write};
+
+/// The most octets that can spell a number.
+const MOST: usize = 10;

@@ -4,10 +4,8 @@ ghost use Rattle.std.specs.Prelude.{◌≡◌, ◌↔◌, ℕ, ◌≤◌, length
 ghost use Rattle.sdnv.specs.Spelling.{Spells};
 ghost use Rattle.sdnv.specs.Reading.{judged, read_of, IsShort, IsTooLong, IsTooLarge};
 
+use crate::MOST;
 use crate::fault::SdnvFault;
-
-/// The most octets that can spell a number.
-const MOST: usize = 10;
 
 /// Reads the number at the front, and how many octets spell it (RFC 5050, section 4.1). More may
 /// follow. No memory is taken.

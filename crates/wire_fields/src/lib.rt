@@ -1,0 +1,6 @@
+//! Fields, places and refusals.
+#![tactic(auto)]
+
+mod miss;
+
+pub use miss::Miss;

@@ -1,16 +1,37 @@
 -- Reading a format from a place in a text: the value and the place behind it, or the refusal.
-use Rattle.std.specs.Prelude.{ℕ, ◌+◌, ◌-◌, ◌<◌, List, [], ◌∷◌, length, take, drop, nat_lt, get_or, if◌then◌else◌, Option, Some, None, Result, Ok, Err}
+use Rattle.std.specs.Prelude.{ℕ, ◌+◌, ◌-◌, ◌/◌, ◌<◌, ◌==◌, List, [], ◌∷◌, length, take, drop, get_or, nat_lt, slice_index, if◌then◌else◌, Option, Some, None, Result, Ok, Err}
 use Rattle.wire_fields.specs.declared.miss.Miss.{Miss}
 use Rattle.wire_fields.specs.declared.miss.Miss.TheVariants as misses
-use Rattle.wire_fields.specs.Kind.{Kind, octet, octets, ValueOf}
+use Rattle.cbor_lite.specs.declared.fault.CborFault.{CborFault}
+use Rattle.cbor_lite.specs.declared.fault.CborFault.TheVariants as faults
+use Rattle.cbor_lite.specs.Head.{head_at}
+use Rattle.wire_fields.specs.declared.lead.UnsignedOrText.{UnsignedOrText}
+use Rattle.wire_fields.specs.declared.lead.UnsignedOrText.TheVariants as leads
+use Rattle.wire_fields.specs.Kind.{Kind, octet, octets, head, unsigned_or_text, ValueOf}
 use Rattle.wire_fields.specs.Format.{Format, give, place, since, field, such_that, and_then}
 use Rattle.wire_fields.specs.Refusal.{Stop, truncated, because}
+
+-- a head of the kind at the front of w, its number seen by a function
+abbrev pub look_head : {A : Type 0} → (ℕ → A) → Result (ℕ × ℕ) CborFault → Result (A × ℕ) Miss
+look_head view (Ok x) = Ok (view x.0, x.1)
+look_head view (Err faults.Short) = Err misses.Truncated
+look_head view (Err faults.Kind) = Err misses.Absent
+look_head view (Err faults.NotShortest) = Err misses.Absent
+
+-- where the next octet is of the kind of text strings, a head of a text, else one of an unsigned number
+abbrev pub look_lead : List ℕ → Result (UnsignedOrText × ℕ) Miss
+look_lead w =
+    if slice_index w 0 / 32 == 3
+    then look_head leads.Text (head_at 3 w)
+    else look_head leads.Unsigned (head_at 0 w)
 
 -- what a field of the kind is at the front of w, and how many octets it has
 abbrev pub look : (k : Kind) → List ℕ → Result (ValueOf k × ℕ) Miss
 look octet [] = Err misses.Truncated
 look octet (b ∷ w) = Ok (b, 1)
 look (octets n) w = if nat_lt (length w) n then Err misses.Truncated else Ok (take n w, n)
+look (head kind) w = look_head (λ n. n) (head_at kind w)
+look unsigned_or_text w = look_lead w
 
 -- seen from the place at: the octets behind it are counted from the start of the text
 abbrev pub ahead : {A : Type 0} → ℕ → Result (A × ℕ) Miss → Result (A × ℕ) Miss

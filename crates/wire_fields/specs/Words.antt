@@ -1,6 +1,7 @@
 -- The words in which tables are written: conditions, single fields, choices, groups that repeat.
 use Rattle.std.specs.Prelude.{ℕ, zero, suc, ◌==◌, Bool, true, false, if◌then◌else◌, Option, Some, None, List}
-use Rattle.wire_fields.specs.Kind.{octet, octets}
+use Rattle.wire_fields.specs.declared.lead.UnsignedOrText.{UnsignedOrText}
+use Rattle.wire_fields.specs.Kind.{octet, octets, head, unsigned_or_text}
 use Rattle.wire_fields.specs.Format.{Format, give, field, such_that, ◌>>=◌}
 
 -- ---- conditions
@@ -23,9 +24,36 @@ any_octet cause = field octet cause
 abbrev pub any_octets : {C : Type 0} → ℕ → C → Format C (List ℕ)
 any_octets n cause = field (octets n) cause
 
--- the one octet that may stand here
+-- ---- heads of CBOR items: an unsigned number, and how many octets or items follow
+
+abbrev pub any_unsigned : {C : Type 0} → C → Format C ℕ
+any_unsigned cause = field (head 0) cause
+
+abbrev pub any_byte_string : {C : Type 0} → C → Format C ℕ
+any_byte_string cause = field (head 2) cause
+
+abbrev pub any_text_string : {C : Type 0} → C → Format C ℕ
+any_text_string cause = field (head 3) cause
+
+abbrev pub any_array : {C : Type 0} → C → Format C ℕ
+any_array cause = field (head 4) cause
+
+abbrev pub any_unsigned_or_text : {C : Type 0} → C → Format C UnsignedOrText
+any_unsigned_or_text cause = field unsigned_or_text cause
+
+-- ---- the one value that may stand here
+
 abbrev pub exact_octet : {C : Type 0} → ℕ → C → Format C ℕ
 exact_octet b cause = such_that (any_octet cause) (λ x. needs (x == b) cause)
+
+abbrev pub exact_unsigned : {C : Type 0} → ℕ → C → Format C ℕ
+exact_unsigned n cause = such_that (any_unsigned cause) (λ x. needs (x == n) cause)
+
+abbrev pub exact_byte_string : {C : Type 0} → ℕ → C → Format C ℕ
+exact_byte_string n cause = such_that (any_byte_string cause) (λ x. needs (x == n) cause)
+
+abbrev pub exact_array : {C : Type 0} → ℕ → C → Format C ℕ
+exact_array n cause = such_that (any_array cause) (λ x. needs (x == n) cause)
 
 -- a field of 0 octets: nothing stands here but a condition
 abbrev pub test : {C : Type 0} → Bool → C → Format C (Unit {0})

@@ -1,5 +1,5 @@
 -- A refusal: the octets before a place are as they should be, and the next field isn't there.
-use Rattle.std.specs.Prelude.{◌≡◌, ℕ, List, ◌++◌, length, Option, Some, ◌⊎◌}
+use Rattle.std.specs.Prelude.{◌≡◌, ℕ, ◌≤◌, List, [], ◌++◌, take, length, Option, Some, ◌⊎◌}
 use Rattle.wire_fields.specs.Kind.{Kind, ValueOf, SpellsKind, EndsInside}
 use Rattle.wire_fields.specs.Format.{Format, give, place, since, field, such_that, and_then, Spells}
 
@@ -41,3 +41,16 @@ Refusal (such_that f conditions) front w at s =
 Refusal (and_then {A = X} f g) front w at s =
     Refusal f front w at s
     ⊎ ((u v : List ℕ) × (x : X) × (w ≡ u ++ v) × Spells f front u x × Refusal (g x) (front ++ u) v at s)
+
+-- the first k octets of the text spell the fields, and a is what they make up
+pub record Begins {C A : Type 0} (f : Format C A) (text : List ℕ) (k : ℕ) (a : A) : Type 0 where
+  pub within : k ≤ length text
+  pub spells : Spells f [] (take k text) a
+
+-- Of the text exactly one holds: one front of it spells the fields, with one value, or it is refused
+-- at one place for one reason.
+pub record ExactlyOne {C A : Type 0} (f : Format C A) (text : List ℕ) : Type 0 where
+  pub one : ((k : ℕ) × (a : A) × Begins f text k a) ⊎ ((at : ℕ) × (s : Stop C) × Refusal f [] text at s)
+  pub one_front : (j k : ℕ) (a b : A) → Begins f text j a → Begins f text k b → (j ≡ k) × (a ≡ b)
+  pub one_refusal : (p q : ℕ) (s t : Stop C) → Refusal f [] text p s → Refusal f [] text q t → (p ≡ q) × (s ≡ t)
+  pub not_both : (k p : ℕ) (a : A) (s : Stop C) → Begins f text k a → Refusal f [] text p s → ⊥

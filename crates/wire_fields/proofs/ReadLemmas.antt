@@ -27,13 +27,13 @@ read-only (such_that f conditions) front w rest a s =
     rw (there, s.1) refl
 read-only (and_then f g) front w rest a (u, v, x, parts, first, second) =
     let whole : front ++ (w ++ rest) ≡ front ++ (u ++ (v ++ rest)) =
-        ap (λ t. front ++ (t ++ rest)) parts ∙ ap (λ t. front ++ t) (append_assoc u v rest) in
+    ap (λ t. front ++ (t ++ rest)) parts ∙ ap (λ t. front ++ t) (append_assoc u v rest) in
     let here = read-only f front u (v ++ rest) x first in
     let there = read-only (g x) (front ++ u) v rest a second in
     let moved : (front ++ u) ++ (v ++ rest) ≡ front ++ (u ++ (v ++ rest)) = append_assoc front u (v ++ rest) in
     let at : length (front ++ u) ≡ length front + length u = length-append front u in
     let long : length (front ++ u) + length v ≡ length front + length w =
-        omega (arith, length-append front u, length-append u v, ap length parts) in
+    omega (arith, length-append front u, length-append u v, ap length parts) in
     ap (λ t. go_on (read f t (length front)) (λ x. read (g x.0) t x.1)) whole
     ∙ ap (λ r. go_on r (λ x. read (g x.0) (front ++ (u ++ (v ++ rest))) x.1)) here
     ∙ ap (λ n. read (g x) (front ++ (u ++ (v ++ rest))) n) (sym at)
@@ -114,21 +114,26 @@ read-found (and_then f g) text at a to fits h e =
     record {
       behind = omega (arith, here.behind, there.behind);
       within = there.within;
-      spells = (take (x.1 - at) (drop at text), take (to - x.1) (drop x.1 text), x.0,
-        part_seam text at x.1 to here.behind there.behind, here.spells,
-        subst (λ t. Spells (g x.0) t (take (to - x.1) (drop x.1 text)) a) (sym (front_seam text at x.1 here.behind)) there.spells);
+      spells = (
+        take (x.1 - at) (drop at text),
+        take (to - x.1) (drop x.1 text),
+        x.0,
+        part_seam text at x.1 to here.behind there.behind,
+        here.spells,
+        subst (λ t. Spells (g x.0) t (take (to - x.1) (drop x.1 text)) a) (sym (front_seam text at x.1 here.behind)) there.spells,
+      );
     }
 
 -- ---- what is refused has this refusal
 
 field-refused : {C : Type 0} (k : Kind) (cause : C) (text : List ℕ) (at p : ℕ) (s : Stop C) (r : Result (ValueOf k × ℕ) Miss)
-    → at ≤ length text → look k (drop at text) ≡ r → named at cause (ahead at r) ≡ stopped p s
+    → IsOctets text → at ≤ length text → look k (drop at text) ≡ r → named at cause (ahead at r) ≡ stopped p s
     → Refusal (field k cause) (take at text) (drop at text) p s
-field-refused k cause text at p s (Ok (x, n)) h is e = absurd (cc)
-field-refused {C} k cause text at p s (Err misses.Truncated) h is e =
+field-refused k cause text at p s (Ok (x, n)) fits h is e = absurd (cc)
+field-refused {C} k cause text at p s (Err misses.Truncated) fits h is e =
     let same : (at ≡ p) × (truncated ≡ s) = stopped_is {A = ValueOf k × ℕ} {S = Stop C} at p truncated s e in
-    (omega (arith, same.0, length-take-le at text h), subst (λ t. Misfit k cause (drop at text) t) same.1 (look-ends k (drop at text) is))
-field-refused {C} k cause text at p s (Err misses.Absent) h is e =
+    (omega (arith, same.0, length-take-le at text h), subst (λ t. Misfit k cause (drop at text) t) same.1 (look-ends k (drop at text) (octets-drop at text fits) is))
+field-refused {C} k cause text at p s (Err misses.Absent) fits h is e =
     let same : (at ≡ p) × (because cause ≡ s) = stopped_is {A = ValueOf k × ℕ} {S = Stop C} at p (because cause) s e in
     (omega (arith, same.0, length-take-le at text h), subst (λ t. Misfit k cause (drop at text) t) same.1 (look-absent k (drop at text) is, refl))
 
@@ -144,32 +149,41 @@ pub read-refused : {C A : Type 0} (f : Format C A) (text : List ℕ) (at p : ℕ
 read-refused (give x) text at p s fits h e = cc
 read-refused place text at p s fits h e = cc
 read-refused (since q) text at p s fits h e = cc
-read-refused (field k cause) text at p s fits h e = field-refused k cause text at p s (look k (drop at text)) h refl e
+read-refused (field k cause) text at p s fits h e = field-refused k cause text at p s (look k (drop at text)) fits h refl e
 read-refused (such_that f conditions) text at p s fits h e =
     elim (go_on_err (read f text at) (λ x. judged at (conditions x.0) x) (p, s) e) [
       | inl first ↦ inl (read-refused f text at p s fits h first)
       | inr (x, first, second) ↦
-        let there = read-found f text at x.0 x.1 fits h first in
-        let (cause, fails, spot, why) = judged-refused at (conditions x.0) x p s second in
-        inr (omega (arith, spot, length-take-le at text h), record {
-            text = take (x.1 - at) (drop at text);
-            rest = drop x.1 text;
-            value = x.0;
-            cause = cause;
-            parts = rest_seam text at x.1 there.behind;
-            spells = there.spells;
-            fails = fails;
-            why = why;
-          })
+          let there = read-found f text at x.0 x.1 fits h first in
+          let (cause, fails, spot, why) = judged-refused at (conditions x.0) x p s second in
+          inr (
+            omega (arith, spot, length-take-le at text h),
+            record {
+              text = take (x.1 - at) (drop at text);
+              rest = drop x.1 text;
+              value = x.0;
+              cause = cause;
+              parts = rest_seam text at x.1 there.behind;
+              spells = there.spells;
+              fails = fails;
+              why = why;
+            },
+          )
     ]
 read-refused (and_then f g) text at p s fits h e =
     elim (go_on_err (read f text at) (λ x. read (g x.0) text x.1) (p, s) e) [
       | inl first ↦ inl (read-refused f text at p s fits h first)
       | inr (x, first, second) ↦
-        let here = read-found f text at x.0 x.1 fits h first in
-        let there = read-refused (g x.0) text x.1 p s fits here.within second in
-        inr (take (x.1 - at) (drop at text), drop x.1 text, x.0, rest_seam text at x.1 here.behind, here.spells,
-          subst (λ t. Refusal (g x.0) t (drop x.1 text) p s) (sym (front_seam text at x.1 here.behind)) there)
+          let here = read-found f text at x.0 x.1 fits h first in
+          let there = read-refused (g x.0) text x.1 p s fits here.within second in
+          inr (
+            take (x.1 - at) (drop at text),
+            drop x.1 text,
+            x.0,
+            rest_seam text at x.1 here.behind,
+            here.spells,
+            subst (λ t. Refusal (g x.0) t (drop x.1 text) p s) (sym (front_seam text at x.1 here.behind)) there,
+          )
     ]
 
 -- ---- what has a refusal is refused with it

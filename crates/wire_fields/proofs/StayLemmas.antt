@@ -1,5 +1,6 @@
 -- A settled answer stays, whatever octets follow; and a text has one front or one refusal.
-use Rattle.std.proofs.Common.{◌≡◌, ℕ, ◌+◌, ◌-◌, ◌<◌, ◌≤◌, List, [], ◌∷◌, ◌++◌, length, take, drop, Option, Some, None, Result, Ok, Err, ◌⊎◌, refl, sym, ap, ◌∙◌, subst, inl, inr, arith, sub-zero, append_assoc, append-nil, length-append, length-drop, take-append-drop}
+use Rattle.std.proofs.Common.{◌≡◌, ℕ, ◌+◌, ◌-◌, ◌<◌, ◌≤◌, List, [], ◌∷◌, ◌++◌, length, take, drop, Option, Some, None, Result, Ok, Err, ◌⊎◌, refl, sym, ap, ◌∙◌, subst, inl, inr, arith, append_assoc, append-nil, length-append, length-drop, take-append-drop}
+use Rattle.std.proofs.Math.Nat.{sub-zero}
 use Rattle.std.proofs.lemmas.List.{length-take-le, drop-append-le, take-append-le}
 use Rattle.wire_fields.specs.declared.miss.Miss.{Miss}
 use Rattle.wire_fields.specs.declared.miss.Miss.TheVariants as misses
@@ -7,7 +8,7 @@ use Rattle.wire_fields.specs.Kind.{Kind, ValueOf}
 use Rattle.wire_fields.specs.Format.{Format, give, place, since, field, such_that, and_then, Spells}
 use Rattle.wire_fields.specs.Refusal.{Stop, truncated, because, Refusal, Begins, ExactlyOne}
 use Rattle.wire_fields.specs.Reading.{look, ahead, look_at, named, judged, go_on, read, IsSettled, IsOctets}
-use Rattle.wire_fields.proofs.TextLemmas.{octets-drop}
+use Rattle.wire_fields.proofs.TextLemmas.{octets-drop, since_place}
 use Rattle.wire_fields.proofs.ResultLemmas.{found, stopped, found_is, stopped_is}
 use Rattle.wire_fields.proofs.KindLemmas.{look-absent-more, look-found-more}
 use Rattle.wire_fields.proofs.ReadLemmas.{IsThere, read-only, read-found, read-refused, read-refuses}
@@ -18,7 +19,7 @@ field-stays : {C : Type 0} (k : Kind) (cause : C) (w more : List ℕ) (at : ℕ)
     → IsOctets w → look k w ≡ r → IsSettled (named at cause (ahead at r)) → look k (w ++ more) ≡ r
 field-stays k cause w more at (Ok x) fits is settled = look-found-more k w more x.0 x.1 fits is
 field-stays k cause w more at (Err misses.Truncated) fits is settled = absurd settled
-field-stays k cause w more at (Err misses.Absent) fits is settled = look-absent-more k w more is
+field-stays k cause w more at (Err misses.Absent) fits is settled = look-absent-more k w more fits is
 
 go_on-stays : {C A B : Type 0} (r r' : Result A (ℕ × Stop C)) (f f' : A → Result B (ℕ × Stop C))
     → (IsSettled r → r' ≡ r) → ((x : A) → r ≡ Ok x → IsSettled (f x) → f' x ≡ f x)
@@ -31,7 +32,10 @@ pub read-stays : {C A : Type 0} (f : Format C A) (text more : List ℕ) (at : �
     → IsOctets text → at ≤ length text → IsSettled (read f text at) → read f (text ++ more) at ≡ read f text at
 read-stays (give x) text more at fits h settled = refl
 read-stays place text more at fits h settled = refl
-read-stays (since p) text more at fits h settled = ?
+read-stays (since p) text more at fits h settled =
+    let same : take (at - p) (drop p (text ++ more)) ≡ take (at - p) (drop p text) =
+    since_place p at (text ++ more) ∙ ap (drop p) (take-append-le at text more h) ∙ sym (since_place p at text) in
+    ap (λ t. found t at) same
 read-stays (field k cause) text more at fits h settled =
     rw (drop-append-le at text more h)
     (ap (λ r. named at cause (ahead at r)) (field-stays k cause (drop at text) more at (look k (drop at text)) (octets-drop at text fits) refl settled))
@@ -65,15 +69,15 @@ one-of f text (Err s) fits e = inr (s.0, s.1, read-refused f text 0 s.0 s.1 fits
 
 pub exactly_one : {C A : Type 0} (f : Format C A) (text : List ℕ) → IsOctets text → ExactlyOne f text
 exactly_one {C} {A} f text fits = record {
-    one = one-of f text (read f text 0) fits refl;
-    one_front = λ j k a b x y.
-        let same : (a ≡ b) × (j ≡ k) = found_is {E = ℕ × Stop C} a b j k (sym (begins-read f text j a x) ∙ begins-read f text k b y) in
-        (same.1, same.0);
-    one_refusal = λ p q s t x y.
-        stopped_is {A = A × ℕ} p q s t (sym (read-refuses f [] text p s fits x) ∙ read-refuses f [] text q t fits y);
-    not_both = λ k p a s x y.
-        let no = sym (begins-read f text k a x) ∙ read-refuses f [] text p s fits y in cc;
-  }
+  one = one-of f text (read f text 0) fits refl;
+  one_front = λ j k a b x y.
+      let same : (a ≡ b) × (j ≡ k) = found_is {E = ℕ × Stop C} a b j k (sym (begins-read f text j a x) ∙ begins-read f text k b y) in
+      (same.1, same.0);
+  one_refusal = λ p q s t x y.
+      stopped_is {A = A × ℕ} p q s t (sym (read-refuses f [] text p s fits x) ∙ read-refuses f [] text q t fits y);
+  not_both = λ k p a s x y.
+      let no = sym (begins-read f text k a x) ∙ read-refuses f [] text p s fits y in cc;
+}
 
 -- at a place of refusal no front spells the fields
 pub refused-not-spelled : {C A : Type 0} (f : Format C A) (front u v : List ℕ) (p : ℕ) (s : Stop C) (a : A)

@@ -10,10 +10,10 @@ pub since_part : (p : ℕ) (front rest : List ℕ) → take (length front - p) (
 since_part p front rest =
     elim (cases_lt (length front) p) [
       | inl out ↦
-        let none : length front - p ≡ 0 = omega arith in
-        rw none (sym (drop_of_length-le front {i = p} (omega arith)))
+          let none : length front - p ≡ 0 = omega arith in
+          rw none (sym (drop_of_length-le front {i = p} (omega arith)))
       | inr within ↦
-        rw (drop-append-le p front rest within, ← length-drop p front) (take-append_seam (drop p front) rest)
+          rw (drop-append-le p front rest within, ← length-drop p front) (take-append_seam (drop p front) rest)
     ]
 
 -- the same by places
@@ -21,11 +21,11 @@ pub since_place : (p at : ℕ) (text : List ℕ) → take (at - p) (drop p text)
 since_place p at text =
     elim (cases_lt at p) [
       | inl out ↦
-        let none : at - p ≡ 0 = omega arith in
-        rw none (sym (drop_of_length-le (take at text) {i = p} (omega (arith, length-take at text))))
+          let none : at - p ≡ 0 = omega arith in
+          rw none (sym (drop_of_length-le (take at text) {i = p} (omega (arith, length-take at text))))
       | inr within ↦
-        let whole : p + (at - p) ≡ at = omega arith in
-        sym (ap (λ k. drop p (take k text)) (sym whole) ∙ drop-take p (at - p) text)
+          let whole : p + (at - p) ≡ at = omega arith in
+          sym (ap (λ k. drop p (take k text)) (sym whole) ∙ drop-take p (at - p) text)
     ]
 
 -- a front is a shorter front and the part behind it

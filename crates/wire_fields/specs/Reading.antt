@@ -2,21 +2,31 @@
 use Rattle.std.specs.Prelude.{ℕ, ◌+◌, ◌-◌, ◌/◌, ◌<◌, ◌==◌, List, [], ◌∷◌, length, take, drop, get_or, nat_lt, slice_index, if◌then◌else◌, Option, Some, None, Result, Ok, Err}
 use Rattle.wire_fields.specs.declared.miss.Miss.{Miss}
 use Rattle.wire_fields.specs.declared.miss.Miss.TheVariants as misses
+use Rattle.sdnv.specs.declared.fault.SdnvFault.{SdnvFault}
+use Rattle.sdnv.specs.declared.fault.SdnvFault.TheVariants as sdnv_faults
+use Rattle.sdnv.specs.Reading.{read_of}
 use Rattle.cbor_lite.specs.declared.fault.CborFault.{CborFault}
-use Rattle.cbor_lite.specs.declared.fault.CborFault.TheVariants as faults
+use Rattle.cbor_lite.specs.declared.fault.CborFault.TheVariants as cbor_faults
 use Rattle.cbor_lite.specs.Head.{head_at}
 use Rattle.wire_fields.specs.declared.lead.UnsignedOrText.{UnsignedOrText}
 use Rattle.wire_fields.specs.declared.lead.UnsignedOrText.TheVariants as leads
-use Rattle.wire_fields.specs.Kind.{Kind, octet, octets, head, unsigned_or_text, ValueOf}
+use Rattle.wire_fields.specs.Kind.{Kind, octet, octets, number, head, unsigned_or_text, ValueOf}
 use Rattle.wire_fields.specs.Format.{Format, give, place, since, field, such_that, and_then}
 use Rattle.wire_fields.specs.Refusal.{Stop, truncated, because}
+
+-- a number at the front of w
+abbrev pub look_number : Result (ℕ × ℕ) SdnvFault → Result (ℕ × ℕ) Miss
+look_number (Ok x) = Ok x
+look_number (Err sdnv_faults.Short) = Err misses.Truncated
+look_number (Err sdnv_faults.TooLong) = Err misses.Absent
+look_number (Err sdnv_faults.TooLarge) = Err misses.Absent
 
 -- a head of the kind at the front of w, its number seen by a function
 abbrev pub look_head : {A : Type 0} → (ℕ → A) → Result (ℕ × ℕ) CborFault → Result (A × ℕ) Miss
 look_head view (Ok x) = Ok (view x.0, x.1)
-look_head view (Err faults.Short) = Err misses.Truncated
-look_head view (Err faults.Kind) = Err misses.Absent
-look_head view (Err faults.NotShortest) = Err misses.Absent
+look_head view (Err cbor_faults.Short) = Err misses.Truncated
+look_head view (Err cbor_faults.Kind) = Err misses.Absent
+look_head view (Err cbor_faults.NotShortest) = Err misses.Absent
 
 -- where the next octet is of the kind of text strings, a head of a text, else one of an unsigned number
 abbrev pub look_lead : List ℕ → Result (UnsignedOrText × ℕ) Miss
@@ -30,6 +40,7 @@ abbrev pub look : (k : Kind) → List ℕ → Result (ValueOf k × ℕ) Miss
 look octet [] = Err misses.Truncated
 look octet (b ∷ w) = Ok (b, 1)
 look (octets n) w = if nat_lt (length w) n then Err misses.Truncated else Ok (take n w, n)
+look number w = look_number (read_of w)
 look (head kind) w = look_head (λ n. n) (head_at kind w)
 look unsigned_or_text w = look_lead w
 

@@ -1,7 +1,7 @@
 -- The words in which tables are written: conditions, single fields, choices, groups that repeat.
 use Rattle.std.specs.Prelude.{ℕ, zero, suc, ◌==◌, Bool, true, false, if◌then◌else◌, Option, Some, None, List}
 use Rattle.wire_fields.specs.declared.lead.UnsignedOrText.{UnsignedOrText}
-use Rattle.wire_fields.specs.Kind.{octet, octets, head, unsigned_or_text}
+use Rattle.wire_fields.specs.Kind.{octet, octets, number, head, unsigned_or_text}
 use Rattle.wire_fields.specs.Format.{Format, give, field, such_that, ◌>>=◌}
 
 -- ---- conditions
@@ -23,6 +23,9 @@ any_octet cause = field octet cause
 
 abbrev pub any_octets : {C : Type 0} → ℕ → C → Format C (List ℕ)
 any_octets n cause = field (octets n) cause
+
+abbrev pub any_number : {C : Type 0} → C → Format C ℕ
+any_number cause = field number cause
 
 -- ---- heads of CBOR items: an unsigned number, and how many octets or items follow
 

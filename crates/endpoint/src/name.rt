@@ -4,7 +4,7 @@ ghost use Rattle.std.specs.Prelude.{◌≡◌, ◌⊎◌, IfOk, IfErr, Ok, Err};
 ghost use Rattle.endpoint.specs.Endpoints.{text_of, is_singleton, IsEndpoint};
 ghost use Rattle.endpoint.specs.Reading.{Spells, Misses, Reads};
 
-use super::text::{dtn_named, ipn_named};
+use super::text::{dtn_named, ipn_named, names_group};
 use super::{EndpointFault, Octets};
 use std::alloc::{AllocError, Global};
 
@@ -37,13 +37,7 @@ impl Endpoint {
         ensures fault { IfErr result (λ fault. Misses fault text.now) }
         ensures exact { Reads result text.now }
     {
-        if let Some(ssp) = text.strip_prefix(b"dtn:".as_slice()) {
-            return dtn_named(alloc, ssp)?.ok_or(EndpointFault::Ssp);
-        }
-        if let Some(ssp) = text.strip_prefix(b"ipn:".as_slice()) {
-            return ipn_named(ssp).ok_or(EndpointFault::Number);
-        }
-        Err(EndpointFault::Scheme)
+        read(alloc, text)
     }
 
     /// The endpoint's one text.
@@ -57,7 +51,7 @@ impl Endpoint {
                 Ok(Octets::from_vec(text.into_bytes()))
             }
             Endpoint::Dtn(ssp) => {
-                let mut text = Vec::with_capacity(alloc, 4 + ssp.len())?;
+                let mut text = Vec::with_capacity(alloc, ssp.len().saturating_add(4))?;
                 text.extend_from_slice(b"dtn:".as_slice())?;
                 text.extend_from_slice(ssp.as_slice())?;
                 Ok(Octets::from_vec(text))
@@ -73,10 +67,7 @@ impl Endpoint {
         match self {
             Endpoint::Null => false,
             Endpoint::Ipn { .. } => true,
-            Endpoint::Dtn(ssp) => !ssp
-                .as_slice()
-                .windows(2)
-                .any(|pair| pair == b"/~".as_slice()),
+            Endpoint::Dtn(ssp) => !names_group(ssp.as_slice()),
         }
     }
 
@@ -93,4 +84,18 @@ impl Endpoint {
             Endpoint::Dtn(ssp) => Endpoint::Dtn(ssp.copy(alloc)?),
         })
     }
+}
+
+/// The endpoint that a text names.
+#[tactic(auto, unfolding(crate::specs::Reading::read_text))]
+fn read(alloc: Global, text: &[u8]) -> Result<Endpoint, EndpointFault>
+    ensures { Reads result text.now }
+{
+    if let Some(ssp) = text.strip_prefix(b"dtn:".as_slice()) {
+        return dtn_named(alloc, ssp)?.ok_or(EndpointFault::Ssp);
+    }
+    if let Some(ssp) = text.strip_prefix(b"ipn:".as_slice()) {
+        return ipn_named(ssp).ok_or(EndpointFault::Number);
+    }
+    Err(EndpointFault::Scheme)
 }

@@ -1,7 +1,8 @@
 //! The two halves of an endpoint's text: scheme and scheme-specific part.
 
 ghost use Rattle.std.specs.Prelude.{◌≡◌, IfOk};
-ghost use Rattle.endpoint.specs.Endpoints.{is_ssp};
+ghost use Rattle.std.specs.List.{list_all};
+ghost use Rattle.endpoint.specs.Endpoints.{is_ssp, is_visible, names_group};
 ghost use Rattle.endpoint.specs.Reading.{named, dtn_named, ipn_named};
 
 use super::numeral::pair;
@@ -11,14 +12,22 @@ use std::alloc::{AllocError, Global};
 /// The most octets that the scheme-specific part of a dtn name has. Own rule.
 const LONGEST_SSP: usize = 1023;
 
+/// Whether each octet is one from `!` to `~`.
+fn are_visible(ssp: &[u8]) -> bool
+    ensures { result ≡ list_all is_visible ssp.now }
+{
+    ssp.iter().all(|octet| 33 <= *octet && *octet <= 126)
+}
+
 /// Whether a dtn name may have this scheme-specific part: 1 to 1,023 octets from `!` to `~`, other
 /// than `none`. A longer text is refused without being looked at.
+#[tactic(auto, unfolding(crate::specs::Endpoints::is_ssp))]
 pub fn is_ssp(ssp: &[u8]) -> bool
     ensures { result ≡ is_ssp ssp.now }
 {
     !ssp.is_empty()
         && ssp.len() <= LONGEST_SSP
-        && ssp.iter().all(|octet| 33 <= *octet && *octet <= 126)
+        && are_visible(ssp)
         && ssp != b"none".as_slice()
 }
 
@@ -47,6 +56,7 @@ pub fn ipn_named(ssp: &[u8]) -> Option<Endpoint>
 
 /// The endpoint with this scheme and this scheme-specific part, as a version 6 dictionary holds
 /// them (RFC 5050, section 4.4). `dtn` with `none` is the null endpoint.
+#[tactic(auto, unfolding(crate::specs::Reading::named))]
 pub fn named(alloc: Global, scheme: &[u8], ssp: &[u8]) -> Result<Option<Endpoint>, AllocError>
     ensures { IfOk result (λ endpoint. endpoint ≡ named scheme.now ssp.now) }
 {
@@ -57,4 +67,17 @@ pub fn named(alloc: Global, scheme: &[u8], ssp: &[u8]) -> Result<Option<Endpoint
     } else {
         Ok(None)
     }
+}
+
+/// Whether `/~` stands somewhere in a scheme-specific part.
+#[tactic(auto, unfolding(crate::specs::Endpoints::names_group))]
+pub(crate) fn names_group(ssp: &[u8]) -> bool
+    ensures { result ≡ names_group ssp.now }
+{
+    for at in 0..ssp.len() {
+        if ssp[at..].starts_with(b"/~".as_slice()) {
+            return true;
+        }
+    }
+    false
 }

@@ -1,0 +1,5 @@
+pub mod TextLemmas
+pub mod ResultLemmas
+pub mod KindLemmas
+pub mod ReadLemmas
+pub mod StayLemmas

@@ -3,3 +3,4 @@ pub mod ResultLemmas
 pub mod KindLemmas
 pub mod ReadLemmas
 pub mod StayLemmas
+pub mod WholeLemmas

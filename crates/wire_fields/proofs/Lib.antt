@@ -4,3 +4,5 @@ pub mod KindLemmas
 pub mod ReadLemmas
 pub mod StayLemmas
 pub mod WholeLemmas
+pub mod FrontLemmas
+pub mod GroupLemmas

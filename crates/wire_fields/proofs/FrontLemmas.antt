@@ -1,5 +1,5 @@
 -- The clauses of a decoder, each from the one exact clause that it gives what reading gives.
-use Rattle.std.proofs.Common.{◌≡◌, ℕ, List, [], ◌++◌, length, Option, Some, None, Result, Ok, Err, IfOk, IfErr, IfSome, refl, sym, ap, ◌∙◌, arith}
+use Rattle.std.proofs.Common.{◌≡◌, ℕ, List, [], ◌++◌, Option, Some, None, Result, Ok, Err, IfOk, IfErr, IfSome, sym, arith}
 use Rattle.wire_fields.specs.Format.{Format, Spells}
 use Rattle.wire_fields.specs.Refusal.{Stop, Refusal, Begins}
 use Rattle.wire_fields.specs.Reading.{read, IsSettled, IsOctets}

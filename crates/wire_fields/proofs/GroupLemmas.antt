@@ -1,5 +1,5 @@
 -- The steps of loops over groups that repeat: what is left to read gives what all of it gives.
-use Rattle.std.proofs.Common.{◌≡◌, ℕ, zero, suc, ◌+◌, ◌-◌, ◌<◌, ◌≤◌, Bool, true, false, List, Option, Some, None, Result, Ok, Err, refl, sym, ap, ◌∙◌, arith}
+use Rattle.std.proofs.Common.{◌≡◌, ℕ, suc, ◌+◌, ◌-◌, ◌<◌, ◌≤◌, Bool, true, false, List, Option, Some, None, Result, Ok, Err, sym, ap, ◌∙◌, arith}
 use Rattle.wire_fields.specs.Format.{Format, give}
 use Rattle.wire_fields.specs.Refusal.{Stop}
 use Rattle.wire_fields.specs.Reading.{go_on, read}
@@ -40,7 +40,6 @@ module _ {C S : Type 0} (f : S → Format C S) (text : List ℕ) where
       sym left ∙ ap (λ k. read (repeated k f s) text at) none
 
 module _ {C S : Type 0} (f : ℕ → S → Format C (S × Bool)) (text : List ℕ) where
-
   one_of : (n i : ℕ) (s : S) (at : ℕ) → i < n
       → read (until (n - i) f s) text at ≡ go_on (read (f (n - i) s) text at) (λ x. read (choice x.0.1 (give x.0.0) (until (n - (i + 1)) f x.0.0)) text x.1)
   unfolding until

@@ -20,6 +20,7 @@ use Rattle.wire_fields.specs.declared.miss.Miss.TheVariants as misses
 use Rattle.wire_fields.specs.Kind.{Kind, octet, octets, number, head, unsigned_or_text, ValueOf, SpellsKind, SpellsLead, EndsInside}
 use Rattle.wire_fields.specs.Refusal.{IsAbsent}
 use Rattle.wire_fields.specs.Reading.{look, look_number, look_head, look_lead, IsOctets}
+use Rattle.wire_fields.proofs.TextLemmas.{octets-drop}
 use Rattle.wire_fields.proofs.ResultLemmas.{found, found_is, ok_is}
 
 -- ---- n octets
@@ -272,3 +273,8 @@ look-found-more k w more x n fits is =
     ap (λ t. t ++ more) (sym (take-append-drop n w)) ∙ append_assoc (take n w) (drop n w) more in
     ap (look k) parts ∙ look-only k (take n w) (drop n w ++ more) x there.1
     ∙ ap (λ m. found x m) (length-take-le n w there.0)
+
+-- the octets of a head that is found at a place are there
+pub head-within : (text rest : List ℕ) (at kind n k : ℕ) → IsOctets text → rest ≡ drop at text → found n k ≡ head_at kind rest → k ≤ length rest
+head-within text rest at kind n k fits is there =
+    (head_at-found kind rest n k (subst IsOctets (sym is) (octets-drop at text fits)) (sym there)).0

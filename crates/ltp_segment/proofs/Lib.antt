@@ -1,0 +1,3 @@
+pub mod ClaimsLemmas
+pub mod ReportLemmas
+pub mod SegmentLemmas

@@ -1,3 +1,4 @@
 pub mod ClaimsLemmas
 pub mod ReportLemmas
 pub mod SegmentLemmas
+pub mod WritingLemmas

@@ -131,7 +131,7 @@ pub so_far-start : (count most : ℕ) (text : List ℕ) (at : ℕ) → SoFar cou
 unfolding claims_of
 so_far-start count most text at = record { earlier = []; ends = refl; left = ap (λ n. read (repeated n (next_claim most) []) text at) (sub-zero count) }
 
-end_from-push : (end : ℕ) (earlier : List Claim) (claim : Claim) → end_from end (earlier ++ claim ∷ []) ≡ claim.offset + claim.length
+pub end_from-push : (end : ℕ) (earlier : List Claim) (claim : Claim) → end_from end (earlier ++ claim ∷ []) ≡ claim.offset + claim.length
 end_from-push end [] claim = refl
 end_from-push end (first ∷ earlier) claim = end_from-push (first.offset + first.length) earlier claim
 

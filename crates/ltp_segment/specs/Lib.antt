@@ -5,3 +5,4 @@ pub mod Table
 pub mod Claims
 pub mod Views
 pub mod Reading
+pub mod Writing

@@ -18,8 +18,12 @@ mod fields;
 mod pieces;
 mod reports;
 mod segment;
+mod writing;
 
 pub use cause::{SegmentCause, SegmentFault};
 pub use claims::Claims;
 pub use decoding::{decode, is_segment_or_refused};
 pub use segment::{Claim, Content, PieceKind, Segment};
+pub use writing::{
+    is_read_back, write_ack, write_cancel, write_cancel_ack, write_piece, write_report,
+};

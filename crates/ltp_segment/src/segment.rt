@@ -2,6 +2,7 @@
 
 ghost use Rattle.std.specs.Prelude.{◌≡◌};
 ghost use Rattle.ltp_segment.specs.Kinds.{is_red, is_checkpoint, ends_red_part};
+ghost use Rattle.ltp_segment.specs.Writing.{piece_type};
 
 use crate::claims::Claims;
 
@@ -103,6 +104,20 @@ impl PieceKind {
         match self {
             PieceKind::RedCheckpoint | PieceKind::RedEnd | PieceKind::RedEndBlock => true,
             _ => false,
+        }
+    }
+
+    /// The number of its segment type.
+    pub(crate) fn segment_type(&self) -> u8
+        ensures { result ≡ piece_type self.now }
+    {
+        match self {
+            PieceKind::Red => 0,
+            PieceKind::RedCheckpoint => 1,
+            PieceKind::RedEnd => 2,
+            PieceKind::RedEndBlock => 3,
+            PieceKind::Green => 4,
+            PieceKind::GreenEndBlock => 7,
         }
     }
 

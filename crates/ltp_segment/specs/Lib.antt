@@ -6,3 +6,5 @@ pub mod Claims
 pub mod Views
 pub mod Reading
 pub mod Writing
+pub mod Policy
+pub mod PolicyViews

@@ -3,8 +3,29 @@
 use Rattle.ltp_segment.specs.declared.segment.Segment.{Segment}
 use Rattle.ltp_segment.specs.declared.segment.Content.{Content}
 use Rattle.ltp_segment.specs.declared.segment.Content.TheVariants as contents
+use Rattle.ltp_segment.specs.declared.session.PieceView.{PieceView}
+use Rattle.ltp_segment.specs.declared.session.ReportView.{ReportView}
 use Rattle.ltp_segment.specs.Claims.{claims_left}
-use Rattle.ltp_segment.specs.Values.{ContentValue, a_piece, a_report, a_report_ack, a_sender_cancel, a_sender_cancel_ack, a_receiver_cancel, a_receiver_cancel_ack, SegmentValue}
+use Rattle.ltp_segment.specs.Values.{PieceValue, ReportValue, ContentValue, a_piece, a_report, a_report_ack, a_sender_cancel, a_sender_cancel_ack, a_receiver_cancel, a_receiver_cancel_ack, SegmentValue}
+
+abbrev pub piece_value : PieceView → PieceValue
+piece_value p = record {
+  kind = p.kind;
+  service = p.service;
+  offset = p.offset;
+  checkpoint = p.checkpoint;
+  report = p.report;
+  body = p.body.now;
+}
+
+abbrev pub report_value : ReportView → ReportValue
+report_value r = record {
+  serial = r.serial;
+  checkpoint = r.checkpoint;
+  upper = r.upper;
+  lower = r.lower;
+  claims = claims_left r.claims;
+}
 
 abbrev pub content_value : Content → ContentValue
 content_value (contents.Piece kind service offset checkpoint report body) = a_piece (record {

@@ -14,16 +14,24 @@
 mod cause;
 mod claims;
 mod decoding;
+mod fault;
 mod fields;
+mod outs;
 mod pieces;
+mod policy;
 mod reports;
 mod segment;
+mod session;
 mod writing;
 
 pub use cause::{SegmentCause, SegmentFault};
 pub use claims::Claims;
 pub use decoding::{decode, is_segment_or_refused};
+pub use fault::PolicyFault;
+pub use outs::Outs;
+pub use policy::Policy;
 pub use segment::{Claim, Content, PieceKind, Segment};
+pub use session::{BLOCK_MAX, Green, Note, PieceView, ReportView, Step};
 pub use writing::{
     is_read_back, write_ack, write_cancel, write_cancel_ack, write_piece, write_report,
 };

@@ -1,8 +1,8 @@
 -- What a field of a kind is at the front of a text is what the table of kinds says.
-use Rattle.std.proofs.Common.{◌≡◌, ℕ, ◌+◌, ◌-◌, ◌<◌, ◌≤◌, Bool, true, false, ◌/◌, ◌==◌, ◌≢◌, slice_index, cond, ltb, List, [], ◌∷◌, ◌++◌, length, take, drop, Result, Ok, Err, refl, sym, ap, ◌∙◌, subst, inl, inr, arith, length-append, append_assoc, take-append-drop}
+use Rattle.std.proofs.Common.{◌≡◌, ℕ, ◌<◌, ◌≤◌, Bool, true, false, ◌/◌, ◌%◌, ◌==◌, ◌≢◌, ◌⊎◌, eqb-true, slice_index, cond, List, [], ◌∷◌, ◌++◌, length, take, drop, Result, Ok, Err, refl, sym, ap, ◌∙◌, subst, inl, inr, arith, length-append, append_assoc, take-append-drop}
 use Rattle.std.proofs.lemmas.Bool.{cases_lt, lt-ltb, le-ltb}
 use Rattle.std.proofs.lemmas.List.{length-take-le, take-append-le}
-use Rattle.std.proofs.Math.Seq.{take-append_seam, take_all}
+use Rattle.std.proofs.Math.Seq.{take-append_seam}
 use Rattle.sdnv.specs.declared.fault.SdnvFault.{SdnvFault}
 use Rattle.sdnv.specs.declared.fault.SdnvFault.TheVariants as sdnv_faults
 use Rattle.sdnv.specs.Spelling.{Spells}
@@ -10,14 +10,17 @@ use Rattle.sdnv.specs.Reading.{read_of, IsTooLong, IsTooLarge}
 use Rattle.sdnv.proofs.ReadingLemmas.{read_of-found, read_of-only, short-is, is-short, too_long-is, is-too_long, too_large-is, is-too_large}
 use Rattle.cbor_lite.specs.declared.fault.CborFault.{CborFault}
 use Rattle.cbor_lite.specs.declared.fault.CborFault.TheVariants as cbor_faults
-use Rattle.cbor_lite.specs.Head.{SpellsHead, EndsInsideHead, head_at}
+use Rattle.cbor_lite.specs.Head.{SpellsHead, EndsInsideHead, head_at, number_at}
 use Rattle.cbor_lite.proofs.HeadLemmas.{head_at-only, head_at-ends}
 use Rattle.cbor_lite.proofs.HeadLaws.{head_at-found, head_at-short, head_at-stays}
+use Rattle.wire_fields.specs.declared.lead.UnsignedOrText.{UnsignedOrText}
+use Rattle.wire_fields.specs.declared.lead.UnsignedOrText.TheVariants as leads
 use Rattle.wire_fields.specs.declared.miss.Miss.{Miss}
 use Rattle.wire_fields.specs.declared.miss.Miss.TheVariants as misses
-use Rattle.wire_fields.specs.Kind.{Kind, octet, octets, number, head, unsigned_or_text, ValueOf, SpellsKind, EndsInside}
+use Rattle.wire_fields.specs.Kind.{Kind, octet, octets, number, head, unsigned_or_text, ValueOf, SpellsKind, SpellsLead, EndsInside}
 use Rattle.wire_fields.specs.Refusal.{IsAbsent}
-use Rattle.wire_fields.specs.Reading.{look, look_number, look_head, IsOctets}
+use Rattle.wire_fields.specs.Reading.{look, look_number, look_head, look_lead, IsOctets}
+use Rattle.wire_fields.proofs.TextLemmas.{octets-drop}
 use Rattle.wire_fields.proofs.ResultLemmas.{found, found_is, ok_is}
 
 -- ---- n octets
@@ -140,8 +143,56 @@ head-absent-more view kind w more fits is =
 
 -- ---- heads of two kinds
 
-is_text : List ℕ → Bool
-is_text w = slice_index w 0 / 32 == 3
+right_kind : (b : Bool) (r : Result (ℕ × ℕ) CborFault) (y : ℕ × ℕ) → cond b r (Err cbor_faults.Kind) ≡ Ok y → b ≡ true
+right_kind true r y is = refl
+right_kind false r y is = absurd (cc)
+
+-- a head that is found is of the kind that was asked for
+head_at-kind : (kind : ℕ) (w : List ℕ) (y : ℕ × ℕ) → head_at kind w ≡ Ok y → slice_index w 0 / 32 ≡ kind
+unfolding head_at
+head_at-kind kind [] y is = absurd (cc)
+head_at-kind kind (first ∷ rest) y is =
+    eqb-true (first / 32) kind (right_kind (first / 32 == kind) (number_at (first % 32) rest) y is)
+
+-- a text head or an unsigned one, as a test on the next octet says
+abbrev lead_by : Bool → List ℕ → Result (UnsignedOrText × ℕ) Miss
+lead_by text w = cond text (look_head leads.Text (head_at 3 w)) (look_head leads.Unsigned (head_at 0 w))
+
+lead-found : (text : Bool) (w : List ℕ) (x : UnsignedOrText) (n : ℕ) → IsOctets w → lead_by text w ≡ found x n
+    → (n ≤ length w) × SpellsLead (take n w) x
+lead-found true w x n fits is =
+    let (m, seen, within, spells) = head-found leads.Text 3 w x n fits is in
+    (within, subst (λ y. SpellsLead (take n w) y) seen spells)
+lead-found false w x n fits is =
+    let (m, seen, within, spells) = head-found leads.Unsigned 0 w x n fits is in
+    (within, subst (λ y. SpellsLead (take n w) y) seen spells)
+
+lead-only : (w rest : List ℕ) (x : UnsignedOrText) → SpellsLead w x → look_lead (w ++ rest) ≡ found x (length w)
+lead-only w rest (leads.Unsigned n) spells =
+    let there = head_at-only 0 w rest n spells in
+    let kind : slice_index (w ++ rest) 0 / 32 ≡ 0 = head_at-kind 0 (w ++ rest) (n, length w) there in
+    rw (kind, there) refl
+lead-only w rest (leads.Text n) spells =
+    let there = head_at-only 3 w rest n spells in
+    let kind : slice_index (w ++ rest) 0 / 32 ≡ 3 = head_at-kind 3 (w ++ rest) (n, length w) there in
+    rw (kind, there) refl
+
+lead-ends : (text : Bool) (w : List ℕ) → IsOctets w → lead_by text w ≡ Err misses.Truncated → EndsInsideHead 0 w ⊎ EndsInsideHead 3 w
+lead-ends true w fits is = inr (head_at-short 3 w fits (look_head-short leads.Text (head_at 3 w) is))
+lead-ends false w fits is = inl (head_at-short 0 w fits (look_head-short leads.Unsigned (head_at 0 w) is))
+
+lead-short : (w : List ℕ) → EndsInsideHead 0 w ⊎ EndsInsideHead 3 w → look_lead w ≡ Err misses.Truncated
+lead-short [] ends = rw (head_at-ends 0 [] tt) refl
+lead-short (first ∷ rest) (inl ends) = rw (ends.0, head_at-ends 0 (first ∷ rest) ends) refl
+lead-short (first ∷ rest) (inr ends) = rw (ends.0, head_at-ends 3 (first ∷ rest) ends) refl
+
+lead-absent-by : (text : Bool) (w more : List ℕ) → IsOctets w → lead_by text w ≡ Err misses.Absent → lead_by text (w ++ more) ≡ Err misses.Absent
+lead-absent-by true w more fits is = head-absent-more leads.Text 3 w more fits is
+lead-absent-by false w more fits is = head-absent-more leads.Unsigned 0 w more fits is
+
+lead-absent-more : (w more : List ℕ) → IsOctets w → look_lead w ≡ Err misses.Absent → look_lead (w ++ more) ≡ Err misses.Absent
+lead-absent-more [] more fits is = let no = sym (lead-short [] (inl tt)) ∙ is in absurd (cc)
+lead-absent-more (first ∷ rest) more fits is = lead-absent-by (first / 32 == 3) (first ∷ rest) more fits is
 
 -- ---- all kinds
 
@@ -157,7 +208,7 @@ look-found number w x n fits is = number-found w x n is
 look-found (head kind) w x n fits is =
     let (m, seen, within, spells) = head-found (λ i. i) kind w x n fits is in
     (within, subst (λ i. SpellsHead kind (take n w) i) seen spells)
-look-found unsigned_or_text w x n fits is = ?
+look-found unsigned_or_text w x n fits is = lead-found (slice_index w 0 / 32 == 3) w x n fits is
 
 -- what is spelled so is read, whatever follows
 pub look-only : (k : Kind) (w rest : List ℕ) (x : ValueOf k) → SpellsKind k w x → look k (w ++ rest) ≡ found x (length w)
@@ -167,7 +218,7 @@ look-only (octets n) w rest x is =
     long_enough n (w ++ rest) long ∙ rw (sym is.1, take-append_seam w rest, is.0) refl
 look-only number w rest x is = number-only w rest x is
 look-only (head kind) w rest x is = rw (head_at-only kind w rest x is) refl
-look-only unsigned_or_text w rest x is = ?
+look-only unsigned_or_text w rest x is = lead-only w rest x is
 
 -- where the text ends inside the field, and there alone, reading says so
 pub look-ends : (k : Kind) (w : List ℕ) → IsOctets w → look k w ≡ Err misses.Truncated → EndsInside k w
@@ -176,14 +227,14 @@ look-ends octet (b ∷ w) fits is = absurd (cc)
 look-ends (octets n) w fits is = octets-ends n w is
 look-ends number w fits is = short-is w (look_number-short (read_of w) is)
 look-ends (head kind) w fits is = head_at-short kind w fits (look_head-short (λ i. i) (head_at kind w) is)
-look-ends unsigned_or_text w fits is = ?
+look-ends unsigned_or_text w fits is = lead-ends (slice_index w 0 / 32 == 3) w fits is
 
 pub look-short : (k : Kind) (w : List ℕ) → EndsInside k w → look k w ≡ Err misses.Truncated
 look-short octet w is = rw is refl
 look-short (octets n) w is = too_few n w is
 look-short number w is = rw (is-short w is) refl
 look-short (head kind) w is = rw (head_at-ends kind w is) refl
-look-short unsigned_or_text w is = ?
+look-short unsigned_or_text w is = lead-short w is
 
 -- what is no value stays so, whatever follows
 pub look-absent-more : (k : Kind) (w more : List ℕ) → IsOctets w → look k w ≡ Err misses.Absent → look k (w ++ more) ≡ Err misses.Absent
@@ -192,7 +243,7 @@ look-absent-more octet (b ∷ w) more fits is = absurd (cc)
 look-absent-more (octets n) w more fits is = absurd (octets-there n w is)
 look-absent-more number w more fits is = number-absent-more w more (read_of w) refl is
 look-absent-more (head kind) w more fits is = head-absent-more (λ i. i) kind w more fits is
-look-absent-more unsigned_or_text w more fits is = ?
+look-absent-more unsigned_or_text w more fits is = lead-absent-more w more fits is
 
 -- ---- what follows for each kind
 
@@ -222,3 +273,8 @@ look-found-more k w more x n fits is =
     ap (λ t. t ++ more) (sym (take-append-drop n w)) ∙ append_assoc (take n w) (drop n w) more in
     ap (look k) parts ∙ look-only k (take n w) (drop n w ++ more) x there.1
     ∙ ap (λ m. found x m) (length-take-le n w there.0)
+
+-- the octets of a head that is found at a place are there
+pub head-within : (text rest : List ℕ) (at kind n k : ℕ) → IsOctets text → rest ≡ drop at text → found n k ≡ head_at kind rest → k ≤ length rest
+head-within text rest at kind n k fits is there =
+    (head_at-found kind rest n k (subst IsOctets (sym is) (octets-drop at text fits)) (sym there)).0

@@ -1,17 +1,17 @@
 -- The laws of reading, for every format: what is read is spelled so, what is spelled so is read; what
 -- is refused has this refusal, what has a refusal is refused with it; and a settled answer stays.
-use Rattle.std.proofs.Common.{◌≡◌, ℕ, ◌+◌, ◌-◌, ◌<◌, ◌≤◌, List, [], ◌∷◌, ◌++◌, length, take, drop, Option, Some, None, Result, Ok, Err, ◌⊎◌, refl, sym, ap, ◌∙◌, subst, inl, inr, arith, add-zero, zero-add, append_assoc, append-nil, length-append, length-drop, take-append-drop}
-use Rattle.std.proofs.lemmas.List.{length-take-le, drop-append-le, take-append-le}
-use Rattle.std.proofs.Math.Seq.{take-append_seam, drop-append_seam}
+use Rattle.std.proofs.Common.{◌≡◌, ℕ, ◌+◌, ◌-◌, ◌≤◌, List, [], ◌++◌, length, take, drop, Option, Some, None, Result, Ok, Err, refl, sym, ap, ◌∙◌, subst, inl, inr, arith, add-zero, append_assoc, length-append, length-drop}
+use Rattle.std.proofs.lemmas.List.{length-take-le}
+use Rattle.std.proofs.Math.Seq.{drop-append_seam}
 use Rattle.wire_fields.specs.declared.miss.Miss.{Miss}
 use Rattle.wire_fields.specs.declared.miss.Miss.TheVariants as misses
-use Rattle.wire_fields.specs.Kind.{Kind, ValueOf, SpellsKind, EndsInside}
+use Rattle.wire_fields.specs.Kind.{Kind, ValueOf, SpellsKind}
 use Rattle.wire_fields.specs.Format.{Format, give, place, since, field, such_that, and_then, Spells}
-use Rattle.wire_fields.specs.Refusal.{Stop, truncated, because, IsAbsent, Misfit, HasFailed, Refusal}
-use Rattle.wire_fields.specs.Reading.{look, ahead, look_at, named, judged, go_on, read, IsSettled, IsOctets}
+use Rattle.wire_fields.specs.Refusal.{Stop, truncated, because, Misfit, Refusal}
+use Rattle.wire_fields.specs.Reading.{look, ahead, named, judged, go_on, read, IsOctets}
 use Rattle.wire_fields.proofs.TextLemmas.{since_part, since_place, front_seam, part_seam, rest_seam, octets-drop}
 use Rattle.wire_fields.proofs.ResultLemmas.{found, stopped, found_is, stopped_is, go_on_ok, go_on_err}
-use Rattle.wire_fields.proofs.KindLemmas.{look-found, look-only, look-ends, look-short, look-absent, look-is_absent, look-absent-more, look-found-more}
+use Rattle.wire_fields.proofs.KindLemmas.{look-found, look-only, look-ends, look-short, look-absent, look-is_absent}
 
 -- ---- what is spelled so is read
 

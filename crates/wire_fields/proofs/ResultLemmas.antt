@@ -1,5 +1,5 @@
 -- Answers taken apart, and passed on.
-use Rattle.std.proofs.Common.{◌≡◌, ℕ, Result, Ok, Err, ◌⊎◌, inl, inr, refl, sym, ap, ◌∙◌, subst}
+use Rattle.std.proofs.Common.{◌≡◌, ℕ, Result, Ok, Err, ◌⊎◌, inl, inr, refl, ap}
 use Rattle.wire_fields.specs.Reading.{go_on}
 
 abbrev value_or : {A E : Type 0} → Result A E → A → A

@@ -1,5 +1,5 @@
 -- A settled answer stays, whatever octets follow; and a text has one front or one refusal.
-use Rattle.std.proofs.Common.{◌≡◌, ℕ, ◌+◌, ◌-◌, ◌<◌, ◌≤◌, List, [], ◌∷◌, ◌++◌, length, take, drop, Option, Some, None, Result, Ok, Err, ◌⊎◌, refl, sym, ap, ◌∙◌, subst, inl, inr, arith, append_assoc, append-nil, length-append, length-drop, take-append-drop}
+use Rattle.std.proofs.Common.{◌≡◌, ℕ, ◌-◌, ◌≤◌, List, [], ◌++◌, length, take, drop, Result, Ok, Err, ◌⊎◌, refl, sym, ap, ◌∙◌, inl, inr, arith, take-append-drop}
 use Rattle.std.proofs.Math.Nat.{sub-zero}
 use Rattle.std.proofs.lemmas.List.{length-take-le, drop-append-le, take-append-le}
 use Rattle.wire_fields.specs.declared.miss.Miss.{Miss}
@@ -7,11 +7,11 @@ use Rattle.wire_fields.specs.declared.miss.Miss.TheVariants as misses
 use Rattle.wire_fields.specs.Kind.{Kind, ValueOf}
 use Rattle.wire_fields.specs.Format.{Format, give, place, since, field, such_that, and_then, Spells}
 use Rattle.wire_fields.specs.Refusal.{Stop, truncated, because, Refusal, Begins, ExactlyOne}
-use Rattle.wire_fields.specs.Reading.{look, ahead, look_at, named, judged, go_on, read, IsSettled, IsOctets}
+use Rattle.wire_fields.specs.Reading.{look, ahead, named, judged, go_on, read, IsSettled, IsOctets}
 use Rattle.wire_fields.proofs.TextLemmas.{octets-drop, since_place}
-use Rattle.wire_fields.proofs.ResultLemmas.{found, stopped, found_is, stopped_is}
+use Rattle.wire_fields.proofs.ResultLemmas.{found, found_is, stopped_is}
 use Rattle.wire_fields.proofs.KindLemmas.{look-absent-more, look-found-more}
-use Rattle.wire_fields.proofs.ReadLemmas.{IsThere, read-only, read-found, read-refused, read-refuses}
+use Rattle.wire_fields.proofs.ReadLemmas.{read-only, read-found, read-refused, read-refuses}
 
 -- ---- a settled answer stays
 

@@ -1,8 +1,8 @@
 -- Fronts and parts of a text, by places.
-use Rattle.std.proofs.Common.{◌≡◌, ℕ, ◌+◌, ◌-◌, ◌<◌, ◌≤◌, List, [], ◌∷◌, ◌++◌, length, take, drop, get_or, refl, sym, ap, ◌∙◌, subst, inl, inr, arith, append_assoc, append-nil, length-append, length-drop, length-take, drop_of_length-le, take-append-drop, get_or-drop, take-add, drop-drop, take_all}
-use Rattle.std.proofs.lemmas.List.{take-append-le, drop-append-le, drop-take, length-take-le}
+use Rattle.std.proofs.Common.{◌≡◌, ℕ, ◌+◌, ◌-◌, ◌≤◌, List, ◌++◌, length, take, drop, sym, ap, ◌∙◌, inl, inr, arith, length-drop, length-take, drop_of_length-le, take-append-drop, get_or-drop, take-add, drop-drop}
+use Rattle.std.proofs.lemmas.List.{drop-append-le, drop-take}
 use Rattle.std.proofs.lemmas.Bool.{cases_lt}
-use Rattle.std.proofs.Math.Seq.{take-append_seam, drop-append_seam}
+use Rattle.std.proofs.Math.Seq.{take-append_seam}
 use Rattle.wire_fields.specs.Reading.{IsOctets}
 
 -- the octets from p on of a front, in the whole text

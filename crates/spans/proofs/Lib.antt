@@ -1,0 +1,7 @@
+pub mod Apart
+pub mod Growing
+pub mod Joined
+pub mod Split
+pub mod Grows
+pub mod Absorbing
+pub mod Widening

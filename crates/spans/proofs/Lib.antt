@@ -5,3 +5,4 @@ pub mod Split
 pub mod Grows
 pub mod Absorbing
 pub mod Widening
+pub mod Covering

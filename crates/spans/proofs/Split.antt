@@ -175,3 +175,10 @@ pub BeginsBy-past : (chunks : List (List Run)) (c i to : ℕ) → length chunks 
 BeginsBy-past chunks c i to past =
     (λ h. let low = ltb-true c (length chunks) h in absurd (omega (arith, low)),
      λ h. absurd (subst (λ (xs : List Run). BeginsBy to xs) (from_there-past chunks c i past) h))
+
+pub BeginsBy-within : (chunks : List (List Run)) (c i to : ℕ) → BeginsBy to (from_there chunks c i) → c < length chunks
+BeginsBy-within chunks c i to begins =
+    elim (cases_lt c (length chunks)) [
+      inl below ↦ below
+      | inr past ↦ absurd (subst (λ (xs : List Run). BeginsBy to xs) (from_there-past chunks c i past) begins)
+    ]

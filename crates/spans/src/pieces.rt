@@ -1,7 +1,7 @@
 //! The chunks of a `Spans`: the search for a place, a run added, and a run that grows.
 
 ghost use Rattle.std.specs.Prelude.{◌≡◌, ℕ, ◌+◌, ◌-◌, ◌^◌, ◌<◌, ◌≤◌, ◌++◌, ◌∷◌, [], List, length, take, drop, min, max, slice_index_or, IfOk, OnOk, OnErr, IsTrue, ◌↔◌};
-ghost use Rattle.spans.specs.Kept.{AreApart, AreFilled, EndBefore, FirstReaches, FirstBeginsAfter, before, from_there, joined, grown_over, left_after, BeginsBy, MeetsWhole, last_begin, widened, widening, split_at};
+ghost use Rattle.spans.specs.Kept.{AreApart, AreFilled, EndBefore, FirstReaches, FirstBeginsAfter, before, from_there, joined, grown_over, left_after, BeginsBy, MeetsWhole, Covers, IsApartFrom, last_begin, widened, widening, split_at};
 
 use std::alloc::{AllocError, Global};
 
@@ -259,4 +259,22 @@ pub(crate) fn widen(chunks: &mut Vec<Chunk>, place: Place, from: u64, to: u64) -
     let end = to.max(growth.end);
     set(chunks, place, Run { from: begin, to: end });
     growth.fresh + (end - growth.end)
+}
+
+/// Covers a range, and tells how many of its places are new. Where a run is added there may be no memory for it, and all is as before.
+pub(crate) fn cover(chunks: &mut Vec<Chunk>, alloc: Global, from: u64, to: u64) -> Result<u64, AllocError>
+    requires some { from < to }
+    requires apart { AreApart 0 (joined chunks.old.items) }
+    requires filled { AreFilled chunks.old.items }
+    ensures filled { AreFilled chunks.new.items }
+    ensures ok { IfOk result (Covers from to (joined chunks.old.items) (joined chunks.new.items)) }
+    ensures refused { OnErr result (IsApartFrom from to (joined chunks.old.items)) }
+    ensures err { OnErr result (joined chunks.new.items ≡ joined chunks.old.items) }
+{
+    let place = reaching(chunks, from);
+    if begins_by(chunks, place, to) {
+        return Ok(widen(chunks, place, from, to));
+    }
+    add(chunks, alloc, place, Run { from, to })?;
+    Ok(to - from)
 }

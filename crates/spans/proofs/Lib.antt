@@ -6,3 +6,5 @@ pub mod Grows
 pub mod Absorbing
 pub mod Widening
 pub mod Covering
+pub mod Places
+pub mod Kept

@@ -133,6 +133,26 @@ abbrev pub widening : ℕ → ℕ → List Run → ℕ
 widening from to [] = 0
 widening from to (r ∷ rs) = (grown_first from to r rs).fresh + (to - (grown_first from to r rs).end)
 
+-- all places from `from` to before `to` are places of the runs
+abbrev pub HasAll : ℕ → ℕ → List Run → Type 0
+HasAll from to runs = (k : ℕ) → from ≤ k → k < to → has_place runs k ≡ true
+
+-- the first run has all of them
+abbrev pub FirstHasAll : ℕ → ℕ → List Run → Type 0
+FirstHasAll from to [] = ⊥
+FirstHasAll from to (r ∷ rs) = (r.from ≤ from) × (to ≤ r.to)
+
+-- an index of the first chunk, where there is one
+abbrev pub IsAhead : List (List Run) → ℕ → Type 0
+IsAhead [] at = Unit {0}
+IsAhead (k ∷ ks) at = (at < length k) × AreFilled ks
+
+-- what is kept below a limit
+pub record IsKept (limit : ℕ) (chunks : List (List Run)) : Type 0 where
+  pub apart : AreApart 0 (joined chunks)
+  pub within : AreWithin limit (joined chunks)
+  pub filled : AreFilled chunks
+
 -- ---- covering
 
 -- the runs once the places from `from` to before `to` are covered too, of which n were not

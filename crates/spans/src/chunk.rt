@@ -1,6 +1,6 @@
 //! A chunk: a bounded number of runs, in order.
 
-ghost use Rattle.std.specs.Prelude.{◌≡◌, ℕ, ◌+◌, ◌^◌, ◌<◌, ◌≤◌, ◌++◌, ◌∷◌, [], length, take, drop, slice_index_or, slice_set, IfOk, OnOk, OnErr, IsTrue};
+ghost use Rattle.std.specs.Prelude.{◌≡◌, ℕ, ◌+◌, ◌^◌, ◌<◌, ◌≤◌, ◌++◌, ◌∷◌, [], length, take, drop, slice_index_or, slice_set, IfOk, OnOk, OnErr, IsTrue, nat_lt, count_by};
 ghost use Rattle.std.specs.List.{insert};
 ghost use Rattle.spans.specs.Kept.{AreApart, EndBefore, FirstReaches, end_after, last_begin, grown_over, left_after};
 
@@ -98,6 +98,15 @@ impl Chunk {
         ensures reached { FirstReaches place (drop result self.now) }
     {
         self.runs.partition_point(|run| run.to < place)
+    }
+
+    /// How many runs begin below `to`, where no run before one that does begins later.
+    pub fn beginning_before(&self, to: u64) -> usize
+        requires { AreApart 0 self.now }
+        ensures within { result ≤ length self.now }
+        ensures count { result ≡ count_by (λ r. nat_lt r.from to) self.now }
+    {
+        self.runs.partition_point(|run| run.from < to)
     }
 
     pub fn insert(&mut self, at: usize, run: Run) -> Result<(), AllocError>

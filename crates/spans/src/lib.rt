@@ -6,11 +6,12 @@
 #![tactic(auto)]
 
 mod chunk;
-
+mod covered;
 mod growth;
 mod pieces;
-
 mod range;
+mod runs;
 
-
+pub use covered::Spans;
 pub use range::Run;
+pub use runs::Runs;

@@ -1,10 +1,10 @@
 -- Runs once a range is covered too, over plain variables.
 
 use Rattle.std.proofs.Common.{◌≡◌, ℕ, zero, suc, ◌+◌, ◌-◌, ◌<◌, ◌≤◌, Bool, true, false, ◌||◌, List, [], ◌∷◌, ◌++◌, length, leb, ltb, min, max, refl, sym, ap, ◌∙◌, subst, arith, append_assoc, inl, inr}
-use Rattle.std.proofs.lemmas.Bool.{cases_lt, and_parts, and_from, or_cases, or_left, or_right, or_from, leb-true, ltb-true, le-leb, lt-ltb, false_from_ne_true, cases_Bool}
+use Rattle.std.proofs.lemmas.Bool.{cases_lt, and_parts, and_from, or_cases, or_left, or_right, or_from, leb-true, ltb-true, le-leb, lt-ltb, false_from_ne_true, cases_Bool, both_ways}
 use Rattle.spans.specs.declared.range.Run.{Run}
 use Rattle.spans.specs.declared.growth.Growth.{Growth}
-use Rattle.spans.specs.Kept.{AreApart, AreWithin, EndBefore, FirstReaches, FirstBeginsAfter, BeginsBy, is_in, has_place, places_in, over, grown_over, left_after, grown_first, widened, widening, Covers, IsApartFrom}
+use Rattle.spans.specs.Kept.{AreApart, AreWithin, EndBefore, FirstReaches, FirstBeginsAfter, BeginsBy, is_in, has_place, places_in, over, grown_over, left_after, grown_first, widened, widening, Covers, IsApartFrom, HasAll, FirstHasAll}
 use Rattle.spans.proofs.Apart.{AreApart-lower, AreApart-right}
 use Rattle.spans.proofs.Growing.{grown_over-yes, grown_over-no, left_after-yes, left_after-no}
 
@@ -206,3 +206,41 @@ pub FirstBeginsAfter-not : (to : ℕ) (ys : List Run) → (BeginsBy to ys → �
 FirstBeginsAfter-not to [] none = tt
 FirstBeginsAfter-not to (y ∷ ys) none =
     elim (cases_lt to y.from) [ inl far ↦ far | inr near ↦ absurd (none near) ]
+
+-- ---- a range that the runs have
+
+pub HasAll-first : (from to : ℕ) (xs ys : List Run) → FirstHasAll from to ys → HasAll from to (xs ++ ys)
+HasAll-first from to xs [] first = absurd first
+HasAll-first from to xs (r ∷ rs) first = λ k low high.
+    has_place-append xs (r ∷ rs) k
+    ∙ or_right (has_place xs k) (has_place (r ∷ rs) k)
+      (or_left (is_in r.from r.to k) (has_place rs k) (is_in-from r.from r.to k (omega (arith, first.0)) (omega (arith, first.1))))
+
+none-at : (from k : ℕ) (xs ys : List Run) → EndBefore from xs → from ≤ k → has_place ys k ≡ false → has_place (xs ++ ys) k ≡ false
+none-at from k xs ys ends le none =
+    has_place-append xs ys k ∙ or_from (has_place xs k) (has_place ys k) (has_place-ends from k xs ends (omega arith)) none
+
+pub FirstHasAll-all : (from to : ℕ) (xs ys : List Run) → from < to → AreApart 0 (xs ++ ys) → EndBefore from xs → FirstReaches from ys → HasAll from to (xs ++ ys) → FirstHasAll from to ys
+FirstHasAll-all from to xs [] some apart ends reaches all =
+    both_ways (has_place (xs ++ []) from) (none-at from from xs [] ends (omega arith) refl) (all from (omega arith) some)
+FirstHasAll-all from to xs (r ∷ rs) some apart ends reaches all =
+    let there = AreApart-right 0 xs (r ∷ rs) apart in
+    let begins : r.from ≤ from =
+      elim (cases_lt from r.from) [
+        inl before ↦
+          absurd (both_ways (has_place (xs ++ (r ∷ rs)) from)
+           (none-at from from xs (r ∷ rs) ends (omega arith)
+            (or_from (is_in r.from r.to from) (has_place rs from) (is_in-false r.from r.to from (λ a b. omega arith)) (has_place-far (r.to + 1) from rs there.2 (omega (arith, there.1)))))
+           (all from (omega arith) some))
+        | inr le ↦ le
+      ] in
+    let reached : to ≤ r.to =
+      elim (cases_lt r.to to) [
+        inl short ↦
+          absurd (both_ways (has_place (xs ++ (r ∷ rs)) r.to)
+           (none-at from r.to xs (r ∷ rs) ends reaches
+            (or_from (is_in r.from r.to r.to) (has_place rs r.to) (is_in-false r.from r.to r.to (λ a b. omega arith)) (has_place-far (r.to + 1) r.to rs there.2 (omega arith))))
+           (all r.to reaches short))
+        | inr le ↦ le
+      ] in
+    (begins, reached)

@@ -8,3 +8,4 @@ pub mod Widening
 pub mod Covering
 pub mod Places
 pub mod Kept
+pub mod Iterating

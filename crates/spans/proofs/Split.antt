@@ -7,7 +7,7 @@ use Rattle.std.proofs.lemmas.List.{take-append-drop, append-nil, take-take, take
 use Rattle.std.proofs.lemmas.List.Edits.{length-insert}
 use Rattle.std.specs.List.{insert}
 use Rattle.spans.specs.declared.range.Run.{Run}
-use Rattle.spans.specs.Kept.{AreFilled, joined, before, from_there, split_at, BeginsBy}
+use Rattle.spans.specs.Kept.{AreFilled, joined, before, from_there, split_at, BeginsBy, FirstHasAll}
 use Rattle.spans.proofs.Growing.{drop-read}
 use Rattle.spans.proofs.Joined.{from_there-past, joined-append, joined-set, joined-place, from_there-split, AreFilled-set, AreFilled-append}
 
@@ -182,3 +182,13 @@ BeginsBy-within chunks c i to begins =
       inl below ↦ below
       | inr past ↦ absurd (subst (λ (xs : List Run). BeginsBy to xs) (from_there-past chunks c i past) begins)
     ]
+
+pub FirstHasAll-past : (chunks : List (List Run)) (c i from to : ℕ) → length chunks ≤ c → FirstHasAll from to (from_there chunks c i) → ⊥
+FirstHasAll-past chunks c i from to past first = subst (λ (xs : List Run). FirstHasAll from to xs) (from_there-past chunks c i past) first
+
+pub FirstHasAll-read : (chunks : List (List Run)) (c i from to : ℕ) (k : List Run) (r : Run) → c < length chunks → k ≡ get_or chunks c k → i < length (get_or chunks c []) → r ≡ get_or k i r
+    → (((r.from ≤ from) × (to ≤ r.to)) → FirstHasAll from to (from_there chunks c i)) × (FirstHasAll from to (from_there chunks c i) → (r.from ≤ from) × (to ≤ r.to))
+FirstHasAll-read chunks c i from to k r below read here at =
+    let within = subst (λ (xs : List Run). i < length xs) (sym (get_or_read chunks c k below read [])) here in
+    let e = from_there-read chunks c i k r below read within at in
+    (λ h. subst (λ (xs : List Run). FirstHasAll from to xs) (sym e) h, λ h. subst (λ (xs : List Run). FirstHasAll from to xs) e h)

@@ -1,10 +1,12 @@
 -- What is kept, and what a contract sees of it, over plain variables.
 
-use Rattle.std.proofs.Common.{◌≡◌, ℕ, ◌+◌, ◌<◌, ◌≤◌, Bool, true, List, length, refl, sym, ap, ◌∙◌, subst, arith, Result, Ok, Err, IfOk, OnOk, OnErr}
+use Rattle.std.proofs.Common.{◌≡◌, ℕ, ◌+◌, ◌^◌, ◌<◌, ◌≤◌, Bool, true, ltb, List, length, refl, sym, ap, ◌∙◌, subst, arith, Result, Ok, Err, IfOk, OnOk, OnErr}
+use Rattle.std.specs.List.{count_by}
 use Rattle.spans.specs.declared.range.Run.{Run}
 use Rattle.spans.specs.Kept.{AreApart, AreWithin, AreFilled, IsKept, IsApartFrom, Covers, HasAll, joined, places_from}
-use Rattle.spans.specs.Places.{AddsRun, with_covered, uncovered_in, all_covered, runs_of}
+use Rattle.spans.specs.Places.{AddsRun, with_covered, uncovered_in, all_covered, runs_of, runs_below}
 use Rattle.spans.proofs.Places.{length-places, length-with_covered, places_from-covered, uncovered_in-covers, AddsRun-places, all_covered-has, runs_of-places}
+use Rattle.spans.proofs.Counting.{length-kept}
 
 -- chunks are kept below a limit, and stand for places
 pub record StandFor (limit : ℕ) (chunks : List (List Run)) (places : List Bool) : Type 0 where
@@ -20,12 +22,13 @@ pub IsKept-covered : {E : Type 0} (limit from to : ℕ) (old now : List (List Ru
     → AreFilled now → IfOk r (Covers from to (joined old) (joined now)) → OnErr r (joined now ≡ joined old) → IsKept limit now
 IsKept-covered limit from to old now places (Ok n) h within filled ok err =
     let e = length-of limit old places h in
-    record { apart = ok.apart; within = ok.within limit (omega (arith, e)) h.kept.within; filled = filled }
+    record { apart = ok.apart; within = ok.within limit (omega (arith, e)) h.kept.within; filled = filled; small = h.kept.small }
 IsKept-covered limit from to old now places (Err x) h within filled ok err =
     record {
       apart = subst (λ (xs : List Run). AreApart 0 xs) (sym err) h.kept.apart;
       within = subst (λ (xs : List Run). AreWithin limit xs) (sym err) h.kept.within;
       filled = filled;
+      small = h.kept.small;
     }
 
 pub view-covered : {E : Type 0} (limit from to : ℕ) (old now : List (List Run)) (places : List Bool) (r : Result ℕ E) → StandFor limit old places → from ≤ to → to ≤ length places
@@ -66,3 +69,12 @@ all_covered-kept limit from to chunks places b h within f g =
 
 pub runs_of-kept : (limit : ℕ) (chunks : List (List Run)) (places : List Bool) → StandFor limit chunks places → joined chunks ≡ runs_of places
 runs_of-kept limit chunks places h = sym (runs_of-places limit (joined chunks) h.kept.apart) ∙ ap runs_of h.view
+
+pub length-kept_runs : (limit : ℕ) (chunks : List (List Run)) → IsKept limit chunks → length (joined chunks) < 2 ^ 64
+length-kept_runs limit chunks kept =
+    let le = length-kept limit (joined chunks) kept.apart kept.within in
+    omega (arith, le, kept.small)
+
+pub runs_below-kept : (limit to : ℕ) (chunks : List (List Run)) (places : List Bool) → StandFor limit chunks places → count_by (λ r. ltb r.from to) (joined chunks) ≡ runs_below to places
+unfolding runs_below
+runs_below-kept limit to chunks places h = ap (λ (xs : List Run). count_by (λ r. ltb r.from to) xs) (runs_of-kept limit chunks places h)

@@ -9,3 +9,4 @@ pub mod Covering
 pub mod Places
 pub mod Kept
 pub mod Iterating
+pub mod Counting

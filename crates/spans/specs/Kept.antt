@@ -1,6 +1,6 @@
 -- What is kept: runs in order that do not touch, in chunks, and the places that they stand for.
 
-use Rattle.std.specs.Prelude.{◌≡◌, ℕ, zero, suc, ◌+◌, ◌-◌, ◌<◌, ◌≤◌, Bool, true, false, ◌&&◌, ◌||◌, List, [], ◌∷◌, ◌++◌, length, take, drop, replicate, min, max, if◌then◌else◌, nat_lt, nat_le, slice_index_or}
+use Rattle.std.specs.Prelude.{◌≡◌, ℕ, zero, suc, ◌+◌, ◌-◌, ◌^◌, ◌<◌, ◌≤◌, Bool, true, false, ◌&&◌, ◌||◌, List, [], ◌∷◌, ◌++◌, length, take, drop, replicate, min, max, if◌then◌else◌, nat_lt, nat_le, slice_index_or}
 use Rattle.std.specs.List.{flat_map}
 use Rattle.spans.specs.declared.range.Run.{Run}
 use Rattle.spans.specs.declared.growth.Growth.{Growth}
@@ -152,6 +152,7 @@ pub record IsKept (limit : ℕ) (chunks : List (List Run)) : Type 0 where
   pub apart : AreApart 0 (joined chunks)
   pub within : AreWithin limit (joined chunks)
   pub filled : AreFilled chunks
+  pub small : limit < 2 ^ 64
 
 -- ---- covering
 

@@ -1,0 +1,12 @@
+pub mod Apart
+pub mod Growing
+pub mod Joined
+pub mod Split
+pub mod Grows
+pub mod Absorbing
+pub mod Widening
+pub mod Covering
+pub mod Places
+pub mod Kept
+pub mod Iterating
+pub mod Counting

@@ -1,0 +1,39 @@
+use Rattle.std.proofs.Common.{◌≡◌, ◌≤◌, ◌<◌, ◌/◌, List, [], length, get_or, arith, ap, subst, sym, refl}
+use Rattle.std.proofs.lemmas.List.{get_or_read}
+use Rattle.spans.specs.declared.range.Run.{Run}
+use Rattle.spans.specs.Kept.{AreFilled, split_at}
+use Rattle.spans.proofs.Split.{StandsAt, StandsAt-moved, AreFilled-split_at}
+use Rattle.spans.proofs.pieces.make_room.Goals as goal
+
+-- how long the chunk is
+long : (c : goal.After-moved) → 1 < length (get_or c.args.chunks.now.items c.args.place.chunk [])
+long c =
+    let k = get_or_read c.args.chunks.now.items c.args.place.chunk c.index.result.now c.requires.within c.index.ensures [] in
+    subst (λ (xs : List Run). 1 < length xs) k (c.if-not-is_full.ensures refl)
+
+half : (c : goal.After-moved) → c.len-keep.result ≡ length (get_or c.args.chunks.now.items c.args.place.chunk [])
+half c =
+    let k = get_or_read c.args.chunks.now.items c.args.place.chunk c.index-2.result.now c.requires.within c.index-2.ensures [] in
+    subst (λ (xs : List Run). c.len-keep.result ≡ length xs) k c.len-keep.ensures
+
+pub returns-clause-filled : goal.returns-clause-filled
+returns-clause-filled c =
+    subst (λ (xs : List (List Run)). AreFilled xs) (sym c.in_ok-split.ensures.ok)
+    (AreFilled-split_at c.args.chunks.now.items c.args.place.chunk (c.len-keep.result / 2) c.requires.filled (omega (arith, long c, half c)) (omega (arith, long c, half c)))
+
+stands : (c : goal.After-moved) → StandsAt c.args.chunks.now.items c.args.place.chunk c.args.place.at c.split.new.chunks.items c.moved.result.chunk c.moved.result.at
+stands c =
+    StandsAt-moved c.args.chunks.now.items c.split.new.chunks.items c.args.place c.moved.result (c.len-keep.result / 2)
+    c.requires.within c.requires.at (omega (arith, half c)) c.in_ok-split.ensures.ok c.moved.ensures.below c.moved.ensures.above
+
+pub returns-clause-within : goal.returns-clause-within
+returns-clause-within c = (stands c).within
+
+pub returns-clause-at : goal.returns-clause-at
+returns-clause-at c = (stands c).at
+
+pub returns-clause-before : goal.returns-clause-before
+returns-clause-before c = (stands c).before
+
+pub returns-clause-rest : goal.returns-clause-rest
+returns-clause-rest c = (stands c).rest

@@ -1,0 +1,60 @@
+//! The maximal covered ranges, one after another.
+
+ghost use Rattle.std.specs.Prelude.{◌≡◌, List};
+ghost use Rattle.std.specs.Iterator.{YieldsFirst, item_count};
+ghost use Rattle.spans.specs.Kept.{AreFilled, joined};
+
+use std::marker::Model;
+
+use crate::chunk::Chunk;
+use crate::range::Run;
+
+/// The maximal covered ranges that are still to come.
+#[derive(Debug, Drop)]
+pub struct Runs<'a> {
+    chunks: &'a [Chunk],
+    at: usize,
+}
+
+impl<'a> Model for Runs<'a> {
+    ghost use Rattle.std.specs.Prelude.{List};
+    ghost use Rattle.spans.specs.declared.range.Run.{Run};
+
+    ghost Value = { List Run };
+
+    ghost use Rattle.spans.specs.Kept.{IsAhead, from_there};
+
+    ghost view = { λ r. from_there r.chunks.now 0 r.at };
+
+    ghost invariant = { λ r. IsAhead r.chunks.now r.at };
+}
+
+impl<'a> Runs<'a> {
+    /// All runs of some chunks.
+    pub(crate) fn over(chunks: &'a [Chunk]) -> Runs<'a>
+        requires { AreFilled chunks.now }
+        ensures { result ≡ joined chunks.now }
+    {
+        Runs { chunks, at: 0 }
+    }
+}
+
+impl<'a> Iterator for Runs<'a> {
+    type Item = Run;
+
+    ghost next_gives = { YieldsFirst (λ r. r) };
+
+    ghost remaining = { item_count (λ r. r) };
+
+    fn next(&mut self) -> Option<Run> {
+        let (first, others) = self.chunks.split_first()?;
+        let run = first.run(self.at);
+        if self.at + 1 < first.len() {
+            self.at += 1;
+            return Some(run);
+        }
+        self.chunks = others;
+        self.at = 0;
+        Some(run)
+    }
+}

@@ -1,7 +1,11 @@
 -- What a sink holds, or a link sent, where it tells it. A version in memory stops telling once
 -- it is full, so each word here goes backwards: what is told now was told before.
 use Rattle.std.specs.Io.KnownBytes.{Consumes, IsAtEnd}
-use Rattle.std.specs.Prelude.{◌≡◌, ℕ, ◌<◌, List, [], ◌++◌, take, length, Option, Result, IfSome, IsSomeAnd, MatchResult}
+use Rattle.std.specs.Prelude.{◌≡◌, ℕ, ◌+◌, ◌<◌, List, [], ◌++◌, take, length, Option, Result, IfSome, IsSomeAnd, MatchResult}
+
+-- the octets that are read of an input: one more than the most, where there are so many
+unfoldable pub read_front : ℕ → List ℕ → List ℕ
+read_front most input = take (most + 1) input
 
 -- where it is told what is held now, it was told before, and xs were added
 abbrev pub Gains : {X : Type 0} → Option (List X) → Option (List X) → List X → Type 0

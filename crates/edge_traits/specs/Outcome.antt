@@ -22,6 +22,26 @@ pub record Answered : Type 0 where
   pub text : List ℕ
   pub status : Status
 
+-- an answer ends a run so: by itself no answer is a fault, a wrong call or want of memory
+abbrev pub IsAnswer : Status → Type 0
+IsAnswer Done = Unit {0}
+IsAnswer Refused = Unit {0}
+IsAnswer Limit = Unit {0}
+IsAnswer Usage = ⊥
+IsAnswer ReadFault = ⊥
+IsAnswer WriteFault = ⊥
+IsAnswer Memory = ⊥
+
+-- a run that only had to write ended so
+abbrev pub EndsWriting : Status → Type 0
+EndsWriting Done = Unit {0}
+EndsWriting Refused = Unit {0}
+EndsWriting Limit = Unit {0}
+EndsWriting WriteFault = Unit {0}
+EndsWriting Usage = ⊥
+EndsWriting ReadFault = ⊥
+EndsWriting Memory = ⊥
+
 -- a run ended so, with this answer due: what the sink held before, and what it holds now
 abbrev pub Answers : Answered → Status → Option (List ℕ) → Option (List ℕ) → Type 0
 Answers due Done before now = (due.status ≡ Done) × Gains before now due.text

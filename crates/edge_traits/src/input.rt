@@ -1,6 +1,6 @@
 //! Reading the whole input.
 ghost use Rattle.std.specs.Prelude.{◌≡◌, ℕ, ◌+◌, ◌-◌, ◌<◌, ◌≤◌, ◌^◌, take, length, vec_len, IfOk, IfSome, OnOk};
-ghost use Rattle.edge_traits.specs.Content.{ReadsOn};
+ghost use Rattle.edge_traits.specs.Content.{ReadsOn, read_front};
 ghost use Rattle.edge_traits.specs.Outcome.{ReadRose};
 
 use crate::failing::Failed;
@@ -43,6 +43,7 @@ impl From<Failed> for ReadRefused {
 /// How many octets a read asks for.
 const BUFFER: usize = 65536;
 
+#[tactic(auto, unfolding(crate::specs::Content::read_front))]
 /// Reads the input to its end, or `most` + 1 octets of it where it is longer than `most`.
 pub fn read_all<S: Source>(
     alloc: Global,
@@ -51,7 +52,7 @@ pub fn read_all<S: Source>(
 ) -> Result<Vec<u8>, ReadRefused>
     requires room { most < 2 ^ 62 }
     requires fresh { S.faults source.old < 2 ^ 64 - 1 }
-    ensures input { IfOk result (λ input. IfSome (S.left source.old) (λ left. input.items ≡ take (most + 1) left)) }
+    ensures input { IfOk result (λ input. IfSome (S.left source.old) (λ left. input.items ≡ read_front most left)) }
     ensures cause { ReadRose result (S.faults source.old) (S.faults source.new) }
 {
     let mut input = Vec::new(alloc);

@@ -12,6 +12,7 @@
 //! (`specs/Outcome.antt`). The system's clock and UDP sockets have no adapter yet.
 #![tactic(auto)]
 
+mod answer;
 mod clock;
 mod failing;
 mod gone;
@@ -23,11 +24,12 @@ mod sink;
 mod source;
 mod status;
 
+pub use answer::Answer;
 pub use clock::{Clock, MemClock};
 pub use failing::Failed;
 pub use input::{ReadRefused, read_all};
 pub use link::{LONGEST_DATAGRAM, Link, MemLink};
-pub use output::write_all;
+pub use output::{write_all, write_answer};
 pub use sink::{MemSink, Sink, SureSink, Writing};
 pub use source::{MemSource, Reading, Source, SureSource};
 pub use status::Status;

@@ -1,9 +1,13 @@
-//! Writing a whole text.
+//! Writing a whole text, and a whole answer.
 ghost use Rattle.std.specs.Prelude.{◌≡◌, ℕ, ◌+◌, ◌-◌, ◌<◌, ◌≤◌, ◌^◌, length, OnOk, OnErr};
+ghost use Rattle.edge_traits.specs.AnswerView.{answered};
 ghost use Rattle.edge_traits.specs.Content.{Gains, GainsFront};
+ghost use Rattle.edge_traits.specs.Outcome.{Answers, IsAnswer, EndsWriting, RoseByWrite};
 
+use crate::answer::Answer;
 use crate::failing::Failed;
 use crate::sink::Sink;
+use crate::status::Status;
 
 /// Writes the text to its end. Where a write fails, a front of the text was written and nothing
 /// is written after it.
@@ -20,4 +24,18 @@ pub fn write_all<K: Sink>(sink: &mut K, text: &[u8]) -> Result<(), Failed>
         rest = &rest[n..];
     }
     Ok(())
+}
+
+/// Writes an answer: its status, or `WriteFault` where a write failed.
+pub fn write_answer<K: Sink>(sink: &mut K, answer: &Answer) -> Status
+    requires fresh { K.faults sink.old < 2 ^ 64 - 1 }
+    requires answer { IsAnswer answer.now.status }
+    ensures answers { Answers (answered answer.now) result (K.held sink.old) (K.held sink.new) }
+    ensures ends { EndsWriting result }
+    ensures fault { RoseByWrite result (K.faults sink.old) (K.faults sink.new) }
+{
+    match write_all(sink, answer.text.as_bytes()) {
+        Ok(()) => answer.status,
+        Err(_) => Status::WriteFault,
+    }
 }

@@ -1,0 +1,26 @@
+//! What the program says of itself.
+
+/// What `--help` prints.
+pub const HELP: &str = "\
+fimdahol: a gateway between bundles of BPv6 and of BPv7, over LTP
+
+usage: fimdahol receive < DATAGRAMS      hands up the red parts of recorded LTP datagrams
+       fimdahol --help | --version
+
+receive reads one datagram in hex a line and writes
+  up ORIGINATOR SESSION HEX      where a red part has become whole
+  note LINE BadBounds            where a piece can't be one of its red part
+  skip LINE                      where a segment is no red piece of service 1, or comes after
+                                 its red part was handed up
+  refused line LINE Hex          last, where a line is no hex
+  refused line LINE AT CAUSE     last, where a datagram is no segment, and where
+
+status: 0 done, 1 the input was refused, 2 wrong usage, 3 a read failed, 4 a write failed,
+        6 the input passes a limit, 7 memory ran out
+";
+
+/// What `--version` prints.
+pub const VERSION: &str = "fimdahol 0.1.0, proved with rattle-kit-13f logic dac8208d650f15bf\n";
+
+/// What is put on standard error where the words name no command.
+pub const USAGE: &str = "fimdahol: these words are no command; 'fimdahol --help' lists them\n";

@@ -1,0 +1,9 @@
+pub mod LinesLemmas
+pub mod CellLemmas
+pub mod LawLemmas
+pub mod TableLemmas
+pub mod TranscriptLemmas
+pub mod SessionsLemmas
+pub mod OpenPartLemmas
+pub mod ReceiveLemmas
+pub mod CommandLemmas

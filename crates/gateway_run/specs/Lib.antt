@@ -1,0 +1,9 @@
+pub mod Lines
+pub mod Session
+pub mod RedPart
+pub mod Receive
+pub mod Views
+pub mod Words
+pub mod Sessions
+pub mod Turns
+pub mod OpenPart

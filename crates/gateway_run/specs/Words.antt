@@ -1,0 +1,67 @@
+-- Which command the words of a call name, and what it answers to an input.
+use Rattle.std.specs.Prelude.{ℕ, Bool, List, [], ◌∷◌, codes, Option, None, Some, IfSome, IsSomeAnd, ◌≡◌, ◌⊎◌, ◌++◌, nat_eq, if◌then◌else◌}
+use Rattle.std.specs.Cmp.Lexicographic.{pointwise}
+use Rattle.edge_traits.specs.declared.status.Status.{Status}
+use Rattle.edge_traits.specs.declared.status.Status.TheVariants as statuses
+use Rattle.edge_traits.specs.Content.{Gains}
+use Rattle.edge_traits.specs.Outcome.{Answered, Answers, IsAnswer}
+use Rattle.gateway_run.specs.declared.command.Command.{Command}
+use Rattle.gateway_run.specs.declared.command.Command.TheVariants as commands
+use Rattle.gateway_run.specs.Receive.{received, the_limits}
+use Rattle.gateway_run.specs.Lines.{lines_within}
+use Rattle.gateway_run.specs.RedPart.{KeepsReceiverLaw}
+
+abbrev pub is_word : List ℕ → List ℕ → Bool
+is_word word text = pointwise nat_eq word text
+
+-- the command of a single word
+abbrev pub one_word : List ℕ → Option Command
+one_word word = if is_word word (codes "receive") then Some commands.Receive else None
+
+-- the command that the words name
+abbrev pub command_of : List (List ℕ) → Option Command
+command_of [] = None
+command_of (word ∷ []) = one_word word
+command_of (word ∷ second ∷ words) = None
+
+-- ---- what a command answers
+
+-- the most octets of an input that are looked at: 64 MiB
+abbrev pub most_input : ℕ
+most_input = 67108864
+
+-- what a command answers to an input
+abbrev pub answer_to : Command → List ℕ → Answered
+answer_to commands.Receive input = received the_limits most_input input
+
+-- a run ended so with this answer due for the command; words that name none get nothing written
+abbrev pub AnswersCommand : Option Command → List ℕ → Status → Option (List ℕ) → Option (List ℕ) → Type 0
+AnswersCommand None input status before now = Gains before now []
+AnswersCommand (Some command) input status before now = Answers (answer_to command input) status before now
+
+-- the run of a command ends as its answer has it, or for want of memory
+abbrev pub CompletesCommand : Option Command → List ℕ → Status → Type 0
+CompletesCommand None input status = Unit {0}
+CompletesCommand (Some command) input status =
+    (status ≡ (answer_to command input).status) ⊎ (status ≡ statuses.Memory)
+
+-- ---- the receiver's law
+
+-- behind what was held stands a text that keeps the law, whole where the run answered the input,
+-- and else a front of one
+pub record WritesLawfully (input : List ℕ) (status : Status) (held after : List ℕ) : Type 0 where
+  pub text : List ℕ
+  pub ending : Status
+  pub law : KeepsReceiverLaw 4194304 (lines_within most_input input) text ending
+  pub written : List ℕ
+  pub rest : List ℕ
+  pub front : text ≡ written ++ rest
+  pub after_is : after ≡ held ++ written
+  pub whole : IsAnswer status → (rest ≡ []) × (ending ≡ status)
+
+-- what `receive` wrote keeps the law; where a run ended early, what was written is a front of
+-- such a text
+abbrev pub KeepsLaw : Option Command → List ℕ → Status → Option (List ℕ) → Option (List ℕ) → Type 0
+KeepsLaw None input status before now = Unit {0}
+KeepsLaw (Some commands.Receive) input status before now =
+    IfSome now (λ after. IsSomeAnd before (λ held. WritesLawfully input status held after))

@@ -1,0 +1,29 @@
+//! What is kept of a red part that isn't whole.
+ghost use Rattle.std.specs.Prelude.{◌≡◌, ◌+◌, ◌≤◌, length, All};
+
+use spans::Spans;
+
+/// Octets that came for places of a red part.
+#[derive(Drop)]
+pub struct Held {
+    /// The place of the first octet.
+    pub offset: u64,
+    /// The octets.
+    pub body: Vec<u8>,
+}
+
+/// A red part of which pieces came, and that isn't whole yet.
+#[derive(Drop)]
+pub struct OpenPart {
+    /// What came, in the order in which it came.
+    pub pieces: Vec<Held>,
+    /// The places for which an octet came, of those of the greatest block.
+    pub covered: Spans,
+    /// The place behind the last octet that came.
+    pub reach: u64,
+    /// The length of the red part, once an end of it came.
+    pub end: Option<u64>,
+    ghost limit: { length covered ≡ 4194304 },
+    ghost near: { reach ≤ 4194304 },
+    ghost within: { All (λ held. held.offset + length held.body.items ≤ reach) pieces.items },
+}

@@ -1,0 +1,94 @@
+//! The program's one call.
+ghost use Rattle.std.specs.Prelude.{◌≡◌, ◌↔◌, ◌⊎◌, ◌-◌, ◌<◌, ◌^◌, None, IfSome, IfOk};
+ghost use Rattle.edge_traits.specs.AnswerView.{answered};
+ghost use Rattle.edge_traits.specs.Outcome.{Answers, IsAnswer, RoseByRead, RoseByWrite};
+ghost use Rattle.gateway_run.specs.Words.{command_of, answer_to, AnswersCommand, CompletesCommand, KeepsLaw};
+
+use crate::command::{Command, command_named};
+use crate::receive::receive;
+use crate::word::Word;
+use edge_traits::{Answer, Clock, Link, ReadRefused, Sink, Source, Status, read_all, write_answer};
+use std::alloc::{AllocError, Global};
+
+/// The most octets of an input: 64 MiB.
+const MOST_INPUT: usize = 67_108_864;
+
+/// Answers the command that the words name: reads the source to its end, and writes the answer
+/// to the sink. The links and the clock are for commands to come.
+pub fn run<S: Source, K: Sink, L: Link, C: Clock>(
+    alloc: Global,
+    words: &[Word],
+    source: &mut S,
+    sink: &mut K,
+    old_link: &mut L,
+    new_link: &mut L,
+    clock: &mut C,
+) -> Status
+    requires source { S.faults source.old < 2 ^ 64 - 1 }
+    requires sink { K.faults sink.old < 2 ^ 64 - 1 }
+
+    // Words that name no command are answered as such, and nothing is read or written.
+    ensures usage { (result ≡ Status.Usage) ↔ (command_of words.now ≡ None) }
+    ensures untouched { result ≡ Status.Usage → (source.new ≡ source.old) × (sink.new ≡ sink.old) }
+
+    // What is written, and how the run ends, is the command's answer to the input.
+    ensures answers { IfSome (S.left source.old) (λ input.
+        AnswersCommand (command_of words.now) input result (K.held sink.old) (K.held sink.new)) }
+
+    // A fault is answered exactly where a count rose.
+    ensures read_fault { RoseByRead result (S.faults source.old) (S.faults source.new) }
+    ensures write_fault { RoseByWrite result (K.faults sink.old) (K.faults sink.new) }
+
+    // Where no count rose, the run ends as the input has it, or for want of memory.
+    ensures complete { S.faults source.new ≡ S.faults source.old → K.faults sink.new ≡ K.faults sink.old
+        → IfSome (S.left source.old) (λ input. CompletesCommand (command_of words.now) input result) }
+
+    // `receive` hands up exactly the red parts that become whole.
+    ensures red_parts { IfSome (S.left source.old) (λ input.
+        KeepsLaw (command_of words.now) input result (K.held sink.old) (K.held sink.new)) }
+
+    ensures old_link { old_link.new ≡ old_link.old }
+    ensures new_link { new_link.new ≡ new_link.old }
+    ensures clock { clock.new ≡ clock.old }
+{
+    match command_named(words) {
+        None => Status::Usage,
+        Some(command) => run_command(alloc, command, source, sink),
+    }
+}
+
+/// Runs a command.
+fn run_command<S: Source, K: Sink>(
+    alloc: Global,
+    command: Command,
+    source: &mut S,
+    sink: &mut K,
+) -> Status
+    requires source { S.faults source.old < 2 ^ 64 - 1 }
+    requires sink { K.faults sink.old < 2 ^ 64 - 1 }
+    ensures no_usage { result ≡ Status.Usage → ⊥ }
+    ensures answers { IfSome (S.left source.old) (λ input.
+        Answers (answer_to command input) result (K.held sink.old) (K.held sink.new)) }
+    ensures read_fault { RoseByRead result (S.faults source.old) (S.faults source.new) }
+    ensures write_fault { RoseByWrite result (K.faults sink.old) (K.faults sink.new) }
+{
+    let input = match read_all(alloc, source, MOST_INPUT) {
+        Ok(input) => input,
+        Err(ReadRefused::Fault) => return Status::ReadFault,
+        Err(ReadRefused::NoMemory) => return Status::Memory,
+    };
+    match answer(alloc, command, &input) {
+        Ok(answer) => write_answer(sink, &answer),
+        Err(AllocError) => Status::Memory,
+    }
+}
+
+/// What the command answers to an input.
+fn answer(alloc: Global, command: Command, input: &[u8]) -> Result<Answer, AllocError>
+    ensures answer { IfOk result (λ a. answered a ≡ answer_to command input.now) }
+    ensures status { IfOk result (λ a. IsAnswer a.status) }
+{
+    match command {
+        Command::Receive => receive(alloc, input, MOST_INPUT),
+    }
+}

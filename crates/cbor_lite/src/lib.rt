@@ -12,6 +12,8 @@
 
 mod fault;
 mod head;
+mod reading;
 
 pub use fault::CborFault;
-pub use head::{Head, read_head_of};
+pub use head::{Head, read_head, read_head_of};
+pub use reading::{read_array, read_bool, read_break, read_bytes, read_text, read_uint};

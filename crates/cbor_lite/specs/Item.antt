@@ -33,6 +33,11 @@ StringFault kind w Kind = HasOtherKind kind w
 StringFault kind w Short = EndsInsideHead kind w ⊎ EndsInsideContent kind w
 StringFault kind w NotShortest = HasLongHead kind w
 
+-- what an answer says of a text at whose front a string of a kind is asked for
+abbrev pub AnswersString : ℕ → List ℕ → Result (List ℕ × ℕ) CborFault → Type 0
+AnswersString kind w (Ok x) = (x.1 ≤ length w) × SpellsString kind (take x.1 w) x.0
+AnswersString kind w (Err e) = StringFault kind w e
+
 -- the content behind a head that says its length
 abbrev pub content_at : List ℕ → Result (ℕ × ℕ) CborFault → Result (List ℕ × ℕ) CborFault
 content_at w (Err e) = Err e

@@ -18,6 +18,13 @@ const ARRAY: u8 = 4;
 
 /// Reads an unsigned number, and how many octets it has.
 pub fn read_uint(bytes: &[u8]) -> Result<(u64, usize), CborFault>
+    // What is read is spelled so.
+    ensures found { IfOk result (λ x. (x.1 ≤ length bytes.now)
+        × SpellsHead 0 (take x.1 bytes.now) x.0) }
+    // What is spelled so is read, whatever follows.
+    ensures only { (n : ℕ) (k : ℕ) → k ≤ length bytes.now
+        → SpellsHead 0 (take k bytes.now) n → result ≡ Ok (n, k) }
+    ensures fault { (e : CborFault) → (result ≡ Err e) ↔ HeadFault 0 bytes.now e }
     ensures exact { result ≡ head_at 0 bytes.now }
 {
     read_head_of(UNSIGNED, bytes)
@@ -25,6 +32,13 @@ pub fn read_uint(bytes: &[u8]) -> Result<(u64, usize), CborFault>
 
 /// Reads the head of an array, which says how many items follow, and how many octets the head has.
 pub fn read_array(bytes: &[u8]) -> Result<(u64, usize), CborFault>
+    // What is read is spelled so.
+    ensures found { IfOk result (λ x. (x.1 ≤ length bytes.now)
+        × SpellsHead 4 (take x.1 bytes.now) x.0) }
+    // What is spelled so is read, whatever follows.
+    ensures only { (n : ℕ) (k : ℕ) → k ≤ length bytes.now
+        → SpellsHead 4 (take k bytes.now) n → result ≡ Ok (n, k) }
+    ensures fault { (e : CborFault) → (result ≡ Err e) ↔ HeadFault 4 bytes.now e }
     ensures exact { result ≡ head_at 4 bytes.now }
 {
     read_head_of(ARRAY, bytes)
@@ -32,6 +46,13 @@ pub fn read_array(bytes: &[u8]) -> Result<(u64, usize), CborFault>
 
 /// Reads a byte string, and how many octets it has with its head.
 pub fn read_bytes(bytes: &[u8]) -> Result<(&[u8], usize), CborFault>
+    // What is read is spelled so.
+    ensures found { IfOk result (λ x. (x.1 ≤ length bytes.now)
+        × SpellsString 2 (take x.1 bytes.now) x.0.now) }
+    // What is spelled so is read, whatever follows.
+    ensures only { (body : List ℕ) (k : ℕ) → k ≤ length bytes.now
+        → SpellsString 2 (take k bytes.now) body → lent result ≡ Ok (body, k) }
+    ensures fault { (e : CborFault) → (result ≡ Err e) ↔ StringFault 2 bytes.now e }
     ensures exact { lent result ≡ string_at 2 bytes.now }
 {
     read_string(BYTES, bytes)
@@ -40,6 +61,13 @@ pub fn read_bytes(bytes: &[u8]) -> Result<(&[u8], usize), CborFault>
 /// Reads a text string, and how many octets it has with its head. Whether the octets are text isn't
 /// tested.
 pub fn read_text(bytes: &[u8]) -> Result<(&[u8], usize), CborFault>
+    // What is read is spelled so.
+    ensures found { IfOk result (λ x. (x.1 ≤ length bytes.now)
+        × SpellsString 3 (take x.1 bytes.now) x.0.now) }
+    // What is spelled so is read, whatever follows.
+    ensures only { (body : List ℕ) (k : ℕ) → k ≤ length bytes.now
+        → SpellsString 3 (take k bytes.now) body → lent result ≡ Ok (body, k) }
+    ensures fault { (e : CborFault) → (result ≡ Err e) ↔ StringFault 3 bytes.now e }
     ensures exact { lent result ≡ string_at 3 bytes.now }
 {
     read_string(TEXT, bytes)

@@ -1,7 +1,7 @@
 -- The items that bundles are written in (RFC 8949, section 3): a head, and for a string as many octets
 -- behind it as it says. Numbers are of kind 0, byte strings of kind 2, text strings of kind 3, and
 -- an array's head, of kind 4, says how many items follow.
-use Rattle.std.specs.Prelude.{◌≡◌, ◌⊎◌, ◌++◌, ℕ, ◌+◌, ◌-◌, ◌^◌, ◌<◌, ◌≤◌, ◌==◌, nat_lt, if◌then◌else◌, Bool, true, false, List, [], ◌∷◌, length, take, drop, Result, Ok, Err}
+use Rattle.std.specs.Prelude.{◌≡◌, ◌≢◌, ◌⊎◌, ◌++◌, ℕ, ◌+◌, ◌-◌, ◌^◌, ◌<◌, ◌≤◌, ◌==◌, nat_lt, if◌then◌else◌, Bool, true, false, List, [], ◌∷◌, length, take, drop, Result, Ok, Err}
 use Rattle.std.specs.Borrow.{Bor}
 use Rattle.cbor_lite.specs.declared.fault.CborFault.{CborFault}
 use Rattle.cbor_lite.specs.declared.fault.CborFault.TheVariants.{Kind, Short, NotShortest}
@@ -63,6 +63,20 @@ boolean true = 0xF5
 -- the octet that ends an array without a length
 abbrev pub break : ℕ
 break = 0xFF
+
+-- why no boolean stands at the front of a text
+abbrev pub BooleanFault : List ℕ → CborFault → Type 0
+BooleanFault [] Short = Unit {0}
+BooleanFault [] _ = ⊥
+BooleanFault (first ∷ rest) Kind = (first ≢ boolean false) × (first ≢ boolean true)
+BooleanFault (first ∷ rest) _ = ⊥
+
+-- why a text doesn't begin with the break octet
+abbrev pub BreakFault : List ℕ → CborFault → Type 0
+BreakFault [] Short = Unit {0}
+BreakFault [] _ = ⊥
+BreakFault (first ∷ rest) Kind = first ≢ break
+BreakFault (first ∷ rest) _ = ⊥
 
 abbrev pub boolean_at : List ℕ → Result (Bool × ℕ) CborFault
 boolean_at [] = Err Short

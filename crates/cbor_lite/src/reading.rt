@@ -1,20 +1,20 @@
 //! Readers of items.
 ghost use Rattle.std.specs.Prelude.{◌≡◌, ◌↔◌, ◌<◌, ◌≤◌, ◌+◌, ◌∷◌, [], ℕ, Bool, List, length, take, IfOk, MatchResult, Err, Ok};
 ghost use Rattle.cbor_lite.specs.Head.{SpellsHead, HeadFault, head_at};
-ghost use Rattle.cbor_lite.specs.Item.{SpellsString, StringFault, string_at, lent, boolean, break, boolean_at, break_at};
+ghost use Rattle.cbor_lite.specs.Item.{SpellsString, StringFault, string_at, lent, boolean, break, BooleanFault, BreakFault, boolean_at, break_at};
 ghost use Rattle.cbor_lite.specs.declared.fault.CborFault.{CborFault};
 
 use crate::fault::CborFault;
 use crate::head::read_head_of;
 
 /// The kind of unsigned numbers.
-const UNSIGNED: u8 = 0;
+pub(crate) const UNSIGNED: u8 = 0;
 /// The kind of byte strings.
-const BYTES: u8 = 2;
+pub(crate) const BYTES: u8 = 2;
 /// The kind of text strings.
-const TEXT: u8 = 3;
+pub(crate) const TEXT: u8 = 3;
 /// The kind of arrays.
-const ARRAY: u8 = 4;
+pub(crate) const ARRAY: u8 = 4;
 
 /// Reads an unsigned number, and how many octets it has.
 pub fn read_uint(bytes: &[u8]) -> Result<(u64, usize), CborFault>
@@ -86,6 +86,11 @@ fn read_string(kind: u8, bytes: &[u8]) -> Result<(&[u8], usize), CborFault>
 
 /// Reads a boolean, which has one octet.
 pub fn read_bool(bytes: &[u8]) -> Result<(bool, usize), CborFault>
+    ensures found { IfOk result (λ x. (x.1 ≤ length bytes.now)
+        × (take x.1 bytes.now ≡ boolean x.0 ∷ [])) }
+    ensures only { (b : Bool) (k : ℕ) → k ≤ length bytes.now
+        → take k bytes.now ≡ boolean b ∷ [] → result ≡ Ok (b, k) }
+    ensures fault { (e : CborFault) → (result ≡ Err e) ↔ BooleanFault bytes.now e }
     ensures exact { result ≡ boolean_at bytes.now }
 {
     match bytes.split_first() {
@@ -98,6 +103,10 @@ pub fn read_bool(bytes: &[u8]) -> Result<(bool, usize), CborFault>
 
 /// Reads the octet that ends an array without a length.
 pub fn read_break(bytes: &[u8]) -> Result<usize, CborFault>
+    ensures found { IfOk result (λ k. (k ≤ length bytes.now) × (take k bytes.now ≡ break ∷ [])) }
+    ensures only { (k : ℕ) → k ≤ length bytes.now → take k bytes.now ≡ break ∷ []
+        → result ≡ Ok k }
+    ensures fault { (e : CborFault) → (result ≡ Err e) ↔ BreakFault bytes.now e }
     ensures exact { result ≡ break_at bytes.now }
 {
     match bytes.split_first() {

@@ -13,6 +13,8 @@
 mod fault;
 mod head;
 mod reading;
+#[cfg(test)]
+mod tests;
 mod writing;
 
 pub use fault::CborFault;

@@ -102,7 +102,7 @@ module _ {C A : Type 0} (f : List A → Format C A) (text : List ℕ) where
   unfolding then_listed
   listed-fails n i earlier at o all h fails left =
       let one : Fails o (read (one_more f earlier) text at) =
-          fails-on o (read (f earlier) text at) (read (one_more f earlier) text at) (λ e is. ap (λ r. go_on r (then_listed earlier)) is) fails in
+      fails-on o (read (f earlier) text at) (read (one_more f earlier) text at) (λ e is. ap (λ r. go_on r (then_listed earlier)) is) fails in
       repeated-fails (one_more f) text n i earlier at o all h one left
 
 module _ {C A : Type 0} (f : ℕ → List A → Format C A) (is_last : A → Bool) (text : List ℕ) where

@@ -48,6 +48,9 @@ pub enum Cause {
     /// A seal is smaller than the one before it.
     #[error("Order")]
     Order,
+    /// Octets follow behind the last seal.
+    #[error("Trailing")]
+    Trailing,
 }
 
 /// Why no waybill was read.

@@ -1,10 +1,12 @@
 //! Reading a waybill, a function for each field that has a condition and for each group.
 
 ghost use Rattle.std.specs.Prelude.{◌≡◌, ◌≤◌, ◌<◌, ◌+◌, ◌==◌, ℕ, List, [], ◌∷◌, ◌++◌, length, IfOk, IfErr, IfSome, Ok, Err, slice_range, option_map, option_copied};
+ghost use Rattle.wire_fields.specs.Format.{Spells};
 ghost use Rattle.wire_fields.specs.Refusal.{Stop, because, Refusal, Begins, ExactlyOne};
+ghost use Rattle.wire_fields.specs.Whole.{WholeRefusal, read_whole, ExactlyOneWhole};
 ghost use Rattle.wire_fields.specs.Reading.{read, IsSettled, IsOctets};
 ghost use Rattle.wire_fields.specs.Words.{any_octet, any_octets, exact_octet, optional, test};
-ghost use Rattle.wire_fields.specs.Gives.{Gives, IsOn};
+ghost use Rattle.wire_fields.specs.Gives.{Gives, GivesWhole, IsOn};
 ghost use Rattle.wire_fields.specs.Waybill.{Bill, why, refusal, last_of, sum_of, number, sender_lead, sender, name, total, part, seal_count, front, item_kind, item_number, item, check, seal, seals_listed, items_listed, waybill, front_of, bill_of, has_goods, has_number, is_part, kind_needs};
 
 use crate::field::{number_at, octet_at, octets_at, unsigned_or_text_at};
@@ -389,3 +391,69 @@ fn read_waybill<'a>(
         behind,
     ))
 }
+
+// ---- a whole waybill
+
+/// How many items may stand before the last.
+const MOST: u64 = 3;
+
+/// Reads the waybill at the front, and how many octets it has. More may follow.
+pub fn decode<'a>(alloc: Global, bytes: &'a [u8]) -> Result<(Waybill<'a>, usize), Fail>
+    // What is read is spelled so.
+    ensures found { IfOk result (λ x. Begins (waybill 3) bytes.now x.1 (bill_of x.0)) }
+    // What is spelled so is read, unless memory runs out.
+    ensures only { (b : Bill) (k : ℕ) → Begins (waybill 3) bytes.now k b → Gives bill_of refusal result (Ok (b, k)) }
+    // What is refused has this refusal.
+    ensures refused { IfErr result (λ e. IfSome (refusal e) (λ s. Refusal (waybill 3) [] bytes.now s.0 s.1)) }
+    // What has a refusal is refused with it, unless memory runs out.
+    ensures refuses { (at : ℕ) (s : Stop Cause) → Refusal (waybill 3) [] bytes.now at s → Gives bill_of refusal result (Err (at, s)) }
+    // A waybill, or a refusal other than the end of the input, stays however the octets go on.
+    ensures stays { (more : List ℕ) → IsSettled (read (waybill 3) bytes.now 0) → Gives bill_of refusal result (read (waybill 3) (bytes.now ++ more) 0) }
+{
+    read_waybill(alloc, bytes, 0, MOST)
+}
+
+/// Reads a waybill behind which nothing follows.
+pub fn decode_whole<'a>(alloc: Global, bytes: &'a [u8]) -> Result<Waybill<'a>, Fail>
+    // What is read is spelled so.
+    ensures found { IfOk result (λ w. Spells (waybill 3) [] bytes.now (bill_of w)) }
+    // What is spelled so is read, unless memory runs out.
+    ensures only { (b : Bill) → Spells (waybill 3) [] bytes.now b → GivesWhole bill_of refusal result (Ok b) }
+    // What is refused has this refusal.
+    ensures refused { IfErr result (λ e. IfSome (refusal e) (λ s. WholeRefusal (waybill 3) Cause.Trailing bytes.now s.0 s.1)) }
+    // What has a refusal is refused with it, unless memory runs out.
+    ensures refuses { (at : ℕ) (s : Stop Cause) → WholeRefusal (waybill 3) Cause.Trailing bytes.now at s → GivesWhole bill_of refusal result (Err (at, s)) }
+{
+    read_all(alloc, bytes)
+}
+
+fn read_all<'a>(alloc: Global, bytes: &'a [u8]) -> Result<Waybill<'a>, Fail>
+    ensures { GivesWhole bill_of refusal result (read_whole (waybill 3) Cause.Trailing bytes.now) }
+{
+    let (bill, end) = read_waybill(alloc, bytes, 0, MOST)?;
+    if end != bytes.len() {
+        return Err(Fail::Refused {
+            at: end,
+            cause: Cause::Trailing,
+        });
+    }
+    Ok(bill)
+}
+
+/// Of each text a front spells a waybill, or the text is refused at one place for one reason.
+pub fn exactly_one()
+    ensures { (text : List ℕ) → IsOctets text → ExactlyOne (waybill 3) text }
+{}
+
+/// Each text spells a waybill as a whole, or it is refused at one place for one reason.
+pub fn exactly_one_whole()
+    ensures { (text : List ℕ) → IsOctets text → ExactlyOneWhole (waybill 3) Cause.Trailing text }
+{}
+
+/// Where a waybill is refused for a cause, it is refused so however the octets go on; and no front of
+/// what stands there spells it.
+pub fn refusals_stay()
+    ensures stays { (text more : List ℕ) → IsOctets text → IsSettled (read (waybill 3) text 0) → read (waybill 3) (text ++ more) 0 ≡ read (waybill 3) text 0 }
+    ensures no_front { (text : List ℕ) (at k : ℕ) (s : Stop Cause) (b : Bill) → IsOctets text → Refusal (waybill 3) [] text at s → Begins (waybill 3) text k b → ⊥ }
+    ensures within { (text more : List ℕ) (b : Bill) (k : ℕ) → IsOctets (text ++ more) → k ≤ length text → read (waybill 3) (text ++ more) 0 ≡ Ok (b, k) → read (waybill 3) text 0 ≡ Ok (b, k) }
+{}

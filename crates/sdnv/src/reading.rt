@@ -1,0 +1,55 @@
+//! A number at the front of a text.
+
+ghost use Rattle.std.specs.Prelude.{◌≡◌, ◌↔◌, ℕ, ◌≤◌, length, take, IfOk};
+ghost use Rattle.sdnv.specs.Spelling.{Spells};
+ghost use Rattle.sdnv.specs.Reading.{judged, read_of, IsShort, IsTooLong, IsTooLarge};
+
+use crate::MOST;
+use crate::fault::SdnvFault;
+
+/// Reads the number at the front, and how many octets spell it (RFC 5050, section 4.1). More may
+/// follow. No memory is taken.
+pub fn read(bytes: &[u8]) -> Result<(u64, usize), SdnvFault>
+    // What is read is spelled so.
+    ensures found { IfOk result (λ x. (x.1 ≤ length bytes.now) × Spells (take x.1 bytes.now) x.0) }
+    // What is spelled so is read, whatever follows it.
+    ensures only { (n k : ℕ) → k ≤ length bytes.now → Spells (take k bytes.now) n → result ≡ Ok (n, k) }
+    // Each fault comes exactly where it is true.
+    ensures short { (result ≡ Err SdnvFault.Short) ↔ IsShort bytes.now }
+    ensures too_long { (result ≡ Err SdnvFault.TooLong) ↔ IsTooLong bytes.now }
+    ensures too_large { (result ≡ Err SdnvFault.TooLarge) ↔ IsTooLarge bytes.now }
+    // All of this is one function of the octets.
+    ensures exact { result ≡ read_of bytes.now }
+{
+    first_number(bytes)
+}
+
+/// Adds up the groups until an octet ends the number.
+fn first_number(bytes: &[u8]) -> Result<(u64, usize), SdnvFault>
+    ensures { result ≡ read_of bytes.now }
+{
+    let most = bytes.len().min(MOST);
+    let mut value: u128 = 0;
+    for i in 0..most {
+        let octet = bytes[i];
+        value = value * 128 + (octet % 128) as u128;
+        if octet < 128 {
+            return judge(value, i + 1);
+        }
+    }
+    if most < MOST {
+        Err(SdnvFault::Short)
+    } else {
+        Err(SdnvFault::TooLong)
+    }
+}
+
+/// The number that ends within ten octets, if it isn't too large.
+fn judge(value: u128, octets: usize) -> Result<(u64, usize), SdnvFault>
+    ensures { result ≡ judged value octets }
+{
+    match u64::try_from(value) {
+        Ok(small) => Ok((small, octets)),
+        Err(_) => Err(SdnvFault::TooLarge),
+    }
+}

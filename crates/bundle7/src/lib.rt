@@ -13,6 +13,7 @@
 #![tactic(auto)]
 
 mod block;
+mod blocks;
 mod body;
 mod bundle;
 mod check;
@@ -24,6 +25,6 @@ mod primary;
 
 pub use block::{Block7, Blocks7};
 pub use body::Hop;
-pub use bundle::Bundle7;
+pub use bundle::{Bundle7, decode7};
 pub use fault::{Cause7, EidFault, Fail7};
 pub use primary::Primary7;

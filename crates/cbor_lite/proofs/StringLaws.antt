@@ -1,5 +1,5 @@
 -- What `string_at` gives is what the definition of strings says.
-use Rattle.std.proofs.Common.{◌≡◌, ◌↔◌, ◌+◌, ◌-◌, ◌<◌, ◌≤◌, IfOk, inl, inr, ℕ, List, ◌++◌, length, take, drop, ltb, Result, Ok, Err, refl, sym, ap, ◌∙◌, subst, append_assoc, arith, length-append, length-drop}
+use Rattle.std.proofs.Common.{◌≡◌, ◌↔◌, ◌+◌, ◌-◌, ◌<◌, ◌≤◌, IfOk, inl, inr, ℕ, List, ◌++◌, length, take, drop, Result, Ok, Err, refl, sym, ap, ◌∙◌, subst, append_assoc, arith, length-append, length-drop}
 use Rattle.std.proofs.lemmas.Bool.{le-ltb, lt-ltb, cases_lt}
 use Rattle.std.proofs.lemmas.List.{take-append-drop, length-take-le}
 use Rattle.std.proofs.Math.Seq.{take-add, take-append_seam, drop-append_seam}
@@ -7,7 +7,7 @@ use Rattle.std.specs.Borrow.{Bor}
 use Rattle.cbor_lite.specs.declared.fault.CborFault.{CborFault}
 use Rattle.cbor_lite.specs.declared.fault.CborFault.TheVariants.{Kind, Short, NotShortest}
 use Rattle.cbor_lite.specs.Head.{head, SpellsHead, HeadFault, AnswersHead, head_at}
-use Rattle.cbor_lite.specs.Item.{string, SpellsString, EndsInsideContent, StringFault, AnswersString, content_at, string_at, lent}
+use Rattle.cbor_lite.specs.Item.{SpellsString, EndsInsideContent, StringFault, AnswersString, content_at, string_at, lent}
 use Rattle.cbor_lite.proofs.HeadLemmas.{AreOctets, head_at-only, head_at-answers, head_at-other, head_at-ends, head_at-long}
 
 StringFault-head : (kind : ℕ) (w : List ℕ) (e : CborFault) → HeadFault kind w e → StringFault kind w e

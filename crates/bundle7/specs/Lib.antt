@@ -4,3 +4,6 @@ pub mod Name
 pub mod Body
 pub mod Check
 pub mod Table
+pub mod Spelling
+pub mod Legal
+pub mod Calls

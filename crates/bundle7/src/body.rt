@@ -1,7 +1,8 @@
 //! The bodies of the extension blocks that are known here (RFC 9171, section 4.4).
 
-ghost use Rattle.std.specs.Prelude.{◌≡◌, ◌≤◌, ℕ, length, IfOk, IfErr, is_ok};
+ghost use Rattle.std.specs.Prelude.{◌≡◌, ◌≤◌, [], ℕ, length, Some, IfOk, IfErr, IfSome, is_ok};
 ghost use Rattle.std.specs.Result.{result_ok};
+ghost use Rattle.wire_fields.specs.Format.{Spells};
 ghost use Rattle.wire_fields.specs.Reading.{read};
 ghost use Rattle.wire_fields.specs.Whole.{read_whole};
 ghost use Rattle.wire_fields.specs.Gives.{Gives, IsOn};
@@ -29,6 +30,22 @@ pub struct Hop {
     pub limit: u64,
     /// How many there were.
     pub count: u64,
+}
+
+/// The hop count that the octets of a body are, if they are exactly that.
+pub fn hop_of(body: &[u8]) -> Option<Hop>
+    ensures found { IfSome result (λ h. Spells hop [] body.now h) }
+    ensures only { (h : Hop) → Spells hop [] body.now h → result ≡ Some h }
+{
+    whole_hop(body)
+}
+
+/// The bundle age in milliseconds that the octets of a body are, if they are exactly that.
+pub fn age_of(body: &[u8]) -> Option<u64>
+    ensures found { IfSome result (λ n. Spells age [] body.now n) }
+    ensures only { (n : ℕ) → Spells age [] body.now n → result ≡ Some n }
+{
+    whole_age(body)
 }
 
 /// Whether the octets are a body that a block of this type may have.

@@ -17,9 +17,9 @@ use crate::primary::{Primary7, primary_at};
 use std::alloc::Global;
 
 /// The octet that opens an array without a length.
-const OPEN: u8 = 0x9F;
+pub(crate) const OPEN: u8 = 0x9F;
 /// The octet that ends it.
-const BREAK: u8 = 0xFF;
+pub(crate) const BREAK: u8 = 0xFF;
 /// The most extension blocks that a bundle has. Own rule.
 const MOST_EXTENSIONS: u64 = 64;
 

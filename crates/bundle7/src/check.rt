@@ -52,7 +52,7 @@ fn matches_at(text: &[u8], at: usize, check: &[u8]) -> Result<((), usize), Fail7
 }
 
 /// The CRC-16 of a block, whose own two octets stand behind these and are taken as zero.
-fn sixteen(block: &[u8]) -> [u8; 2]
+pub(crate) fn sixteen(block: &[u8]) -> [u8; 2]
     ensures { result ≡ check16 block.now }
 {
     Register16::new()
@@ -63,7 +63,7 @@ fn sixteen(block: &[u8]) -> [u8; 2]
 }
 
 /// The CRC-32C of a block, whose own four octets stand behind these and are taken as zero.
-fn thirty_two(block: &[u8]) -> [u8; 4]
+pub(crate) fn thirty_two(block: &[u8]) -> [u8; 4]
     ensures { result ≡ check32 block.now }
 {
     Register32::new()

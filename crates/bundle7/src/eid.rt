@@ -1,17 +1,108 @@
 //! Endpoints as a bundle spells them (RFC 9171, section 4.2.5).
 
-ghost use Rattle.std.specs.Prelude.{◌≡◌, ◌≤◌, length, IfOk, IfErr};
+ghost use Rattle.std.specs.Prelude.{◌≡◌, ◌≤◌, ◌++◌, [], ℕ, length, take, IfOk, IfErr, OnOk, OnErr, Ok, Err};
+ghost use Rattle.endpoint.specs.declared.name.Endpoint.{Endpoint};
+ghost use Rattle.wire_fields.specs.Format.{Spells};
+ghost use Rattle.wire_fields.specs.Refusal.{Begins};
 ghost use Rattle.wire_fields.specs.Reading.{read};
+ghost use Rattle.wire_fields.specs.Whole.{read_whole};
 ghost use Rattle.wire_fields.specs.Gives.{Gives, IsOn};
 ghost use Rattle.bundle7.specs.Cause.{refusal, IsRefused};
 ghost use Rattle.bundle7.specs.Eid.{may_lead, dtn_lead, ssp, dtn_rest, dtn_name, ipn_name, scheme, eid};
 ghost use Rattle.bundle7.specs.Name.{endpoint_of};
+ghost use Rattle.bundle7.specs.Spelling.{eid_octets};
+ghost use Rattle.bundle7.specs.Calls.{GivesEid};
 
-use crate::fault::{Cause7, Fail7};
+use crate::fault::{Cause7, EidFault, Fail7};
 use crate::field::{exactly, fault, octets, unsigned};
+use cbor_lite::{write_array, write_text, write_uint};
 use endpoint::{Endpoint, Octets, is_ssp};
 use std::alloc::{AllocError, Global};
 use wire_fields::{ARRAY, UnsignedOrText, unsigned_or_text_at};
+
+/// Reads the endpoint at the front, and how many octets it took. More may follow.
+pub fn read_eid(alloc: Global, bytes: &[u8]) -> Result<(Endpoint, usize), EidFault>
+    // What is read is spelled so.
+    ensures found { IfOk result (λ x. Begins eid bytes.now x.1 x.0) }
+    // What is spelled so is read, unless memory runs out.
+    ensures only { (e : Endpoint) (k : ℕ) → Begins eid bytes.now k e
+        → GivesEid result (Ok (e, k)) }
+    // What is refused isn't spelled, whatever follows.
+    ensures refused { result ≡ Err EidFault.Eid
+        → (e : Endpoint) (k : ℕ) → Begins eid bytes.now k e → ⊥ }
+{
+    front_eid(alloc, bytes)
+}
+
+/// The endpoint at the front.
+fn front_eid(alloc: Global, bytes: &[u8]) -> Result<(Endpoint, usize), EidFault>
+    ensures { GivesEid result (read eid bytes.now 0) }
+{
+    match name_at(bytes, 0) {
+        Ok((name, behind)) => Ok((name.owned(alloc)?, behind)),
+        Err(_) => Err(EidFault::Eid),
+    }
+}
+
+/// The endpoint that a previous node block's body is: exactly one, and nothing follows it.
+pub fn previous_of(alloc: Global, body: &[u8]) -> Result<Endpoint, EidFault>
+    // What is read is spelled so.
+    ensures found { IfOk result (λ e. Spells eid [] body.now e) }
+    // What is spelled so is read, unless memory runs out.
+    ensures only { (e : Endpoint) → Spells eid [] body.now e → GivesEid result (Ok e) }
+    // What is refused isn't spelled.
+    ensures refused { result ≡ Err EidFault.Eid → (e : Endpoint) → Spells eid [] body.now e → ⊥ }
+{
+    whole_eid(alloc, body)
+}
+
+/// The endpoint that the octets are, and nothing more.
+fn whole_eid(alloc: Global, body: &[u8]) -> Result<Endpoint, EidFault>
+    ensures { GivesEid result (read_whole eid Cause7.Eid body.now) }
+{
+    match name_at(body, 0) {
+        Ok((name, end)) if end == body.len() => Ok(name.owned(alloc)?),
+        _ => Err(EidFault::Eid),
+    }
+}
+
+/// Appends an endpoint. Where memory runs out, what was written stays as it was.
+pub fn write_eid(endpoint: &Endpoint, out: &mut Vec<u8>) -> Result<(), AllocError>
+    ensures written { OnOk result (out.new.items ≡ out.old.items ++ eid_octets endpoint.now) }
+    ensures kept { OnErr result (out.new.items ≡ out.old.items) }
+{
+    let before = out.len();
+    let written = append_eid(endpoint, out);
+    if written.is_err() {
+        out.truncate(before);
+    }
+    written
+}
+
+/// The same; where memory runs out, a front of the endpoint may be written.
+pub(crate) fn append_eid(endpoint: &Endpoint, out: &mut Vec<u8>) -> Result<(), AllocError>
+    ensures written { OnOk result (out.new.items ≡ out.old.items ++ eid_octets endpoint.now) }
+    ensures kept { OnErr result (take (length out.old.items) out.new.items ≡ out.old.items) }
+{
+    write_array(2, out)?;
+    match endpoint {
+        Endpoint::Null => {
+            write_uint(1, out)?;
+            write_uint(0, out)?;
+        }
+        Endpoint::Ipn { node, service } => {
+            write_uint(2, out)?;
+            write_array(2, out)?;
+            write_uint(*node, out)?;
+            write_uint(*service, out)?;
+        }
+        Endpoint::Dtn(ssp) => {
+            write_uint(1, out)?;
+            write_text(ssp.as_slice(), out)?;
+        }
+    }
+    Ok(())
+}
 
 /// An endpoint whose text is lent out of the octets.
 #[derive(Clone, Copy)]

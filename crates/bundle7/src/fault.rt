@@ -155,3 +155,14 @@ impl EidFault {
         }
     }
 }
+
+impl From<AllocError> for EidFault {
+    ghost use Rattle.std.specs.Prelude.{◌≡◌};
+    ghost use Rattle.bundle7.specs.declared.fault.EidFault.TheVariants as faults;
+
+    ghost from_gives = { λ _ fault. fault ≡ faults.Memory };
+
+    fn from(_: AllocError) -> EidFault {
+        EidFault::Memory
+    }
+}

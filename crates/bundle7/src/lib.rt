@@ -22,9 +22,12 @@ mod fault;
 mod field;
 mod groups;
 mod primary;
+mod writing;
 
 pub use block::{Block7, Blocks7};
-pub use body::Hop;
+pub use body::{Hop, age_of, hop_of};
 pub use bundle::{Bundle7, decode7};
+pub use eid::{previous_of, read_eid, write_eid};
 pub use fault::{Cause7, EidFault, Fail7};
 pub use primary::Primary7;
+pub use writing::encode7;

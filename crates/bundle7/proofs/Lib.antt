@@ -1,0 +1,5 @@
+pub mod CheckLemmas
+pub mod BlocksLemmas
+pub mod CallLemmas
+pub mod WritingLemmas
+pub mod SpellingLaws

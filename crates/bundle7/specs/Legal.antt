@@ -1,0 +1,56 @@
+-- Legal bundles: those that have a spelling.
+use Rattle.std.specs.Prelude.{◌≡◌, ℕ, ◌+◌, ◌^◌, ◌<◌, ◌≤◌, Bool, true, false, not, ◌&&◌, List, [], ◌∷◌, ◌++◌, length, Option, Some, None, is_some}
+use Rattle.endpoint.specs.declared.name.Endpoint.{Endpoint}
+use Rattle.endpoint.specs.declared.extent.Fragment.{Fragment}
+use Rattle.endpoint.specs.Endpoints.{IsEndpoint}
+use Rattle.bundle7.specs.declared.primary.Primary7.{Primary7}
+use Rattle.bundle7.specs.declared.block.Block7.{Block7}
+use Rattle.bundle7.specs.declared.bundle.Bundle7.{Bundle7}
+use Rattle.bundle7.specs.Body.{is_body}
+use Rattle.bundle7.specs.Table.{is_fragment, is_single, has_kind, is_number, is_within}
+
+-- the numbers of a fragment
+abbrev pub IsPart : Option Fragment → Type 0
+IsPart None = Unit {0}
+IsPart (Some part) = (part.offset < 2 ^ 64) × (part.total < 2 ^ 64)
+
+pub record IsLegalPrimary (p : Primary7) : Type 0 where
+  pub flags : p.flags < 2 ^ 64
+  pub crc : p.crc < 3
+  pub destination : IsEndpoint p.destination
+  pub source : IsEndpoint p.source
+  pub report_to : IsEndpoint p.report_to
+  pub millis : p.millis < 2 ^ 64
+  pub sequence : p.sequence < 2 ^ 64
+  pub lifetime : p.lifetime < 2 ^ 64
+  -- flag bit 0 stands exactly with a fragment
+  pub fragment_bit : is_fragment p.flags ≡ is_some p.fragment
+  pub fragment : IsPart p.fragment
+
+-- a block behind the earlier ones, in a bundle that may be a fragment
+pub record IsLegalBlock (part : Option Fragment) (earlier : List Block7) (b : Block7) : Type 0 where
+  pub kind : b.kind < 2 ^ 64
+  -- previous node, bundle age and hop count stand at most once
+  pub once : (is_single b.kind && has_kind b.kind earlier) ≡ false
+  -- 1 for the payload, and else at least 2 and new
+  pub number : is_number b.kind earlier b.number ≡ true
+  pub number_fits : b.number < 2 ^ 64
+  pub flags : b.flags < 2 ^ 64
+  pub crc : b.crc < 3
+  pub size : length b.body < 2 ^ 64
+  -- the payload of a fragment lies within the whole
+  pub within : is_within part b.kind (length b.body) ≡ true
+  pub body : is_body b.kind b.body ≡ true
+
+-- extension blocks behind the earlier ones
+abbrev pub AreLegal : Option Fragment → List Block7 → List Block7 → Type 0
+AreLegal part earlier [] = Unit {0}
+AreLegal part earlier (b ∷ more) =
+    IsLegalBlock part earlier b × ((b.kind ≡ 1 → ⊥) × AreLegal part (earlier ++ b ∷ []) more)
+
+pub record IsLegal (most : ℕ) (b : Bundle7) : Type 0 where
+  pub primary : IsLegalPrimary b.primary
+  pub few : length b.exts ≤ most
+  pub exts : AreLegal b.primary.fragment [] b.exts
+  pub payload : IsLegalBlock b.primary.fragment b.exts b.payload
+  pub payload_kind : b.payload.kind ≡ 1

@@ -1,0 +1,9 @@
+pub mod Cause
+pub mod Eid
+pub mod Name
+pub mod Body
+pub mod Check
+pub mod Table
+pub mod Spelling
+pub mod Legal
+pub mod Calls

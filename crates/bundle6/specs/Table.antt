@@ -17,7 +17,7 @@ use Rattle.bundle6.specs.declared.primary.Primary6.{Primary6}
 use Rattle.bundle6.specs.declared.block.Block6.{Block6}
 use Rattle.bundle6.specs.declared.bundle.Bundle6.{Bundle6}
 use Rattle.bundle6.specs.Bits.{has_bit, without}
-use Rattle.bundle6.specs.Names.{resolves, name_of}
+use Rattle.bundle6.specs.Names.{resolves, name_of, all_resolve, names_of}
 
 -- ---- the primary block
 
@@ -36,23 +36,12 @@ four_names = do
   custodian ← offsets
   give (record { destination = destination; source = source; report_to = report_to; custodian = custodian })
 
--- each of the four resolves
-abbrev pub all_resolve : Pairs → List ℕ → Bool
-all_resolve pairs dictionary =
-    resolves dictionary pairs.destination && resolves dictionary pairs.source
-    && resolves dictionary pairs.report_to && resolves dictionary pairs.custodian
-
 -- the dictionary's length and its octets, in which the four names resolve
 unfoldable pub dictionary : Pairs → Format Cause6 (Named × List ℕ)
 dictionary pairs = do
   size ← any_number Number
-  texts ← such_that (any_octets size Truncated) (λ texts. needs (all_resolve pairs texts) Names)
-  give (record {
-      destination = name_of texts pairs.destination;
-      source = name_of texts pairs.source;
-      report_to = name_of texts pairs.report_to;
-      custodian = name_of texts pairs.custodian;
-    }, texts)
+  texts ← such_that (any_octets size Truncated) (λ texts. needs (all_resolve texts pairs) Names)
+  give (names_of texts pairs, texts)
 
 unfoldable pub fragment : Format Cause6 Fragment
 fragment = do
@@ -75,7 +64,8 @@ primary = do
   part ← optional (has_bit 0 flags) fragment
   end ← place
   ended ← test (end - start == size) PrimaryEnd
-  give (record {
+  give (
+    record {
       flags = flags;
       destination = names.0.destination;
       source = names.0.source;
@@ -85,7 +75,9 @@ primary = do
       sequence = sequence;
       lifetime = lifetime;
       fragment = part;
-    }, names.1)
+    },
+    names.1,
+  )
 
 -- ---- blocks
 

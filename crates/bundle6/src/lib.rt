@@ -12,6 +12,7 @@
 mod block;
 mod bundle;
 mod fault;
+mod flags;
 mod names;
 mod primary;
 mod reading;

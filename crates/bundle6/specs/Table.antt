@@ -102,18 +102,27 @@ kind_field most payload other = such_that (any_octet Number) (λ kind.
 abbrev pub flags_field : Bool → Format Cause6 ℕ
 flags_field paid = such_that (any_number Number) (λ flags. needs (not (has_bit 3 flags) || paid) NoPayload)
 
--- a reference, behind the earlier ones
-unfoldable pub reference : List ℕ → List Endpoint → Format Cause6 (List Endpoint)
-reference dictionary earlier = do
+-- a reference: scheme offset and SSP offset, which resolve
+unfoldable pub name : List ℕ → Format Cause6 Endpoint
+name dictionary = do
   scheme ← any_number Number
   ssp ← such_that (any_number Number) (λ ssp.
       needs (resolves dictionary (record { scheme = scheme; ssp = ssp })) BlockRefs)
-  give (earlier ++ name_of dictionary (record { scheme = scheme; ssp = ssp }) ∷ [])
+  give (name_of dictionary (record { scheme = scheme; ssp = ssp }))
+
+-- one reference more, behind the earlier ones
+unfoldable pub reference : List ℕ → List Endpoint → Format Cause6 (List Endpoint)
+reference dictionary earlier = do
+  next ← name dictionary
+  give (earlier ++ next ∷ [])
+
+abbrev pub count_field : Bool → Format Cause6 ℕ
+count_field present = choice present (any_number Number) (give 0)
 
 -- the references, where the flags say that there are some: how many, and each
 unfoldable pub references : Bool → List ℕ → Format Cause6 (List Endpoint)
 references present dictionary = do
-  count ← choice present (any_number Number) (give 0)
+  count ← count_field present
   repeated count (reference dictionary) []
 
 -- so many octets lie within the whole of which this is a fragment; only a payload is cut

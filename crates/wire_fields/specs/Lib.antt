@@ -5,3 +5,4 @@ pub mod Reading
 pub mod Words
 pub mod Whole
 pub mod Gives
+pub mod Waybill

@@ -4,6 +4,7 @@
 mod field;
 mod lead;
 mod miss;
+pub mod sample;
 
 pub use field::{
     ARRAY, BYTE_STRING, TEXT_STRING, UNSIGNED, head_at, number_at, octet_at, octets_at,

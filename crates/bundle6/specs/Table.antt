@@ -7,7 +7,7 @@ use Rattle.std.specs.List.{list_any, count_by}
 use Rattle.endpoint.specs.declared.name.Endpoint.{Endpoint}
 use Rattle.endpoint.specs.declared.extent.Fragment.{Fragment}
 use Rattle.wire_fields.specs.Format.{Format, give, place, such_that, ◌>>=◌}
-use Rattle.wire_fields.specs.Words.{needs, ◌also◌, any_octet, any_octets, any_number, exact_octet, test, choice, optional, repeated, until}
+use Rattle.wire_fields.specs.Words.{needs, ◌also◌, any_octet, any_octets, any_number, exact_octet, test, choice, optional, listed, until}
 use Rattle.bundle6.specs.declared.fault.Cause6.{Cause6}
 use Rattle.bundle6.specs.declared.fault.Cause6.TheVariants.{Version, Number, Names, PrimaryEnd, SecondPayload, TooManyBlocks, NoPayload, BlockRefs, FragmentRange, Truncated}
 use Rattle.bundle6.specs.declared.names.Offsets.{Offsets}
@@ -110,12 +110,6 @@ name dictionary = do
       needs (resolves dictionary (record { scheme = scheme; ssp = ssp })) BlockRefs)
   give (name_of dictionary (record { scheme = scheme; ssp = ssp }))
 
--- one reference more, behind the earlier ones
-unfoldable pub reference : List ℕ → List Endpoint → Format Cause6 (List Endpoint)
-reference dictionary earlier = do
-  next ← name dictionary
-  give (earlier ++ next ∷ [])
-
 abbrev pub count_field : Bool → Format Cause6 ℕ
 count_field present = choice present (any_number Number) (give 0)
 
@@ -123,7 +117,7 @@ count_field present = choice present (any_number Number) (give 0)
 unfoldable pub references : Bool → List ℕ → Format Cause6 (List Endpoint)
 references present dictionary = do
   count ← count_field present
-  repeated count (reference dictionary) []
+  listed count (λ earlier. name dictionary)
 
 -- so many octets lie within the whole of which this is a fragment; only a payload is cut
 abbrev pub is_within : Option Fragment → Bool → ℕ → Bool

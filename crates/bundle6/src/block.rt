@@ -2,11 +2,11 @@
 
 ghost use Rattle.std.specs.Prelude.{◌≡◌, ◌-◌, ◌^◌, ◌<◌, ◌≤◌, [], ◌∷◌, ◌++◌, length, IfOk, OnOk, OnErr};
 ghost use Rattle.wire_fields.specs.Reading.{read};
-ghost use Rattle.wire_fields.specs.Words.{repeated};
+ghost use Rattle.wire_fields.specs.Words.{listed};
 ghost use Rattle.wire_fields.specs.Gives.{Gives, IsOn};
-ghost use Rattle.bundle6.specs.Seen.{seen_with, how_many};
+ghost use Rattle.bundle6.specs.Seen.{seen_with, Follows};
 ghost use Rattle.bundle6.specs.Cause.{refusal};
-ghost use Rattle.bundle6.specs.Table.{kind_field, flags_field, count_field, size_field, is_within, name, reference, references, block};
+ghost use Rattle.bundle6.specs.Table.{kind_field, flags_field, count_field, size_field, is_within, name, references, block};
 
 use crate::fault::{Cause6, Fail6};
 use crate::flags::{LAST, REFS, has_bit, without};
@@ -131,8 +131,7 @@ fn kind_at(text: &[u8], at: usize, most: u64, seen: Seen) -> Result<(u8, usize),
     ensures within { IfOk result (λ x. IsOn at text.now x.1) }
     ensures exact { Gives (λ kind. kind) refusal result (read (kind_field most seen.paid seen.others) text.now at) }
 
-    // Where there are as many blocks as there may be, none follows.
-    ensures room { IfOk result (λ _. how_many seen ≤ most) }
+    ensures follows { IfOk result (λ x. Follows most seen x.0) }
 {
     let (kind, behind) = octet(text, at, Cause6::Number)?;
     if kind == PAYLOAD && seen.paid {
@@ -210,7 +209,7 @@ fn counted_at(
     requires { at ≤ length text.now }
     ensures within { IfOk result (λ x. IsOn at text.now x.1) }
     ensures exact { Gives (λ refs. refs) refusal result
-        (read (repeated count (reference dictionary.now) []) text.now at) }
+        (read (listed count (λ earlier. name dictionary.now)) text.now at) }
 {
     let mut refs = Refs::new(alloc);
     let mut behind = at;
@@ -289,7 +288,7 @@ pub(crate) fn block_at(
     ensures within { IfOk result (λ x. IsOn at text.now x.1) }
     ensures exact { Gives (λ found. found) refusal result
         (read (block most part dictionary.now seen.paid seen.others) text.now at) }
-    ensures room { IfOk result (λ _. how_many seen ≤ most) }
+    ensures follows { IfOk result (λ x. Follows most seen x.0.0.kind) }
 {
     let (kind, at) = kind_at(text, at, most, seen)?;
     let payload = kind == PAYLOAD;

@@ -18,6 +18,6 @@ mod primary;
 mod reading;
 
 pub use block::{Block6, Blocks6};
-pub use bundle::Bundle6;
+pub use bundle::{Bundle6, decode6, exactly_one};
 pub use fault::{Cause6, Fail6};
 pub use primary::Primary6;

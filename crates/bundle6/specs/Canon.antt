@@ -64,9 +64,9 @@ numbers_of (Dtn ssp) = record { scheme = 0; ssp = 0 }
 abbrev pub offsets_of : List (List ℕ) → Endpoint → Offsets
 offsets_of [] endpoint = numbers_of endpoint
 offsets_of (first ∷ more) endpoint = record {
-    scheme = offset_of (first ∷ more) (scheme_of endpoint);
-    ssp = offset_of (first ∷ more) (ssp_of endpoint);
-  }
+  scheme = offset_of (first ∷ more) (scheme_of endpoint);
+  ssp = offset_of (first ∷ more) (ssp_of endpoint);
+}
 
 -- ---- the octets
 

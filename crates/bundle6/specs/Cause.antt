@@ -6,6 +6,8 @@ use Rattle.wire_fields.specs.declared.miss.Miss.{Miss}
 use Rattle.wire_fields.specs.declared.miss.Miss.TheVariants as misses
 use Rattle.bundle6.specs.declared.fault.Cause6.{Cause6}
 use Rattle.bundle6.specs.declared.fault.Cause6.TheVariants.{Version, Number, Names, PrimaryEnd, SecondPayload, TooManyBlocks, NoPayload, BlockRefs, FragmentRange, Truncated, TooLong}
+use Rattle.bundle6.specs.declared.names.Unresolved.{Unresolved}
+use Rattle.bundle6.specs.declared.names.Unresolved.TheVariants as reasons
 use Rattle.bundle6.specs.declared.fault.Fail6.{Fail6}
 use Rattle.bundle6.specs.declared.fault.Fail6.TheVariants.{Refused, Memory}
 
@@ -31,6 +33,11 @@ why cause = because cause
 abbrev pub fault_of : ℕ → Miss → Cause6 → Fail6
 fault_of at misses.Truncated cause = Refused at Truncated
 fault_of at misses.Absent cause = Refused at cause
+
+-- two numbers at a place that name no endpoint, with the field's cause
+abbrev pub fault_named : Unresolved → ℕ → Cause6 → Fail6
+fault_named reasons.Unknown at cause = Refused at cause
+fault_named reasons.Memory at cause = Memory
 
 -- the refusal that a fault answers: place and reason; want of memory is none
 abbrev pub refusal : Fail6 → Option (ℕ × Stop Cause6)

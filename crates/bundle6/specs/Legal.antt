@@ -33,7 +33,6 @@ pub record IsLegalPrimary (primary : Primary6) : Type 0 where
   pub fragment : IsPart primary.fragment
 
 pub record IsLegalBlock (block : Block6) : Type 0 where
-  pub kind : block.kind < 256
   pub flags : block.flags < 2 ^ 64
   -- the marks of the last block and of references stand in no value
   pub last_bit : has_bit 3 block.flags ≡ false

@@ -7,7 +7,7 @@ use Rattle.std.specs.List.{list_any, count_by}
 use Rattle.endpoint.specs.declared.name.Endpoint.{Endpoint}
 use Rattle.endpoint.specs.declared.extent.Fragment.{Fragment}
 use Rattle.wire_fields.specs.Format.{Format, give, place, such_that, ◌>>=◌}
-use Rattle.wire_fields.specs.Words.{needs, ◌also◌, any_octet, any_octets, any_number, exact_octet, test, choice, optional, repeated, until}
+use Rattle.wire_fields.specs.Words.{needs, ◌also◌, any_octet, any_octets, any_number, exact_octet, test, choice, optional, listed, until}
 use Rattle.bundle6.specs.declared.fault.Cause6.{Cause6}
 use Rattle.bundle6.specs.declared.fault.Cause6.TheVariants.{Version, Number, Names, PrimaryEnd, SecondPayload, TooManyBlocks, NoPayload, BlockRefs, FragmentRange, Truncated}
 use Rattle.bundle6.specs.declared.names.Offsets.{Offsets}
@@ -17,7 +17,7 @@ use Rattle.bundle6.specs.declared.primary.Primary6.{Primary6}
 use Rattle.bundle6.specs.declared.block.Block6.{Block6}
 use Rattle.bundle6.specs.declared.bundle.Bundle6.{Bundle6}
 use Rattle.bundle6.specs.Bits.{has_bit, without}
-use Rattle.bundle6.specs.Names.{resolves, name_of}
+use Rattle.bundle6.specs.Names.{resolves, name_of, all_resolve, names_of}
 
 -- ---- the primary block
 
@@ -36,23 +36,12 @@ four_names = do
   custodian ← offsets
   give (record { destination = destination; source = source; report_to = report_to; custodian = custodian })
 
--- each of the four resolves
-abbrev pub all_resolve : Pairs → List ℕ → Bool
-all_resolve pairs dictionary =
-    resolves dictionary pairs.destination && resolves dictionary pairs.source
-    && resolves dictionary pairs.report_to && resolves dictionary pairs.custodian
-
 -- the dictionary's length and its octets, in which the four names resolve
 unfoldable pub dictionary : Pairs → Format Cause6 (Named × List ℕ)
 dictionary pairs = do
   size ← any_number Number
-  texts ← such_that (any_octets size Truncated) (λ texts. needs (all_resolve pairs texts) Names)
-  give (record {
-      destination = name_of texts pairs.destination;
-      source = name_of texts pairs.source;
-      report_to = name_of texts pairs.report_to;
-      custodian = name_of texts pairs.custodian;
-    }, texts)
+  texts ← such_that (any_octets size Truncated) (λ texts. needs (all_resolve texts pairs) Names)
+  give (names_of texts pairs, texts)
 
 unfoldable pub fragment : Format Cause6 Fragment
 fragment = do
@@ -75,7 +64,8 @@ primary = do
   part ← optional (has_bit 0 flags) fragment
   end ← place
   ended ← test (end - start == size) PrimaryEnd
-  give (record {
+  give (
+    record {
       flags = flags;
       destination = names.0.destination;
       source = names.0.source;
@@ -85,7 +75,9 @@ primary = do
       sequence = sequence;
       lifetime = lifetime;
       fragment = part;
-    }, names.1)
+    },
+    names.1,
+  )
 
 -- ---- blocks
 
@@ -110,19 +102,22 @@ kind_field most payload other = such_that (any_octet Number) (λ kind.
 abbrev pub flags_field : Bool → Format Cause6 ℕ
 flags_field paid = such_that (any_number Number) (λ flags. needs (not (has_bit 3 flags) || paid) NoPayload)
 
--- a reference, behind the earlier ones
-unfoldable pub reference : List ℕ → List Endpoint → Format Cause6 (List Endpoint)
-reference dictionary earlier = do
+-- a reference: scheme offset and SSP offset, which resolve
+unfoldable pub name : List ℕ → Format Cause6 Endpoint
+name dictionary = do
   scheme ← any_number Number
   ssp ← such_that (any_number Number) (λ ssp.
       needs (resolves dictionary (record { scheme = scheme; ssp = ssp })) BlockRefs)
-  give (earlier ++ name_of dictionary (record { scheme = scheme; ssp = ssp }) ∷ [])
+  give (name_of dictionary (record { scheme = scheme; ssp = ssp }))
+
+abbrev pub count_field : Bool → Format Cause6 ℕ
+count_field present = choice present (any_number Number) (give 0)
 
 -- the references, where the flags say that there are some: how many, and each
 unfoldable pub references : Bool → List ℕ → Format Cause6 (List Endpoint)
 references present dictionary = do
-  count ← choice present (any_number Number) (give 0)
-  repeated count (reference dictionary) []
+  count ← count_field present
+  listed count (λ earlier. name dictionary)
 
 -- so many octets lie within the whole of which this is a fragment; only a payload is cut
 abbrev pub is_within : Option Fragment → Bool → ℕ → Bool

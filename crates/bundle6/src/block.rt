@@ -1,7 +1,23 @@
 //! The blocks behind the primary block.
 
-use endpoint::{Octets, Refs};
+ghost use Rattle.std.specs.Prelude.{◌≡◌, ◌-◌, ◌^◌, ◌<◌, ◌≤◌, [], ◌∷◌, ◌++◌, length, IfOk, OnOk, OnErr};
+ghost use Rattle.wire_fields.specs.Reading.{read};
+ghost use Rattle.wire_fields.specs.Words.{listed};
+ghost use Rattle.wire_fields.specs.Gives.{Gives, IsOn};
+ghost use Rattle.bundle6.specs.Seen.{seen_with, Follows};
+ghost use Rattle.bundle6.specs.Cause.{refusal};
+ghost use Rattle.bundle6.specs.Table.{kind_field, flags_field, count_field, size_field, is_within, name, references, block};
+
+use crate::fault::{Cause6, Fail6};
+use crate::flags::{LAST, REFS, has_bit, without};
+use crate::names::{Offsets, resolve};
+use crate::reading::{number, octet, octets};
+use endpoint::{Endpoint, Fragment, Octets, Refs};
+use std::alloc::{AllocError, Global};
 use std::marker::Model;
+
+/// The type of the payload block.
+const PAYLOAD: u8 = 1;
 
 /// A block (RFC 5050, section 4.6).
 #[derive(Debug, Drop)]
@@ -31,4 +47,260 @@ impl Model for Blocks6 {
     ghost Value = { List Block6 };
 
     ghost view = { λ blocks. blocks.items.items };
+}
+
+impl Blocks6 {
+    /// No blocks yet. It takes no memory.
+    pub fn new(alloc: Global) -> Blocks6
+        ensures { result ≡ [] }
+    {
+        Blocks6 {
+            items: Vec::new(alloc),
+        }
+    }
+
+    /// These blocks, moved and not copied.
+    pub fn from_vec(items: Vec<Block6>) -> Blocks6
+        ensures { result ≡ items.items }
+    {
+        Blocks6 { items }
+    }
+
+    /// The blocks, moved and not copied.
+    pub fn into_vec(self) -> Vec<Block6>
+        ensures { result.items ≡ self }
+    {
+        let Blocks6 { items } = self;
+        items
+    }
+
+    /// The blocks, lent.
+    pub fn as_slice(&self) -> &[Block6]
+        ensures { result.now ≡ self.now }
+    {
+        self.items.as_slice()
+    }
+
+    /// How many blocks there are.
+    pub fn len(&self) -> usize
+        ensures { result ≡ length self.now }
+    {
+        self.items.len()
+    }
+
+    /// Adds a block at the end. Where memory runs out the list stays as it was.
+    pub fn push(&mut self, block: Block6) -> Result<(), AllocError>
+        ensures ok { OnOk result (self.new ≡ self.old ++ block ∷ []) }
+        ensures err { OnErr result (self.new ≡ self.old) }
+    {
+        self.items.push(block)?;
+        Ok(())
+    }
+}
+
+/// The blocks so far, as far as they decide on the next.
+#[derive(Clone, Copy)]
+pub(crate) struct Seen {
+    /// A payload block is among them.
+    pub(crate) paid: bool,
+    /// How many of another type are among them.
+    pub(crate) others: u64,
+}
+
+impl Seen {
+    /// The blocks so far, and one more of this type.
+    pub(crate) fn with(self, kind: u8) -> Seen
+        requires { self.others < 2 ^ 64 - 1 }
+        ensures { result ≡ seen_with self kind }
+    {
+        if kind == PAYLOAD {
+            Seen { paid: true, ..self }
+        } else {
+            Seen {
+                others: self.others + 1,
+                ..self
+            }
+        }
+    }
+}
+
+/// A block's type.
+fn kind_at(text: &[u8], at: usize, most: u64, seen: Seen) -> Result<(u8, usize), Fail6>
+    requires place { at ≤ length text.now }
+    requires few { seen.others ≤ most }
+    ensures within { IfOk result (λ x. IsOn at text.now x.1) }
+    ensures exact { Gives (λ kind. kind) refusal result (read (kind_field most seen.paid seen.others) text.now at) }
+
+    ensures follows { IfOk result (λ x. Follows most seen x.0) }
+{
+    let (kind, behind) = octet(text, at, Cause6::Number)?;
+    if kind == PAYLOAD && seen.paid {
+        return Err(Fail6::Refused {
+            at,
+            cause: Cause6::SecondPayload,
+        });
+    }
+    if kind != PAYLOAD && seen.others >= most {
+        return Err(Fail6::Refused {
+            at,
+            cause: Cause6::TooManyBlocks,
+        });
+    }
+    Ok((kind, behind))
+}
+
+/// A block's flags. The last block may come once there is a payload block.
+fn flags_at(text: &[u8], at: usize, paid: bool) -> Result<(u64, usize), Fail6>
+    requires { at ≤ length text.now }
+    ensures within { IfOk result (λ x. IsOn at text.now x.1) }
+    ensures exact { Gives (λ flags. flags) refusal result (read (flags_field paid) text.now at) }
+{
+    let (flags, behind) = number(text, at)?;
+    if has_bit(flags, LAST) && !paid {
+        return Err(Fail6::Refused {
+            at,
+            cause: Cause6::NoPayload,
+        });
+    }
+    Ok((flags, behind))
+}
+
+/// An endpoint that a block refers to.
+#[tactic(auto, unfolding(crate::specs::Table::name))]
+fn reference_at(
+    alloc: Global,
+    text: &[u8],
+    at: usize,
+    dictionary: &[u8],
+) -> Result<(Endpoint, usize), Fail6>
+    requires { at ≤ length text.now }
+    ensures within { IfOk result (λ x. IsOn at text.now x.1) }
+    ensures exact { Gives (λ endpoint. endpoint) refusal result (read (name dictionary.now) text.now at) }
+{
+    let (scheme, at) = number(text, at)?;
+    let (ssp, behind) = number(text, at)?;
+    match resolve(alloc, dictionary, Offsets { scheme, ssp }) {
+        Ok(endpoint) => Ok((endpoint, behind)),
+        Err(unresolved) => Err(unresolved.refused(at, Cause6::BlockRefs)),
+    }
+}
+
+/// How many references there are: none where the flags don't say that there are some.
+fn count_at(text: &[u8], at: usize, present: bool) -> Result<(u64, usize), Fail6>
+    requires { at ≤ length text.now }
+    ensures within { IfOk result (λ x. IsOn at text.now x.1) }
+    ensures exact { Gives (λ count. count) refusal result (read (count_field present) text.now at) }
+{
+    if present {
+        number(text, at)
+    } else {
+        Ok((0, at))
+    }
+}
+
+/// So many references.
+fn counted_at(
+    alloc: Global,
+    text: &[u8],
+    at: usize,
+    count: u64,
+    dictionary: &[u8],
+) -> Result<(Refs, usize), Fail6>
+    requires { at ≤ length text.now }
+    ensures within { IfOk result (λ x. IsOn at text.now x.1) }
+    ensures exact { Gives (λ refs. refs) refusal result
+        (read (listed count (λ earlier. name dictionary.now)) text.now at) }
+{
+    let mut refs = Refs::new(alloc);
+    let mut behind = at;
+    'references: for _ in 0..count {
+        let (endpoint, after) = reference_at(alloc, text, behind, dictionary)?;
+        refs.push(endpoint)?;
+        behind = after;
+    }
+    Ok((refs, behind))
+}
+
+/// The references, where the flags say that there are some.
+#[tactic(auto, unfolding(crate::specs::Table::references))]
+fn references_at(
+    alloc: Global,
+    text: &[u8],
+    at: usize,
+    present: bool,
+    dictionary: &[u8],
+) -> Result<(Refs, usize), Fail6>
+    requires { at ≤ length text.now }
+    ensures within { IfOk result (λ x. IsOn at text.now x.1) }
+    ensures exact { Gives (λ refs. refs) refusal result (read (references present dictionary.now) text.now at) }
+{
+    let (count, at) = count_at(text, at, present)?;
+    counted_at(alloc, text, at, count, dictionary)
+}
+
+/// Whether so many octets lie within the whole of which they are a fragment.
+fn is_within(part: Option<Fragment>, payload: bool, size: u64) -> bool
+    ensures { result ≡ is_within part payload size }
+{
+    match part {
+        Some(part) if payload => match part.offset.checked_add(size) {
+            Some(end) => end <= part.total,
+            None => false,
+        },
+        _ => true,
+    }
+}
+
+/// How many octets a block has. Those of a payload lie within the whole of which it is a fragment.
+fn size_at(
+    text: &[u8],
+    at: usize,
+    part: Option<Fragment>,
+    payload: bool,
+) -> Result<(u64, usize), Fail6>
+    requires { at ≤ length text.now }
+    ensures within { IfOk result (λ x. IsOn at text.now x.1) }
+    ensures exact { Gives (λ size. size) refusal result (read (size_field part payload) text.now at) }
+{
+    let (size, behind) = number(text, at)?;
+    if !is_within(part, payload, size) {
+        return Err(Fail6::Refused {
+            at,
+            cause: Cause6::FragmentRange,
+        });
+    }
+    Ok((size, behind))
+}
+
+/// A block, and whether it is marked as the last.
+#[tactic(auto, unfolding(crate::specs::Table::block))]
+pub(crate) fn block_at(
+    alloc: Global,
+    text: &[u8],
+    at: usize,
+    most: u64,
+    part: Option<Fragment>,
+    dictionary: &[u8],
+    seen: Seen,
+) -> Result<((Block6, bool), usize), Fail6>
+    requires place { at ≤ length text.now }
+    requires few { seen.others ≤ most }
+    ensures within { IfOk result (λ x. IsOn at text.now x.1) }
+    ensures exact { Gives (λ found. found) refusal result
+        (read (block most part dictionary.now seen.paid seen.others) text.now at) }
+    ensures follows { IfOk result (λ x. Follows most seen x.0.0.kind) }
+{
+    let (kind, at) = kind_at(text, at, most, seen)?;
+    let payload = kind == PAYLOAD;
+    let (flags, at) = flags_at(text, at, payload || seen.paid)?;
+    let (refs, at) = references_at(alloc, text, at, has_bit(flags, REFS), dictionary)?;
+    let (size, at) = size_at(text, at, part, payload)?;
+    let (body, at) = octets(text, at, size)?;
+    let block = Block6 {
+        kind,
+        flags: without(without(flags, REFS), LAST),
+        refs,
+        body: Octets::from_slice(alloc, body)?,
+    };
+    Ok(((block, has_bit(flags, LAST)), at))
 }

@@ -12,11 +12,12 @@
 mod block;
 mod bundle;
 mod fault;
+mod flags;
 mod names;
 mod primary;
 mod reading;
 
 pub use block::{Block6, Blocks6};
-pub use bundle::Bundle6;
+pub use bundle::{Bundle6, decode6, exactly_one};
 pub use fault::{Cause6, Fail6};
 pub use primary::Primary6;

@@ -1,6 +1,20 @@
 //! The primary block.
 
+ghost use Rattle.std.specs.Prelude.{◌≡◌, ◌-◌, ◌==◌, ◌≤◌, length, true, false, OnOk, IfOk, IfErr};
+ghost use Rattle.wire_fields.specs.Refusal.{because};
+ghost use Rattle.wire_fields.specs.Reading.{read};
+ghost use Rattle.wire_fields.specs.Words.{test, optional, exact_octet};
+ghost use Rattle.wire_fields.specs.Gives.{Gives, IsOn};
+ghost use Rattle.bundle6.specs.Bits.{has_bit};
+ghost use Rattle.bundle6.specs.Cause.{refusal};
+ghost use Rattle.bundle6.specs.Table.{fragment, primary};
+
+use crate::fault::{Cause6, Fail6};
+use crate::flags::{FRAGMENT, has_bit};
+use crate::names::{Named, dictionary_at, four_names_at};
+use crate::reading::{number, octet};
 use endpoint::{Endpoint, Fragment};
+use std::alloc::Global;
 
 /// The primary block's values (RFC 5050, section 4.5). Checksums have none.
 #[derive(Debug, Drop, PartialEq, Eq)]
@@ -25,4 +39,92 @@ pub struct Primary6 {
     pub lifetime: u64,
     /// Where its payload lies in the whole, exactly where flag bit 0 is set.
     pub fragment: Option<Fragment>,
+}
+
+/// The version's octet.
+fn version_at(text: &[u8], at: usize) -> Result<(u8, usize), Fail6>
+    requires { at ≤ length text.now }
+    ensures within { IfOk result (λ x. IsOn at text.now x.1) }
+    ensures exact { Gives (λ version. version) refusal result (read (exact_octet 6 Cause6.Version) text.now at) }
+{
+    let (version, behind) = octet(text, at, Cause6::Version)?;
+    if version != 6 {
+        return Err(Fail6::Refused {
+            at,
+            cause: Cause6::Version,
+        });
+    }
+    Ok((version, behind))
+}
+
+/// Offset and total of a fragment, where the flags say that the bundle is one.
+#[tactic(auto, unfolding(crate::specs::Table::fragment))]
+fn fragment_at(text: &[u8], at: usize, flags: u64) -> Result<(Option<Fragment>, usize), Fail6>
+    requires { at ≤ length text.now }
+    ensures within { IfOk result (λ x. IsOn at text.now x.1) }
+    ensures exact { Gives (λ part. part) refusal result (read (optional (has_bit 0 flags) fragment) text.now at) }
+{
+    if !has_bit(flags, FRAGMENT) {
+        return Ok((None, at));
+    }
+    let (offset, at) = number(text, at)?;
+    let (total, at) = number(text, at)?;
+    Ok((Some(Fragment { offset, total }), at))
+}
+
+/// The end of the primary block: so many octets stand behind the start of what its length counts.
+fn end_at(start: usize, at: usize, size: u64) -> Result<(), Fail6>
+    requires { start ≤ at }
+    ensures here { OnOk result ((at - start == size) ≡ true) }
+    ensures elsewhere { IfErr result (λ fail.
+        ((at - start == size) ≡ false) × (fail ≡ Fail6.Refused at Cause6.PrimaryEnd)) }
+{
+    if (at - start) as u64 != size {
+        return Err(Fail6::Refused {
+            at,
+            cause: Cause6::PrimaryEnd,
+        });
+    }
+    Ok(())
+}
+
+/// The primary block, and the dictionary.
+#[tactic(auto, unfolding(crate::specs::Table::primary))]
+pub(crate) fn primary_at(
+    alloc: Global,
+    text: &[u8],
+    at: usize,
+) -> Result<((Primary6, &[u8]), usize), Fail6>
+    requires { at ≤ length text.now }
+    ensures within { IfOk result (λ x. IsOn at text.now x.1) }
+    ensures exact { Gives (λ found. (found.0, found.1.now)) refusal result (read primary text.now at) }
+{
+    let (_, at) = version_at(text, at)?;
+    let (flags, at) = number(text, at)?;
+    let (size, start) = number(text, at)?;
+    let (pairs, at) = four_names_at(text, start)?;
+    let (seconds, at) = number(text, at)?;
+    let (sequence, at) = number(text, at)?;
+    let (lifetime, at) = number(text, at)?;
+    let ((names, dictionary), at) = dictionary_at(alloc, text, at, pairs)?;
+    let (fragment, at) = fragment_at(text, at, flags)?;
+    end_at(start, at, size)?;
+    let Named {
+        destination,
+        source,
+        report_to,
+        custodian,
+    } = names;
+    let primary = Primary6 {
+        flags,
+        destination,
+        source,
+        report_to,
+        custodian,
+        seconds,
+        sequence,
+        lifetime,
+        fragment,
+    };
+    Ok(((primary, dictionary), at))
 }

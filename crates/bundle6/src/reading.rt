@@ -50,9 +50,7 @@ pub(crate) fn number(text: &[u8], at: usize) -> Result<(u64, usize), Fail6>
 pub(crate) fn octets(text: &[u8], at: usize, count: u64) -> Result<(&[u8], usize), Fail6>
     requires { at ≤ length text.now }
     ensures within { IfOk result (λ x. IsOn at text.now x.1) }
-    ensures exact {
-        Gives (λ lent. lent.now) refusal result (read (any_octets count Cause6.Truncated) text.now at)
-    }
+    ensures exact { Gives (λ lent. lent.now) refusal result (read (any_octets count Cause6.Truncated) text.now at) }
 {
     match octets_at(text, at, count) {
         Ok(found) => Ok(found),

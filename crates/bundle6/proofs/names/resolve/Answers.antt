@@ -1,0 +1,13 @@
+use Rattle.std.proofs.Common.{sym, ◌∙◌, inl, inr}
+use Rattle.bundle6.proofs.NamesLemmas.{resolve-misses}
+use Rattle.bundle6.proofs.names.resolve.Goals as goal
+
+pub returns-in_default : goal.returns-in_default
+returns-in_default c =
+    resolve-misses c.args.dictionary.now c.args.pair (sym c.is_empty.ensures ∙ c.if-is_empty.false)
+    (inl c.in_default.ensures)
+
+pub returns-in_default-text_in : goal.returns-in_default-text_in
+returns-in_default-text_in c =
+    resolve-misses c.args.dictionary.now c.args.pair (sym c.is_empty.ensures ∙ c.if-is_empty.false)
+    (inr c.in_default-text_in.ensures)

@@ -1,5 +1,5 @@
 -- A small format in which every word of tables stands: a waybill. It belongs to no standard.
-use Rattle.std.specs.Prelude.{ℕ, ◌+◌, ◌%◌, Bool, not, ◌&&◌, ◌||◌, ◌==◌, nat_lt, nat_le, List, [], ◌∷◌, Option, Some, None, fold, bit_xor, option_copied}
+use Rattle.std.specs.Prelude.{ℕ, ◌+◌, ◌%◌, Bool, not, ◌&&◌, ◌||◌, ◌==◌, nat_lt, nat_le, List, [], ◌∷◌, Option, Some, None, fold, bit_xor, option_copied, codes}
 use Rattle.std.specs.List.{list_any}
 use Rattle.wire_fields.specs.declared.lead.UnsignedOrText.{UnsignedOrText}
 use Rattle.wire_fields.specs.declared.lead.UnsignedOrText.TheVariants as leads
@@ -165,3 +165,19 @@ why cause = because cause
 abbrev pub refusal : Fail → Option (ℕ × Stop Cause)
 refusal (fails.Refused at cause) = Some (at, why cause)
 refusal fails.Memory = None
+
+abbrev pub word_of : Cause → List ℕ
+word_of causes.Truncated = codes "Truncated"
+word_of causes.Mark = codes "Mark"
+word_of causes.Count = codes "Count"
+word_of causes.Number = codes "Number"
+word_of causes.Sender = codes "Sender"
+word_of causes.Range = codes "Range"
+word_of causes.FrontEnd = codes "FrontEnd"
+word_of causes.Kind = codes "Kind"
+word_of causes.SecondGoods = codes "SecondGoods"
+word_of causes.TooManyItems = codes "TooManyItems"
+word_of causes.Repeated = codes "Repeated"
+word_of causes.Check = codes "Check"
+word_of causes.Order = codes "Order"
+word_of causes.Trailing = codes "Trailing"

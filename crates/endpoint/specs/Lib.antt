@@ -1,0 +1,4 @@
+pub mod Fault
+pub mod Numeral
+pub mod Endpoints
+pub mod Reading

@@ -13,7 +13,8 @@ pub fn read(bytes: &[u8]) -> Result<(u64, usize), SdnvFault>
     // What is read is spelled so.
     ensures found { IfOk result (λ x. (x.1 ≤ length bytes.now) × Spells (take x.1 bytes.now) x.0) }
     // What is spelled so is read, whatever follows it.
-    ensures only { (n k : ℕ) → k ≤ length bytes.now → Spells (take k bytes.now) n → result ≡ Ok (n, k) }
+    ensures only { (n k : ℕ) → k ≤ length bytes.now → Spells (take k bytes.now) n
+        → result ≡ Ok (n, k) }
     // Each fault comes exactly where it is true.
     ensures short { (result ≡ Err SdnvFault.Short) ↔ IsShort bytes.now }
     ensures too_long { (result ≡ Err SdnvFault.TooLong) ↔ IsTooLong bytes.now }

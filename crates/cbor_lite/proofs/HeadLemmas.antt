@@ -6,7 +6,7 @@ use Rattle.std.proofs.lemmas.Nat.{be_bytes_2, be_bytes_4, be_bytes_8, from_be_by
 use Rattle.std.proofs.lemmas.Bool.{le-ltb, lt-ltb, eq-eqb, ne_eqb, cases_lt, cases_eq}
 use Rattle.std.proofs.Math.Seq.{take-append_seam}
 use Rattle.cbor_lite.specs.declared.fault.CborFault.TheVariants.{Kind, Short, NotShortest}
-use Rattle.cbor_lite.specs.Head.{first_octet, head, SpellsHead, SaysHead, in_first, in_one, in_two, in_four, in_eight, HasOtherKind, HasLongHead, AnswersHead, EndsInsideHead, shortest, number_in, number_at, head_at}
+use Rattle.cbor_lite.specs.Head.{first_octet, head, SpellsHead, SaysHead, in_first, in_one, in_two, in_four, in_eight, HasOtherKind, HasLongHead, AnswersHead, EndsInsideHead, shortest, number_in, number_at, head_at, kind_of}
 
 -- ---- what is spelled is found
 
@@ -346,3 +346,20 @@ says-long kind n _ behind (in_eight small) shorter =
 
 pub head_at-long : (kind : ℕ) (w : List ℕ) → HasLongHead kind w → head_at kind w ≡ Err NotShortest
 head_at-long kind w long = rw long.parts (says-long kind long.number long.front long.behind long.says long.shorter)
+
+-- a head begins with its kind
+pub kind_of-head : (kind n : ℕ) (rest : List ℕ) → kind_of (head kind n ++ rest) ≡ kind
+kind_of-head kind n rest =
+    elim (cases_lt n 24) [
+      | inl a ↦ rw (lt-ltb n 24 a) (omega arith)
+      | inr a ↦ rw (le-ltb n 24 a) (elim (cases_lt n (2 ^ 8)) [
+        | inl b ↦ rw (lt-ltb n (2 ^ 8) b) (omega arith)
+        | inr b ↦ rw (le-ltb n (2 ^ 8) b) (elim (cases_lt n (2 ^ 16)) [
+          | inl c ↦ rw (lt-ltb n (2 ^ 16) c) (omega arith)
+          | inr c ↦ rw (le-ltb n (2 ^ 16) c) (elim (cases_lt n (2 ^ 32)) [
+            | inl d ↦ rw (lt-ltb n (2 ^ 32) d) (omega arith)
+            | inr d ↦ rw (le-ltb n (2 ^ 32) d) (omega arith)
+          ])
+        ])
+      ])
+    ]

@@ -1,2 +1,3 @@
 pub mod HeadLemmas
 pub mod HeadLaws
+pub mod StringLaws

@@ -4,6 +4,7 @@
 use Rattle.std.specs.Prelude.{◌≡◌, ◌≢◌, ◌⊎◌, ◌++◌, ℕ, ◌+◌, ◌-◌, ◌*◌, ◌/◌, ◌%◌, ◌^◌, ◌<◌, ◌≤◌, ◌==◌, nat_lt, if◌then◌else◌, List, [], ◌∷◌, length, take, Result, Ok, Err}
 use Rattle.std.specs.Int.{Width, w8, w16, w32, w64, byte_len, to_be_bytes, from_be_bytes}
 use Rattle.cbor_lite.specs.declared.fault.CborFault.{CborFault}
+use Rattle.cbor_lite.specs.declared.head.Head.{Head}
 use Rattle.cbor_lite.specs.declared.fault.CborFault.TheVariants.{Kind, Short, NotShortest}
 
 -- the first octet of a head
@@ -53,12 +54,16 @@ pub record HasLongHead (kind : ℕ) (w : List ℕ) : Type 0 where
   pub says : SaysHead kind number front
   pub shorter : length (head kind number) < length front
 
+-- why no head of this kind stands at the front of a text
+abbrev pub HeadFault : ℕ → List ℕ → CborFault → Type 0
+HeadFault kind w Kind = HasOtherKind kind w
+HeadFault kind w Short = EndsInsideHead kind w
+HeadFault kind w NotShortest = HasLongHead kind w
+
 -- what an answer says of a text at whose front a head of a kind is asked for
 abbrev pub AnswersHead : ℕ → List ℕ → Result (ℕ × ℕ) CborFault → Type 0
 AnswersHead kind w (Ok x) = (x.1 ≤ length w) × SpellsHead kind (take x.1 w) x.0
-AnswersHead kind w (Err Kind) = HasOtherKind kind w
-AnswersHead kind w (Err Short) = EndsInsideHead kind w
-AnswersHead kind w (Err NotShortest) = HasLongHead kind w
+AnswersHead kind w (Err e) = HeadFault kind w e
 
 -- ---- what a text has at its front: the number and the octets of the head, or why there is none
 
@@ -87,3 +92,16 @@ unfoldable pub head_at : ℕ → List ℕ → Result (ℕ × ℕ) CborFault
 head_at kind [] = Err Short
 head_at kind (first ∷ rest) =
     if first / 32 == kind then number_at (first % 32) rest else Err Kind
+
+-- the kind that a text begins with
+abbrev pub kind_of : List ℕ → ℕ
+kind_of [] = 0
+kind_of (first ∷ rest) = first / 32
+
+abbrev pub headed : ℕ → Result (ℕ × ℕ) CborFault → Result (Head × ℕ) CborFault
+headed kind (Ok x) = Ok (record { major = kind; value = x.0 }, x.1)
+headed kind (Err e) = Err e
+
+-- the head of whatever kind the text begins with
+abbrev pub any_head_at : List ℕ → Result (Head × ℕ) CborFault
+any_head_at w = headed (kind_of w) (head_at (kind_of w) w)

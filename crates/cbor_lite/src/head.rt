@@ -1,7 +1,9 @@
 //! Heads: the kind and the number that each item begins with.
-ghost use Rattle.std.specs.Prelude.{◌≡◌, ◌<◌, ◌≤◌, ◌+◌, ◌^◌, ℕ, length, take, IfOk};
+ghost use Rattle.std.specs.Prelude.{◌≡◌, ◌↔◌, ◌≤◌, ◌^◌, ℕ, length, take, IfOk};
 ghost use Rattle.std.specs.Int.{w8, w16, w32, w64};
-ghost use Rattle.cbor_lite.specs.Head.{head_at, number_at, number_in, shortest};
+ghost use Rattle.cbor_lite.specs.Head.{SpellsHead, HeadFault, kind_of, any_head_at, head_at, number_at, number_in, shortest};
+ghost use Rattle.cbor_lite.specs.declared.fault.CborFault.{CborFault};
+ghost use Rattle.cbor_lite.specs.declared.head.Head.{Head};
 
 use crate::fault::CborFault;
 
@@ -13,9 +15,50 @@ pub struct Head {
     pub value: u64,
 }
 
-/// Reads the head of an item of this kind, 0 to 7, and how many octets it has.
-#[tactic(auto, unfolding(crate::specs::Head::head_at))]
+/// Reads the head of an item, whatever its kind, and how many octets it has. It is refused as
+/// `Kind` only where its additional information is 28 to 31.
+pub fn read_head(bytes: &[u8]) -> Result<(Head, usize), CborFault>
+    // What is read is spelled so.
+    ensures found { IfOk result (λ x. (x.1 ≤ length bytes.now)
+        × SpellsHead x.0.major (take x.1 bytes.now) x.0.value) }
+    // What is spelled so is read, whatever follows.
+    ensures only { (h : Head) (k : ℕ) → k ≤ length bytes.now
+        → SpellsHead h.major (take k bytes.now) h.value → result ≡ Ok (h, k) }
+    ensures fault { (e : CborFault) → (result ≡ Err e)
+        ↔ HeadFault (kind_of bytes.now) bytes.now e }
+    ensures exact { result ≡ any_head_at bytes.now }
+{
+    any_head(bytes)
+}
+
+/// Reads the head of an item of this kind, 0 to 7, and how many octets it has. What this says of
+/// the octets stands at `read_uint` and `read_array`, whose kinds are 0 and 4.
 pub fn read_head_of(kind: u8, bytes: &[u8]) -> Result<(u64, usize), CborFault>
+    ensures { result ≡ head_at kind bytes.now }
+{
+    head_of(kind, bytes)
+}
+
+fn any_head(bytes: &[u8]) -> Result<(Head, usize), CborFault>
+    ensures { result ≡ any_head_at bytes.now }
+{
+    let major = first_kind(bytes);
+    let (value, size) = head_of(major, bytes)?;
+    Ok((Head { major, value }, size))
+}
+
+/// The kind in the first octet, which without one matters to nobody.
+fn first_kind(bytes: &[u8]) -> u8
+    ensures { result ≡ kind_of bytes.now }
+{
+    match bytes.split_first() {
+        Some((first, _)) => *first / 32,
+        None => 0,
+    }
+}
+
+#[tactic(auto, unfolding(crate::specs::Head::head_at))]
+fn head_of(kind: u8, bytes: &[u8]) -> Result<(u64, usize), CborFault>
     ensures { result ≡ head_at kind bytes.now }
 {
     match bytes.split_first() {

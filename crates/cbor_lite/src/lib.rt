@@ -12,6 +12,12 @@
 
 mod fault;
 mod head;
+mod reading;
+#[cfg(test)]
+mod tests;
+mod writing;
 
 pub use fault::CborFault;
-pub use head::{Head, read_head_of};
+pub use head::{Head, read_head, read_head_of};
+pub use reading::{read_array, read_bool, read_break, read_bytes, read_text, read_uint};
+pub use writing::{write_array, write_bool, write_bytes, write_head, write_text, write_uint};

@@ -1,17 +1,17 @@
 -- Numerals: what reading the digits one by one gives, and that a text is one number's only text.
 
-use Rattle.std.proofs.Common.{◌≡◌, ℕ, ◌+◌, ◌*◌, ◌-◌, ◌^◌, ◌<◌, ◌≤◌, Bool, true, false, ◌&&◌, ◌||◌, not}
+use Rattle.std.proofs.Common.{◌≡◌, ℕ, ◌+◌, ◌*◌, ◌-◌, ◌^◌, ◌<◌, Bool, true, false, ◌&&◌}
 use Rattle.std.proofs.Common.{List, [], ◌∷◌, ◌++◌, length, take, drop, get_or, eqb, ltb, cond}
-use Rattle.std.proofs.Common.{refl, sym, ◌∙◌, ap, subst, Option, None, Some, arith, rules, suc, add-one, length-append}
+use Rattle.std.proofs.Common.{refl, sym, ◌∙◌, ap, Option, None, Some, arith, rules, suc, length-append}
 use Rattle.std.specs.Char.{is_ascii_digit, digit_value}
 use Rattle.std.specs.List.{list_all}
 use Rattle.std.specs.Str.Parse.{digits_value}
 use Rattle.std.proofs.lemmas.List.Folds.{list_all_at, list_all_more}
 use Rattle.std.proofs.lemmas.Int.Digits.{digits_value_more}
 use Rattle.std.proofs.lemmas.Str.Parse.{digits_value-take-le}
-use Rattle.std.proofs.lemmas.List.{drop_all, take_rest, take-append-drop, get_or_append_left}
+use Rattle.std.proofs.lemmas.List.{drop_all, take_rest, get_or_append_left}
 use Rattle.std.proofs.lemmas.List.Sums.{position_or_len_is, passes_at_first, split_at_first}
-use Rattle.std.proofs.Math.Seq.{drop-cons, get_or-append_seam, take-append_seam, drop-append-add}
+use Rattle.std.proofs.Math.Seq.{get_or-append_seam, take-append_seam, drop-append-add}
 use Rattle.std.proofs.lemmas.Bool.{ltb-true, ltb-false, lt-ltb, eqb-true, eqb-false, ne_eqb}
 use Rattle.std.specs.List.{position, position_or_len}
 use Rattle.std.specs.Fmt.{decimal}
@@ -44,17 +44,20 @@ pub number_of-stops : (text : List ℕ) (i : ℕ) → i < length text
 unfolding number_of
 number_of-stops text i inside stops =
     no_number (begins_as_numeral text) (list_all is_ascii_digit text) (ltb (digits_value 10 text) (2 ^ 64)) _
-      (λ digits low. stops (at_all text i inside digits,
-        omega (arith, ltb-true _ _ low, digits_value_more 10 text i inside, digits_value-take-le 10 text (i + 1) (omega arith))))
+    (λ digits low. stops (
+      at_all text i inside digits,
+      omega (arith, ltb-true _ _ low, digits_value_more 10 text i inside, digits_value-take-le 10 text (i + 1) (omega arith)),
+    ))
 
 -- one digit more
 pub digits-more : (text : List ℕ) (i n : ℕ) → i < length text → n ≡ digits_value 10 (take i text)
     → list_all is_ascii_digit (take i text) ≡ true → TakesDigit n (get_or text i 0)
     → (list_all is_ascii_digit (take (i + 1) text) ≡ true)
-      × (n * 10 + digit_value (get_or text i 0) ≡ digits_value 10 (take (i + 1) text))
-digits-more text i n inside value digits takes =
-    (rw (list_all_more is_ascii_digit text i 0 inside, digits, takes.0) refl,
-     rw (digits_value_more 10 text i inside, value) refl)
+    × (n * 10 + digit_value (get_or text i 0) ≡ digits_value 10 (take (i + 1) text))
+digits-more text i n inside value digits takes = (
+  rw (list_all_more is_ascii_digit text i 0 inside, digits, takes.0) refl,
+  rw (digits_value_more 10 text i inside, value) refl,
+)
 
 -- all digits were taken
 pub number_of-all : (text : List ℕ) (n : ℕ) → begins_as_numeral text ≡ true
@@ -88,7 +91,7 @@ pair_of-none text is = by (ltb (position_or_len is_dot text) (length text)) refl
     by true inside = let found : position is_dot text ≡ Some (position_or_len is_dot text) = rw inside refl in cc
     by false past =
         let nothing : drop (position_or_len is_dot text + 1) text ≡ [] =
-                drop_all (position_or_len is_dot text + 1) text (omega (arith, ltb-false _ _ past)) in
+        drop_all (position_or_len is_dot text + 1) text (omega (arith, ltb-false _ _ past)) in
         rw nothing (both_none _)
 
 -- the dot that it has stands between the numbers
@@ -163,9 +166,10 @@ unfolding number_of
 number_of-found text n is =
     let parts = when_number (begins_as_numeral text) (list_all is_ascii_digit text) (ltb (digits_value 10 text) (2 ^ 64)) _ n is in
     let first = begins_right text parts.0 in
-    let low = ltb-true _ _ parts.2 in
-    (rw (← parts.3) low,
-     sym (rw (← parts.3) (decimal-digits_value numerals text parts.1 first.0 first.1 low)))
+    let low = ltb-true _ _ parts.2 in (
+      rw (← parts.3) low,
+      sym (rw (← parts.3) (decimal-digits_value numerals text parts.1 first.0 first.1 low)),
+    )
 
 -- a number's text is read as that number
 pub number_of-decimal : (n : ℕ) → n < 2 ^ 64 → number_of (decimal n) ≡ Some n
@@ -173,7 +177,7 @@ unfolding number_of
 number_of-decimal n low =
     let value : digits_value 10 (decimal n) ≡ n = digits_value-decimal numerals n low in
     a_number (begins_as_numeral (decimal n)) (list_all is_ascii_digit (decimal n)) (ltb (digits_value 10 (decimal n)) (2 ^ 64)) _
-      (decimal_begins n low) (digits_decimal numerals n low) (rw value (lt-ltb n (2 ^ 64) low))
+    (decimal_begins n low) (digits_decimal numerals n low) (rw value (lt-ltb n (2 ^ 64) low))
     ∙ ap (λ m. Some m) value
 
 -- ---- a pair's one text
@@ -187,6 +191,7 @@ both_parts (Some a) (Some b) n m is = (ap first is, ap second is)
     first : Option (ℕ × ℕ) → Option ℕ
     first None = None
     first (Some pair) = Some pair.0
+
     second : Option (ℕ × ℕ) → Option ℕ
     second None = None
     second (Some pair) = Some pair.1
@@ -222,11 +227,15 @@ pair_of-decimal n m low small =
     let text = decimal n ++ (46 ∷ decimal m) in
     let long : length text ≡ length (decimal n) + suc (length (decimal m)) = length-append (decimal n) (46 ∷ decimal m) in
     let place : position_or_len is_dot text ≡ length (decimal n) =
-            position_or_len_is is_dot text (length (decimal n)) 0 (omega arith)
-              (λ k inside. rw (get_or_append_left (decimal n) (46 ∷ decimal m) 0 k inside) (no_dot n k low inside))
-              (λ _. rw (get_or-append_seam (decimal n) 46 (decimal m) 0) refl) in
+    position_or_len_is is_dot text (length (decimal n)) 0 (omega arith)
+    (λ k inside. rw (get_or_append_left (decimal n) (46 ∷ decimal m) 0 k inside) (no_dot n k low inside))
+    (λ _. rw (get_or-append_seam (decimal n) 46 (decimal m) 0) refl) in
     let inside : ltb (position_or_len is_dot text) (length text) ≡ true = lt-ltb _ _ (rw place (omega arith)) in
     let found : position is_dot text ≡ Some (length (decimal n)) = rw (inside, place) refl in
     pair_of-dot text (length (decimal n)) found
-    ∙ rw (take-append_seam (decimal n) (46 ∷ decimal m), drop-append-add (decimal n) (46 ∷ decimal m) 1,
-          number_of-decimal n low, number_of-decimal m small) refl
+    ∙ rw (
+      take-append_seam (decimal n) (46 ∷ decimal m),
+      drop-append-add (decimal n) (46 ∷ decimal m) 1,
+      number_of-decimal n low,
+      number_of-decimal m small,
+    ) refl

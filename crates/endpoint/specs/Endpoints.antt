@@ -1,6 +1,6 @@
 -- Endpoints: which values are legal, and the one text of each.
 
-use Rattle.std.specs.Prelude.{◌≡◌, ℕ, ◌+◌, ◌^◌, ◌<◌, Bool, true, false, ◌&&◌, ◌||◌, not, nat_le}
+use Rattle.std.specs.Prelude.{◌≡◌, ℕ, ◌^◌, ◌<◌, Bool, true, false, ◌&&◌, ◌||◌, not, nat_le}
 use Rattle.std.specs.Prelude.{List, [], ◌∷◌, ◌++◌, length, take, codes}
 use Rattle.std.specs.List.{list_all}
 use Rattle.std.specs.Str.{bytes_eq}
@@ -24,11 +24,19 @@ IsEndpoint Null = Unit {0}
 IsEndpoint (Ipn node service) = (node < 2 ^ 64) × (service < 2 ^ 64)
 IsEndpoint (Dtn ssp) = is_ssp ssp ≡ true
 
--- its text
+abbrev pub scheme_of : Endpoint → List ℕ
+scheme_of Null = codes "dtn"
+scheme_of (Ipn node service) = codes "ipn"
+scheme_of (Dtn ssp) = codes "dtn"
+
+abbrev pub ssp_of : Endpoint → List ℕ
+ssp_of Null = codes "none"
+ssp_of (Ipn node service) = decimal node ++ (codes "." ++ decimal service)
+ssp_of (Dtn ssp) = ssp
+
+-- its text: scheme, colon and scheme-specific part
 abbrev pub text_of : Endpoint → List ℕ
-text_of Null = codes "dtn:none"
-text_of (Ipn node service) = codes "ipn:" ++ (decimal node ++ (codes "." ++ decimal service))
-text_of (Dtn ssp) = codes "dtn:" ++ ssp
+text_of endpoint = scheme_of endpoint ++ (codes ":" ++ ssp_of endpoint)
 
 -- the front stands at the text's front
 abbrev pub begins : List ℕ → List ℕ → Bool

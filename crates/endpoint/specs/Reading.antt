@@ -1,7 +1,7 @@
 -- Reading an endpoint: from its text, and from the two texts of scheme and scheme-specific part.
 
 use Rattle.std.specs.Prelude.{◌≡◌, ◌≢◌, ℕ, ◌⊎◌, List, ◌++◌, drop, codes}
-use Rattle.std.specs.Prelude.{Option, None, Some, Result, Ok, Err, if◌then◌else◌}
+use Rattle.std.specs.Prelude.{Option, None, Some, Result, Err, if◌then◌else◌}
 use Rattle.std.specs.Option.{ok_or}
 use Rattle.std.specs.Str.{bytes_eq}
 use Rattle.endpoint.specs.declared.name.Endpoint.{Endpoint}
@@ -15,6 +15,10 @@ use Rattle.endpoint.specs.Endpoints.{IsEndpoint, text_of, is_ssp, begins}
 pub record Spells (endpoint : Endpoint) (text : List ℕ) : Type 0 where
   pub legal : IsEndpoint endpoint
   pub spelled : text ≡ text_of endpoint
+
+-- no two endpoints have the same text
+abbrev pub HaveOneText : Type 0
+HaveOneText = (one other : Endpoint) (text : List ℕ) → Spells one text → Spells other text → one ≡ other
 
 -- the text spells no endpoint
 abbrev pub SpellsNone : List ℕ → Type 0

@@ -1,15 +1,15 @@
 //! Endpoints, and their texts.
 
 ghost use Rattle.std.specs.Prelude.{◌≡◌, ◌⊎◌, IfOk, IfErr, Ok, Err};
-ghost use Rattle.endpoint.specs.Endpoints.{text_of, is_singleton, IsEndpoint};
-ghost use Rattle.endpoint.specs.Reading.{Spells, Misses, Reads};
+ghost use Rattle.endpoint.specs.Endpoints.{text_of, scheme_of, ssp_of, is_singleton};
+ghost use Rattle.endpoint.specs.Reading.{Spells, Misses, Reads, HaveOneText};
 
 use super::text::{dtn_named, ipn_named, names_group};
 use super::{EndpointFault, Octets};
 use std::alloc::{AllocError, Global};
 
 /// Whom a bundle is for, from, or to be reported to.
-#[derive(Debug, Drop)]
+#[derive(Debug, Drop, PartialEq, Eq)]
 pub enum Endpoint {
     /// The null endpoint, `dtn:none`: nobody.
     Null,
@@ -44,18 +44,35 @@ impl Endpoint {
     pub fn to_text(&self, alloc: Global) -> Result<Octets, AllocError>
         ensures { IfOk result (λ text. text ≡ text_of self.now) }
     {
+        let ssp = self.ssp(alloc)?;
+        let mut text = Vec::with_capacity(alloc, ssp.len().saturating_add(4))?;
+        text.extend_from_slice(self.scheme())?;
+        text.push(b':')?;
+        text.extend_from_slice(ssp.as_slice())?;
+        Ok(Octets::from_vec(text))
+    }
+
+    /// The scheme's name: `ipn`, or `dtn`, which the null endpoint has too.
+    pub fn scheme(&self) -> &'static [u8]
+        ensures { result.now ≡ scheme_of self.now }
+    {
         match self {
-            Endpoint::Null => Octets::from_slice(alloc, b"dtn:none".as_slice()),
+            Endpoint::Null | Endpoint::Dtn(_) => b"dtn".as_slice(),
+            Endpoint::Ipn { .. } => b"ipn".as_slice(),
+        }
+    }
+
+    /// The scheme-specific part: what stands behind scheme and colon in the text.
+    pub fn ssp(&self, alloc: Global) -> Result<Octets, AllocError>
+        ensures { IfOk result (λ ssp. ssp ≡ ssp_of self.now) }
+    {
+        match self {
+            Endpoint::Null => Octets::from_slice(alloc, b"none".as_slice()),
             Endpoint::Ipn { node, service } => {
-                let text = format!(in alloc; "ipn:{node}.{service}")?;
-                Ok(Octets::from_vec(text.into_bytes()))
+                let pair = format!(in alloc; "{node}.{service}")?;
+                Ok(Octets::from_vec(pair.into_bytes()))
             }
-            Endpoint::Dtn(ssp) => {
-                let mut text = Vec::with_capacity(alloc, ssp.len().saturating_add(4))?;
-                text.extend_from_slice(b"dtn:".as_slice())?;
-                text.extend_from_slice(ssp.as_slice())?;
-                Ok(Octets::from_vec(text))
-            }
+            Endpoint::Dtn(ssp) => ssp.copy(alloc),
         }
     }
 
@@ -99,3 +116,8 @@ fn read(alloc: Global, text: &[u8]) -> Result<Endpoint, EndpointFault>
     }
     Err(EndpointFault::Scheme)
 }
+
+/// An endpoint has one text, and no two endpoints have the same.
+pub fn one_text()
+    ensures { HaveOneText }
+{}

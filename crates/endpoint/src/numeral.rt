@@ -13,9 +13,7 @@ fn with_digit(value: u64, digit: u8) -> Option<u64>
     if !digit.is_ascii_digit() {
         return None;
     }
-    value
-        .checked_mul(10)?
-        .checked_add(u64::from(digit - b'0'))
+    value.checked_mul(10)?.checked_add(u64::from(digit - b'0'))
 }
 
 /// Whether there is an octet, and the first is 0 only where it is the only one.

@@ -25,10 +25,7 @@ fn are_visible(ssp: &[u8]) -> bool
 pub fn is_ssp(ssp: &[u8]) -> bool
     ensures { result ≡ is_ssp ssp.now }
 {
-    !ssp.is_empty()
-        && ssp.len() <= LONGEST_SSP
-        && are_visible(ssp)
-        && ssp != b"none".as_slice()
+    !ssp.is_empty() && ssp.len() <= LONGEST_SSP && are_visible(ssp) && ssp != b"none".as_slice()
 }
 
 /// The endpoint of the scheme `dtn` with this scheme-specific part.

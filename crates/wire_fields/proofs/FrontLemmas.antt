@@ -1,5 +1,5 @@
 -- The clauses of a decoder, each from the one exact clause that it gives what reading gives.
-use Rattle.std.proofs.Common.{◌≡◌, ℕ, List, [], ◌++◌, Option, Some, None, Result, Ok, Err, IfOk, IfErr, IfSome, sym, arith}
+use Rattle.std.proofs.Common.{◌≡◌, ℕ, List, [], ◌++◌, Option, Some, None, Result, Ok, Err, IfOk, IfErr, IfSome, IsErrAnd, sym, arith}
 use Rattle.wire_fields.specs.Format.{Format, Spells}
 use Rattle.wire_fields.specs.Refusal.{Stop, Refusal, Begins}
 use Rattle.wire_fields.specs.Reading.{read, IsSettled, IsOctets}
@@ -13,6 +13,12 @@ use Rattle.wire_fields.proofs.WholeLemmas.{whole-found, whole-only, whole-refuse
 pub gives-same : {C X Y E : Type 0} (view : X → Y) (fault : E → Option (ℕ × Stop C)) (result : Result (X × ℕ) E) (r s : Result (Y × ℕ) (ℕ × Stop C))
     → Gives view fault result r → r ≡ s → Gives view fault result s
 gives-same view fault result r s g is = rw is at g
+
+-- what a `?` passes on is the fault that it met
+pub gives-fault : {C X Y E : Type 0} (view : X → Y) (fault : E → Option (ℕ × Stop C)) (result : Result (X × ℕ) E) (e : E) (all : Result (Y × ℕ) (ℕ × Stop C))
+    → IsErrAnd result (λ y. y ≡ e) → Fails (fault e) all → Gives view fault result all
+gives-fault view fault (Ok x) e all is fails = absurd is
+gives-fault view fault (Err y) e all is fails = rw is fails
 
 refused-by : {C Y : Type 0} (P : ℕ → Stop C → Type 0) (r : Result Y (ℕ × Stop C)) (o : Option (ℕ × Stop C))
     → ((p : ℕ) (s : Stop C) → r ≡ Err (p, s) → P p s) → Fails o r → IfSome o (λ s. P s.0 s.1)

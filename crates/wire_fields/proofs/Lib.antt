@@ -6,3 +6,4 @@ pub mod StayLemmas
 pub mod WholeLemmas
 pub mod FrontLemmas
 pub mod GroupLemmas
+pub mod WaybillLemmas

@@ -1,4 +1,4 @@
-use Rattle.std.proofs.Common.{◌≡◌, arith, sym, ◌∙◌, take, length, take_all}
+use Rattle.std.proofs.Common.{◌≡◌, sym, ◌∙◌, take, take_all}
 use Rattle.std.proofs.lemmas.Bool.{lt-ltb}
 use Rattle.endpoint.proofs.NumeralLemmas.{number_of-stops, digits-more, number_of-all, number_of-begins}
 use Rattle.endpoint.proofs.numeral.number.Goals as goal
@@ -10,12 +10,12 @@ returns-then-not-begins_as_numeral c =
 pub returns-in_err-value : goal.returns-in_err-value
 returns-in_err-value c =
     c.from_residual.ensures ∙ sym (number_of-stops c.args.text.now c.loop-digit.digit-index
-      c.loop-digit-test.true (rw c.loop-digit.invariant.value at c.in_err-value.ensures))
+    c.loop-digit-test.true (rw c.loop-digit.invariant.value at c.in_err-value.ensures))
 
 pub loop-digit-preserved : goal.loop-digit-preserved
 loop-digit-preserved c =
     let more = digits-more c.args.text.now c.loop-digit.digit-index c.loop-digit.value c.loop-digit-test.true
-            c.loop-digit.invariant.value c.loop-digit.invariant.digits c.in_ok-value.ensures.0 in
+    c.loop-digit.invariant.value c.loop-digit.invariant.digits c.in_ok-value.ensures.0 in
     record {
       digits = more.0;
       value = c.in_ok-value.ensures.1 ∙ more.1;
@@ -25,7 +25,7 @@ loop-digit-preserved c =
 pub returns : goal.returns
 returns c =
     let whole : take c.loop-digit.digit-index c.args.text.now ≡ c.args.text.now =
-            take_all c.loop-digit.digit-index c.args.text.now c.loop-digit-test.false in
+    take_all c.loop-digit.digit-index c.args.text.now c.loop-digit-test.false in
     sym (number_of-all c.args.text.now c.loop-digit.value (sym c.begins_as_numeral.ensures ∙ c.if-not-begins_as_numeral.false)
-      (rw whole at c.loop-digit.invariant.digits) (rw whole at c.loop-digit.invariant.value)
-      (lt-ltb _ _ c.loop-digit.invariant.low))
+    (rw whole at c.loop-digit.invariant.digits) (rw whole at c.loop-digit.invariant.value)
+    (lt-ltb _ _ c.loop-digit.invariant.low))

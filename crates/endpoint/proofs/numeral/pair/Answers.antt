@@ -18,4 +18,4 @@ returns-in_err-other c =
 pub returns : goal.returns
 returns c =
     sym (pair_of-found c.args.text.now c.in_ok-dot.dot c.in_ok-one.one c.in_ok-other.other
-      c.in_ok-dot.ensures c.in_ok-one.ensures c.in_ok-other.ensures)
+    c.in_ok-dot.ensures c.in_ok-one.ensures c.in_ok-other.ensures)

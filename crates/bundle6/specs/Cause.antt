@@ -1,0 +1,38 @@
+-- The names of the causes, and a fault as a refusal.
+
+use Rattle.std.specs.Prelude.{ℕ, List, codes, Option, Some, None}
+use Rattle.wire_fields.specs.Refusal.{Stop, truncated, because}
+use Rattle.wire_fields.specs.declared.miss.Miss.{Miss}
+use Rattle.wire_fields.specs.declared.miss.Miss.TheVariants as misses
+use Rattle.bundle6.specs.declared.fault.Cause6.{Cause6}
+use Rattle.bundle6.specs.declared.fault.Cause6.TheVariants.{Version, Number, Names, PrimaryEnd, SecondPayload, TooManyBlocks, NoPayload, BlockRefs, FragmentRange, Truncated, TooLong}
+use Rattle.bundle6.specs.declared.fault.Fail6.{Fail6}
+use Rattle.bundle6.specs.declared.fault.Fail6.TheVariants.{Refused, Memory}
+
+abbrev pub word_of : Cause6 → List ℕ
+word_of Version = codes "Version"
+word_of Number = codes "Number"
+word_of Names = codes "Names"
+word_of PrimaryEnd = codes "PrimaryEnd"
+word_of SecondPayload = codes "SecondPayload"
+word_of TooManyBlocks = codes "TooManyBlocks"
+word_of NoPayload = codes "NoPayload"
+word_of BlockRefs = codes "BlockRefs"
+word_of FragmentRange = codes "FragmentRange"
+word_of Truncated = codes "Truncated"
+word_of TooLong = codes "TooLong"
+
+-- the end of the input is a reason of its own
+abbrev pub why : Cause6 → Stop Cause6
+why Truncated = truncated
+why cause = because cause
+
+-- a field that isn't there at a place, with its cause
+abbrev pub fault_of : ℕ → Miss → Cause6 → Fail6
+fault_of at misses.Truncated cause = Refused at Truncated
+fault_of at misses.Absent cause = Refused at cause
+
+-- the refusal that a fault answers: place and reason; want of memory is none
+abbrev pub refusal : Fail6 → Option (ℕ × Stop Cause6)
+refusal (Refused at cause) = Some (at, why cause)
+refusal Memory = None

@@ -1,0 +1,92 @@
+//! Why octets are no version 6 bundle.
+
+ghost use Rattle.std.specs.Prelude.{◌≡◌};
+ghost use Rattle.bundle6.specs.Cause.{word_of};
+
+use std::alloc::AllocError;
+use thiserror::Error;
+
+/// What isn't as it should be, in the order of the fields.
+#[derive(Clone, Copy, Debug, PartialEq, Eq, Error)]
+pub enum Cause6 {
+    /// The first octet isn't 6.
+    #[error("Version")]
+    Version,
+    /// A number has no end within ten octets, or is 2^64 or more.
+    #[error("Number")]
+    Number,
+    /// One of the four names of the primary block doesn't resolve in the dictionary.
+    #[error("Names")]
+    Names,
+    /// The primary block ends elsewhere than its length field says.
+    #[error("PrimaryEnd")]
+    PrimaryEnd,
+    /// A second payload block begins.
+    #[error("SecondPayload")]
+    SecondPayload,
+    /// A 65th block of another type than the payload begins.
+    #[error("TooManyBlocks")]
+    TooManyBlocks,
+    /// The block that is marked as the last comes before a payload block.
+    #[error("NoPayload")]
+    NoPayload,
+    /// A reference of a block doesn't resolve in the dictionary.
+    #[error("BlockRefs")]
+    BlockRefs,
+    /// The payload of a fragment would pass the end of the whole.
+    #[error("FragmentRange")]
+    FragmentRange,
+    /// The octets end inside a field.
+    #[error("Truncated")]
+    Truncated,
+    /// A bundle of a stream doesn't end within the most octets that a reader keeps.
+    #[error("TooLong")]
+    TooLong,
+}
+
+impl Cause6 {
+    /// The cause's name.
+    pub fn word(&self) -> &'static str
+        ensures { result.now ≡ word_of self.now }
+    {
+        match self {
+            Cause6::Version => "Version",
+            Cause6::Number => "Number",
+            Cause6::Names => "Names",
+            Cause6::PrimaryEnd => "PrimaryEnd",
+            Cause6::SecondPayload => "SecondPayload",
+            Cause6::TooManyBlocks => "TooManyBlocks",
+            Cause6::NoPayload => "NoPayload",
+            Cause6::BlockRefs => "BlockRefs",
+            Cause6::FragmentRange => "FragmentRange",
+            Cause6::Truncated => "Truncated",
+            Cause6::TooLong => "TooLong",
+        }
+    }
+}
+
+/// Why no bundle was read.
+#[derive(Clone, Copy, Debug, PartialEq, Eq)]
+pub enum Fail6 {
+    /// The octets before a place are as they should be, and the field there isn't.
+    Refused {
+        /// The place of the field's first octet.
+        at: usize,
+        /// What isn't as it should be.
+        cause: Cause6,
+    },
+    /// Memory ran out; this says nothing of the octets.
+    Memory,
+}
+
+impl From<AllocError> for Fail6 {
+    ghost use Rattle.std.specs.Prelude.{◌≡◌};
+    ghost use Rattle.bundle6.specs.declared.fault.Fail6.{Fail6};
+    ghost use Rattle.bundle6.specs.declared.fault.Fail6.TheVariants as fails;
+
+    ghost from_gives = { λ _ fail. fail ≡ fails.Memory };
+
+    fn from(_: AllocError) -> Fail6 {
+        Fail6::Memory
+    }
+}

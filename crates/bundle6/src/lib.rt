@@ -1,0 +1,22 @@
+//! Bundles of version 6: their octets, read and written (RFC 5050, RFC 6260).
+//!
+//! [`decode6`] reads the bundle at the front of some octets and says how many it took. Names are
+//! spelled as offsets into a dictionary, or, where that is empty, as numbers of the scheme `ipn`.
+//! Octets that spell no bundle are refused at the first octet of the field that isn't there as it
+//! should be, with the cause. [`encode6`] writes a legal bundle in its canonical spelling.
+//!
+//! The blocks end with the first that is marked as the last. Blocks of other types than the payload
+//! are carried unread; custody, security and the age block have no meaning here.
+#![tactic(auto)]
+
+mod block;
+mod bundle;
+mod fault;
+mod names;
+mod primary;
+mod reading;
+
+pub use block::{Block6, Blocks6};
+pub use bundle::Bundle6;
+pub use fault::{Cause6, Fail6};
+pub use primary::Primary6;

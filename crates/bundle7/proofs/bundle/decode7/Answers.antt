@@ -1,0 +1,21 @@
+-- Each clause follows from the exact one, by the laws of formats.
+use Rattle.std.proofs.Common.{arith}
+use Rattle.wire_fields.proofs.FrontLemmas.{front-found, front-only, front-refused, front-refuses, front-stays}
+use Rattle.bundle7.specs.Cause.{refusal}
+use Rattle.bundle7.specs.Table.{bundle}
+use Rattle.bundle7.proofs.bundle.decode7.Goals as goal
+
+pub returns-clause-found : goal.returns-clause-found
+returns-clause-found c = front-found (bundle 64) (λ b. b) refusal c.bundle_at.result c.args.bytes.now (λ i. omega (arith, c.type_inv.bytes i)) c.bundle_at.ensures.exact
+
+pub returns-clause-only : goal.returns-clause-only
+returns-clause-only c = front-only (bundle 64) (λ b. b) refusal c.bundle_at.result c.args.bytes.now c.bundle_at.ensures.exact
+
+pub returns-clause-refused : goal.returns-clause-refused
+returns-clause-refused c = front-refused (bundle 64) (λ b. b) refusal c.bundle_at.result c.args.bytes.now (λ i. omega (arith, c.type_inv.bytes i)) c.bundle_at.ensures.exact
+
+pub returns-clause-refuses : goal.returns-clause-refuses
+returns-clause-refuses c = front-refuses (bundle 64) (λ b. b) refusal c.bundle_at.result c.args.bytes.now (λ i. omega (arith, c.type_inv.bytes i)) c.bundle_at.ensures.exact
+
+pub returns-clause-stays : goal.returns-clause-stays
+returns-clause-stays c = front-stays (bundle 64) (λ b. b) refusal c.bundle_at.result c.args.bytes.now (λ i. omega (arith, c.type_inv.bytes i)) c.bundle_at.ensures.exact

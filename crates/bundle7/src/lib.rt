@@ -1,0 +1,30 @@
+//! Bundles of version 7: their octets, read and written (RFC 9171).
+//!
+//! [`decode7`] reads the bundle at the front of some octets and says how many it took. Octets that
+//! spell no bundle are refused at the first octet of the field that isn't there as it should be,
+//! with the cause. [`encode7`] writes a legal bundle: each has one spelling, since heads are the
+//! shortest and only the outer array is without a length. [`read_eid`] and [`write_eid`] do the
+//! same for an endpoint alone, and [`hop_of`], [`age_of`] and [`previous_of`] read the bodies of the
+//! three extension blocks that are known here: hop count, bundle age and previous node.
+//!
+//! The payload is the last block, as the standard has it. A check of type 0, which is none, is
+//! accepted on every block, the primary too (own rule). Security, administrative records and other
+//! extension blocks are carried unread.
+#![tactic(auto)]
+
+mod block;
+mod blocks;
+mod body;
+mod bundle;
+mod check;
+mod eid;
+mod fault;
+mod field;
+mod groups;
+mod primary;
+
+pub use block::{Block7, Blocks7};
+pub use body::Hop;
+pub use bundle::{Bundle7, decode7};
+pub use fault::{Cause7, EidFault, Fail7};
+pub use primary::Primary7;

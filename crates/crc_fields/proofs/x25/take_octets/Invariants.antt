@@ -1,0 +1,6 @@
+use Rattle.std.proofs.Common.{◌≡◌, take}
+use Rattle.crc_fields.specs.Crc.{take_text}
+use Rattle.crc_fields.proofs.x25.take_octets.Given as goal
+
+abbrev pub invariant-octets : goal.invariant-octets
+invariant-octets l = l.register ≡ take_text 0x8408 l.start (take l.octet-index l.bytes)

@@ -1,0 +1,124 @@
+//! CRC-16 X-25, the check of CRC type 1 .
+ghost use Rattle.std.specs.Prelude.{◌≡◌, ◌<◌, ◌≤◌, ◌+◌, ◌*◌, ℕ, bit_xor, length};
+ghost use Rattle.crc_fields.specs.Crc.{take_text, crc16_of, zeroed};
+ghost use Rattle.crc_fields.specs.Tables.{after_zeros};
+
+use crate::tables::CRC16;
+use std::marker::Model;
+
+/// The CRC-16 X-25 of a text: reflected polynomial 0x8408, start 0xFFFF, result inverted.
+pub fn crc16(bytes: &[u8]) -> u16
+    ensures { result ≡ crc16_of bytes.now }
+{
+    Register16::new().update(bytes).finish()
+}
+
+/// The same of a text in which the two octets from `at` on are taken as zero, as where the check
+/// itself is to stand. They lie inside.
+pub fn crc16_zeroed(bytes: &[u8], at: usize) -> u16
+    requires { at + 2 ≤ length bytes.now }
+    ensures { result ≡ crc16_of (zeroed at 2 bytes.now) }
+{
+    Register16::new()
+        .update(&bytes[..at])
+        .update(&[0; 2])
+        .update(&bytes[at + 2..])
+        .finish()
+}
+
+/// A check that goes on: texts are taken one after another, and their check is that of the texts
+/// joined. Contracts see the register.
+#[derive(Clone, Copy, Debug, PartialEq, Eq, Drop)]
+pub struct Register16 {
+    register: u16,
+}
+
+impl Model for Register16 {
+    ghost Value = { ℕ };
+
+    ghost view = { λ c. c.register };
+
+    ghost inverse = { λ n. record { register = n } };
+}
+
+impl Register16 {
+    /// The register before any octet: all ones.
+    pub fn new() -> Register16
+        ensures { result ≡ 0xFFFF }
+    {
+        Register16 { register: u16::MAX }
+    }
+
+    /// Takes a text.
+    pub fn update(self, bytes: &[u8]) -> Register16
+        ensures { result ≡ take_text 0x8408 self bytes.now }
+    {
+        let (register, rest) = take_words(self.register, bytes);
+        Register16 {
+            register: take_octets(register, rest),
+        }
+    }
+
+    /// The check of the texts that were taken: the register, inverted.
+    pub fn finish(self) -> u16
+        ensures { result ≡ bit_xor self 0xFFFF }
+    {
+        self.register ^ u16::MAX
+    }
+}
+
+/// Takes eight octets at a time, as long as there are eight, and gives those that are left.
+fn take_words(start: u16, bytes: &[u8]) -> (u16, &[u8])
+    ensures { take_text 0x8408 result.0 result.1.now ≡ take_text 0x8408 start bytes.now }
+{
+    let mut register = start;
+    let mut rest = bytes;
+    'words: while let Some((word, behind)) = rest.split_first_chunk::<8>() {
+        register = take_word(register, word);
+        rest = behind;
+    }
+    (register, rest)
+}
+
+/// Takes octets one by one.
+fn take_octets(start: u16, bytes: &[u8]) -> u16
+    ensures { result ≡ take_text 0x8408 start bytes.now }
+{
+    let mut register = start;
+    'octets: for octet in bytes {
+        register = take_octet(register, *octet);
+    }
+    register
+}
+
+/// Takes eight octets at once: each acts by the row of the table that has as many zeros as octets
+/// follow it.
+fn take_word(register: u16, word: &[u8; 8]) -> u16
+    ensures { result ≡ take_text 0x8408 register word.now }
+{
+    let [a, b] = register.to_le_bytes();
+    let [s, t, u, v, w, x, y, z] = *word;
+    entry(7, a ^ s)
+        ^ entry(6, b ^ t)
+        ^ entry(5, u)
+        ^ entry(4, v)
+        ^ entry(3, w)
+        ^ entry(2, x)
+        ^ entry(1, y)
+        ^ entry(0, z)
+}
+
+/// Takes one octet.
+fn take_octet(register: u16, octet: u8) -> u16
+    ensures { result ≡ after_zeros 0x8408 8 (bit_xor register octet) }
+{
+    entry(0, (register % 256) as u8 ^ octet) ^ (register / 256)
+}
+
+/// The register after an octet that met it empty, and k octets of zeros.
+fn entry(k: usize, octet: u8) -> u16
+    requires { k < 8 }
+    ensures { result ≡ after_zeros 0x8408 (8 * (k + 1)) octet }
+{
+    CRC16[k][octet as usize]
+}

@@ -16,7 +16,7 @@ use Rattle.ltp_segment.specs.declared.cause.SegmentCause.{SegmentCause}
 use Rattle.ltp_segment.specs.declared.cause.SegmentCause.TheVariants as causes
 use Rattle.ltp_segment.specs.declared.segment.Claim.{Claim}
 use Rattle.ltp_segment.specs.Claims.{parted, front_number, front_claim, claims_in}
-use Rattle.ltp_segment.specs.Table.{end_from, is_claim, claim_size, claim_behind, next_claim, claims_of}
+use Rattle.ltp_segment.specs.Reports.{end_from, is_claim, claim_size, claim_behind, next_claim, claims_of}
 
 -- ---- what the iterator finds is what was read
 

@@ -16,9 +16,12 @@ use Rattle.ltp_segment.specs.declared.segment.PieceKind.TheVariants as kinds
 use Rattle.ltp_segment.specs.declared.segment.Claim.{Claim}
 use Rattle.ltp_segment.specs.Kinds.{is_checkpoint}
 use Rattle.ltp_segment.specs.Values.{PieceValue, ReportValue, ContentValue, a_piece, a_report, a_report_ack, a_sender_cancel, a_sender_cancel_ack, a_receiver_cancel, a_receiver_cancel_ack, SegmentValue}
-use Rattle.ltp_segment.specs.Table.{is_type, is_claim, end_from, control, serial, serials, piece_of, claim_behind, next_claim, claims_of, report_fields, report_ack_fields, sender_cancel_fields, receiver_cancel_fields, extensions, content_of, segment}
+use Rattle.ltp_segment.specs.Pieces.{serial, serials, piece_of}
+use Rattle.ltp_segment.specs.Reports.{is_claim, end_from, claim_behind, next_claim, claims_of, report_fields}
+use Rattle.ltp_segment.specs.Table.{is_type, control, report_ack_fields, sender_cancel_fields, receiver_cancel_fields, extensions, content_of, segment}
 use Rattle.ltp_segment.specs.Reading.{SpellsSegment, segment_of}
-use Rattle.ltp_segment.specs.Writing.{AreSerials, IsPiece, IsClaim, AreClaims, IsReport, IsContent, IsSegment, piece_type, type_of, serial_octets, piece_octets, claim_octets, report_octets, content_octets, header_octets, segment_octets, by_side, cancel_type, cancel_ack_type, IsWritten}
+use Rattle.ltp_segment.specs.Legal.{AreSerials, IsPiece, IsClaim, AreClaims, IsReport, IsContent, IsSegment}
+use Rattle.ltp_segment.specs.Writing.{piece_type, type_of, serial_octets, piece_octets, claim_octets, report_octets, content_octets, header_octets, segment_octets, by_side, cancel_type, cancel_ack_type, IsWritten}
 use Rattle.ltp_segment.proofs.ReportLemmas.{end_from-push}
 
 -- ---- conditions that hold

@@ -18,8 +18,10 @@ front_number text = parted text (read_of text)
 
 -- a claim at the front of a text, an offset and a length, and the octets behind it
 unfoldable pub front_claim : List ℕ → Option (Claim × List ℕ)
-front_claim text = option_and_then (λ offset. option_map (λ size.
-    (record { offset = offset.0; length = size.0 }, size.1)) (front_number offset.1)) (front_number text)
+front_claim text = option_and_then
+    (λ offset. option_map
+    (λ size. (record { offset = offset.0; length = size.0 }, size.1)) (front_number offset.1))
+    (front_number text)
 
 -- a claim, if there is one, and those that its rest gives
 abbrev pub then_others : (List ℕ → List Claim) → Option (Claim × List ℕ) → List Claim

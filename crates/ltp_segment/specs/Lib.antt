@@ -1,10 +1,13 @@
 pub mod Word
 pub mod Kinds
 pub mod Values
+pub mod Pieces
+pub mod Reports
 pub mod Table
 pub mod Claims
 pub mod Views
 pub mod Reading
+pub mod Legal
 pub mod Writing
 pub mod Policy
 pub mod PolicyViews

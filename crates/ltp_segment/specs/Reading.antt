@@ -28,7 +28,8 @@ why causes.Claim = because causes.Claim
 why causes.Trailing = because causes.Trailing
 why causes.Truncated = truncated
 
--- the datagram is no segment: so many octets are as they should be, and for this cause the next field isn't
+-- the datagram is no segment: so many octets are as they should be, and the next field isn't, for
+-- this cause
 abbrev pub RefusesSegment : ℕ → SegmentCause → List ℕ → Type 0
 RefusesSegment at cause datagram = WholeRefusal segment causes.Trailing datagram at (why cause)
 
@@ -37,7 +38,8 @@ abbrev pub cause_of : Stop SegmentCause → SegmentCause
 cause_of truncated = causes.Truncated
 cause_of (because cause) = cause
 
-abbrev pub told : Result SegmentValue (ℕ × Stop SegmentCause) → Result SegmentValue (ℕ × SegmentCause)
+abbrev pub told :
+    Result SegmentValue (ℕ × Stop SegmentCause) → Result SegmentValue (ℕ × SegmentCause)
 told (Ok s) = Ok s
 told (Err refusal) = Err (refusal.0, cause_of refusal.1)
 

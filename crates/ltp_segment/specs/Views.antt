@@ -50,4 +50,8 @@ content_value (contents.ReceiverCancel reason) = a_receiver_cancel reason
 content_value contents.ReceiverCancelAck = a_receiver_cancel_ack
 
 abbrev pub segment_value : Segment → SegmentValue
-segment_value s = record { originator = s.originator; session = s.session; content = content_value s.content }
+segment_value s = record {
+  originator = s.originator;
+  session = s.session;
+  content = content_value s.content;
+}

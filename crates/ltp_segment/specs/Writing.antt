@@ -1,6 +1,6 @@
 -- The octets in which a segment is written: shortest numbers and no extensions.
 
-use Rattle.std.specs.Prelude.{◌≡◌, ℕ, ◌+◌, ◌-◌, ◌^◌, ◌<◌, ◌≤◌, Bool, true, false, List, [], ◌∷◌, ◌++◌, length, Ok}
+use Rattle.std.specs.Prelude.{◌≡◌, ℕ, Bool, true, false, List, [], ◌∷◌, ◌++◌, length, Ok}
 use Rattle.std.specs.List.{flat_map}
 use Rattle.sdnv.specs.Shortest.{spelling}
 use Rattle.ltp_segment.specs.declared.segment.PieceKind.{PieceKind}
@@ -9,51 +9,6 @@ use Rattle.ltp_segment.specs.declared.segment.Claim.{Claim}
 use Rattle.ltp_segment.specs.Kinds.{is_checkpoint}
 use Rattle.ltp_segment.specs.Values.{PieceValue, ReportValue, ContentValue, a_piece, a_report, a_report_ack, a_sender_cancel, a_sender_cancel_ack, a_receiver_cancel, a_receiver_cancel_ack, SegmentValue}
 use Rattle.ltp_segment.specs.Reading.{segment_of}
-
--- ---- segments that can be written
-
--- the serial numbers of a piece: that of a checkpoint isn't 0, and other pieces have none
-abbrev pub AreSerials : Bool → ℕ → ℕ → Type 0
-AreSerials true checkpoint report = (0 < checkpoint) × (checkpoint < 2 ^ 64) × (report < 2 ^ 64)
-AreSerials false checkpoint report = (checkpoint ≡ 0) × (report ≡ 0)
-
-pub record IsPiece (piece : PieceValue) : Type 0 where
-  pub service : piece.service < 2 ^ 64
-  pub range : piece.offset + length piece.body < 2 ^ 64
-  pub serials : AreSerials (is_checkpoint piece.kind) piece.checkpoint piece.report
-
--- a claim within so many octets, behind others that end there
-pub record IsClaim (most end : ℕ) (claim : Claim) : Type 0 where
-  pub some : 0 < claim.length
-  pub begins : end ≤ claim.offset
-  pub ends : claim.offset + claim.length ≤ most
-
-abbrev pub AreClaims : ℕ → ℕ → List Claim → Type 0
-AreClaims most end [] = Unit {0}
-AreClaims most end (claim ∷ claims) =
-    IsClaim most end claim × AreClaims most (claim.offset + claim.length) claims
-
-pub record IsReport (report : ReportValue) : Type 0 where
-  pub named : 0 < report.serial
-  pub serial : report.serial < 2 ^ 64
-  pub checkpoint : report.checkpoint < 2 ^ 64
-  pub upper : report.upper < 2 ^ 64
-  pub bounds : report.lower < report.upper
-  pub claims : AreClaims (report.upper - report.lower) 0 report.claims
-
-abbrev pub IsContent : ContentValue → Type 0
-IsContent (a_piece piece) = IsPiece piece
-IsContent (a_report report) = IsReport report
-IsContent (a_report_ack serial) = serial < 2 ^ 64
-IsContent (a_sender_cancel reason) = reason < 256
-IsContent a_sender_cancel_ack = Unit {0}
-IsContent (a_receiver_cancel reason) = reason < 256
-IsContent a_receiver_cancel_ack = Unit {0}
-
-pub record IsSegment (s : SegmentValue) : Type 0 where
-  pub originator : s.originator < 2 ^ 64
-  pub session : s.session < 2 ^ 64
-  pub content : IsContent s.content
 
 -- ---- their octets
 
@@ -98,8 +53,9 @@ claim_octets claim = spelling claim.offset ++ spelling claim.length
 
 unfoldable pub report_octets : ReportValue → List ℕ
 report_octets report =
-    spelling report.serial ++ (spelling report.checkpoint ++ (spelling report.upper ++ (spelling report.lower
-    ++ (spelling (length report.claims) ++ flat_map claim_octets report.claims))))
+    spelling report.serial ++ (spelling report.checkpoint ++ (spelling report.upper
+    ++ (spelling report.lower ++ (spelling (length report.claims)
+    ++ flat_map claim_octets report.claims))))
 
 abbrev pub content_octets : ContentValue → List ℕ
 content_octets (a_piece piece) = piece_octets piece
@@ -115,7 +71,8 @@ abbrev pub header_octets : ℕ → ℕ → ℕ → List ℕ
 header_octets kind originator session = kind ∷ (spelling originator ++ (spelling session ++ 0 ∷ []))
 
 unfoldable pub segment_octets : SegmentValue → List ℕ
-segment_octets s = header_octets (type_of s.content) s.originator s.session ++ content_octets s.content
+segment_octets s =
+    header_octets (type_of s.content) s.originator s.session ++ content_octets s.content
 
 -- ---- segments of which the sender and the receiver have one each
 
@@ -127,3 +84,8 @@ by_side false sender receiver = receiver
 pub record IsWritten (s : SegmentValue) (octets : List ℕ) : Type 0 where
   pub made : octets ≡ segment_octets s
   pub again : segment_of octets ≡ Ok s
+
+-- the octets are those of this content in this session
+abbrev pub Writes : ℕ → ℕ → ContentValue → List ℕ → Type 0
+Writes originator session content octets =
+    IsWritten (record { originator = originator; session = session; content = content }) octets

@@ -25,7 +25,8 @@ pub fn decode(datagram: &[u8]) -> Result<Segment<'_>, SegmentFault>
     // What is refused has this refusal.
     ensures refused { IfErr result (λ fault. RefusesSegment fault.at fault.cause datagram.now) }
     // What has a refusal is refused with it.
-    ensures refuses { (at : ℕ) (cause : Causes) → RefusesSegment at cause datagram.now → seen result ≡ Err (at, cause) }
+    ensures refuses { (at : ℕ) (cause : Causes) → RefusesSegment at cause datagram.now
+        → seen result ≡ Err (at, cause) }
     // All of this is one function of the datagram.
     ensures exact { seen result ≡ segment_of datagram.now }
 {
@@ -34,12 +35,14 @@ pub fn decode(datagram: &[u8]) -> Result<Segment<'_>, SegmentFault>
 
 /// A datagram is a segment, and only one, or it has a refusal, and only one; never both.
 pub fn is_segment_or_refused()
-    ensures { (datagram : List ℕ) → IsOctets datagram → ExactlyOneWhole segment SegmentCause.Trailing datagram }
+    ensures { (datagram : List ℕ) → IsOctets datagram
+        → ExactlyOneWhole segment SegmentCause.Trailing datagram }
 {}
 
 /// A segment behind which nothing stands.
 fn whole_segment(text: &[u8]) -> Result<Segment<'_>, SegmentFault>
-    ensures { GivesWhole segment_value refusal result (read_whole segment SegmentCause.Trailing text.now) }
+    ensures { GivesWhole segment_value refusal result
+        (read_whole segment SegmentCause.Trailing text.now) }
 {
     let (segment, end) = segment_at(text)?;
     if end < text.len() {
@@ -107,7 +110,8 @@ fn is_type(kind: u8) -> bool
 fn extensions_at(text: &[u8], at: usize, count: u8) -> Result<((), usize), SegmentFault>
     requires { at ≤ length text.now }
     ensures within { IfOk result (λ x. IsOn at text.now x.1) }
-    ensures exact { Gives (λ nothing. nothing) refusal result (read (extensions count) text.now at) }
+    ensures exact { Gives (λ nothing. nothing) refusal result
+        (read (extensions count) text.now at) }
 {
     let mut behind = at;
     'passing: for _ in 0..count {

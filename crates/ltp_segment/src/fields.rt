@@ -6,7 +6,7 @@ ghost use Rattle.wire_fields.specs.Reading.{read};
 ghost use Rattle.wire_fields.specs.Words.{any_octet, any_octets, any_number};
 ghost use Rattle.wire_fields.specs.Gives.{Gives, IsOn};
 ghost use Rattle.ltp_segment.specs.Reading.{why, refusal};
-ghost use Rattle.ltp_segment.specs.Table.{serial, size_from};
+ghost use Rattle.ltp_segment.specs.Pieces.{serial, size_from};
 
 use crate::cause::{SegmentCause, SegmentFault};
 use wire_fields::{Miss, number_at, octet_at, octets_at};
@@ -36,7 +36,8 @@ pub(crate) fn octet(
 pub(crate) fn octets(text: &[u8], at: usize, count: u64) -> Result<(&[u8], usize), SegmentFault>
     requires { at ≤ length text.now }
     ensures within { IfOk result (λ x. IsOn at text.now x.1) }
-    ensures exact { Gives (λ lent. lent.now) refusal result (read (any_octets count SegmentCause.Number) text.now at) }
+    ensures exact { Gives (λ lent. lent.now) refusal result
+        (read (any_octets count SegmentCause.Number) text.now at) }
 {
     match octets_at(text, at, count) {
         Ok(found) => Ok(found),
@@ -55,7 +56,8 @@ pub(crate) fn octets(text: &[u8], at: usize, count: u64) -> Result<(&[u8], usize
 pub(crate) fn number(text: &[u8], at: usize) -> Result<(u64, usize), SegmentFault>
     requires { at ≤ length text.now }
     ensures within { IfOk result (λ x. IsOn at text.now x.1) }
-    ensures exact { Gives (λ n. n) refusal result (read (any_number SegmentCause.Number) text.now at) }
+    ensures exact { Gives (λ n. n) refusal result
+        (read (any_number SegmentCause.Number) text.now at) }
 {
     match number_at(text, at) {
         Ok(found) => Ok(found),

@@ -1,12 +1,12 @@
 //! Segments of the Licklider Transmission Protocol (RFC 5326), and what its machines share.
 //!
 //! A datagram is one segment. `decode` takes it apart without taking memory, and lends data and
-//! claims out of it; what is no segment is refused at one place for one cause. The five writers make
+//! claims out of it; what is no segment is refused at one place for one cause. Five writers make
 //! the octets of a segment, with shortest numbers and no extensions, and `decode` reads them back.
 //! The table of the fields is in docs/formats-ltp.md.
 //!
-//! `Policy` says how segments are cut and how long answers are waited for. `Step` and `Note` are what
-//! a session answers to an event.
+//! `Policy` says how segments are cut and how long answers are waited for. `Step` and `Note` are
+//! what a session answers to an event.
 //!
 //! Extensions are passed over unread. Which segment may come when is not known here.
 #![tactic(auto)]

@@ -5,14 +5,14 @@ ghost use Rattle.wire_fields.specs.Reading.{read};
 ghost use Rattle.wire_fields.specs.Gives.{Gives, IsOn};
 ghost use Rattle.ltp_segment.specs.Reading.{refusal};
 ghost use Rattle.ltp_segment.specs.Views.{content_value};
-ghost use Rattle.ltp_segment.specs.Table.{serials, piece_of};
+ghost use Rattle.ltp_segment.specs.Pieces.{serials, piece_of};
 
 use crate::cause::SegmentFault;
 use crate::fields::{number, octets, serial_at, size_at};
 use crate::segment::{Content, PieceKind};
 
 /// A piece of this kind: service, offset, length, serials and octets.
-#[tactic(auto, unfolding(crate::specs::Table::piece_of))]
+#[tactic(auto, unfolding(crate::specs::Pieces::piece_of))]
 pub(crate) fn piece_at(
     text: &[u8],
     at: usize,
@@ -45,7 +45,7 @@ pub(crate) fn piece_at(
 }
 
 /// The serial numbers of a checkpoint, which stand in no other piece.
-#[tactic(auto, unfolding(crate::specs::Table::serials))]
+#[tactic(auto, unfolding(crate::specs::Pieces::serials))]
 fn serials_at(text: &[u8], at: usize, stand_here: bool) -> Result<((u64, u64), usize), SegmentFault>
     requires { at ≤ length text.now }
     ensures within { IfOk result (λ x. IsOn at text.now x.1) }

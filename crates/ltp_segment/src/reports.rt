@@ -6,7 +6,7 @@ ghost use Rattle.wire_fields.specs.Gives.{Gives, IsOn};
 ghost use Rattle.ltp_segment.specs.Reading.{refusal};
 ghost use Rattle.ltp_segment.specs.Claims.{claims_left};
 ghost use Rattle.ltp_segment.specs.Views.{content_value};
-ghost use Rattle.ltp_segment.specs.Table.{lower_below, is_claim, claim_size, claim_behind, claims_of, report_fields};
+ghost use Rattle.ltp_segment.specs.Reports.{lower_below, is_claim, claim_size, claim_behind, claims_of, report_fields};
 
 use crate::cause::{SegmentCause, SegmentFault};
 use crate::claims::Claims;
@@ -14,7 +14,7 @@ use crate::fields::{number, serial_at};
 use crate::segment::{Claim, Content};
 
 /// A report: serials, bounds and claims.
-#[tactic(auto, unfolding(crate::specs::Table::report_fields))]
+#[tactic(auto, unfolding(crate::specs::Reports::report_fields))]
 pub(crate) fn report_at(text: &[u8], at: usize) -> Result<(Content<'_>, usize), SegmentFault>
     requires { at ≤ length text.now }
     ensures within { IfOk result (λ x. IsOn at text.now x.1) }
@@ -78,12 +78,13 @@ fn claims_at(
 }
 
 /// A claim behind others that end there.
-#[tactic(auto, unfolding(crate::specs::Table::claim_behind))]
+#[tactic(auto, unfolding(crate::specs::Reports::claim_behind))]
 fn claim_at(text: &[u8], at: usize, most: u64, end: u64) -> Result<(Claim, usize), SegmentFault>
     requires { at ≤ length text.now }
     ensures within { IfOk result (λ x. IsOn at text.now x.1) }
     ensures most { IfOk result (λ x. x.0.offset + x.0.length ≤ most) }
-    ensures exact { Gives (λ claim. claim) refusal result (read (claim_behind most end) text.now at) }
+    ensures exact { Gives (λ claim. claim) refusal result
+        (read (claim_behind most end) text.now at) }
 {
     let (offset, behind_offset) = number(text, at)?;
     let (length, behind) = claim_size_at(text, behind_offset, most, end, offset)?;

@@ -4,7 +4,8 @@ ghost use Rattle.std.specs.Prelude.{◌≡◌, ◌<◌, ◌^◌, ◌++◌, IfOk,
 ghost use Rattle.std.specs.List.{flat_map};
 ghost use Rattle.ltp_segment.specs.Values.{a_piece, a_report, a_report_ack, a_sender_cancel, a_sender_cancel_ack, a_receiver_cancel, a_receiver_cancel_ack, SegmentValue};
 ghost use Rattle.ltp_segment.specs.Reading.{segment_of};
-ghost use Rattle.ltp_segment.specs.Writing.{IsPiece, IsReport, IsSegment, IsWritten, piece_type, serial_octets, claim_octets, header_octets, segment_octets, by_side, cancel_type, cancel_ack_type};
+ghost use Rattle.ltp_segment.specs.Legal.{IsPiece, IsReport, IsSegment};
+ghost use Rattle.ltp_segment.specs.Writing.{Writes, piece_type, serial_octets, claim_octets, header_octets, segment_octets, by_side, cancel_type, cancel_ack_type};
 
 use crate::segment::{Claim, PieceKind};
 use endpoint::Octets;
@@ -27,12 +28,22 @@ pub fn write_piece(
     report: u64,
     body: &[u8],
 ) -> Result<Octets, AllocError>
-    requires { IsPiece (record { kind = kind; service = service; offset = offset; checkpoint = checkpoint; report = report; body = body.now }) }
-    ensures { IfOk result (IsWritten (record {
-      originator = originator;
-      session = session;
-      content = a_piece (record { kind = kind; service = service; offset = offset; checkpoint = checkpoint; report = report; body = body.now });
-    })) }
+    requires { IsPiece (record {
+      kind = kind;
+      service = service;
+      offset = offset;
+      checkpoint = checkpoint;
+      report = report;
+      body = body.now;
+    }) }
+    ensures { IfOk result (Writes originator session (a_piece (record {
+      kind = kind;
+      service = service;
+      offset = offset;
+      checkpoint = checkpoint;
+      report = report;
+      body = body.now;
+    }))) }
 {
     let mut out = header(
         alloc,
@@ -60,12 +71,20 @@ pub fn write_report(
     lower: u64,
     claims: &[Claim],
 ) -> Result<Octets, AllocError>
-    requires { IsReport (record { serial = serial; checkpoint = checkpoint; upper = upper; lower = lower; claims = claims.now }) }
-    ensures { IfOk result (IsWritten (record {
-      originator = originator;
-      session = session;
-      content = a_report (record { serial = serial; checkpoint = checkpoint; upper = upper; lower = lower; claims = claims.now });
-    })) }
+    requires { IsReport (record {
+      serial = serial;
+      checkpoint = checkpoint;
+      upper = upper;
+      lower = lower;
+      claims = claims.now;
+    }) }
+    ensures { IfOk result (Writes originator session (a_report (record {
+      serial = serial;
+      checkpoint = checkpoint;
+      upper = upper;
+      lower = lower;
+      claims = claims.now;
+    }))) }
 {
     // No number of a claim is longer than that of the octets that the report speaks of.
     let claim = sdnv::len(upper - lower).saturating_mul(2);
@@ -90,7 +109,7 @@ pub fn write_ack(
     session: u64,
     serial: u64,
 ) -> Result<Octets, AllocError>
-    ensures { IfOk result (IsWritten (record { originator = originator; session = session; content = a_report_ack serial })) }
+    ensures { IfOk result (Writes originator session (a_report_ack serial)) }
 {
     let mut out = header(alloc, 9, originator, session, NUMBER)?;
     sdnv::write(serial, &mut out)?;
@@ -105,7 +124,8 @@ pub fn write_cancel(
     by_sender: bool,
     reason: u8,
 ) -> Result<Octets, AllocError>
-    ensures { IfOk result (IsWritten (record { originator = originator; session = session; content = by_side by_sender (a_sender_cancel reason) (a_receiver_cancel reason) })) }
+    ensures { IfOk result (Writes originator session
+        (by_side by_sender (a_sender_cancel reason) (a_receiver_cancel reason))) }
 {
     let mut out = header(alloc, cancel_type(by_sender), originator, session, 1)?;
     out.push(reason)?;
@@ -119,7 +139,8 @@ pub fn write_cancel_ack(
     session: u64,
     to_sender: bool,
 ) -> Result<Octets, AllocError>
-    ensures { IfOk result (IsWritten (record { originator = originator; session = session; content = by_side to_sender a_sender_cancel_ack a_receiver_cancel_ack })) }
+    ensures { IfOk result (Writes originator session
+        (by_side to_sender a_sender_cancel_ack a_receiver_cancel_ack)) }
 {
     let out = header(alloc, cancel_ack_type(to_sender), originator, session, 0)?;
     Ok(Octets::from_vec(out))
@@ -169,7 +190,8 @@ fn write_serials(
     report: u64,
     out: &mut Vec<u8>,
 ) -> Result<(), AllocError>
-    ensures { OnOk result (out.new.items ≡ out.old.items ++ serial_octets stand_here checkpoint report) }
+    ensures { OnOk result (out.new.items ≡ out.old.items
+        ++ serial_octets stand_here checkpoint report) }
 {
     if stand_here {
         sdnv::write(checkpoint, out)?;

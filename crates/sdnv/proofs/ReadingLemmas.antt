@@ -1,9 +1,10 @@
 -- What reading gives, by how many octets go on, and what each answer says of the text.
 
-use Rattle.std.proofs.Common.{◌≡◌, ℕ, ◌+◌, ◌*◌, ◌%◌, ◌^◌, ◌<◌, ◌≤◌, List, length, take, get_or, refl, sym, subst, ◌∙◌, arith, Ok, Err, IfOk, inl, inr}
+use Rattle.std.proofs.Common.{◌≡◌, ℕ, ◌+◌, ◌*◌, ◌%◌, ◌^◌, ◌<◌, ◌≤◌, List, length, take, get_or, refl, sym, ap, subst, Result, ◌∙◌, arith, Ok, Err, IfOk, inl, inr}
 use Rattle.std.proofs.lemmas.Bool.{lt-ltb, le-ltb, leb-true, leb-false, cases_lt}
 use Rattle.std.proofs.lemmas.List.{length-take-le, take_more}
 use Rattle.std.proofs.lemmas.List.Sums.{prefix_len_passes, prefix_len_stops}
+use Rattle.sdnv.specs.declared.fault.SdnvFault.{SdnvFault}
 use Rattle.sdnv.specs.declared.fault.SdnvFault.TheVariants as faults
 use Rattle.sdnv.specs.Spelling.{goes_on, high_count, EndsOnce, sum_of, Spells}
 use Rattle.sdnv.specs.Reading.{judged, read_of, IsShort, IsTooLong, IsTooLarge}
@@ -163,3 +164,23 @@ pub sum_of-more : (text : List ℕ) (i value : ℕ) → i < length text → valu
     → value * 128 + get_or text i 0 % 128 ≡ sum_of (take (i + 1) text)
 sum_of-more text i value there so_far =
     rw (take_more text i 0 there, sum_of-push (take i text) (get_or text i 0), so_far) refl
+
+-- a number of nine octets is small enough
+pub judged-small : (number octets : ℕ) → number < 2 ^ 64 → judged number octets ≡ Ok (number, octets)
+judged-small number octets below = rw (lt-ltb number (2 ^ 64) below) refl
+
+-- the tenth octet decides
+pub read_of-tenth : (text : List ℕ) (value : ℕ) (result : Result (ℕ × ℕ) SdnvFault) → 9 < length text → 9 ≤ high_count text
+    → value ≡ sum_of (take 9 text)
+    → (128 ≤ get_or text 9 0 → result ≡ Err faults.TooLong)
+    → (get_or text 9 0 < 128 → result ≡ judged (value * 128 + get_or text 9 0) 10)
+    → result ≡ read_of text
+read_of-tenth text value result there so_far sum goes_on ends =
+    elim (cases_lt (get_or text 9 0) 128) [
+      | inl low ↦
+          let at = high_count-end text 9 so_far low in
+          let more = sum_of-more text 9 value there sum in
+          let whole : value * 128 + get_or text 9 0 ≡ sum_of (take 10 text) = omega (arith, more) in
+          ends low ∙ ap (λ n. judged n 10) whole ∙ sym (read_of-ended text 9 at (omega arith) there)
+      | inr high ↦ goes_on high ∙ sym (read_of-long text (high_count-more text 9 there so_far high))
+    ]

@@ -43,8 +43,13 @@ sum_of-below (x ∷ text) =
     let most = mul-le-mul_right (128 ^ length text) low in
     rw (pow-suc 128 (length text)) (omega (arith, rest, most))
 
--- nine octets stay below 2 ^ 63, so one more fits by far
-pub sum_of-few : (text : List ℕ) → length text ≤ 9 → sum_of text < 2 ^ 63
-sum_of-few text few =
+-- eight octets stay below 2 ^ 56 and nine below 2 ^ 63
+pub sum_of-eight : (text : List ℕ) → length text ≤ 8 → sum_of text < 2 ^ 56
+sum_of-eight text few =
+    let power : 128 ^ length text ≤ 128 ^ 8 = pow-le-pow_right {n = 128} (lit< tt) few in
+    omega (arith, sum_of-below text, power)
+
+pub sum_of-nine : (text : List ℕ) → length text ≤ 9 → sum_of text < 2 ^ 63
+sum_of-nine text few =
     let power : 128 ^ length text ≤ 128 ^ 9 = pow-le-pow_right {n = 128} (lit< tt) few in
     omega (arith, sum_of-below text, power)

@@ -23,7 +23,8 @@ AreOctets text = (i : ℕ) → slice_index text i < 256
 pub record IsShortest (text : List ℕ) (number : ℕ) : Type 0 where
   pub spells : Spells text number
   pub least : (other : List ℕ) → Spells other number → length text ≤ length other
-  pub only : (other : List ℕ) → AreOctets other → Spells other number → length other ≡ length text → other ≡ text
+  pub only : (other : List ℕ) → AreOctets other → Spells other number → length other ≡ length text
+      → other ≡ text
 
 -- reading gives it back, whatever follows it
 abbrev pub ReadsBack : List ℕ → ℕ → Type 0

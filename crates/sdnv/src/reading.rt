@@ -1,6 +1,6 @@
 //! A number at the front of a text.
 
-ghost use Rattle.std.specs.Prelude.{◌≡◌, ◌↔◌, ℕ, ◌≤◌, length, take, IfOk};
+ghost use Rattle.std.specs.Prelude.{◌≡◌, ◌↔◌, ℕ, ◌+◌, ◌*◌, ◌^◌, ◌<◌, ◌≤◌, length, take, IfOk};
 ghost use Rattle.sdnv.specs.Spelling.{Spells};
 ghost use Rattle.sdnv.specs.Reading.{judged, read_of, IsShort, IsTooLong, IsTooLarge};
 
@@ -13,7 +13,8 @@ pub fn read(bytes: &[u8]) -> Result<(u64, usize), SdnvFault>
     // What is read is spelled so.
     ensures found { IfOk result (λ x. (x.1 ≤ length bytes.now) × Spells (take x.1 bytes.now) x.0) }
     // What is spelled so is read, whatever follows it.
-    ensures only { (n k : ℕ) → k ≤ length bytes.now → Spells (take k bytes.now) n → result ≡ Ok (n, k) }
+    ensures only { (n k : ℕ) → k ≤ length bytes.now → Spells (take k bytes.now) n
+        → result ≡ Ok (n, k) }
     // Each fault comes exactly where it is true.
     ensures short { (result ≡ Err SdnvFault.Short) ↔ IsShort bytes.now }
     ensures too_long { (result ≡ Err SdnvFault.TooLong) ↔ IsTooLong bytes.now }
@@ -24,32 +25,36 @@ pub fn read(bytes: &[u8]) -> Result<(u64, usize), SdnvFault>
     first_number(bytes)
 }
 
-/// Adds up the groups until an octet ends the number.
+/// Adds up the groups until an octet ends the number. Nine of them stay below 2^63.
 fn first_number(bytes: &[u8]) -> Result<(u64, usize), SdnvFault>
     ensures { result ≡ read_of bytes.now }
 {
-    let most = bytes.len().min(MOST);
-    let mut value: u128 = 0;
+    let most = bytes.len().min(MOST - 1);
+    let mut value: u64 = 0;
     for i in 0..most {
         let octet = bytes[i];
-        value = value * 128 + (octet % 128) as u128;
+        value = value * 128 + (octet % 128) as u64;
         if octet < 128 {
-            return judge(value, i + 1);
+            return Ok((value, i + 1));
         }
     }
-    if most < MOST {
-        Err(SdnvFault::Short)
-    } else {
-        Err(SdnvFault::TooLong)
+    if bytes.len() < MOST {
+        return Err(SdnvFault::Short);
     }
+    tenth(value, bytes[MOST - 1])
 }
 
-/// The number that ends within ten octets, if it isn't too large.
-fn judge(value: u128, octets: usize) -> Result<(u64, usize), SdnvFault>
-    ensures { result ≡ judged value octets }
+/// The number that the tenth octet ends, if it does, behind nine groups of this value.
+fn tenth(value: u64, octet: u8) -> Result<(u64, usize), SdnvFault>
+    requires { value < 2 ^ 63 }
+    ensures goes_on { 128 ≤ octet → result ≡ Err SdnvFault.TooLong }
+    ensures ends { octet < 128 → result ≡ judged (value * 128 + octet) 10 }
 {
-    match u64::try_from(value) {
-        Ok(small) => Ok((small, octets)),
-        Err(_) => Err(SdnvFault::TooLarge),
+    if octet >= 128 {
+        return Err(SdnvFault::TooLong);
     }
+    if value >= 1 << 57 {
+        return Err(SdnvFault::TooLarge);
+    }
+    Ok((value * 128 + octet as u64, MOST))
 }

@@ -1,15 +1,16 @@
 -- How many runs begin below a place, over plain variables.
 
-use Rattle.std.proofs.Common.{◌≡◌, ℕ, zero, suc, ◌+◌, ◌-◌, ◌<◌, ◌≤◌, Bool, true, false, cond, List, [], ◌∷◌, ◌++◌, length, take, drop, get_or, ltb, refl, sym, ap, ◌∙◌, subst, arith}
+use Rattle.std.proofs.Common.{◌≡◌, ℕ, zero, suc, ◌+◌, ◌<◌, ◌≤◌, true, false, cond, List, [], ◌∷◌, ◌++◌, length, take, get_or, ltb, refl, sym, ap, ◌∙◌, arith}
 use Rattle.std.proofs.lemmas.Bool.{ltb-true, ltb-false, lt-ltb, le-ltb}
 use Rattle.std.proofs.lemmas.List.{length-append}
 use Rattle.std.proofs.lemmas.List.Sorted.{IsPartitionedBy-ltb}
-use Rattle.std.proofs.lemmas.List.Sums.{sum_by-append, sum_by-cons, count_by-le-length}
-use Rattle.std.specs.List.{count_by, AllWithin}
+use Rattle.std.proofs.lemmas.List.Sums.{sum_by-append, sum_by-cons}
+use Rattle.std.specs.List.{count_by}
 use Rattle.std.specs.List.Sorted.{IsNonDecreasingBy, IsPartitionedBy, IsPartitionPoint}
 use Rattle.spans.specs.declared.range.Run.{Run}
-use Rattle.spans.specs.Kept.{AreApart, AreWithin, AreFilled, end_after, last_begin, joined}
-use Rattle.spans.proofs.Apart.{AreApart-lower, AreApart-left, AreApart-right, AreApart-behind, le-end_after, le-last_begin}
+use Rattle.spans.specs.Chunks.{AreFilled, joined}
+use Rattle.spans.specs.Runs.{AreApart, AreWithin, end_after, last_begin}
+use Rattle.spans.proofs.Apart.{AreApart-lower, AreApart-left, AreApart-right, AreApart-behind, le-last_begin}
 
 pub below : ℕ → List Run → ℕ
 below to runs = count_by (λ r. ltb r.from to) runs

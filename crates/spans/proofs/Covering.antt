@@ -1,11 +1,13 @@
 -- Runs once a range is covered too, over plain variables.
 
-use Rattle.std.proofs.Common.{◌≡◌, ℕ, zero, suc, ◌+◌, ◌-◌, ◌<◌, ◌≤◌, Bool, true, false, ◌||◌, List, [], ◌∷◌, ◌++◌, length, leb, ltb, min, max, refl, sym, ap, ◌∙◌, subst, arith, append_assoc, inl, inr}
-use Rattle.std.proofs.lemmas.Bool.{cases_lt, and_parts, and_from, or_cases, or_left, or_right, or_from, leb-true, ltb-true, le-leb, lt-ltb, false_from_ne_true, cases_Bool, both_ways}
+use Rattle.std.proofs.Common.{◌≡◌, ℕ, ◌+◌, ◌-◌, ◌<◌, ◌≤◌, Bool, true, false, ◌||◌, List, [], ◌∷◌, ◌++◌, leb, ltb, min, max, refl, sym, ap, ◌∙◌, arith, inl, inr}
+use Rattle.std.proofs.lemmas.Bool.{cases_lt, and_parts, and_from, or_cases, or_left, or_right, or_from, leb-true, ltb-true, le-leb, lt-ltb, false_from_ne_true, both_ways}
 use Rattle.spans.specs.declared.range.Run.{Run}
 use Rattle.spans.specs.declared.growth.Growth.{Growth}
-use Rattle.spans.specs.Kept.{AreApart, AreWithin, EndBefore, FirstReaches, FirstBeginsAfter, BeginsBy, is_in, has_place, places_in, over, grown_over, left_after, grown_first, widened, widening, Covers, IsApartFrom, HasAll, FirstHasAll}
-use Rattle.spans.proofs.Apart.{AreApart-lower, AreApart-right}
+use Rattle.spans.specs.Growing.{over, grown_over, left_after, widened, widening}
+use Rattle.spans.specs.Places.{is_in}
+use Rattle.spans.specs.Runs.{AreApart, AreWithin, EndBefore, FirstReaches, FirstBeginsAfter, BeginsBy, has_place, places_in, Covers, IsApartFrom, HasAll, FirstHasAll}
+use Rattle.spans.proofs.Apart.{AreApart-right}
 use Rattle.spans.proofs.Growing.{grown_over-yes, grown_over-no, left_after-yes, left_after-no}
 
 -- ---- truth values

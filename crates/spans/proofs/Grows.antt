@@ -1,14 +1,13 @@
 -- A run that grows over what follows, over plain variables.
 
-use Rattle.std.proofs.Common.{◌≡◌, ℕ, zero, suc, ◌+◌, ◌-◌, ◌<◌, ◌≤◌, List, [], ◌∷◌, ◌++◌, length, take, drop, get_or, set, leb, min, max, true, false, refl, sym, ap, ◌∙◌, subst, arith, append_assoc, add-one, inl, inr}
+use Rattle.std.proofs.Common.{◌≡◌, ℕ, ◌+◌, ◌<◌, ◌≤◌, List, [], ◌∷◌, ◌++◌, length, refl, sym, ap, ◌∙◌, subst, arith, inl, inr}
 use Rattle.std.proofs.lemmas.Bool.{cases_lt}
-use Rattle.std.proofs.lemmas.List.{get_or_read, append-nil, drop_all, drop-set}
 use Rattle.spans.specs.declared.range.Run.{Run}
 use Rattle.spans.specs.declared.growth.Growth.{Growth}
-use Rattle.spans.specs.Kept.{AreApart, AreFilled, joined, before, from_there, end_after, last_begin, over, grown_over, left_after, widened, widening}
+use Rattle.spans.specs.Growing.{over, grown_over, left_after}
+use Rattle.spans.specs.Runs.{AreApart, end_after, last_begin}
 use Rattle.spans.proofs.Apart.{AreApart-lower, AreApart-right, AreApart-left, AreApart-after, le-end_after, le-last_begin}
 use Rattle.spans.proofs.Growing.{grown_over-yes, grown_over-no, left_after-yes, left_after-no}
-use Rattle.spans.proofs.Joined.{joined-append}
 
 -- what begins after `to` is not met
 pub left_after-far : (to low : ℕ) (runs : List Run) → to < low → AreApart low runs → left_after to runs ≡ runs

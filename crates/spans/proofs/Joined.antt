@@ -1,15 +1,14 @@
 -- Chunks and the list of their runs, over plain variables.
 
-use Rattle.std.proofs.Common.{◌≡◌, ℕ, zero, suc, ◌+◌, ◌-◌, ◌<◌, ◌≤◌, Bool, true, false, List, [], ◌∷◌, ◌++◌, length, take, drop, get_or, set, ltb, refl, sym, ap, ◌∙◌, subst, arith, append_assoc, add-one, inl, inr}
+use Rattle.std.proofs.Common.{◌≡◌, ℕ, zero, suc, ◌+◌, ◌<◌, ◌≤◌, true, false, List, [], ◌∷◌, ◌++◌, length, take, drop, get_or, set, ltb, refl, sym, ap, ◌∙◌, subst, arith, append_assoc, inl, inr}
 use Rattle.std.proofs.lemmas.Bool.{ltb-true, ltb-false, cases_lt}
-use Rattle.std.proofs.lemmas.List.{take-append-drop, append-nil, take_all}
-use Rattle.std.proofs.lemmas.List.Concat.{flat_map-append}
+use Rattle.std.proofs.lemmas.List.{take-append-drop, take_all}
 use Rattle.std.proofs.lemmas.List.Sorted.{IsPartitionedBy-ltb}
-use Rattle.std.specs.List.{AllWithin, insert, remove_range}
 use Rattle.std.specs.List.Sorted.{IsNonDecreasingBy, IsPartitionedBy, IsPartitionPoint}
 use Rattle.spans.specs.declared.range.Run.{Run}
-use Rattle.spans.specs.Kept.{AreApart, AreFilled, EndBefore, FirstReaches, end_after, joined, before, from_there, split_at}
-use Rattle.spans.proofs.Apart.{AreApart-left, AreApart-right, AreApart-behind, le-end_after-low, EndBefore-append, EndBefore-end, end_after-EndBefore, FirstReaches-append, AreApart-lower}
+use Rattle.spans.specs.Chunks.{AreFilled, joined, before, from_there}
+use Rattle.spans.specs.Runs.{AreApart, EndBefore, FirstReaches, end_after}
+use Rattle.spans.proofs.Apart.{AreApart-left, AreApart-right, AreApart-behind, le-end_after-low, EndBefore-append, EndBefore-end, end_after-EndBefore, FirstReaches-append}
 
 pub joined-append : (xs ys : List (List Run)) → joined (xs ++ ys) ≡ joined xs ++ joined ys
 joined-append [] ys = refl

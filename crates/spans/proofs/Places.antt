@@ -1,12 +1,14 @@
 -- The places that runs stand for, over plain variables.
 
-use Rattle.std.proofs.Common.{◌≡◌, ℕ, zero, suc, ◌+◌, ◌-◌, ◌<◌, ◌≤◌, Bool, true, false, not, cond, ◌||◌, List, [], ◌∷◌, ◌++◌, length, take, drop, get_or, replicate, eqb, leb, ltb, refl, sym, ap, ◌∙◌, subst, arith, inl, inr}
-use Rattle.std.proofs.lemmas.Bool.{cases_lt, or_left, or_right, or_from, ne_eqb, eq-eqb, true≢false}
+use Rattle.std.proofs.Common.{◌≡◌, ℕ, zero, suc, ◌+◌, ◌-◌, ◌<◌, ◌≤◌, Bool, true, false, not, cond, ◌||◌, List, [], ◌∷◌, ◌++◌, length, take, drop, get_or, replicate, refl, sym, ap, ◌∙◌, arith, inl, inr}
+use Rattle.std.proofs.lemmas.Bool.{cases_lt, or_left, or_right, or_from, ne_eqb, eq-eqb}
 use Rattle.std.proofs.lemmas.List.{length-append, length-replicate, length-take, length-take-le, length-drop, get_or_default, get_or-replicate, get_or_past, get_or_append_left, get_or-append_right, get_or-take, get_or-drop, take-append-drop, drop-drop, ext_get_or}
 use Rattle.std.proofs.lemmas.List.Sums.{sum_by-append, sum_by-cons, AllPass-from_list_all, list_all-from_AllPass}
-use Rattle.std.specs.List.{count_by, list_all, slice_range, All, AllPass}
+use Rattle.std.specs.List.{count_by, list_all, slice_range}
 use Rattle.spans.specs.declared.range.Run.{Run}
-use Rattle.spans.specs.Kept.{AreApart, AreWithin, FirstBeginsAfter, is_in, has_place, places_in, places_from, Covers, IsApartFrom, HasAll}
+use Rattle.spans.specs.Kept.{places_from}
+use Rattle.spans.specs.Places.{is_in}
+use Rattle.spans.specs.Runs.{AreApart, AreWithin, FirstBeginsAfter, has_place, places_in, Covers, IsApartFrom, HasAll}
 use Rattle.spans.specs.Places.{is_covered, uncovered, with_covered, uncovered_in, all_covered, AddsRun, grown_by, runs_from, runs_of}
 use Rattle.spans.proofs.Covering.{is_in-from, is_in-false, has_place-far, same_truth}
 

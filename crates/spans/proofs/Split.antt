@@ -1,15 +1,16 @@
 -- A chunk cut in two, and a run added, over plain variables.
 
-use Rattle.std.proofs.Common.{◌≡◌, ℕ, zero, suc, ◌+◌, ◌-◌, ◌<◌, ◌≤◌, List, [], ◌∷◌, ◌++◌, length, take, drop, get_or, set, leb, ltb, true, refl, sym, ap, ◌∙◌, subst, arith, append_assoc, add-one, inl, inr}
+use Rattle.std.proofs.Common.{◌≡◌, ℕ, zero, suc, ◌+◌, ◌<◌, ◌≤◌, List, [], ◌∷◌, ◌++◌, length, take, drop, get_or, set, leb, ltb, true, refl, sym, ap, ◌∙◌, subst, arith, append_assoc, add-one, inl, inr}
 use Rattle.std.proofs.lemmas.Bool.{cases_lt, le-leb, leb-true, ltb-true}
 use Rattle.spans.specs.declared.pieces.Place.{Place}
-use Rattle.std.proofs.lemmas.List.{take-append-drop, append-nil, take-take, take_all, drop-append-le, drop-drop, length-take-le, length-drop, length-take, drop_all, get_or_read}
+use Rattle.std.proofs.lemmas.List.{take-append-drop, append-nil, take-take, take_all, drop-append-le, drop-drop, length-take-le, length-drop, drop_all, get_or_read}
 use Rattle.std.proofs.lemmas.List.Edits.{length-insert}
 use Rattle.std.specs.List.{insert}
 use Rattle.spans.specs.declared.range.Run.{Run}
-use Rattle.spans.specs.Kept.{AreFilled, joined, before, from_there, split_at, BeginsBy, FirstHasAll}
+use Rattle.spans.specs.Chunks.{AreFilled, joined, before, from_there, split_at}
+use Rattle.spans.specs.Runs.{BeginsBy, FirstHasAll}
 use Rattle.spans.proofs.Growing.{drop-read}
-use Rattle.spans.proofs.Joined.{from_there-past, joined-append, joined-set, joined-place, from_there-split, AreFilled-set, AreFilled-append}
+use Rattle.spans.proofs.Joined.{from_there-past, joined-append, joined-set, from_there-split}
 
 -- ---- parts of a list
 

@@ -1,12 +1,13 @@
 -- A run that grows over those behind a place, over plain variables.
 
-use Rattle.std.proofs.Common.{◌≡◌, ℕ, zero, suc, ◌+◌, ◌-◌, ◌<◌, ◌≤◌, List, [], ◌∷◌, ◌++◌, length, take, drop, get_or, set, min, max, refl, sym, ap, ◌∙◌, subst, arith, append_assoc, add-one}
-use Rattle.std.proofs.lemmas.List.{get_or_read, drop-set-lt, drop_at, take_at, length-take-le, length-append, take_more, same_from_push, length-set, get_or-set_same, take-append-le, take-take, set_split}
+use Rattle.std.proofs.Common.{◌≡◌, ℕ, zero, suc, ◌+◌, ◌-◌, ◌<◌, ◌≤◌, List, [], ◌∷◌, ◌++◌, length, take, drop, get_or, set, min, max, sym, ap, ◌∙◌, subst, arith, append_assoc, add-one}
+use Rattle.std.proofs.lemmas.List.{get_or_read, drop-set-lt, drop_at, take_at, length-take-le, length-append, take_more, same_from_push, set_split}
 use Rattle.spans.specs.declared.range.Run.{Run}
 use Rattle.spans.specs.declared.growth.Growth.{Growth}
-use Rattle.spans.specs.Kept.{AreApart, AreFilled, joined, before, from_there, grown_over, left_after, widened, widening, grown_first}
+use Rattle.spans.specs.Chunks.{AreFilled, joined, before, from_there}
+use Rattle.spans.specs.Growing.{grown_over, left_after, widened, widening, grown_first}
+use Rattle.spans.specs.Runs.{AreApart}
 use Rattle.spans.proofs.Apart.{AreApart-left, AreApart-right}
-use Rattle.spans.proofs.Growing.{drop-read}
 use Rattle.spans.proofs.Grows.{left_after-append, grown_over-append, AreApart-grown}
 use Rattle.spans.proofs.Joined.{joined-place, from_there-split, joined-set, AreFilled-set}
 use Rattle.spans.proofs.Split.{from_there-read}

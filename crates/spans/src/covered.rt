@@ -24,7 +24,8 @@ impl Model for Spans {
 
     ghost Value = { List Bool };
 
-    ghost use Rattle.spans.specs.Kept.{IsKept, joined, places_from};
+    ghost use Rattle.spans.specs.Chunks.{joined};
+    ghost use Rattle.spans.specs.Kept.{IsKept, places_from};
 
     ghost view = { λ s. places_from 0 s.limit (joined s.chunks.items) };
 

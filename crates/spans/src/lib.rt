@@ -11,6 +11,8 @@ mod growth;
 mod pieces;
 mod range;
 mod runs;
+#[cfg(test)]
+mod tests;
 
 pub use covered::Spans;
 pub use range::Run;

@@ -1,7 +1,9 @@
 //! The chunks of a `Spans`: the search for a place, a run added, and a run that grows.
 
 ghost use Rattle.std.specs.Prelude.{◌≡◌, ℕ, ◌+◌, ◌-◌, ◌^◌, ◌<◌, ◌≤◌, ◌++◌, ◌∷◌, [], List, length, take, drop, min, max, slice_index_or, IfOk, OnOk, OnErr, IsTrue, ◌↔◌, nat_lt, slice_get, count_by};
-ghost use Rattle.spans.specs.Kept.{AreApart, AreFilled, EndBefore, FirstReaches, FirstBeginsAfter, before, from_there, joined, grown_over, left_after, BeginsBy, MeetsWhole, Covers, IsApartFrom, HasAll, FirstHasAll, last_begin, widened, widening, split_at};
+ghost use Rattle.spans.specs.Chunks.{AreFilled, before, from_there, joined, MeetsWhole, split_at};
+ghost use Rattle.spans.specs.Growing.{grown_over, left_after, widened, widening};
+ghost use Rattle.spans.specs.Runs.{AreApart, EndBefore, FirstReaches, FirstBeginsAfter, BeginsBy, Covers, IsApartFrom, HasAll, FirstHasAll, last_begin};
 
 use std::alloc::{AllocError, Global};
 

@@ -1,7 +1,7 @@
-use Rattle.std.proofs.Common.{◌≡◌, ℕ, ◌+◌, ◌<◌, List, [], length, get_or, arith, subst, sym, ◌∙◌}
+use Rattle.std.proofs.Common.{◌+◌, ◌<◌, List, [], length, arith, subst, sym, ◌∙◌}
 use Rattle.std.proofs.lemmas.List.{get_or_read}
 use Rattle.spans.specs.declared.range.Run.{Run}
-use Rattle.spans.specs.Kept.{AreFilled, last_begin, left_after}
+use Rattle.spans.specs.Runs.{last_begin}
 use Rattle.spans.proofs.Absorbing.{left-front, grown-front, apart-front, some-front}
 use Rattle.spans.proofs.Grows.{left_after-some}
 use Rattle.spans.proofs.Joined.{AreFilled-set}

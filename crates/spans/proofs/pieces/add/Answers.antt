@@ -1,7 +1,6 @@
-use Rattle.std.proofs.Common.{◌≡◌, ◌≤◌, List, [], ◌∷◌, ◌++◌, length, get_or, arith, ap, subst, sym, ◌∙◌}
+use Rattle.std.proofs.Common.{◌≤◌, [], ◌∷◌, ◌++◌, length, arith, ap, sym, ◌∙◌}
 use Rattle.std.proofs.lemmas.Result.{on_ok_weaker, on_err_weaker}
-use Rattle.spans.specs.declared.range.Run.{Run}
-use Rattle.spans.specs.Kept.{AreFilled, joined, before, from_there}
+use Rattle.spans.specs.Chunks.{joined, before, from_there}
 use Rattle.spans.proofs.Joined.{joined-place, before-past, from_there-past}
 use Rattle.spans.proofs.pieces.add.Goals as goal
 

@@ -2,7 +2,7 @@ use Rattle.std.proofs.Common.{◌≡◌, ◌+◌, ◌-◌, List, [], ◌∷◌, 
 use Rattle.std.proofs.lemmas.List.{get_or_read}
 use Rattle.std.proofs.lemmas.Result.{on_ok_weaker}
 use Rattle.spans.specs.declared.range.Run.{Run}
-use Rattle.spans.specs.Kept.{AreFilled, joined, before, from_there}
+use Rattle.spans.specs.Chunks.{AreFilled, joined, from_there}
 use Rattle.spans.proofs.Joined.{AreFilled-append}
 use Rattle.spans.proofs.Split.{before-last, from_there-last}
 use Rattle.spans.proofs.pieces.append.Goals as goal

@@ -1,11 +1,11 @@
-use Rattle.std.proofs.Common.{◌≡◌, ◌+◌, ◌≤◌, ◌<◌, ◌^◌, List, [], true, false, ltb, length, take, get_or, arith, rules, ap, subst, sym, ◌∙◌}
+use Rattle.std.proofs.Common.{◌≡◌, ◌+◌, ◌<◌, ◌^◌, List, [], ltb, arith, rules, ap, ◌∙◌}
 use Rattle.std.proofs.lemmas.List.{get_or_read, get_or_past}
 use Rattle.std.proofs.lemmas.List.Sorted.{IsPartitionPoint-from_clause}
 use Rattle.std.proofs.lemmas.List.Sums.{count_by-le-length}
 use Rattle.std.specs.List.{count_by}
-use Rattle.std.specs.List.Sorted.{IsPartitionPoint}
 use Rattle.spans.specs.declared.range.Run.{Run}
-use Rattle.spans.specs.Kept.{AreApart, joined, last_begin}
+use Rattle.spans.specs.Chunks.{joined}
+use Rattle.spans.specs.Runs.{last_begin}
 use Rattle.spans.proofs.Counting.{IsPartitionedBy-last_begins, count-chunks, length-joined-take}
 use Rattle.spans.proofs.Joined.{AreApart-at}
 use Rattle.spans.proofs.pieces.count.Goals as goal

@@ -1,7 +1,8 @@
-use Rattle.std.proofs.Common.{◌≡◌, ◌-◌, ◌<◌, ◌≤◌, ◌++◌, ◌∷◌, List, [], length, get_or, arith, ap, subst, refl, sym, ◌∙◌, Result, Ok, Err, OnErr}
+use Rattle.std.proofs.Common.{◌<◌, List, [], length, get_or, subst, refl, sym, ◌∙◌, Result, Ok, Err, OnErr}
 use Rattle.std.proofs.lemmas.Bool.{false≢true}
 use Rattle.spans.specs.declared.range.Run.{Run}
-use Rattle.spans.specs.Kept.{AreApart, EndBefore, FirstReaches, BeginsBy, Covers, IsApartFrom, before, from_there, joined, widening}
+use Rattle.spans.specs.Chunks.{before, from_there}
+use Rattle.spans.specs.Runs.{AreApart, EndBefore, FirstReaches, BeginsBy}
 use Rattle.spans.proofs.Covering.{Covers-added, Covers-widened, IsApartFrom-here, FirstBeginsAfter-not}
 use Rattle.spans.proofs.Joined.{joined-place}
 use Rattle.spans.proofs.Split.{BeginsBy-within}

@@ -1,6 +1,7 @@
-use Rattle.std.proofs.Common.{◌≡◌, true, List, ◌++◌, sym, subst}
+use Rattle.std.proofs.Common.{List, sym, subst}
 use Rattle.spans.specs.declared.range.Run.{Run}
-use Rattle.spans.specs.Kept.{AreApart, HasAll, joined, before, from_there}
+use Rattle.spans.specs.Chunks.{before, from_there}
+use Rattle.spans.specs.Runs.{AreApart, HasAll}
 use Rattle.spans.proofs.Covering.{HasAll-first, FirstHasAll-all}
 use Rattle.spans.proofs.Joined.{joined-place}
 use Rattle.spans.proofs.pieces.covers.Goals as goal

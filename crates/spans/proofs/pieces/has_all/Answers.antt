@@ -1,4 +1,4 @@
-use Rattle.std.proofs.Common.{◌≡◌, ◌≤◌, arith}
+use Rattle.std.proofs.Common.{arith}
 use Rattle.std.proofs.lemmas.Bool.{false≢true, le-leb, leb-true}
 use Rattle.spans.proofs.Split.{FirstHasAll-past, FirstHasAll-read}
 use Rattle.spans.proofs.pieces.has_all.Goals as goal

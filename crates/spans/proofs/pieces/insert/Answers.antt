@@ -1,8 +1,8 @@
-use Rattle.std.proofs.Common.{◌≡◌, ℕ, List, [], get_or, set, length, arith, ap, ◌∙◌}
+use Rattle.std.proofs.Common.{◌≡◌, List, [], get_or, set, length, arith, ap, ◌∙◌}
 use Rattle.std.proofs.lemmas.List.{get_or_read}
 use Rattle.std.proofs.lemmas.Result.{on_ok_weaker}
 use Rattle.spans.specs.declared.range.Run.{Run}
-use Rattle.spans.specs.Kept.{AreFilled, joined}
+use Rattle.spans.specs.Chunks.{joined}
 use Rattle.spans.proofs.Joined.{AreFilled-set, AreFilled-at}
 use Rattle.spans.proofs.Split.{joined-insert}
 use Rattle.spans.proofs.pieces.insert.Goals as goal

@@ -1,9 +1,8 @@
-use Rattle.std.proofs.Common.{◌≡◌, ℕ, ◌<◌, ◌≤◌, List, [], ltb, true, false, length, take, drop, get_or, subst, rules}
+use Rattle.std.proofs.Common.{◌≡◌, ◌≤◌, List, [], ltb, length, take, drop, get_or, subst, rules}
 use Rattle.std.proofs.lemmas.List.{get_or_read}
 use Rattle.std.proofs.lemmas.List.Sorted.{IsPartitionPoint-from_clause}
-use Rattle.std.specs.List.Sorted.{IsPartitionPoint}
 use Rattle.spans.specs.declared.range.Run.{Run}
-use Rattle.spans.specs.Kept.{AreApart, EndBefore, FirstReaches, end_after}
+use Rattle.spans.specs.Runs.{EndBefore, FirstReaches, end_after}
 use Rattle.spans.proofs.Joined.{IsPartitionedBy-ends, AreApart-at, Found, Found-in, Found-past}
 use Rattle.spans.proofs.pieces.reaching.Goals as goal
 

@@ -1,7 +1,7 @@
-use Rattle.std.proofs.Common.{◌≡◌, ℕ, ◌+◌, ◌<◌, ◌≤◌, List, [], length, get_or, arith, subst, sym, ◌∙◌}
+use Rattle.std.proofs.Common.{◌≡◌, ◌+◌, ◌<◌, ◌≤◌, List, [], length, arith, subst, sym, ◌∙◌}
 use Rattle.std.proofs.lemmas.List.{get_or_read}
 use Rattle.spans.specs.declared.range.Run.{Run}
-use Rattle.spans.specs.Kept.{last_begin}
+use Rattle.spans.specs.Runs.{last_begin}
 use Rattle.spans.proofs.Absorbing.{MeetsWhole-more, apart-front}
 use Rattle.spans.proofs.pieces.whole_chunks.Goals as goal
 

@@ -1,7 +1,6 @@
-use Rattle.std.proofs.Common.{◌≡◌, ◌+◌, ◌-◌, ◌≤◌, ◌<◌, List, min, max, arith, ap, ◌∙◌}
-use Rattle.spans.specs.declared.range.Run.{Run}
-use Rattle.spans.specs.declared.growth.Growth.{Growth}
-use Rattle.spans.specs.Kept.{from_there, grown_over, widening}
+use Rattle.std.proofs.Common.{◌≡◌, ◌+◌, ◌-◌, arith, ap, ◌∙◌}
+use Rattle.spans.specs.Chunks.{from_there}
+use Rattle.spans.specs.Growing.{grown_over}
 use Rattle.spans.proofs.Widening.{apart-next, widened-made}
 use Rattle.spans.proofs.pieces.widen.Goals as goal
 

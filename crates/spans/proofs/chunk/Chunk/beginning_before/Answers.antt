@@ -2,7 +2,7 @@ use Rattle.std.proofs.Common.{◌≡◌, List, ltb, sym, subst, ◌∙◌, rules
 use Rattle.std.proofs.lemmas.List.Sorted.{IsPartitionPoint-from_clause}
 use Rattle.std.specs.List.{count_by}
 use Rattle.spans.specs.declared.range.Run.{Run}
-use Rattle.spans.specs.Kept.{AreApart}
+use Rattle.spans.specs.Runs.{AreApart}
 use Rattle.spans.proofs.Counting.{IsPartitionedBy-begins, below-partition}
 use Rattle.spans.proofs.chunk.Chunk.beginning_before.Goals as goal
 

@@ -1,7 +1,7 @@
-use Rattle.std.proofs.Common.{◌≡◌, List, ltb, take, drop, sym, subst, ◌∙◌, rules}
+use Rattle.std.proofs.Common.{List, ltb, take, drop, sym, subst, ◌∙◌, rules}
 use Rattle.std.proofs.lemmas.List.Sorted.{IsPartitionPoint-from_clause}
 use Rattle.spans.specs.declared.range.Run.{Run}
-use Rattle.spans.specs.Kept.{AreApart, EndBefore, FirstReaches}
+use Rattle.spans.specs.Runs.{AreApart, EndBefore, FirstReaches}
 use Rattle.spans.proofs.Apart.{IsPartitionedBy-apart, EndBefore-partition, FirstReaches-partition}
 use Rattle.spans.proofs.chunk.Chunk.reaching.Goals as goal
 

@@ -1,4 +1,4 @@
-use Rattle.std.proofs.Common.{◌≤◌, List, length, sym}
+use Rattle.std.proofs.Common.{sym}
 use Rattle.spans.proofs.Places.{with_covered-empty, uncovered_in-empty}
 use Rattle.spans.proofs.Kept.{StandFor, IsKept-covered, view-covered, fresh-covered, refused-covered, length-covered}
 use Rattle.spans.proofs.covered.Spans.cover.Goals as goal

@@ -1,6 +1,6 @@
-use Rattle.std.proofs.Common.{◌≡◌, ◌+◌, ◌<◌, ◌≤◌, List, ◌∷◌, length, arith, rules, ap, subst, sym, ◌∙◌}
+use Rattle.std.proofs.Common.{◌≡◌, ◌+◌, List, length, arith, rules, ap, subst, sym, ◌∙◌}
 use Rattle.spans.specs.declared.range.Run.{Run}
-use Rattle.spans.specs.Kept.{IsAhead, from_there}
+use Rattle.spans.specs.Chunks.{IsAhead, from_there}
 use Rattle.spans.proofs.Iterating.{from_there-next_chunk}
 use Rattle.spans.proofs.runs.RunsIterator.next.Goals as goal
 

@@ -12,7 +12,7 @@ use Rattle.spans.specs.Chunks.{AreFilled, joined}
 use Rattle.spans.specs.Runs.{AreApart, AreWithin, end_after, last_begin}
 use Rattle.spans.proofs.Apart.{AreApart-lower, AreApart-left, AreApart-right, AreApart-behind, le-last_begin}
 
-pub below : ℕ → List Run → ℕ
+unfoldable pub below : ℕ → List Run → ℕ
 below to runs = count_by (λ r. ltb r.from to) runs
 
 below-nil : (to : ℕ) → below to [] ≡ 0
@@ -27,10 +27,10 @@ pub below-append : (to : ℕ) (xs ys : List Run) → below to (xs ++ ys) ≡ bel
 unfolding below
 below-append to xs ys = sum_by-append (λ x. cond (ltb x.from to) 1 0) xs ys
 
-below-yes : (to : ℕ) (r : Run) (rs : List Run) → r.from < to → below to (r ∷ rs) ≡ suc (below to rs)
+pub below-yes : (to : ℕ) (r : Run) (rs : List Run) → r.from < to → below to (r ∷ rs) ≡ suc (below to rs)
 below-yes to r rs h = below-cons to r rs ∙ (ap (λ b. cond b 1 0 + below to rs) (lt-ltb r.from to h) ∙ omega arith)
 
-below-no : (to : ℕ) (r : Run) (rs : List Run) → to ≤ r.from → below to (r ∷ rs) ≡ below to rs
+pub below-no : (to : ℕ) (r : Run) (rs : List Run) → to ≤ r.from → below to (r ∷ rs) ≡ below to rs
 below-no to r rs h = below-cons to r rs ∙ (ap (λ b. cond b 1 0 + below to rs) (le-ltb r.from to h) ∙ omega arith)
 
 pub below-far : (to low : ℕ) (runs : List Run) → to ≤ low → AreApart low runs → below to runs ≡ 0

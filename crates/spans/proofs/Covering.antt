@@ -48,7 +48,7 @@ is_in-join a b c d k cb ad ab cd =
       | inr right ↦ let p = is_in-true c d k right in is_in-from (min a c) (max b d) k (omega (arith, p.0)) (omega (arith, p.1))
     ])
 
-or_assoc : (a b c : Bool) → ((a || b) || c) ≡ (a || (b || c))
+pub or_assoc : (a b c : Bool) → ((a || b) || c) ≡ (a || (b || c))
 or_assoc true b c = refl
 or_assoc false b c = refl
 

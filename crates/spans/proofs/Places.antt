@@ -9,7 +9,7 @@ use Rattle.spans.specs.declared.range.Run.{Run}
 use Rattle.spans.specs.Kept.{places_from}
 use Rattle.spans.specs.Places.{is_in}
 use Rattle.spans.specs.Runs.{AreApart, AreWithin, FirstBeginsAfter, has_place, places_in, Covers, IsApartFrom, HasAll}
-use Rattle.spans.specs.Places.{is_covered, uncovered, with_covered, uncovered_in, all_covered, AddsRun, grown_by, runs_from, runs_of}
+use Rattle.spans.specs.Places.{is_covered, uncovered, with_covered, uncovered_in, covered_count, all_covered, AddsRun, grown_by, runs_from, runs_of}
 use Rattle.spans.proofs.Covering.{is_in-from, is_in-false, has_place-far, same_truth}
 
 -- ---- how many places there are
@@ -127,9 +127,6 @@ places_from-covered limit from to n old new le within apart inside covers =
      ∙ sym (is_covered-with_covered from to before k le (omega (arith, a))))))
 
 -- ---- how many places are covered
-
-pub covered_count : List Bool → ℕ
-covered_count places = count_by (λ b. b) places
 
 pub covered_count-append : (xs ys : List Bool) → covered_count (xs ++ ys) ≡ covered_count xs + covered_count ys
 unfolding covered_count

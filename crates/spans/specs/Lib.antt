@@ -3,3 +3,4 @@ pub mod Runs
 pub mod Growing
 pub mod Chunks
 pub mod Kept
+pub mod Laws

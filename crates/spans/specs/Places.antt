@@ -8,6 +8,10 @@ use Rattle.spans.specs.declared.range.Run.{Run}
 abbrev pub is_covered : List Bool → ℕ → Bool
 is_covered places k = slice_index_or places k false
 
+-- all places from `from` to before `to` are covered
+abbrev pub AreCovered : ℕ → ℕ → List Bool → Type 0
+AreCovered from to places = (k : ℕ) → from ≤ k → k < to → is_covered places k ≡ true
+
 -- whether place k is in the range from `from` to before `to`
 abbrev pub is_in : ℕ → ℕ → ℕ → Bool
 is_in from to k = nat_le from k && nat_lt k to
@@ -23,6 +27,10 @@ with_covered from to places = take from places ++ (replicate (to - from) true ++
 -- how many of the places from `from` to before `to` are not covered
 unfoldable pub uncovered_in : ℕ → ℕ → List Bool → ℕ
 uncovered_in from to places = count_by not (slice_range places from to)
+
+-- how many of the places are covered
+unfoldable pub covered_count : List Bool → ℕ
+covered_count places = count_by (λ covered. covered) places
 
 -- whether all places from `from` to before `to` are covered
 unfoldable pub all_covered : ℕ → ℕ → List Bool → Bool

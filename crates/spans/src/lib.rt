@@ -8,6 +8,7 @@
 mod chunk;
 mod covered;
 mod growth;
+pub mod laws;
 mod pieces;
 mod range;
 mod runs;

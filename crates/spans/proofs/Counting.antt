@@ -83,7 +83,7 @@ pub below-partition : (to : ℕ) (runs : List Run) (i : ℕ) → i ≤ length ru
 unfolding below
 below-partition to runs i within point =
     sym (below-point to runs i within (λ k d h. ltb-true (get_or runs k d).from to (point.0 k d (omega arith) h))
-     (λ k d l h. ltb-false (get_or runs k d).from to (point.1 k d l h)))
+    (λ k d l h. ltb-false (get_or runs k d).from to (point.1 k d l h)))
 
 -- ---- all chunks
 
@@ -139,8 +139,8 @@ pub count-chunks : (to : ℕ) (chunks : List (List Run)) (c : ℕ) → AreApart 
 unfolding below
 count-chunks to chunks c apart filled point =
     sym (below-chunks 0 to chunks c apart filled
-     (λ k d h l. ltb-true (last_begin 0 (get_or chunks k d)) to (point.0 k d (omega arith) h))
-     (λ l. ltb-false (last_begin 0 (get_or chunks c [])) to (point.1 c [] (omega arith) l)))
+    (λ k d h l. ltb-true (last_begin 0 (get_or chunks k d)) to (point.0 k d (omega arith) h))
+    (λ l. ltb-false (last_begin 0 (get_or chunks c [])) to (point.1 c [] (omega arith) l)))
 
 pub length-joined-take : (chunks : List (List Run)) (c : ℕ) → length (joined (take c chunks)) ≤ length (joined chunks)
 length-joined-take chunks zero = omega arith

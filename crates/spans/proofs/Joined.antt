@@ -121,7 +121,7 @@ EndBefore-before low place (k ∷ ks) (suc c) i apart all here =
     EndBefore-append place k (before ks c i)
     (EndBefore-end low 0 place k (AreApart-left low k (joined ks) apart) (all 0 [] (omega arith) (omega arith)))
     (EndBefore-before low place ks c i (AreApart-right low k (joined ks) apart)
-     (λ j d h l. all (suc j) d (omega arith) (omega arith)) (λ l. here (omega arith)))
+    (λ j d h l. all (suc j) d (omega arith) (omega arith)) (λ l. here (omega arith)))
 
 length-drop-some : (i : ℕ) (k : List Run) → i < length k → 0 < length (drop i k)
 length-drop-some i [] below = absurd (omega arith)
@@ -145,11 +145,11 @@ pub record Found (place : ℕ) (chunks : List (List Run)) (c i : ℕ) : Type 0 w
 inside : (place : ℕ) (k : List Run) (i : ℕ) → i ≤ length k → 0 < length k → place ≤ end_after 0 k → EndBefore place (take i k) → i < length k
 inside place k i within some reaches lower =
     elim (cases_lt i (length k)) [
-      inl below ↦ below
+      | inl below ↦ below
       | inr past ↦
-        let all = subst (λ (xs : List Run). EndBefore place xs) (take_all i k past) lower in
-        let ends = end_after-EndBefore 0 place k some all in
-        absurd (omega (arith, ends, reaches))
+          let all = subst (λ (xs : List Run). EndBefore place xs) (take_all i k past) lower in
+          let ends = end_after-EndBefore 0 place k some all in
+          absurd (omega (arith, ends, reaches))
     ]
 
 pub Found-in : (place : ℕ) (chunks : List (List Run)) (c i : ℕ) → AreApart 0 (joined chunks) → AreFilled chunks → c < length chunks

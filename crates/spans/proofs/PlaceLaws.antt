@@ -29,24 +29,24 @@ grown_by-apart : (k : ℕ) (rs : List Run) → AreApart (k + 1) rs → AreApart 
 grown_by-apart k [] apart = (omega arith, omega arith, tt)
 grown_by-apart k (r ∷ rs) apart =
     elim (cases_eq r.from (k + 1)) [
-      inl same ↦ rw (eq-eqb r.from (k + 1) same) (omega arith, omega (arith, apart.0, apart.1), apart.2)
+      | inl same ↦ rw (eq-eqb r.from (k + 1) same) (omega arith, omega (arith, apart.0, apart.1), apart.2)
       | inr other ↦
-        let far : k + 1 + 1 ≤ r.from = omega (arith, apart.0, other) in
-        rw (ne_eqb r.from (k + 1) other) (omega arith, omega arith, (far, apart.1, apart.2))
+          let far : k + 1 + 1 ≤ r.from = omega (arith, apart.0, other) in
+          rw (ne_eqb r.from (k + 1) other) (omega arith, omega arith, (far, apart.1, apart.2))
     ]
 
 grown_by-has : (k : ℕ) (rs : List Run) (j : ℕ) → AreApart (k + 1) rs → has_place (grown_by k rs) j ≡ (is_in k (k + 1) j || has_place rs j)
 grown_by-has k [] j apart = refl
 grown_by-has k (r ∷ rs) j apart =
     elim (cases_eq r.from (k + 1)) [
-      inl same ↦
-        let join = is_in-join k (k + 1) r.from r.to j (omega (arith, same)) (omega (arith, apart.0, apart.1)) (omega arith) apart.1 in
-        let a : min k r.from ≡ k = omega (arith, same) in
-        let b : max (k + 1) r.to ≡ r.to = omega (arith, apart.0, apart.1) in
-        let merged : is_in k r.to j ≡ (is_in k (k + 1) j || is_in r.from r.to j) =
+      | inl same ↦
+          let join = is_in-join k (k + 1) r.from r.to j (omega (arith, same)) (omega (arith, apart.0, apart.1)) (omega arith) apart.1 in
+          let a : min k r.from ≡ k = omega (arith, same) in
+          let b : max (k + 1) r.to ≡ r.to = omega (arith, apart.0, apart.1) in
+          let merged : is_in k r.to j ≡ (is_in k (k + 1) j || is_in r.from r.to j) =
           ap (λ n. is_in n r.to j) (sym a) ∙ (ap (λ n. is_in (min k r.from) n j) (sym b) ∙ join) in
-        rw (eq-eqb r.from (k + 1) same)
-        (ap (λ t. t || has_place rs j) merged ∙ or_assoc (is_in k (k + 1) j) (is_in r.from r.to j) (has_place rs j))
+          rw (eq-eqb r.from (k + 1) same)
+          (ap (λ t. t || has_place rs j) merged ∙ or_assoc (is_in k (k + 1) j) (is_in r.from r.to j) (has_place rs j))
       | inr other ↦ rw (ne_eqb r.from (k + 1) other) refl
     ]
 
@@ -54,7 +54,7 @@ grown_by-within : (limit k : ℕ) (rs : List Run) → k + 1 ≤ limit → AreWit
 grown_by-within limit k [] le within = (le, tt)
 grown_by-within limit k (r ∷ rs) le within =
     elim (cases_eq r.from (k + 1)) [
-      inl same ↦ rw (eq-eqb r.from (k + 1) same) (within.0, within.1)
+      | inl same ↦ rw (eq-eqb r.from (k + 1) same) (within.0, within.1)
       | inr other ↦ rw (ne_eqb r.from (k + 1) other) (le, within)
     ]
 
@@ -114,12 +114,12 @@ beside-found low (x ∷ xs) zero r k apart found beside =
     let from : x.from ≡ r.from = ap (λ (y : Run). y.from) is in
     let to : x.to ≡ r.to = ap (λ (y : Run). y.to) is in
     elim beside [
-      inl before ↦
-        or_from (is_in x.from x.to k) (has_place xs k) (is_in-false x.from x.to k (λ a b. omega (arith, before, from)))
-        (has_place-far (x.to + 1) k xs apart.2 (omega (arith, before, from, apart.1)))
+      | inl before ↦
+          or_from (is_in x.from x.to k) (has_place xs k) (is_in-false x.from x.to k (λ a b. omega (arith, before, from)))
+          (has_place-far (x.to + 1) k xs apart.2 (omega (arith, before, from, apart.1)))
       | inr after ↦
-        or_from (is_in x.from x.to k) (has_place xs k) (is_in-false x.from x.to k (λ a b. omega (arith, after, to)))
-        (has_place-far (x.to + 1) k xs apart.2 (omega (arith, after, to)))
+          or_from (is_in x.from x.to k) (has_place xs k) (is_in-false x.from x.to k (λ a b. omega (arith, after, to)))
+          (has_place-far (x.to + 1) k xs apart.2 (omega (arith, after, to)))
     ]
 beside-found low (x ∷ xs) (suc i) r k apart found beside =
     let far = le-found (x.to + 1) xs i r apart.2 found in
@@ -161,10 +161,11 @@ reaches-none [] = tt
 reaches-none (r ∷ rs) = omega arith
 
 pub whole_is_one_run : WholeIsOneRun
-whole_is_one_run to places some within =
-    (λ h. FirstHasAll-all 0 to [] (runs_of places) some (runs_of-apart places) tt (reaches-none (runs_of places))
+whole_is_one_run to places some within = (
+  λ h. FirstHasAll-all 0 to [] (runs_of places) some (runs_of-apart places) tt (reaches-none (runs_of places))
       (λ k low high. runs_of-has places k ∙ all_covered-true 0 to places within h k low high),
-     λ h. all_covered-from 0 to places within (λ k low high. sym (runs_of-has places k) ∙ HasAll-first 0 to [] (runs_of places) h k low high))
+  λ h. all_covered-from 0 to places within (λ k low high. sym (runs_of-has places k) ∙ HasAll-first 0 to [] (runs_of places) h k low high),
+)
 
 -- ---- those below a place
 
@@ -174,21 +175,21 @@ below-found low to (x ∷ xs) zero r apart found =
     let is : x ≡ r = cc in
     let from : x.from ≡ r.from = ap (λ (y : Run). y.from) is in
     elim (cases_lt x.from to) [
-      inl under ↦ let e = below-yes to x xs under in (λ h. omega (arith, from), λ h. omega (arith, e))
+      | inl under ↦ let e = below-yes to x xs under in (λ h. omega (arith, from), λ h. omega (arith, e))
       | inr past ↦
-        let e = below-far to x.from (x ∷ xs) past (omega arith, apart.1, apart.2) in
-        (λ h. omega (arith, e), λ h. omega (arith, from))
+          let e = below-far to x.from (x ∷ xs) past (omega arith, apart.1, apart.2) in
+          (λ h. omega (arith, e), λ h. omega (arith, from))
     ]
 below-found low to (x ∷ xs) (suc i) r apart found =
     let there = le-found (x.to + 1) xs i r apart.2 found in
     elim (cases_lt x.from to) [
-      inl under ↦
-        let e = below-yes to x xs under in
-        let rest = below-found (x.to + 1) to xs i r apart.2 found in
-        (λ h. rest.0 (omega (arith, e)), λ h. let j = rest.1 h in omega (arith, e, j))
+      | inl under ↦
+          let e = below-yes to x xs under in
+          let rest = below-found (x.to + 1) to xs i r apart.2 found in
+          (λ h. rest.0 (omega (arith, e)), λ h. let j = rest.1 h in omega (arith, e, j))
       | inr past ↦
-        let e = below-far to x.from (x ∷ xs) past (omega arith, apart.1, apart.2) in
-        (λ h. omega (arith, e), λ h. omega (arith, there.0, apart.1))
+          let e = below-far to x.from (x ∷ xs) past (omega arith, apart.1, apart.2) in
+          (λ h. omega (arith, e), λ h. omega (arith, there.0, apart.1))
     ]
 
 pub counts_those_below : CountsThoseBelow

@@ -5,11 +5,10 @@ ghost use Rattle.std.specs.List.{insert};
 ghost use Rattle.spans.specs.Growing.{grown_over, left_after};
 ghost use Rattle.spans.specs.Runs.{AreApart, EndBefore, FirstReaches, end_after, last_begin};
 
-use std::alloc::{AllocError, Global};
-use std::marker::Model;
-
 use crate::growth::Growth;
 use crate::range::Run;
+use std::alloc::{AllocError, Global};
+use std::marker::Model;
 
 /// How many runs a chunk holds at the most.
 const MOST: usize = 128;

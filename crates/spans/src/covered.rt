@@ -3,13 +3,12 @@
 ghost use Rattle.std.specs.Prelude.{◌≡◌, ℕ, ◌+◌, ◌-◌, ◌<◌, ◌≤◌, List, [], length, IfOk, OnOk, OnErr, IsTrue, slice_get};
 ghost use Rattle.spans.specs.Places.{uncovered, with_covered, uncovered_in, all_covered, AddsRun, runs_of, runs_below};
 
-use std::alloc::{AllocError, Global};
-use std::marker::Model;
-
 use crate::chunk::Chunk;
 use crate::pieces;
 use crate::range::Run;
 use crate::runs::Runs;
+use std::alloc::{AllocError, Global};
+use std::marker::Model;
 
 /// Which places below a limit are covered.
 #[derive(Debug, Drop)]

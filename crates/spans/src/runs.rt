@@ -4,10 +4,9 @@ ghost use Rattle.std.specs.Prelude.{◌≡◌, List};
 ghost use Rattle.std.specs.Iterator.{YieldsFirst, item_count};
 ghost use Rattle.spans.specs.Chunks.{AreFilled, joined};
 
-use std::marker::Model;
-
 use crate::chunk::Chunk;
 use crate::range::Run;
+use std::marker::Model;
 
 /// The maximal covered ranges that are still to come.
 #[derive(Debug, Drop)]

@@ -2,10 +2,9 @@
 
 ghost use Rattle.std.specs.Prelude.{◌≡◌, ◌<◌, ◌≤◌, length};
 
+use crate::{Run, Spans};
 use std::alloc::{AllocError, Global};
 use std::test::Fail;
-
-use crate::{Run, Spans};
 
 #[test]
 fn the_greatest_limit(rt: HostRuntime) -> Result<(), Fail> {
@@ -21,7 +20,10 @@ fn the_greatest_limit(rt: HostRuntime) -> Result<(), Fail> {
     assert_eq!(rt; spans.run(1), None);
     assert_eq!(rt; spans.count(18446744073709551615), 1);
     assert!(rt; spans.is_whole(9223372036854775808), "below 2^63");
-    assert!(rt; !spans.covers(9223372036854775807, 9223372036854775809), "past 2^63");
+    assert!(rt;
+        !spans.covers(9223372036854775807, 9223372036854775809),
+        "past 2^63"
+    );
     Ok(())
 }
 
@@ -29,9 +31,7 @@ fn the_greatest_limit(rt: HostRuntime) -> Result<(), Fail> {
 const PLACES: usize = 4000;
 
 /// The next of a row of numbers below 2^31 that look random.
-fn draw(seed: u64) -> u64
-    ensures { result < 2 ^ 31 }
-{
+fn draw(seed: u64) -> u64 {
     (seed % 2147483648 * 1103515245 + 12345) % 2147483648
 }
 
@@ -73,7 +73,9 @@ fn runs_slowly(alloc: Global, places: &[bool]) -> Result<Vec<Run>, AllocError> {
 }
 
 /// How long the range is that a draw asks for: mostly one place, at times some, seldom many.
-fn length_of(draw: u64) -> usize {
+fn length_of(draw: u64) -> usize
+    ensures { result < 1000 }
+{
     match draw / 64 % 40 {
         0 => (draw / 4096 % 900) as usize,
         1..=4 => (draw / 4096 % 12) as usize,
@@ -91,13 +93,22 @@ fn as_a_list_of_truth_values(rt: HostRuntime) -> Result<(), Fail> {
         let from = (seed / 65536) as usize % PLACES;
         seed = draw(seed);
         let to = (from + length_of(seed)).min(PLACES);
+        let held = spans.covers(from as u64, to as u64);
         let fresh = cover_slowly(&mut places, from, to);
-        assert_eq!(rt; spans.cover(from as u64, to as u64)?, fresh, "{from} to {to}");
+        assert_eq!(rt; held, fresh == 0, "{from} to {to}");
+        assert_eq!(rt;
+            spans.cover(from as u64, to as u64)?,
+            fresh,
+            "{from} to {to}"
+        );
         if round % 100 == 0 {
             let runs = runs_slowly(rt.alloc(), &places)?;
             let kept: Vec<Run> = spans.runs().collect(rt.alloc())?;
             assert_eq!(rt; kept.as_slice(), runs.as_slice(), "round {round}");
-            assert_eq!(rt; spans.count(from as u64), runs.iter().filter(|r| r.from < from as u64).count());
+            assert_eq!(rt;
+                spans.count(from as u64),
+                runs.iter().filter(|r| r.from < from as u64).count()
+            );
         }
     }
     Ok(())

@@ -11,7 +11,6 @@ pub absorb-requires-clause-apart : goal.absorb-requires-clause-apart
 absorb-requires-clause-apart c =
     apart-front (c.args.growth.end + 1) c.args.chunks.now.items c.args.chunk c.index_mut.result.now (omega arith) c.index_mut.ensures.value c.requires.apart
 
-
 pub returns-then-chunk-len-clause-filled : goal.returns-then-chunk-len-clause-filled
 returns-then-chunk-len-clause-filled c =
     let k = c.index_mut.result.now in

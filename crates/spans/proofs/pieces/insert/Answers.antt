@@ -21,5 +21,5 @@ pub returns-clause-ok : goal.returns-clause-ok
 returns-clause-ok c =
     on_ok_weaker c.insert.result
     (λ h. ap (λ (k : List Run). joined (set c.args.chunks.now.items c.args.place.chunk k)) h
-     ∙ joined-insert c.args.chunks.now.items c.args.place.chunk c.args.place.at c.args.run c.index_mut.result.now c.requires.within (chunk c))
+    ∙ joined-insert c.args.chunks.now.items c.args.place.chunk c.args.place.at c.args.run c.index_mut.result.now c.requires.within (chunk c))
     c.insert.ensures.ok

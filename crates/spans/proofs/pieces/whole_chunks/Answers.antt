@@ -16,7 +16,7 @@ loop-whole-preserved c =
     let k = c.index-chunks-whole-in-loop-whole.result in
     let below : whole < length chunks = omega arith in
     let same : c.index-chunks-whole.result ≡ k =
-      get_or_read chunks whole c.index-chunks-whole.result below c.index-chunks-whole.is [] ∙ sym (get_or_read chunks whole k below c.index-chunks-whole-in-loop-whole.is []) in
+    get_or_read chunks whole c.index-chunks-whole.result below c.index-chunks-whole.is [] ∙ sym (get_or_read chunks whole k below c.index-chunks-whole-in-loop-whole.is []) in
     let last : last_begin 0 c.index-chunks-whole.result ≤ c.args.to = omega arith in
     MeetsWhole-more c.args.to c.args.growth c.loop-whole.growth c.swallowed-growth.result chunks c.args.from whole k
     c.loop-whole.invariant below c.index-chunks-whole-in-loop-whole.is

@@ -13,5 +13,5 @@ returns-clause-count c =
     let apart = subst (λ (xs : List Run). AreApart 0 xs) (sym same) c.requires in
     subst (λ (xs : List Run). c.partition_point.result ≡ count_by (λ r. ltb r.from c.args.to) xs) same
     (below-partition c.args.to runs c.partition_point.result c.partition_point.ensures.bound
-     (IsPartitionPoint-from_clause (λ r. ltb r.from c.args.to) runs c.partition_point.result c.partition_point.ensures.partitioned
-      (IsPartitionedBy-begins c.args.to runs apart) (search rules)))
+    (IsPartitionPoint-from_clause (λ r. ltb r.from c.args.to) runs c.partition_point.result c.partition_point.ensures.partitioned
+    (IsPartitionedBy-begins c.args.to runs apart) (search rules)))

@@ -36,5 +36,5 @@ pub returns-clause-limit : goal.returns-clause-limit
 returns-clause-limit c =
     let old : StandFor c.self.inside.limit c.self.inside.chunks.items c.args.self.now = record { kept = c.self.invariant; view = c.self.view_is } in
     let kept = IsKept-covered c.self.inside.limit c.args.from c.args.to c.self.inside.chunks.items c.cover.new.chunks.items c.args.self.now c.cover.result
-      old c.requires.within c.cover.ensures.filled c.cover.ensures.ok c.cover.ensures.err in
+    old c.requires.within c.cover.ensures.filled c.cover.ensures.ok c.cover.ensures.err in
     length-covered c.self.inside.limit c.self.inside.chunks.items c.cover.new.chunks.items c.args.self.now old kept

@@ -1,13 +1,15 @@
 -- The loop of a run that grows over whole chunks, over plain variables.
 
-use Rattle.std.proofs.Common.{◌≡◌, ℕ, zero, suc, ◌+◌, ◌-◌, ◌<◌, ◌≤◌, List, [], ◌∷◌, ◌++◌, length, take, drop, get_or, set, refl, sym, ap, ◌∙◌, subst, arith, append_assoc, add-one}
-use Rattle.std.proofs.lemmas.List.{drop_all, drop-set, drop_at, take-append-le, take-take, length-take-le}
+use Rattle.std.proofs.Common.{◌≡◌, ℕ, ◌+◌, ◌<◌, ◌≤◌, List, ◌++◌, length, take, drop, get_or, set, sym, ap, ◌∙◌, subst, arith}
+use Rattle.std.proofs.lemmas.List.{drop-set, drop_at, take-append-le, take-take, length-take-le}
 use Rattle.spans.specs.declared.range.Run.{Run}
 use Rattle.spans.specs.declared.growth.Growth.{Growth}
-use Rattle.spans.specs.Kept.{AreApart, AreFilled, joined, last_begin, grown_over, left_after, MeetsWhole}
+use Rattle.spans.specs.Chunks.{AreFilled, joined, MeetsWhole}
+use Rattle.spans.specs.Growing.{grown_over, left_after}
+use Rattle.spans.specs.Runs.{AreApart, last_begin}
 use Rattle.spans.proofs.Apart.{AreApart-left}
 use Rattle.spans.proofs.Growing.{drop-read}
-use Rattle.spans.proofs.Grows.{left_after-append, grown_over-append, left_after-whole, left_after-some, last_begin-far, grown_over-last, AreApart-grown}
+use Rattle.spans.proofs.Grows.{left_after-append, grown_over-append, left_after-whole, last_begin-far, grown_over-last, AreApart-grown}
 use Rattle.spans.proofs.Joined.{AreFilled-at, AreFilled-append, AreFilled-take, AreFilled-drop}
 
 -- the chunk that comes next

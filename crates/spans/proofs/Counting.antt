@@ -1,17 +1,18 @@
 -- How many runs begin below a place, over plain variables.
 
-use Rattle.std.proofs.Common.{◌≡◌, ℕ, zero, suc, ◌+◌, ◌-◌, ◌<◌, ◌≤◌, Bool, true, false, cond, List, [], ◌∷◌, ◌++◌, length, take, drop, get_or, ltb, refl, sym, ap, ◌∙◌, subst, arith}
+use Rattle.std.proofs.Common.{◌≡◌, ℕ, zero, suc, ◌+◌, ◌<◌, ◌≤◌, true, false, cond, List, [], ◌∷◌, ◌++◌, length, take, get_or, ltb, refl, sym, ap, ◌∙◌, arith}
 use Rattle.std.proofs.lemmas.Bool.{ltb-true, ltb-false, lt-ltb, le-ltb}
 use Rattle.std.proofs.lemmas.List.{length-append}
 use Rattle.std.proofs.lemmas.List.Sorted.{IsPartitionedBy-ltb}
-use Rattle.std.proofs.lemmas.List.Sums.{sum_by-append, sum_by-cons, count_by-le-length}
-use Rattle.std.specs.List.{count_by, AllWithin}
+use Rattle.std.proofs.lemmas.List.Sums.{sum_by-append, sum_by-cons}
+use Rattle.std.specs.List.{count_by}
 use Rattle.std.specs.List.Sorted.{IsNonDecreasingBy, IsPartitionedBy, IsPartitionPoint}
 use Rattle.spans.specs.declared.range.Run.{Run}
-use Rattle.spans.specs.Kept.{AreApart, AreWithin, AreFilled, end_after, last_begin, joined}
-use Rattle.spans.proofs.Apart.{AreApart-lower, AreApart-left, AreApart-right, AreApart-behind, le-end_after, le-last_begin}
+use Rattle.spans.specs.Chunks.{AreFilled, joined}
+use Rattle.spans.specs.Runs.{AreApart, AreWithin, end_after, last_begin}
+use Rattle.spans.proofs.Apart.{AreApart-lower, AreApart-left, AreApart-right, AreApart-behind, le-last_begin}
 
-pub below : ℕ → List Run → ℕ
+unfoldable pub below : ℕ → List Run → ℕ
 below to runs = count_by (λ r. ltb r.from to) runs
 
 below-nil : (to : ℕ) → below to [] ≡ 0
@@ -26,10 +27,10 @@ pub below-append : (to : ℕ) (xs ys : List Run) → below to (xs ++ ys) ≡ bel
 unfolding below
 below-append to xs ys = sum_by-append (λ x. cond (ltb x.from to) 1 0) xs ys
 
-below-yes : (to : ℕ) (r : Run) (rs : List Run) → r.from < to → below to (r ∷ rs) ≡ suc (below to rs)
+pub below-yes : (to : ℕ) (r : Run) (rs : List Run) → r.from < to → below to (r ∷ rs) ≡ suc (below to rs)
 below-yes to r rs h = below-cons to r rs ∙ (ap (λ b. cond b 1 0 + below to rs) (lt-ltb r.from to h) ∙ omega arith)
 
-below-no : (to : ℕ) (r : Run) (rs : List Run) → to ≤ r.from → below to (r ∷ rs) ≡ below to rs
+pub below-no : (to : ℕ) (r : Run) (rs : List Run) → to ≤ r.from → below to (r ∷ rs) ≡ below to rs
 below-no to r rs h = below-cons to r rs ∙ (ap (λ b. cond b 1 0 + below to rs) (le-ltb r.from to h) ∙ omega arith)
 
 pub below-far : (to low : ℕ) (runs : List Run) → to ≤ low → AreApart low runs → below to runs ≡ 0
@@ -82,7 +83,7 @@ pub below-partition : (to : ℕ) (runs : List Run) (i : ℕ) → i ≤ length ru
 unfolding below
 below-partition to runs i within point =
     sym (below-point to runs i within (λ k d h. ltb-true (get_or runs k d).from to (point.0 k d (omega arith) h))
-     (λ k d l h. ltb-false (get_or runs k d).from to (point.1 k d l h)))
+    (λ k d l h. ltb-false (get_or runs k d).from to (point.1 k d l h)))
 
 -- ---- all chunks
 
@@ -138,8 +139,8 @@ pub count-chunks : (to : ℕ) (chunks : List (List Run)) (c : ℕ) → AreApart 
 unfolding below
 count-chunks to chunks c apart filled point =
     sym (below-chunks 0 to chunks c apart filled
-     (λ k d h l. ltb-true (last_begin 0 (get_or chunks k d)) to (point.0 k d (omega arith) h))
-     (λ l. ltb-false (last_begin 0 (get_or chunks c [])) to (point.1 c [] (omega arith) l)))
+    (λ k d h l. ltb-true (last_begin 0 (get_or chunks k d)) to (point.0 k d (omega arith) h))
+    (λ l. ltb-false (last_begin 0 (get_or chunks c [])) to (point.1 c [] (omega arith) l)))
 
 pub length-joined-take : (chunks : List (List Run)) (c : ℕ) → length (joined (take c chunks)) ≤ length (joined chunks)
 length-joined-take chunks zero = omega arith

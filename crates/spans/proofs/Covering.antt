@@ -1,11 +1,13 @@
 -- Runs once a range is covered too, over plain variables.
 
-use Rattle.std.proofs.Common.{◌≡◌, ℕ, zero, suc, ◌+◌, ◌-◌, ◌<◌, ◌≤◌, Bool, true, false, ◌||◌, List, [], ◌∷◌, ◌++◌, length, leb, ltb, min, max, refl, sym, ap, ◌∙◌, subst, arith, append_assoc, inl, inr}
-use Rattle.std.proofs.lemmas.Bool.{cases_lt, and_parts, and_from, or_cases, or_left, or_right, or_from, leb-true, ltb-true, le-leb, lt-ltb, false_from_ne_true, cases_Bool, both_ways}
+use Rattle.std.proofs.Common.{◌≡◌, ℕ, ◌+◌, ◌-◌, ◌<◌, ◌≤◌, Bool, true, false, ◌||◌, List, [], ◌∷◌, ◌++◌, leb, ltb, min, max, refl, sym, ap, ◌∙◌, arith, inl, inr}
+use Rattle.std.proofs.lemmas.Bool.{cases_lt, and_parts, and_from, or_cases, or_left, or_right, or_from, leb-true, ltb-true, le-leb, lt-ltb, false_from_ne_true, both_ways}
 use Rattle.spans.specs.declared.range.Run.{Run}
 use Rattle.spans.specs.declared.growth.Growth.{Growth}
-use Rattle.spans.specs.Kept.{AreApart, AreWithin, EndBefore, FirstReaches, FirstBeginsAfter, BeginsBy, is_in, has_place, places_in, over, grown_over, left_after, grown_first, widened, widening, Covers, IsApartFrom, HasAll, FirstHasAll}
-use Rattle.spans.proofs.Apart.{AreApart-lower, AreApart-right}
+use Rattle.spans.specs.Growing.{over, grown_over, left_after, widened, widening}
+use Rattle.spans.specs.Places.{is_in}
+use Rattle.spans.specs.Runs.{AreApart, AreWithin, EndBefore, FirstReaches, FirstBeginsAfter, BeginsBy, has_place, places_in, Covers, IsApartFrom, HasAll, FirstHasAll}
+use Rattle.spans.proofs.Apart.{AreApart-right}
 use Rattle.spans.proofs.Growing.{grown_over-yes, grown_over-no, left_after-yes, left_after-no}
 
 -- ---- truth values
@@ -33,20 +35,20 @@ pub is_in-join : (a b c d k : ℕ) → c ≤ b → a ≤ d → a < b → c < d �
 is_in-join a b c d k cb ad ab cd =
     same_truth (is_in (min a c) (max b d) k) (is_in a b k || is_in c d k)
     (λ h.
-     let p = is_in-true (min a c) (max b d) k h in
-     elim (cases_lt k a) [
-       inl low ↦ or_right (is_in a b k) (is_in c d k) (is_in-from c d k (omega (arith, p.0)) (omega arith))
-       | inr high ↦ elim (cases_lt k b) [
-         inl inside ↦ or_left (is_in a b k) (is_in c d k) (is_in-from a b k high inside)
-         | inr past ↦ or_right (is_in a b k) (is_in c d k) (is_in-from c d k (omega arith) (omega (arith, p.1)))
-       ]
-     ])
+    let p = is_in-true (min a c) (max b d) k h in
+    elim (cases_lt k a) [
+      | inl low ↦ or_right (is_in a b k) (is_in c d k) (is_in-from c d k (omega (arith, p.0)) (omega arith))
+      | inr high ↦ elim (cases_lt k b) [
+        | inl inside ↦ or_left (is_in a b k) (is_in c d k) (is_in-from a b k high inside)
+        | inr past ↦ or_right (is_in a b k) (is_in c d k) (is_in-from c d k (omega arith) (omega (arith, p.1)))
+      ]
+    ])
     (λ h. elim (or_cases (is_in a b k) (is_in c d k) h) [
-      inl left ↦ let p = is_in-true a b k left in is_in-from (min a c) (max b d) k (omega (arith, p.0)) (omega (arith, p.1))
+      | inl left ↦ let p = is_in-true a b k left in is_in-from (min a c) (max b d) k (omega (arith, p.0)) (omega (arith, p.1))
       | inr right ↦ let p = is_in-true c d k right in is_in-from (min a c) (max b d) k (omega (arith, p.0)) (omega (arith, p.1))
     ])
 
-or_assoc : (a b c : Bool) → ((a || b) || c) ≡ (a || (b || c))
+pub or_assoc : (a b c : Bool) → ((a || b) || c) ≡ (a || (b || c))
 or_assoc true b c = refl
 or_assoc false b c = refl
 
@@ -89,9 +91,9 @@ Covers-behind from to xs ys zs n apart ends above within places count = record {
   apart = AreApart-joined 0 from xs ys zs (omega arith) apart ends above;
   within = λ limit le old. AreWithin-joined limit xs ys zs old (within limit le);
   places = λ k.
-    has_place-append xs zs k
-    ∙ (ap (λ b. has_place xs k || b) (places k)
-    ∙ (sym (or_assoc (has_place xs k) (has_place ys k) (is_in from to k)) ∙ ap (λ b. b || is_in from to k) (sym (has_place-append xs ys k))));
+      has_place-append xs zs k
+      ∙ (ap (λ b. has_place xs k || b) (places k)
+      ∙ (sym (or_assoc (has_place xs k) (has_place ys k) (is_in from to k)) ∙ ap (λ b. b || is_in from to k) (sym (has_place-append xs ys k))));
   count = let a = places_in-append xs ys in let b = places_in-append xs zs in omega (arith, a, b, count);
 }
 
@@ -122,10 +124,10 @@ pub left_after-apart : (to : ℕ) (g : Growth) (runs : List Run) → AreApart (g
 left_after-apart to g [] apart = tt
 left_after-apart to g (r ∷ rs) apart =
     elim (cases_lt to r.from) [
-      inl far ↦
-        rw (grown_over-no to g r rs far, left_after-no to r rs far) (omega (arith, far, apart.0), apart.1, apart.2)
+      | inl far ↦
+          rw (grown_over-no to g r rs far, left_after-no to r rs far) (omega (arith, far, apart.0), apart.1, apart.2)
       | inr near ↦
-        rw (grown_over-yes to g r rs near, left_after-yes to r rs near) (left_after-apart to (over g r) rs apart.2)
+          rw (grown_over-yes to g r rs near, left_after-yes to r rs near) (left_after-apart to (over g r) rs apart.2)
     ]
 
 pub left_after-within : (limit to : ℕ) (g : Growth) (runs : List Run) → g.end ≤ limit → AreWithin limit runs
@@ -133,7 +135,7 @@ pub left_after-within : (limit to : ℕ) (g : Growth) (runs : List Run) → g.en
 left_after-within limit to g [] le within = (le, tt)
 left_after-within limit to g (r ∷ rs) le within =
     elim (cases_lt to r.from) [
-      inl far ↦ rw (grown_over-no to g r rs far, left_after-no to r rs far) (le, within)
+      | inl far ↦ rw (grown_over-no to g r rs far, left_after-no to r rs far) (le, within)
       | inr near ↦ rw (grown_over-yes to g r rs near, left_after-yes to r rs near) (left_after-within limit to (over g r) rs within.0 within.1)
     ]
 
@@ -142,15 +144,15 @@ pub left_after-places : (lo to : ℕ) (g : Growth) (runs : List Run) (k : ℕ) �
 left_after-places lo to g [] k low some apart = refl
 left_after-places lo to g (r ∷ rs) k low some apart =
     elim (cases_lt to r.from) [
-      inl far ↦ rw (grown_over-no to g r rs far, left_after-no to r rs far) refl
+      | inl far ↦ rw (grown_over-no to g r rs far, left_after-no to r rs far) refl
       | inr near ↦
-        let rest = left_after-places lo to (over g r) rs k (omega (arith, low, apart.0, apart.1)) some apart.2 in
-        let a : min lo r.from ≡ lo = omega (arith, low, apart.0) in
-        let b : max (max to g.end) r.to ≡ max to r.to = omega (arith, apart.0, apart.1) in
-        let join = is_in-join lo (max to g.end) r.from r.to k (omega (arith, near)) (omega (arith, low, apart.0, apart.1)) (omega (arith, low)) apart.1 in
-        let same : is_in lo (max to r.to) k ≡ (is_in lo (max to g.end) k || is_in r.from r.to k) = ap (λ n. is_in n (max to r.to) k) (sym a) ∙ (ap (λ n. is_in (min lo r.from) n k) (sym b) ∙ join) in
-        rw (grown_over-yes to g r rs near, left_after-yes to r rs near)
-        (rest ∙ (ap (λ t. t || has_place rs k) same ∙ or_assoc (is_in lo (max to g.end) k) (is_in r.from r.to k) (has_place rs k)))
+          let rest = left_after-places lo to (over g r) rs k (omega (arith, low, apart.0, apart.1)) some apart.2 in
+          let a : min lo r.from ≡ lo = omega (arith, low, apart.0) in
+          let b : max (max to g.end) r.to ≡ max to r.to = omega (arith, apart.0, apart.1) in
+          let join = is_in-join lo (max to g.end) r.from r.to k (omega (arith, near)) (omega (arith, low, apart.0, apart.1)) (omega (arith, low)) apart.1 in
+          let same : is_in lo (max to r.to) k ≡ (is_in lo (max to g.end) k || is_in r.from r.to k) = ap (λ n. is_in n (max to r.to) k) (sym a) ∙ (ap (λ n. is_in (min lo r.from) n k) (sym b) ∙ join) in
+          rw (grown_over-yes to g r rs near, left_after-yes to r rs near)
+          (rest ∙ (ap (λ t. t || has_place rs k) same ∙ or_assoc (is_in lo (max to g.end) k) (is_in r.from r.to k) (has_place rs k)))
     ]
 
 pub left_after-count : (to : ℕ) (g : Growth) (runs : List Run) → AreApart (g.end + 1) runs
@@ -158,10 +160,10 @@ pub left_after-count : (to : ℕ) (g : Growth) (runs : List Run) → AreApart (g
 left_after-count to g [] apart = omega arith
 left_after-count to g (r ∷ rs) apart =
     elim (cases_lt to r.from) [
-      inl far ↦ rw (grown_over-no to g r rs far, left_after-no to r rs far) (omega arith)
+      | inl far ↦ rw (grown_over-no to g r rs far, left_after-no to r rs far) (omega arith)
       | inr near ↦
-        let rest = left_after-count to (over g r) rs apart.2 in
-        rw (grown_over-yes to g r rs near, left_after-yes to r rs near) (omega (arith, rest, apart.0, apart.1))
+          let rest = left_after-count to (over g r) rs apart.2 in
+          rw (grown_over-yes to g r rs near, left_after-yes to r rs near) (omega (arith, rest, apart.0, apart.1))
     ]
 
 pub Covers-widened : (from to : ℕ) (xs ys : List Run) → from < to → AreApart 0 (xs ++ ys) → EndBefore from xs → FirstReaches from ys → BeginsBy to ys
@@ -175,9 +177,9 @@ Covers-widened from to xs (r ∷ rs) some apart ends reaches begins =
     (λ l le rest. (omega (arith, rest.0), omega arith, left_after-apart to g rs there.2))
     (λ limit le within. let w = left_after-within limit to g rs within.0 within.1 in (omega (arith, w.0), w.1))
     (λ k.
-     left_after-places (min from r.from) to g rs k (omega (arith, there.1)) (omega arith) there.2
-     ∙ (ap (λ b. b || has_place rs k) (is_in-join from to r.from r.to k begins reaches some there.1)
-     ∙ (ap (λ b. b || has_place rs k) (or_comm (is_in from to k) (is_in r.from r.to k)) ∙ or_swap (is_in r.from r.to k) (is_in from to k) (has_place rs k))))
+    left_after-places (min from r.from) to g rs k (omega (arith, there.1)) (omega arith) there.2
+    ∙ (ap (λ b. b || has_place rs k) (is_in-join from to r.from r.to k begins reaches some there.1)
+    ∙ (ap (λ b. b || has_place rs k) (or_comm (is_in from to k) (is_in r.from r.to k)) ∙ or_swap (is_in r.from r.to k) (is_in from to k) (has_place rs k))))
     (omega (arith, count, there.1))
 
 -- ---- a range that no run has, overlaps or touches
@@ -197,8 +199,8 @@ pub IsApartFrom-here : (from to : ℕ) (xs ys : List Run) → from < to → AreA
 IsApartFrom-here from to xs ys some apart ends begins = record {
   some = some;
   none = λ k low high.
-    has_place-append xs ys k
-    ∙ or_from (has_place xs k) (has_place ys k) (has_place-ends from k xs ends low)
+      has_place-append xs ys k
+      ∙ or_from (has_place xs k) (has_place ys k) (has_place-ends from k xs ends low)
       (has_place-far (to + 1) k ys (AreApart-front to 0 ys (AreApart-right 0 xs ys apart) begins) (omega arith));
 }
 
@@ -214,7 +216,7 @@ HasAll-first from to xs [] first = absurd first
 HasAll-first from to xs (r ∷ rs) first = λ k low high.
     has_place-append xs (r ∷ rs) k
     ∙ or_right (has_place xs k) (has_place (r ∷ rs) k)
-      (or_left (is_in r.from r.to k) (has_place rs k) (is_in-from r.from r.to k (omega (arith, first.0)) (omega (arith, first.1))))
+    (or_left (is_in r.from r.to k) (has_place rs k) (is_in-from r.from r.to k (omega (arith, first.0)) (omega (arith, first.1))))
 
 none-at : (from k : ℕ) (xs ys : List Run) → EndBefore from xs → from ≤ k → has_place ys k ≡ false → has_place (xs ++ ys) k ≡ false
 none-at from k xs ys ends le none =
@@ -226,21 +228,21 @@ FirstHasAll-all from to xs [] some apart ends reaches all =
 FirstHasAll-all from to xs (r ∷ rs) some apart ends reaches all =
     let there = AreApart-right 0 xs (r ∷ rs) apart in
     let begins : r.from ≤ from =
-      elim (cases_lt from r.from) [
-        inl before ↦
+    elim (cases_lt from r.from) [
+      | inl before ↦
           absurd (both_ways (has_place (xs ++ (r ∷ rs)) from)
-           (none-at from from xs (r ∷ rs) ends (omega arith)
-            (or_from (is_in r.from r.to from) (has_place rs from) (is_in-false r.from r.to from (λ a b. omega arith)) (has_place-far (r.to + 1) from rs there.2 (omega (arith, there.1)))))
-           (all from (omega arith) some))
-        | inr le ↦ le
-      ] in
+          (none-at from from xs (r ∷ rs) ends (omega arith)
+          (or_from (is_in r.from r.to from) (has_place rs from) (is_in-false r.from r.to from (λ a b. omega arith)) (has_place-far (r.to + 1) from rs there.2 (omega (arith, there.1)))))
+          (all from (omega arith) some))
+      | inr le ↦ le
+    ] in
     let reached : to ≤ r.to =
-      elim (cases_lt r.to to) [
-        inl short ↦
+    elim (cases_lt r.to to) [
+      | inl short ↦
           absurd (both_ways (has_place (xs ++ (r ∷ rs)) r.to)
-           (none-at from r.to xs (r ∷ rs) ends reaches
-            (or_from (is_in r.from r.to r.to) (has_place rs r.to) (is_in-false r.from r.to r.to (λ a b. omega arith)) (has_place-far (r.to + 1) r.to rs there.2 (omega arith))))
-           (all r.to reaches short))
-        | inr le ↦ le
-      ] in
+          (none-at from r.to xs (r ∷ rs) ends reaches
+          (or_from (is_in r.from r.to r.to) (has_place rs r.to) (is_in-false r.from r.to r.to (λ a b. omega arith)) (has_place-far (r.to + 1) r.to rs there.2 (omega arith))))
+          (all r.to reaches short))
+      | inr le ↦ le
+    ] in
     (begins, reached)

@@ -1,14 +1,13 @@
 -- A run that grows over what follows, over plain variables.
 
-use Rattle.std.proofs.Common.{◌≡◌, ℕ, zero, suc, ◌+◌, ◌-◌, ◌<◌, ◌≤◌, List, [], ◌∷◌, ◌++◌, length, take, drop, get_or, set, leb, min, max, true, false, refl, sym, ap, ◌∙◌, subst, arith, append_assoc, add-one, inl, inr}
+use Rattle.std.proofs.Common.{◌≡◌, ℕ, ◌+◌, ◌<◌, ◌≤◌, List, [], ◌∷◌, ◌++◌, length, refl, sym, ap, ◌∙◌, subst, arith, inl, inr}
 use Rattle.std.proofs.lemmas.Bool.{cases_lt}
-use Rattle.std.proofs.lemmas.List.{get_or_read, append-nil, drop_all, drop-set}
 use Rattle.spans.specs.declared.range.Run.{Run}
 use Rattle.spans.specs.declared.growth.Growth.{Growth}
-use Rattle.spans.specs.Kept.{AreApart, AreFilled, joined, before, from_there, end_after, last_begin, over, grown_over, left_after, widened, widening}
+use Rattle.spans.specs.Growing.{over, grown_over, left_after}
+use Rattle.spans.specs.Runs.{AreApart, end_after, last_begin}
 use Rattle.spans.proofs.Apart.{AreApart-lower, AreApart-right, AreApart-left, AreApart-after, le-end_after, le-last_begin}
 use Rattle.spans.proofs.Growing.{grown_over-yes, grown_over-no, left_after-yes, left_after-no}
-use Rattle.spans.proofs.Joined.{joined-append}
 
 -- what begins after `to` is not met
 pub left_after-far : (to low : ℕ) (runs : List Run) → to < low → AreApart low runs → left_after to runs ≡ runs
@@ -25,30 +24,30 @@ pub left_after-append : (to low : ℕ) (xs ys : List Run) → AreApart low (xs +
 left_after-append to low [] ys apart = refl
 left_after-append to low (x ∷ xs) ys apart =
     elim (cases_lt to x.from) [
-      inl far ↦
-        let behind = AreApart-right (x.to + 1) xs ys apart.2 in
-        left_after-no to x (xs ++ ys) far
-        ∙ (ap (λ zs. (x ∷ xs) ++ zs) (sym (left_after-far to (x.to + 1) ys (omega (arith, far, apart.1)) behind))
-        ∙ ap (λ zs. zs ++ left_after to ys) (sym (left_after-no to x xs far)))
+      | inl far ↦
+          let behind = AreApart-right (x.to + 1) xs ys apart.2 in
+          left_after-no to x (xs ++ ys) far
+          ∙ (ap (λ zs. (x ∷ xs) ++ zs) (sym (left_after-far to (x.to + 1) ys (omega (arith, far, apart.1)) behind))
+          ∙ ap (λ zs. zs ++ left_after to ys) (sym (left_after-no to x xs far)))
       | inr near ↦
-        left_after-yes to x (xs ++ ys) near
-        ∙ (left_after-append to (x.to + 1) xs ys apart.2
-        ∙ ap (λ zs. zs ++ left_after to ys) (sym (left_after-yes to x xs near)))
+          left_after-yes to x (xs ++ ys) near
+          ∙ (left_after-append to (x.to + 1) xs ys apart.2
+          ∙ ap (λ zs. zs ++ left_after to ys) (sym (left_after-yes to x xs near)))
     ]
 
 pub grown_over-append : (to low : ℕ) (g : Growth) (xs ys : List Run) → AreApart low (xs ++ ys) → grown_over to g (xs ++ ys) ≡ grown_over to (grown_over to g xs) ys
 grown_over-append to low g [] ys apart = refl
 grown_over-append to low g (x ∷ xs) ys apart =
     elim (cases_lt to x.from) [
-      inl far ↦
-        let behind = AreApart-right (x.to + 1) xs ys apart.2 in
-        grown_over-no to g x (xs ++ ys) far
-        ∙ (sym (grown_over-far to (x.to + 1) g ys (omega (arith, far, apart.1)) behind)
-        ∙ ap (λ h. grown_over to h ys) (sym (grown_over-no to g x xs far)))
+      | inl far ↦
+          let behind = AreApart-right (x.to + 1) xs ys apart.2 in
+          grown_over-no to g x (xs ++ ys) far
+          ∙ (sym (grown_over-far to (x.to + 1) g ys (omega (arith, far, apart.1)) behind)
+          ∙ ap (λ h. grown_over to h ys) (sym (grown_over-no to g x xs far)))
       | inr near ↦
-        grown_over-yes to g x (xs ++ ys) near
-        ∙ (grown_over-append to (x.to + 1) (over g x) xs ys apart.2
-        ∙ ap (λ h. grown_over to h ys) (sym (grown_over-yes to g x xs near)))
+          grown_over-yes to g x (xs ++ ys) near
+          ∙ (grown_over-append to (x.to + 1) (over g x) xs ys apart.2
+          ∙ ap (λ h. grown_over to h ys) (sym (grown_over-yes to g x xs near)))
     ]
 
 -- ---- a whole chunk, and a part of one
@@ -69,10 +68,10 @@ left_after-some to place low [] some apart last = absurd (omega arith)
 left_after-some to place low (r ∷ []) some apart last = left_after-first to r [] last
 left_after-some to place low (r ∷ (s ∷ rs)) some apart last =
     elim (cases_lt to r.from) [
-      inl far ↦ left_after-first to r (s ∷ rs) far
+      | inl far ↦ left_after-first to r (s ∷ rs) far
       | inr near ↦
-        let rest = left_after-some to r.from (r.to + 1) (s ∷ rs) (omega arith) apart.2 last in
-        subst (λ (xs : List Run). 0 < length xs) (sym (left_after-yes to r (s ∷ rs) near)) rest
+          let rest = left_after-some to r.from (r.to + 1) (s ∷ rs) (omega arith) apart.2 last in
+          subst (λ (xs : List Run). 0 < length xs) (sym (left_after-yes to r (s ∷ rs) near)) rest
     ]
 
 -- what follows a run that begins after `to` does too
@@ -91,14 +90,14 @@ pub grown_over-end : (to : ℕ) (g : Growth) (runs : List Run) → AreApart (g.e
 grown_over-end to g [] apart = omega arith
 grown_over-end to g (r ∷ rs) apart =
     elim (cases_lt to r.from) [
-      inl far ↦
-        let e = ap (λ (h : Growth). h.end) (grown_over-no to g r rs far) in
-        let le = le-end_after r.to rs apart.2 in
-        omega (arith, e, le, apart.0, apart.1)
+      | inl far ↦
+          let e = ap (λ (h : Growth). h.end) (grown_over-no to g r rs far) in
+          let le = le-end_after r.to rs apart.2 in
+          omega (arith, e, le, apart.0, apart.1)
       | inr near ↦
-        let e = ap (λ (h : Growth). h.end) (grown_over-yes to g r rs near) in
-        let rest = grown_over-end to (over g r) rs apart.2 in
-        omega (arith, e, rest)
+          let e = ap (λ (h : Growth). h.end) (grown_over-yes to g r rs near) in
+          let rest = grown_over-end to (over g r) rs apart.2 in
+          omega (arith, e, rest)
     ]
 
 pub AreApart-grown : (to : ℕ) (g : Growth) (xs ys : List Run) → AreApart (g.end + 1) (xs ++ ys) → AreApart ((grown_over to g xs).end + 1) ys

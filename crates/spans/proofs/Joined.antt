@@ -1,15 +1,14 @@
 -- Chunks and the list of their runs, over plain variables.
 
-use Rattle.std.proofs.Common.{◌≡◌, ℕ, zero, suc, ◌+◌, ◌-◌, ◌<◌, ◌≤◌, Bool, true, false, List, [], ◌∷◌, ◌++◌, length, take, drop, get_or, set, ltb, refl, sym, ap, ◌∙◌, subst, arith, append_assoc, add-one, inl, inr}
+use Rattle.std.proofs.Common.{◌≡◌, ℕ, zero, suc, ◌+◌, ◌<◌, ◌≤◌, true, false, List, [], ◌∷◌, ◌++◌, length, take, drop, get_or, set, ltb, refl, sym, ap, ◌∙◌, subst, arith, append_assoc, inl, inr}
 use Rattle.std.proofs.lemmas.Bool.{ltb-true, ltb-false, cases_lt}
-use Rattle.std.proofs.lemmas.List.{take-append-drop, append-nil, take_all}
-use Rattle.std.proofs.lemmas.List.Concat.{flat_map-append}
+use Rattle.std.proofs.lemmas.List.{take-append-drop, take_all}
 use Rattle.std.proofs.lemmas.List.Sorted.{IsPartitionedBy-ltb}
-use Rattle.std.specs.List.{AllWithin, insert, remove_range}
 use Rattle.std.specs.List.Sorted.{IsNonDecreasingBy, IsPartitionedBy, IsPartitionPoint}
 use Rattle.spans.specs.declared.range.Run.{Run}
-use Rattle.spans.specs.Kept.{AreApart, AreFilled, EndBefore, FirstReaches, end_after, joined, before, from_there, split_at}
-use Rattle.spans.proofs.Apart.{AreApart-left, AreApart-right, AreApart-behind, le-end_after-low, EndBefore-append, EndBefore-end, end_after-EndBefore, FirstReaches-append, AreApart-lower}
+use Rattle.spans.specs.Chunks.{AreFilled, joined, before, from_there}
+use Rattle.spans.specs.Runs.{AreApart, EndBefore, FirstReaches, end_after}
+use Rattle.spans.proofs.Apart.{AreApart-left, AreApart-right, AreApart-behind, le-end_after-low, EndBefore-append, EndBefore-end, end_after-EndBefore, FirstReaches-append}
 
 pub joined-append : (xs ys : List (List Run)) → joined (xs ++ ys) ≡ joined xs ++ joined ys
 joined-append [] ys = refl
@@ -122,7 +121,7 @@ EndBefore-before low place (k ∷ ks) (suc c) i apart all here =
     EndBefore-append place k (before ks c i)
     (EndBefore-end low 0 place k (AreApart-left low k (joined ks) apart) (all 0 [] (omega arith) (omega arith)))
     (EndBefore-before low place ks c i (AreApart-right low k (joined ks) apart)
-     (λ j d h l. all (suc j) d (omega arith) (omega arith)) (λ l. here (omega arith)))
+    (λ j d h l. all (suc j) d (omega arith) (omega arith)) (λ l. here (omega arith)))
 
 length-drop-some : (i : ℕ) (k : List Run) → i < length k → 0 < length (drop i k)
 length-drop-some i [] below = absurd (omega arith)
@@ -146,11 +145,11 @@ pub record Found (place : ℕ) (chunks : List (List Run)) (c i : ℕ) : Type 0 w
 inside : (place : ℕ) (k : List Run) (i : ℕ) → i ≤ length k → 0 < length k → place ≤ end_after 0 k → EndBefore place (take i k) → i < length k
 inside place k i within some reaches lower =
     elim (cases_lt i (length k)) [
-      inl below ↦ below
+      | inl below ↦ below
       | inr past ↦
-        let all = subst (λ (xs : List Run). EndBefore place xs) (take_all i k past) lower in
-        let ends = end_after-EndBefore 0 place k some all in
-        absurd (omega (arith, ends, reaches))
+          let all = subst (λ (xs : List Run). EndBefore place xs) (take_all i k past) lower in
+          let ends = end_after-EndBefore 0 place k some all in
+          absurd (omega (arith, ends, reaches))
     ]
 
 pub Found-in : (place : ℕ) (chunks : List (List Run)) (c i : ℕ) → AreApart 0 (joined chunks) → AreFilled chunks → c < length chunks

@@ -1,11 +1,13 @@
 -- What is kept, and what a contract sees of it, over plain variables.
 
-use Rattle.std.proofs.Common.{◌≡◌, ℕ, ◌+◌, ◌^◌, ◌<◌, ◌≤◌, Bool, true, ltb, List, length, refl, sym, ap, ◌∙◌, subst, arith, Result, Ok, Err, IfOk, OnOk, OnErr}
+use Rattle.std.proofs.Common.{◌≡◌, ℕ, ◌^◌, ◌<◌, ◌≤◌, Bool, true, ltb, List, length, sym, ap, ◌∙◌, subst, arith, Result, Ok, Err, IfOk, OnOk, OnErr}
 use Rattle.std.specs.List.{count_by}
 use Rattle.spans.specs.declared.range.Run.{Run}
-use Rattle.spans.specs.Kept.{AreApart, AreWithin, AreFilled, IsKept, IsApartFrom, Covers, HasAll, joined, places_from}
+use Rattle.spans.specs.Chunks.{AreFilled, joined}
+use Rattle.spans.specs.Kept.{IsKept, places_from}
+use Rattle.spans.specs.Runs.{AreApart, AreWithin, IsApartFrom, Covers, HasAll}
 use Rattle.spans.specs.Places.{AddsRun, with_covered, uncovered_in, all_covered, runs_of, runs_below}
-use Rattle.spans.proofs.Places.{length-places, length-with_covered, places_from-covered, uncovered_in-covers, AddsRun-places, all_covered-has, runs_of-places}
+use Rattle.spans.proofs.Places.{length-places, places_from-covered, uncovered_in-covers, AddsRun-places, all_covered-has, runs_of-places}
 use Rattle.spans.proofs.Counting.{length-kept}
 
 -- chunks are kept below a limit, and stand for places

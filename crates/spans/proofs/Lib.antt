@@ -10,3 +10,4 @@ pub mod Places
 pub mod Kept
 pub mod Iterating
 pub mod Counting
+pub mod PlaceLaws

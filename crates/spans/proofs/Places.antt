@@ -1,13 +1,15 @@
 -- The places that runs stand for, over plain variables.
 
-use Rattle.std.proofs.Common.{◌≡◌, ℕ, zero, suc, ◌+◌, ◌-◌, ◌<◌, ◌≤◌, Bool, true, false, not, cond, ◌||◌, List, [], ◌∷◌, ◌++◌, length, take, drop, get_or, replicate, eqb, leb, ltb, refl, sym, ap, ◌∙◌, subst, arith, inl, inr}
-use Rattle.std.proofs.lemmas.Bool.{cases_lt, or_left, or_right, or_from, ne_eqb, eq-eqb, true≢false}
+use Rattle.std.proofs.Common.{◌≡◌, ℕ, zero, suc, ◌+◌, ◌-◌, ◌<◌, ◌≤◌, Bool, true, false, not, cond, ◌||◌, List, [], ◌∷◌, ◌++◌, length, take, drop, get_or, replicate, refl, sym, ap, ◌∙◌, arith, inl, inr}
+use Rattle.std.proofs.lemmas.Bool.{cases_lt, or_left, or_right, or_from, ne_eqb, eq-eqb}
 use Rattle.std.proofs.lemmas.List.{length-append, length-replicate, length-take, length-take-le, length-drop, get_or_default, get_or-replicate, get_or_past, get_or_append_left, get_or-append_right, get_or-take, get_or-drop, take-append-drop, drop-drop, ext_get_or}
 use Rattle.std.proofs.lemmas.List.Sums.{sum_by-append, sum_by-cons, AllPass-from_list_all, list_all-from_AllPass}
-use Rattle.std.specs.List.{count_by, list_all, slice_range, All, AllPass}
+use Rattle.std.specs.List.{count_by, list_all, slice_range}
 use Rattle.spans.specs.declared.range.Run.{Run}
-use Rattle.spans.specs.Kept.{AreApart, AreWithin, FirstBeginsAfter, is_in, has_place, places_in, places_from, Covers, IsApartFrom, HasAll}
-use Rattle.spans.specs.Places.{is_covered, uncovered, with_covered, uncovered_in, all_covered, AddsRun, grown_by, runs_from, runs_of}
+use Rattle.spans.specs.Kept.{places_from}
+use Rattle.spans.specs.Places.{is_in}
+use Rattle.spans.specs.Runs.{AreApart, AreWithin, FirstBeginsAfter, has_place, places_in, Covers, IsApartFrom, HasAll}
+use Rattle.spans.specs.Places.{is_covered, uncovered, with_covered, uncovered_in, covered_count, all_covered, AddsRun, grown_by, runs_from, runs_of}
 use Rattle.spans.proofs.Covering.{is_in-from, is_in-false, has_place-far, same_truth}
 
 -- ---- how many places there are
@@ -18,17 +20,23 @@ length-places at limit low [] apart within le inside = omega (arith, length-repl
 length-places at limit low (r ∷ rs) apart within le inside =
     let rest = length-places r.to limit (r.to + 1) rs apart.2 within.1 (omega arith) within.0 in
     let tail = places_from r.to limit rs in
-    omega (arith, rest, apart.0, apart.1,
-           length-append (replicate (r.from - at) false) (replicate (r.to - r.from) true ++ tail),
-           length-append (replicate (r.to - r.from) true) tail,
-           length-replicate (r.from - at) false, length-replicate (r.to - r.from) true)
+    omega (
+      arith,
+      rest,
+      apart.0,
+      apart.1,
+      length-append (replicate (r.from - at) false) (replicate (r.to - r.from) true ++ tail),
+      length-append (replicate (r.to - r.from) true) tail,
+      length-replicate (r.from - at) false,
+      length-replicate (r.to - r.from) true,
+    )
 
 -- ---- each place
 
 get_or-none : (n j : ℕ) → get_or (replicate n false) j false ≡ false
 get_or-none n j =
     elim (cases_lt j n) [
-      inl below ↦ get_or-replicate n j false false below
+      | inl below ↦ get_or-replicate n j false false below
       | inr past ↦ get_or_past (replicate n false) j false (omega (arith, length-replicate n false))
     ]
 
@@ -42,26 +50,26 @@ get_or-places at limit low (r ∷ rs) j apart le =
     let gaps = length-replicate (r.from - at) false in
     let runs' = length-replicate (r.to - r.from) true in
     elim (cases_lt (at + j) r.from) [
-      inl low' ↦
-        get_or_append_left gap (run ++ tail) false j (omega (arith, gaps))
-        ∙ (get_or-none (r.from - at) j
-        ∙ sym (or_from (is_in r.from r.to (at + j)) (has_place rs (at + j)) (is_in-false r.from r.to (at + j) (λ a b. omega arith))
+      | inl low' ↦
+          get_or_append_left gap (run ++ tail) false j (omega (arith, gaps))
+          ∙ (get_or-none (r.from - at) j
+          ∙ sym (or_from (is_in r.from r.to (at + j)) (has_place rs (at + j)) (is_in-false r.from r.to (at + j) (λ a b. omega arith))
           (has_place-far (r.to + 1) (at + j) rs apart.2 (omega (arith, apart.1)))))
       | inr high ↦
-        let first = get_or-append_right gap (run ++ tail) (r.from - at) j false gaps (omega (arith, apart.0)) in
-        elim (cases_lt (at + j) r.to) [
-          inl inside ↦
-            first
-            ∙ (get_or_append_left run tail false (j - (r.from - at)) (omega (arith, runs', apart.0, apart.1))
-            ∙ (get_or-replicate (r.to - r.from) (j - (r.from - at)) true false (omega (arith, apart.0, apart.1))
-            ∙ sym (or_left (is_in r.from r.to (at + j)) (has_place rs (at + j)) (is_in-from r.from r.to (at + j) high inside))))
-          | inr past ↦
-            let second = get_or-append_right run tail (r.to - r.from) (j - (r.from - at)) false runs' (omega (arith, apart.0, apart.1)) in
-            let there : r.to + ((j - (r.from - at)) - (r.to - r.from)) ≡ at + j = omega (arith, apart.0, apart.1) in
-            let rest = get_or-places r.to limit (r.to + 1) rs ((j - (r.from - at)) - (r.to - r.from)) apart.2 (omega arith) in
-            first ∙ (second ∙ (rest ∙ (ap (has_place rs) there
-            ∙ ap (λ b. b || has_place rs (at + j)) (sym (is_in-false r.from r.to (at + j) (λ a b. omega arith))))))
-        ]
+          let first = get_or-append_right gap (run ++ tail) (r.from - at) j false gaps (omega (arith, apart.0)) in
+          elim (cases_lt (at + j) r.to) [
+            | inl inside ↦
+                first
+                ∙ (get_or_append_left run tail false (j - (r.from - at)) (omega (arith, runs', apart.0, apart.1))
+                ∙ (get_or-replicate (r.to - r.from) (j - (r.from - at)) true false (omega (arith, apart.0, apart.1))
+                ∙ sym (or_left (is_in r.from r.to (at + j)) (has_place rs (at + j)) (is_in-from r.from r.to (at + j) high inside))))
+            | inr past ↦
+                let second = get_or-append_right run tail (r.to - r.from) (j - (r.from - at)) false runs' (omega (arith, apart.0, apart.1)) in
+                let there : r.to + ((j - (r.from - at)) - (r.to - r.from)) ≡ at + j = omega (arith, apart.0, apart.1) in
+                let rest = get_or-places r.to limit (r.to + 1) rs ((j - (r.from - at)) - (r.to - r.from)) apart.2 (omega arith) in
+                first ∙ (second ∙ (rest ∙ (ap (has_place rs) there
+                ∙ ap (λ b. b || has_place rs (at + j)) (sym (is_in-false r.from r.to (at + j) (λ a b. omega arith))))))
+          ]
     ]
 
 pub is_covered-places : (limit : ℕ) (runs : List Run) (k : ℕ) → AreApart 0 runs → is_covered (places_from 0 limit runs) k ≡ has_place runs k
@@ -76,8 +84,14 @@ or_false false = refl
 pub length-with_covered : (from to : ℕ) (places : List Bool) → from ≤ to → to ≤ length places → length (with_covered from to places) ≡ length places
 unfolding with_covered
 length-with_covered from to places le within =
-    omega (arith, length-append (take from places) (replicate (to - from) true ++ drop to places), length-append (replicate (to - from) true) (drop to places),
-           length-take-le from places (omega arith), length-drop to places, length-replicate (to - from) true)
+    omega (
+      arith,
+      length-append (take from places) (replicate (to - from) true ++ drop to places),
+      length-append (replicate (to - from) true) (drop to places),
+      length-take-le from places (omega arith),
+      length-drop to places,
+      length-replicate (to - from) true,
+    )
 
 pub is_covered-with_covered : (from to : ℕ) (places : List Bool) (k : ℕ) → from ≤ to → to ≤ length places
     → is_covered (with_covered from to places) k ≡ (is_covered places k || is_in from to k)
@@ -89,24 +103,24 @@ is_covered-with_covered from to places k le within =
     let fronts = length-take-le from places (omega arith) in
     let mids = length-replicate (to - from) true in
     elim (cases_lt k from) [
-      inl low ↦
-        get_or_append_left front (mid ++ rest) false k (omega (arith, fronts))
-        ∙ (get_or-take from places k false low
-        ∙ (or_false (get_or places k false) ∙ ap (λ b. get_or places k false || b) (sym (is_in-false from to k (λ a b. omega arith)))))
+      | inl low ↦
+          get_or_append_left front (mid ++ rest) false k (omega (arith, fronts))
+          ∙ (get_or-take from places k false low
+          ∙ (or_false (get_or places k false) ∙ ap (λ b. get_or places k false || b) (sym (is_in-false from to k (λ a b. omega arith)))))
       | inr high ↦
-        let first = get_or-append_right front (mid ++ rest) from k false fronts high in
-        elim (cases_lt k to) [
-          inl inside ↦
-            first
-            ∙ (get_or_append_left mid rest false (k - from) (omega (arith, mids))
-            ∙ (get_or-replicate (to - from) (k - from) true false (omega arith)
-            ∙ sym (or_right (get_or places k false) (is_in from to k) (is_in-from from to k high inside))))
-          | inr past ↦
-            let second = get_or-append_right mid rest (to - from) (k - from) false mids (omega arith) in
-            let there : to + ((k - from) - (to - from)) ≡ k = omega arith in
-            first ∙ (second ∙ (get_or-drop to places ((k - from) - (to - from)) false ∙ (ap (λ n. get_or places n false) there
-            ∙ (or_false (get_or places k false) ∙ ap (λ b. get_or places k false || b) (sym (is_in-false from to k (λ a b. omega arith)))))))
-        ]
+          let first = get_or-append_right front (mid ++ rest) from k false fronts high in
+          elim (cases_lt k to) [
+            | inl inside ↦
+                first
+                ∙ (get_or_append_left mid rest false (k - from) (omega (arith, mids))
+                ∙ (get_or-replicate (to - from) (k - from) true false (omega arith)
+                ∙ sym (or_right (get_or places k false) (is_in from to k) (is_in-from from to k high inside))))
+            | inr past ↦
+                let second = get_or-append_right mid rest (to - from) (k - from) false mids (omega arith) in
+                let there : to + ((k - from) - (to - from)) ≡ k = omega arith in
+                first ∙ (second ∙ (get_or-drop to places ((k - from) - (to - from)) false ∙ (ap (λ n. get_or places n false) there
+                ∙ (or_false (get_or places k false) ∙ ap (λ b. get_or places k false || b) (sym (is_in-false from to k (λ a b. omega arith)))))))
+          ]
     ]
 
 pub places_from-covered : (limit from to n : ℕ) (old new : List Run) → from ≤ to → to ≤ limit → AreApart 0 old → AreWithin limit old → Covers from to old new n
@@ -119,15 +133,12 @@ places_from-covered limit from to n old new le within apart inside covers =
     let c = length-with_covered from to before le (omega (arith, a)) in
     ext_get_or false after (with_covered from to before) (omega (arith, a, b, c))
     (λ k h.
-     is_covered-places limit new k covers.apart
-     ∙ (covers.places k
-     ∙ (ap (λ t. t || is_in from to k) (sym (is_covered-places limit old k apart))
-     ∙ sym (is_covered-with_covered from to before k le (omega (arith, a))))))
+    is_covered-places limit new k covers.apart
+    ∙ (covers.places k
+    ∙ (ap (λ t. t || is_in from to k) (sym (is_covered-places limit old k apart))
+    ∙ sym (is_covered-with_covered from to before k le (omega (arith, a))))))
 
 -- ---- how many places are covered
-
-pub covered_count : List Bool → ℕ
-covered_count places = count_by (λ b. b) places
 
 pub covered_count-append : (xs ys : List Bool) → covered_count (xs ++ ys) ≡ covered_count xs + covered_count ys
 unfolding covered_count
@@ -155,10 +166,14 @@ covered_count-places at limit low [] apart = covered_count-false (limit - at)
 covered_count-places at limit low (r ∷ rs) apart =
     let rest = covered_count-places r.to limit (r.to + 1) rs apart.2 in
     let tail = places_from r.to limit rs in
-    omega (arith, rest,
-           covered_count-append (replicate (r.from - at) false) (replicate (r.to - r.from) true ++ tail),
-           covered_count-append (replicate (r.to - r.from) true) tail,
-           covered_count-false (r.from - at), covered_count-true (r.to - r.from))
+    omega (
+      arith,
+      rest,
+      covered_count-append (replicate (r.from - at) false) (replicate (r.to - r.from) true ++ tail),
+      covered_count-append (replicate (r.to - r.from) true) tail,
+      covered_count-false (r.from - at),
+      covered_count-true (r.to - r.from),
+    )
 
 not_covered : List Bool → ℕ
 not_covered places = count_by not places
@@ -190,10 +205,19 @@ uncovered_in-fresh from to places le within =
     let halves = covered_count-append mid (drop (to - from) (drop from places)) in
     let back = ap covered_count (drop-drop (to - from) from places ∙ ap (λ n. drop n places) e) in
     let both = both_counts mid in
-    omega (arith, front, split, parts, halves, back, both,
-           length-take-le (to - from) (drop from places) (omega (arith, length-drop from places)),
-           covered_count-append (take from places) (replicate (to - from) true ++ drop to places),
-           covered_count-append (replicate (to - from) true) (drop to places), covered_count-true (to - from))
+    omega (
+      arith,
+      front,
+      split,
+      parts,
+      halves,
+      back,
+      both,
+      length-take-le (to - from) (drop from places) (omega (arith, length-drop from places)),
+      covered_count-append (take from places) (replicate (to - from) true ++ drop to places),
+      covered_count-append (replicate (to - from) true) (drop to places),
+      covered_count-true (to - from),
+    )
 
 pub uncovered_in-covers : (limit from to n : ℕ) (old new : List Run) → from ≤ to → to ≤ limit → AreApart 0 old → AreWithin limit old → Covers from to old new n
     → n ≡ uncovered_in from to (places_from 0 limit old)
@@ -249,10 +273,10 @@ all_covered-from from to places within all =
     let n = length-take-le (to - from) (drop from places) in
     list_all-from_AllPass (λ b. b) part
     (λ j d h.
-     let inside : j < to - from = omega (arith, h, length-take (to - from) (drop from places)) in
-     let there : from + j < to = omega arith in
-     get_or_default part j d false h
-     ∙ (get_or-take (to - from) (drop from places) j false inside ∙ (get_or-drop from places j false ∙ all (from + j) (omega arith) there)))
+    let inside : j < to - from = omega (arith, h, length-take (to - from) (drop from places)) in
+    let there : from + j < to = omega arith in
+    get_or_default part j d false h
+    ∙ (get_or-take (to - from) (drop from places) j false inside ∙ (get_or-drop from places j false ∙ all (from + j) (omega arith) there)))
 
 pub all_covered-has : (limit from to : ℕ) (runs : List Run) (b : Bool) → AreApart 0 runs → AreWithin limit runs → to ≤ limit
     → (b ≡ true → HasAll from to runs) → (HasAll from to runs → b ≡ true) → b ≡ all_covered from to (places_from 0 limit runs)

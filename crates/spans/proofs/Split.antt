@@ -1,15 +1,16 @@
 -- A chunk cut in two, and a run added, over plain variables.
 
-use Rattle.std.proofs.Common.{◌≡◌, ℕ, zero, suc, ◌+◌, ◌-◌, ◌<◌, ◌≤◌, List, [], ◌∷◌, ◌++◌, length, take, drop, get_or, set, leb, ltb, true, refl, sym, ap, ◌∙◌, subst, arith, append_assoc, add-one, inl, inr}
+use Rattle.std.proofs.Common.{◌≡◌, ℕ, zero, suc, ◌+◌, ◌<◌, ◌≤◌, List, [], ◌∷◌, ◌++◌, length, take, drop, get_or, set, leb, ltb, true, refl, sym, ap, ◌∙◌, subst, arith, append_assoc, add-one, inl, inr}
 use Rattle.std.proofs.lemmas.Bool.{cases_lt, le-leb, leb-true, ltb-true}
 use Rattle.spans.specs.declared.pieces.Place.{Place}
-use Rattle.std.proofs.lemmas.List.{take-append-drop, append-nil, take-take, take_all, drop-append-le, drop-drop, length-take-le, length-drop, length-take, drop_all, get_or_read}
+use Rattle.std.proofs.lemmas.List.{take-append-drop, append-nil, take-take, take_all, drop-append-le, drop-drop, length-take-le, length-drop, drop_all, get_or_read}
 use Rattle.std.proofs.lemmas.List.Edits.{length-insert}
 use Rattle.std.specs.List.{insert}
 use Rattle.spans.specs.declared.range.Run.{Run}
-use Rattle.spans.specs.Kept.{AreFilled, joined, before, from_there, split_at, BeginsBy, FirstHasAll}
+use Rattle.spans.specs.Chunks.{AreFilled, joined, before, from_there, split_at}
+use Rattle.spans.specs.Runs.{BeginsBy, FirstHasAll}
 use Rattle.spans.proofs.Growing.{drop-read}
-use Rattle.spans.proofs.Joined.{from_there-past, joined-append, joined-set, joined-place, from_there-split, AreFilled-set, AreFilled-append}
+use Rattle.spans.proofs.Joined.{from_there-past, joined-append, joined-set, from_there-split}
 
 -- ---- parts of a list
 
@@ -90,15 +91,15 @@ pub StandsAt-moved : (chunks now : List (List Run)) (p q : Place) (keep : ℕ) �
     → (p.at ≤ keep → q ≡ p) → (keep < p.at → (q.chunk ≡ p.chunk + 1) × (q.at + keep ≡ p.at)) → StandsAt chunks p.chunk p.at now q.chunk q.at
 StandsAt-moved chunks now p q keep below within kept is low high =
     elim (cases_lt keep p.at) [
-      inl above ↦
-        let h = high above in
-        let moved = StandsAt-above chunks p.chunk p.at q.at keep below within h.1 in
-        let there = subst (λ (d : ℕ). StandsAt chunks p.chunk p.at (split_at p.chunk keep chunks) d q.at) (sym (h.0 ∙ add-one p.chunk)) moved in
-        subst (λ (ns : List (List Run)). StandsAt chunks p.chunk p.at ns q.chunk q.at) (sym is) there
+      | inl above ↦
+          let h = high above in
+          let moved = StandsAt-above chunks p.chunk p.at q.at keep below within h.1 in
+          let there = subst (λ (d : ℕ). StandsAt chunks p.chunk p.at (split_at p.chunk keep chunks) d q.at) (sym (h.0 ∙ add-one p.chunk)) moved in
+          subst (λ (ns : List (List Run)). StandsAt chunks p.chunk p.at ns q.chunk q.at) (sym is) there
       | inr le ↦
-        let stays = StandsAt-below chunks p.chunk p.at keep below kept le in
-        let there = subst (λ (ns : List (List Run)). StandsAt chunks p.chunk p.at ns p.chunk p.at) (sym is) stays in
-        subst (λ (t : Place). StandsAt chunks p.chunk p.at now t.chunk t.at) (sym (low le)) there
+          let stays = StandsAt-below chunks p.chunk p.at keep below kept le in
+          let there = subst (λ (ns : List (List Run)). StandsAt chunks p.chunk p.at ns p.chunk p.at) (sym is) stays in
+          subst (λ (t : Place). StandsAt chunks p.chunk p.at now t.chunk t.at) (sym (low le)) there
     ]
 
 pub AreFilled-split_at : (chunks : List (List Run)) (c keep : ℕ) → AreFilled chunks → 0 < keep → keep < length (get_or chunks c []) → AreFilled (split_at c keep chunks)
@@ -166,20 +167,22 @@ from_there-read chunks c i k r below read within at =
 pub BeginsBy-read : (chunks : List (List Run)) (c i to : ℕ) (k : List Run) (r : Run) → c < length chunks → k ≡ get_or chunks c k → i < length k → r ≡ get_or k i r
     → (leb r.from to ≡ true → BeginsBy to (from_there chunks c i)) × (BeginsBy to (from_there chunks c i) → leb r.from to ≡ true)
 BeginsBy-read chunks c i to k r below read within at =
-    let e = from_there-read chunks c i k r below read within at in
-    (λ h. subst (λ (xs : List Run). BeginsBy to xs) (sym e) (leb-true r.from to h),
-     λ h. le-leb r.from to (subst (λ (xs : List Run). BeginsBy to xs) e h))
+    let e = from_there-read chunks c i k r below read within at in (
+      λ h. subst (λ (xs : List Run). BeginsBy to xs) (sym e) (leb-true r.from to h),
+      λ h. le-leb r.from to (subst (λ (xs : List Run). BeginsBy to xs) e h),
+    )
 
 pub BeginsBy-past : (chunks : List (List Run)) (c i to : ℕ) → length chunks ≤ c
     → (ltb c (length chunks) ≡ true → BeginsBy to (from_there chunks c i)) × (BeginsBy to (from_there chunks c i) → ltb c (length chunks) ≡ true)
-BeginsBy-past chunks c i to past =
-    (λ h. let low = ltb-true c (length chunks) h in absurd (omega (arith, low)),
-     λ h. absurd (subst (λ (xs : List Run). BeginsBy to xs) (from_there-past chunks c i past) h))
+BeginsBy-past chunks c i to past = (
+  λ h. let low = ltb-true c (length chunks) h in absurd (omega (arith, low)),
+  λ h. absurd (subst (λ (xs : List Run). BeginsBy to xs) (from_there-past chunks c i past) h),
+)
 
 pub BeginsBy-within : (chunks : List (List Run)) (c i to : ℕ) → BeginsBy to (from_there chunks c i) → c < length chunks
 BeginsBy-within chunks c i to begins =
     elim (cases_lt c (length chunks)) [
-      inl below ↦ below
+      | inl below ↦ below
       | inr past ↦ absurd (subst (λ (xs : List Run). BeginsBy to xs) (from_there-past chunks c i past) begins)
     ]
 

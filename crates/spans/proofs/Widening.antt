@@ -1,12 +1,13 @@
 -- A run that grows over those behind a place, over plain variables.
 
-use Rattle.std.proofs.Common.{◌≡◌, ℕ, zero, suc, ◌+◌, ◌-◌, ◌<◌, ◌≤◌, List, [], ◌∷◌, ◌++◌, length, take, drop, get_or, set, min, max, refl, sym, ap, ◌∙◌, subst, arith, append_assoc, add-one}
-use Rattle.std.proofs.lemmas.List.{get_or_read, drop-set-lt, drop_at, take_at, length-take-le, length-append, take_more, same_from_push, length-set, get_or-set_same, take-append-le, take-take, set_split}
+use Rattle.std.proofs.Common.{◌≡◌, ℕ, zero, suc, ◌+◌, ◌-◌, ◌<◌, ◌≤◌, List, [], ◌∷◌, ◌++◌, length, take, drop, get_or, set, min, max, sym, ap, ◌∙◌, subst, arith, append_assoc, add-one}
+use Rattle.std.proofs.lemmas.List.{get_or_read, drop-set-lt, drop_at, take_at, length-take-le, length-append, take_more, same_from_push, set_split}
 use Rattle.spans.specs.declared.range.Run.{Run}
 use Rattle.spans.specs.declared.growth.Growth.{Growth}
-use Rattle.spans.specs.Kept.{AreApart, AreFilled, joined, before, from_there, grown_over, left_after, widened, widening, grown_first}
+use Rattle.spans.specs.Chunks.{AreFilled, joined, before, from_there}
+use Rattle.spans.specs.Growing.{grown_over, left_after, widened, widening, grown_first}
+use Rattle.spans.specs.Runs.{AreApart}
 use Rattle.spans.proofs.Apart.{AreApart-left, AreApart-right}
-use Rattle.spans.proofs.Growing.{drop-read}
 use Rattle.spans.proofs.Grows.{left_after-append, grown_over-append, AreApart-grown}
 use Rattle.spans.proofs.Joined.{joined-place, from_there-split, joined-set, AreFilled-set}
 use Rattle.spans.proofs.Split.{from_there-read}
@@ -74,15 +75,15 @@ Absorbed-made to first mid last old now c i k made below read within apart made-
       at = omega (arith, ap (λ (xs : List Run). length xs) like.1, ap (λ (xs : List Run). length xs) made-is, length-append (take i k) (left_after to (drop i k)), len);
       before = before-like now old c i made below same (front ∙ ap (take i) is);
       left = from_there-split now c i like.0
-        ∙ (ap (λ xs. drop i xs ++ joined (drop (suc c) now)) like.1
-        ∙ (ap (λ n. drop i made ++ joined (drop n now)) (sym (add-one c))
-        ∙ (ap (λ xs. xs ++ joined (drop (c + 1) now)) back
-        ∙ (ap (λ xs. left_after to (drop i k) ++ xs) (left-is ∙ ap (left_after to) behind)
-        ∙ (sym (left_after-append to (first.end + 1) (drop i k) rest ahead) ∙ ap (left_after to) (sym e))))));
+          ∙ (ap (λ xs. drop i xs ++ joined (drop (suc c) now)) like.1
+          ∙ (ap (λ n. drop i made ++ joined (drop n now)) (sym (add-one c))
+          ∙ (ap (λ xs. xs ++ joined (drop (c + 1) now)) back
+          ∙ (ap (λ xs. left_after to (drop i k) ++ xs) (left-is ∙ ap (left_after to) behind)
+          ∙ (sym (left_after-append to (first.end + 1) (drop i k) rest ahead) ∙ ap (left_after to) (sym e))))));
       grown = last-is
-        ∙ (ap (grown_over to mid) behind
-        ∙ (ap (λ g. grown_over to g rest) mid-is
-        ∙ (sym (grown_over-append to (first.end + 1) first (drop i k) rest ahead) ∙ ap (grown_over to first) (sym e))));
+          ∙ (ap (grown_over to mid) behind
+          ∙ (ap (λ g. grown_over to g rest) mid-is
+          ∙ (sym (grown_over-append to (first.end + 1) first (drop i k) rest ahead) ∙ ap (grown_over to first) (sym e))));
     }
 
 -- ---- what the calls require
@@ -117,14 +118,14 @@ pub before-less : (now old : List (List Run)) (c i : ℕ) (d : Run) → c < leng
     → before now c (i + 1) ≡ before old c (i + 1) → before now c i ≡ before old c i
 before-less now old c i d below within below' within' same =
     (same_from_push (before now c i) (before old c i) (get_or (get_or now c []) i d) (get_or (get_or old c []) i d)
-     (sym (before-more now c i d below within) ∙ (same ∙ before-more old c i d below' within'))).0
+    (sym (before-more now c i d below within) ∙ (same ∙ before-more old c i d below' within'))).0
 
 pub joined-replaced : (chunks : List (List Run)) (c i : ℕ) (k made : List Run) (r : Run) → c < length chunks → k ≡ get_or chunks c k → i < length k → made ≡ set k i r
     → joined (set chunks c made) ≡ before chunks c i ++ (r ∷ from_there chunks c (i + 1))
 joined-replaced chunks c i k made r below read within is =
     let here = get_or_read chunks c k below read [] in
     let made-is : made ≡ take i (get_or chunks c []) ++ (r ∷ drop (i + 1) k) =
-      is ∙ (set_split k i r within ∙ (ap (λ n. take i k ++ (r ∷ drop n k)) (sym (add-one i)) ∙ ap (λ xs. take i xs ++ (r ∷ drop (i + 1) k)) here)) in
+    is ∙ (set_split k i r within ∙ (ap (λ n. take i k ++ (r ∷ drop n k)) (sym (add-one i)) ∙ ap (λ xs. take i xs ++ (r ∷ drop (i + 1) k)) here)) in
     ap (λ xs. joined (set chunks c xs)) made-is
     ∙ (joined-set chunks c i (r ∷ drop (i + 1) k) below
     ∙ ap (λ xs. before chunks c i ++ (r ∷ xs)) (ap (λ n. drop (i + 1) k ++ joined (drop n chunks)) (sym (add-one c)) ∙ sym (from_there-at chunks c (i + 1) k below read)))
@@ -165,11 +166,12 @@ widened-made from to old now new c i k r g begin end below read here at below' w
     let tail = from_there old c (i + 1) in
     let ends : end ≡ max to (grown_first from to r tail).end = end-is ∙ ap (λ (h : Growth). max to h.end) grown in
     let run : run_of begin end ≡ run_of (min from r.from) (max to (grown_first from to r tail).end) =
-      ap (λ n. run_of n end) begin-is ∙ ap (run_of (min from r.from)) ends in
-    let count : g.fresh + (end - g.end) ≡ g.fresh + (to - g.end) = omega (arith, end-is) in
-    (new-is
-     ∙ (ap (λ xs. xs ++ (run_of begin end ∷ from_there now c (i + 1))) front
-     ∙ (ap (λ xs. before old c i ++ (run_of begin end ∷ xs)) left
-     ∙ (ap (λ x. before old c i ++ (x ∷ left_after to tail)) run
-     ∙ ap (λ xs. before old c i ++ widened from to xs) (sym next)))),
-     count ∙ (ap (λ (h : Growth). h.fresh + (to - h.end)) grown ∙ ap (widening from to) (sym next)))
+    ap (λ n. run_of n end) begin-is ∙ ap (run_of (min from r.from)) ends in
+    let count : g.fresh + (end - g.end) ≡ g.fresh + (to - g.end) = omega (arith, end-is) in (
+      new-is
+          ∙ (ap (λ xs. xs ++ (run_of begin end ∷ from_there now c (i + 1))) front
+          ∙ (ap (λ xs. before old c i ++ (run_of begin end ∷ xs)) left
+          ∙ (ap (λ x. before old c i ++ (x ∷ left_after to tail)) run
+          ∙ ap (λ xs. before old c i ++ widened from to xs) (sym next)))),
+      count ∙ (ap (λ (h : Growth). h.fresh + (to - h.end)) grown ∙ ap (widening from to) (sym next)),
+    )

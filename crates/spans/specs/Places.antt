@@ -1,12 +1,20 @@
 -- The places below a limit, as the list of truth values that says which of them are covered.
 
-use Rattle.std.specs.Prelude.{◌≡◌, ℕ, ◌+◌, ◌-◌, ◌<◌, ◌≤◌, Bool, true, false, not, List, [], ◌∷◌, ◌++◌, take, drop, replicate, slice_index_or, slice_range, if◌then◌else◌, ◌==◌, nat_lt}
+use Rattle.std.specs.Prelude.{◌≡◌, ℕ, ◌+◌, ◌-◌, ◌<◌, ◌≤◌, Bool, true, false, not, ◌&&◌, List, [], ◌∷◌, ◌++◌, take, drop, replicate, slice_index_or, slice_range, if◌then◌else◌, ◌==◌, nat_lt, nat_le}
 use Rattle.std.specs.List.{list_all, count_by}
 use Rattle.spans.specs.declared.range.Run.{Run}
 
 -- whether place k is covered; no place at or past the limit is
 abbrev pub is_covered : List Bool → ℕ → Bool
 is_covered places k = slice_index_or places k false
+
+-- all places from `from` to before `to` are covered
+abbrev pub AreCovered : ℕ → ℕ → List Bool → Type 0
+AreCovered from to places = (k : ℕ) → from ≤ k → k < to → is_covered places k ≡ true
+
+-- whether place k is in the range from `from` to before `to`
+abbrev pub is_in : ℕ → ℕ → ℕ → Bool
+is_in from to k = nat_le from k && nat_lt k to
 
 -- the places below a limit, none of them covered
 unfoldable pub uncovered : ℕ → List Bool
@@ -19,6 +27,10 @@ with_covered from to places = take from places ++ (replicate (to - from) true ++
 -- how many of the places from `from` to before `to` are not covered
 unfoldable pub uncovered_in : ℕ → ℕ → List Bool → ℕ
 uncovered_in from to places = count_by not (slice_range places from to)
+
+-- how many of the places are covered
+unfoldable pub covered_count : List Bool → ℕ
+covered_count places = count_by (λ covered. covered) places
 
 -- whether all places from `from` to before `to` are covered
 unfoldable pub all_covered : ℕ → ℕ → List Bool → Bool

@@ -2,13 +2,13 @@
 
 ghost use Rattle.std.specs.Prelude.{◌≡◌, ℕ, ◌+◌, ◌^◌, ◌<◌, ◌≤◌, ◌++◌, ◌∷◌, [], length, take, drop, slice_index_or, slice_set, IfOk, OnOk, OnErr, IsTrue, nat_lt, count_by};
 ghost use Rattle.std.specs.List.{insert};
-ghost use Rattle.spans.specs.Kept.{AreApart, EndBefore, FirstReaches, end_after, last_begin, grown_over, left_after};
-
-use std::alloc::{AllocError, Global};
-use std::marker::Model;
+ghost use Rattle.spans.specs.Growing.{grown_over, left_after};
+ghost use Rattle.spans.specs.Runs.{AreApart, EndBefore, FirstReaches, end_after, last_begin};
 
 use crate::growth::Growth;
 use crate::range::Run;
+use std::alloc::{AllocError, Global};
+use std::marker::Model;
 
 /// How many runs a chunk holds at the most.
 const MOST: usize = 128;

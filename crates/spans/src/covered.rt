@@ -3,13 +3,12 @@
 ghost use Rattle.std.specs.Prelude.{◌≡◌, ℕ, ◌+◌, ◌-◌, ◌<◌, ◌≤◌, List, [], length, IfOk, OnOk, OnErr, IsTrue, slice_get};
 ghost use Rattle.spans.specs.Places.{uncovered, with_covered, uncovered_in, all_covered, AddsRun, runs_of, runs_below};
 
-use std::alloc::{AllocError, Global};
-use std::marker::Model;
-
 use crate::chunk::Chunk;
 use crate::pieces;
 use crate::range::Run;
 use crate::runs::Runs;
+use std::alloc::{AllocError, Global};
+use std::marker::Model;
 
 /// Which places below a limit are covered.
 #[derive(Debug, Drop)]
@@ -24,7 +23,8 @@ impl Model for Spans {
 
     ghost Value = { List Bool };
 
-    ghost use Rattle.spans.specs.Kept.{IsKept, joined, places_from};
+    ghost use Rattle.spans.specs.Chunks.{joined};
+    ghost use Rattle.spans.specs.Kept.{IsKept, places_from};
 
     ghost view = { λ s. places_from 0 s.limit (joined s.chunks.items) };
 

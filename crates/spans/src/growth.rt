@@ -1,7 +1,8 @@
 //! A run that grows over those after it.
 
 ghost use Rattle.std.specs.Prelude.{◌≡◌, ◌+◌, ◌≤◌, length, drop};
-ghost use Rattle.spans.specs.Kept.{AreApart, grown_over, left_after};
+ghost use Rattle.spans.specs.Growing.{grown_over, left_after};
+ghost use Rattle.spans.specs.Runs.{AreApart};
 
 use crate::range::Run;
 

@@ -8,9 +8,12 @@
 mod chunk;
 mod covered;
 mod growth;
+pub mod laws;
 mod pieces;
 mod range;
 mod runs;
+#[cfg(test)]
+mod tests;
 
 pub use covered::Spans;
 pub use range::Run;

@@ -1,13 +1,14 @@
 //! The chunks of a `Spans`: the search for a place, a run added, and a run that grows.
 
 ghost use Rattle.std.specs.Prelude.{◌≡◌, ℕ, ◌+◌, ◌-◌, ◌^◌, ◌<◌, ◌≤◌, ◌++◌, ◌∷◌, [], List, length, take, drop, min, max, slice_index_or, IfOk, OnOk, OnErr, IsTrue, ◌↔◌, nat_lt, slice_get, count_by};
-ghost use Rattle.spans.specs.Kept.{AreApart, AreFilled, EndBefore, FirstReaches, FirstBeginsAfter, before, from_there, joined, grown_over, left_after, BeginsBy, MeetsWhole, Covers, IsApartFrom, HasAll, FirstHasAll, last_begin, widened, widening, split_at};
-
-use std::alloc::{AllocError, Global};
+ghost use Rattle.spans.specs.Chunks.{AreFilled, before, from_there, joined, MeetsWhole, split_at};
+ghost use Rattle.spans.specs.Growing.{grown_over, left_after, widened, widening};
+ghost use Rattle.spans.specs.Runs.{AreApart, EndBefore, FirstReaches, FirstBeginsAfter, BeginsBy, Covers, IsApartFrom, HasAll, FirstHasAll, last_begin};
 
 use crate::chunk::Chunk;
 use crate::growth::Growth;
 use crate::range::Run;
+use std::alloc::{AllocError, Global};
 
 /// A run's place: which chunk, and which of its runs. One past the last chunk is a place too.
 #[derive(Clone, Copy, Debug)]
@@ -44,7 +45,12 @@ pub(crate) fn begins_by(chunks: &[Chunk], place: Place, to: u64) -> bool
 }
 
 /// Cuts a chunk in two, of which the first keeps `keep` runs. It takes all its memory first.
-fn split(chunks: &mut Vec<Chunk>, alloc: Global, chunk: usize, keep: usize) -> Result<(), AllocError>
+fn split(
+    chunks: &mut Vec<Chunk>,
+    alloc: Global,
+    chunk: usize,
+    keep: usize,
+) -> Result<(), AllocError>
     requires within { chunk < length chunks.old.items }
     requires keep { keep ≤ length (slice_index_or chunks.old.items chunk []) }
     ensures ok { OnOk result (chunks.new.items ≡ split_at chunk keep chunks.old.items) }
@@ -125,7 +131,12 @@ fn append(chunks: &mut Vec<Chunk>, alloc: Global, run: Run) -> Result<(), AllocE
 }
 
 /// Adds a run at a place.
-pub(crate) fn add(chunks: &mut Vec<Chunk>, alloc: Global, place: Place, run: Run) -> Result<(), AllocError>
+pub(crate) fn add(
+    chunks: &mut Vec<Chunk>,
+    alloc: Global,
+    place: Place,
+    run: Run,
+) -> Result<(), AllocError>
     requires within { place.chunk ≤ length chunks.old.items }
     requires at { place.at ≤ length (slice_index_or chunks.old.items place.chunk []) }
     requires filled { AreFilled chunks.old.items }
@@ -257,12 +268,24 @@ pub(crate) fn widen(chunks: &mut Vec<Chunk>, place: Place, from: u64, to: u64) -
     };
     let growth = absorb_from(chunks, behind, to, growth);
     let end = to.max(growth.end);
-    set(chunks, place, Run { from: begin, to: end });
+    set(
+        chunks,
+        place,
+        Run {
+            from: begin,
+            to: end,
+        },
+    );
     growth.fresh + (end - growth.end)
 }
 
 /// Covers a range, and tells how many of its places are new. Where a run is added there may be no memory for it, and all is as before.
-pub(crate) fn cover(chunks: &mut Vec<Chunk>, alloc: Global, from: u64, to: u64) -> Result<u64, AllocError>
+pub(crate) fn cover(
+    chunks: &mut Vec<Chunk>,
+    alloc: Global,
+    from: u64,
+    to: u64,
+) -> Result<u64, AllocError>
     requires some { from < to }
     requires apart { AreApart 0 (joined chunks.old.items) }
     requires filled { AreFilled chunks.old.items }

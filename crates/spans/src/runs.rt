@@ -2,12 +2,11 @@
 
 ghost use Rattle.std.specs.Prelude.{◌≡◌, List};
 ghost use Rattle.std.specs.Iterator.{YieldsFirst, item_count};
-ghost use Rattle.spans.specs.Kept.{AreFilled, joined};
-
-use std::marker::Model;
+ghost use Rattle.spans.specs.Chunks.{AreFilled, joined};
 
 use crate::chunk::Chunk;
 use crate::range::Run;
+use std::marker::Model;
 
 /// The maximal covered ranges that are still to come.
 #[derive(Debug, Drop)]
@@ -22,7 +21,7 @@ impl<'a> Model for Runs<'a> {
 
     ghost Value = { List Run };
 
-    ghost use Rattle.spans.specs.Kept.{IsAhead, from_there};
+    ghost use Rattle.spans.specs.Chunks.{IsAhead, from_there};
 
     ghost view = { λ r. from_there r.chunks.now 0 r.at };
 

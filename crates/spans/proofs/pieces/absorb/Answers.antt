@@ -1,6 +1,6 @@
-use Rattle.std.proofs.Common.{◌≡◌, List, take, arith, ap, subst, sym, ◌∙◌}
+use Rattle.std.proofs.Common.{List, take, arith, ap, subst, sym, ◌∙◌}
 use Rattle.spans.specs.declared.range.Run.{Run}
-use Rattle.spans.specs.Kept.{AreFilled, joined}
+use Rattle.spans.specs.Chunks.{AreFilled}
 use Rattle.spans.proofs.Absorbing.{AreFilled-cut, take-cut}
 use Rattle.spans.proofs.pieces.absorb.Goals as goal
 

@@ -1,4 +1,4 @@
-use Rattle.std.proofs.Common.{◌≡◌, ◌+◌, ◌≤◌, List, [], length, get_or, arith, subst, sym}
+use Rattle.std.proofs.Common.{◌+◌, ◌≤◌, List, [], length, subst, sym}
 use Rattle.std.proofs.lemmas.List.{get_or_read}
 use Rattle.spans.specs.declared.range.Run.{Run}
 use Rattle.spans.proofs.Widening.{Absorbed, Absorbed-made, apart-here, apart-behind, filled-made}

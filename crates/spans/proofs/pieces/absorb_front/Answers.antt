@@ -1,7 +1,7 @@
-use Rattle.std.proofs.Common.{◌≡◌, ℕ, ◌+◌, ◌<◌, List, [], length, get_or, arith, subst, sym, ◌∙◌}
+use Rattle.std.proofs.Common.{◌+◌, ◌<◌, List, [], length, arith, subst, sym, ◌∙◌}
 use Rattle.std.proofs.lemmas.List.{get_or_read}
 use Rattle.spans.specs.declared.range.Run.{Run}
-use Rattle.spans.specs.Kept.{AreFilled, last_begin, left_after}
+use Rattle.spans.specs.Runs.{last_begin}
 use Rattle.spans.proofs.Absorbing.{left-front, grown-front, apart-front, some-front}
 use Rattle.spans.proofs.Grows.{left_after-some}
 use Rattle.spans.proofs.Joined.{AreFilled-set}
@@ -10,7 +10,6 @@ use Rattle.spans.proofs.pieces.absorb_front.Goals as goal
 pub absorb-requires-clause-apart : goal.absorb-requires-clause-apart
 absorb-requires-clause-apart c =
     apart-front (c.args.growth.end + 1) c.args.chunks.now.items c.args.chunk c.index_mut.result.now (omega arith) c.index_mut.ensures.value c.requires.apart
-
 
 pub returns-then-chunk-len-clause-filled : goal.returns-then-chunk-len-clause-filled
 returns-then-chunk-len-clause-filled c =

@@ -2,7 +2,7 @@ use Rattle.std.proofs.Common.{◌≡◌, ◌+◌, ◌-◌, List, [], ◌∷◌, 
 use Rattle.std.proofs.lemmas.List.{get_or_read}
 use Rattle.std.proofs.lemmas.Result.{on_ok_weaker}
 use Rattle.spans.specs.declared.range.Run.{Run}
-use Rattle.spans.specs.Kept.{AreFilled, joined, before, from_there}
+use Rattle.spans.specs.Chunks.{AreFilled, joined, from_there}
 use Rattle.spans.proofs.Joined.{AreFilled-append}
 use Rattle.spans.proofs.Split.{before-last, from_there-last}
 use Rattle.spans.proofs.pieces.append.Goals as goal
@@ -16,11 +16,11 @@ returns-then-not-is_full-clause-ok c =
     let at : c.len.result ≡ length (get_or chunks last []) = c.len.ensures ∙ ap (λ (xs : List Run). length xs) k in
     on_ok_weaker c.insert.result
     (λ h. h ∙ (ap (λ xs. xs ++ c.args.run ∷ from_there chunks last c.len.result) (before-last chunks last c.len.result after at)
-     ∙ ap (λ xs. joined chunks ++ c.args.run ∷ xs) (from_there-last chunks last c.len.result after at)))
+    ∙ ap (λ xs. joined chunks ++ c.args.run ∷ xs) (from_there-last chunks last c.len.result after at)))
     c.insert.ensures.ok
 
 pub returns-clause-filled : goal.returns-clause-filled
 returns-clause-filled c =
     subst (λ (xs : List (List Run)). AreFilled xs) (sym c.in_ok-push.ensures.items)
     (AreFilled-append c.args.chunks.now.items (c.in_ok-chunk.chunk ∷ []) c.requires.filled
-     (omega (arith, ap (λ (xs : List Run). length xs) c.in_ok-chunk.ensures), tt))
+    (omega (arith, ap (λ (xs : List Run). length xs) c.in_ok-chunk.ensures), tt))

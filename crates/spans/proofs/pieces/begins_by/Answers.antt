@@ -1,4 +1,4 @@
-use Rattle.std.proofs.Common.{◌≡◌, ◌<◌, List, [], length, get_or, sym, subst}
+use Rattle.std.proofs.Common.{◌<◌, List, [], length, sym, subst}
 use Rattle.std.proofs.lemmas.List.{get_or_read}
 use Rattle.spans.specs.declared.range.Run.{Run}
 use Rattle.spans.proofs.Split.{BeginsBy-read, BeginsBy-past}

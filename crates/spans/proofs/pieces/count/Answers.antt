@@ -1,11 +1,11 @@
-use Rattle.std.proofs.Common.{◌≡◌, ◌+◌, ◌≤◌, ◌<◌, ◌^◌, List, [], true, false, ltb, length, take, get_or, arith, rules, ap, subst, sym, ◌∙◌}
+use Rattle.std.proofs.Common.{◌≡◌, ◌+◌, ◌<◌, ◌^◌, List, [], ltb, arith, rules, ap, ◌∙◌}
 use Rattle.std.proofs.lemmas.List.{get_or_read, get_or_past}
 use Rattle.std.proofs.lemmas.List.Sorted.{IsPartitionPoint-from_clause}
 use Rattle.std.proofs.lemmas.List.Sums.{count_by-le-length}
 use Rattle.std.specs.List.{count_by}
-use Rattle.std.specs.List.Sorted.{IsPartitionPoint}
 use Rattle.spans.specs.declared.range.Run.{Run}
-use Rattle.spans.specs.Kept.{AreApart, joined, last_begin}
+use Rattle.spans.specs.Chunks.{joined}
+use Rattle.spans.specs.Runs.{last_begin}
 use Rattle.spans.proofs.Counting.{IsPartitionedBy-last_begins, count-chunks, length-joined-take}
 use Rattle.spans.proofs.Joined.{AreApart-at}
 use Rattle.spans.proofs.pieces.count.Goals as goal
@@ -26,8 +26,8 @@ counted c =
     let at = c.partition_point-whole.result in
     let k = get_or_read chunks at c.index-chunks-whole.result c.if-whole-chunks.true c.index-chunks-whole.is [] in
     let all = count-chunks c.args.to chunks at c.requires.apart c.requires.filled
-      (IsPartitionPoint-from_clause (λ k. ltb (last_begin 0 k) c.args.to) chunks at c.partition_point-whole.ensures.partitioned
-       (IsPartitionedBy-last_begins c.args.to chunks c.requires.apart c.requires.filled) (search rules)) in
+    (IsPartitionPoint-from_clause (λ k. ltb (last_begin 0 k) c.args.to) chunks at c.partition_point-whole.ensures.partitioned
+    (IsPartitionedBy-last_begins c.args.to chunks c.requires.apart c.requires.filled) (search rules)) in
     let here = c.beginning_before.ensures.count ∙ ap (λ (xs : List Run). count_by (λ r. ltb r.from c.args.to) xs) k in
     omega (arith, all, here, c.total-before.ensures)
 
@@ -46,6 +46,6 @@ returns-else-whole-chunks c =
     let at = c.partition_point-whole.result in
     let none = ap (λ (xs : List Run). count_by (λ r. ltb r.from c.args.to) xs) (get_or_past chunks at [] c.if-whole-chunks.false) in
     let all = count-chunks c.args.to chunks at c.requires.apart c.requires.filled
-      (IsPartitionPoint-from_clause (λ k. ltb (last_begin 0 k) c.args.to) chunks at c.partition_point-whole.ensures.partitioned
-       (IsPartitionedBy-last_begins c.args.to chunks c.requires.apart c.requires.filled) (search rules)) in
+    (IsPartitionPoint-from_clause (λ k. ltb (last_begin 0 k) c.args.to) chunks at c.partition_point-whole.ensures.partitioned
+    (IsPartitionedBy-last_begins c.args.to chunks c.requires.apart c.requires.filled) (search rules)) in
     omega (arith, all, none, c.total-before.ensures)

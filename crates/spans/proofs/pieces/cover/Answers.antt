@@ -1,7 +1,8 @@
-use Rattle.std.proofs.Common.{◌≡◌, ◌-◌, ◌<◌, ◌≤◌, ◌++◌, ◌∷◌, List, [], length, get_or, arith, ap, subst, refl, sym, ◌∙◌, Result, Ok, Err, OnErr}
+use Rattle.std.proofs.Common.{◌<◌, List, [], length, get_or, subst, refl, sym, ◌∙◌, Result, Ok, Err, OnErr}
 use Rattle.std.proofs.lemmas.Bool.{false≢true}
 use Rattle.spans.specs.declared.range.Run.{Run}
-use Rattle.spans.specs.Kept.{AreApart, EndBefore, FirstReaches, BeginsBy, Covers, IsApartFrom, before, from_there, joined, widening}
+use Rattle.spans.specs.Chunks.{before, from_there}
+use Rattle.spans.specs.Runs.{AreApart, EndBefore, FirstReaches, BeginsBy}
 use Rattle.spans.proofs.Covering.{Covers-added, Covers-widened, IsApartFrom-here, FirstBeginsAfter-not}
 use Rattle.spans.proofs.Joined.{joined-place}
 use Rattle.spans.proofs.Split.{BeginsBy-within}
@@ -45,7 +46,7 @@ returns-in_err-add-clause-refused c =
     let apart = subst (λ (xs : List Run). AreApart 0 xs) place c.requires.apart in
     let ends = subst (λ (xs : List (List Run)). EndBefore c.args.from (before xs p.chunk p.at)) c.deref.ensures.value c.reaching-place.ensures.before in
     let begins = FirstBeginsAfter-not c.args.to (from_there chunks p.chunk p.at)
-      (λ h. false≢true (c.if-begins_by.ensures.1 (subst (λ (xs : List (List Run)). BeginsBy c.args.to (from_there xs p.chunk p.at)) (sym c.deref-2.ensures.value) h))) in
+    (λ h. false≢true (c.if-begins_by.ensures.1 (subst (λ (xs : List (List Run)). BeginsBy c.args.to (from_there xs p.chunk p.at)) (sym c.deref-2.ensures.value) h))) in
     let none = IsApartFrom-here c.args.from c.args.to (before chunks p.chunk p.at) (from_there chunks p.chunk p.at) c.requires.some apart ends begins in
     always c.from_residual.result (rw place none)
 
@@ -57,6 +58,6 @@ returns-clause-ok c =
     let apart = subst (λ (xs : List Run). AreApart 0 xs) place c.requires.apart in
     let ends = subst (λ (xs : List (List Run)). EndBefore c.args.from (before xs p.chunk p.at)) c.deref.ensures.value c.reaching-place.ensures.before in
     let begins = FirstBeginsAfter-not c.args.to (from_there chunks p.chunk p.at)
-      (λ h. false≢true (c.if-begins_by.ensures.1 (subst (λ (xs : List (List Run)). BeginsBy c.args.to (from_there xs p.chunk p.at)) (sym c.deref-2.ensures.value) h))) in
+    (λ h. false≢true (c.if-begins_by.ensures.1 (subst (λ (xs : List (List Run)). BeginsBy c.args.to (from_there xs p.chunk p.at)) (sym c.deref-2.ensures.value) h))) in
     let covers = Covers-added c.args.from c.args.to (before chunks p.chunk p.at) (from_there chunks p.chunk p.at) c.requires.some apart ends begins in
     rw (place, c.in_ok-add.ensures.ok) covers

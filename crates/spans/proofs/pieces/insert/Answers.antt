@@ -1,8 +1,8 @@
-use Rattle.std.proofs.Common.{◌≡◌, ℕ, List, [], get_or, set, length, arith, ap, ◌∙◌}
+use Rattle.std.proofs.Common.{◌≡◌, List, [], get_or, set, length, arith, ap, ◌∙◌}
 use Rattle.std.proofs.lemmas.List.{get_or_read}
 use Rattle.std.proofs.lemmas.Result.{on_ok_weaker}
 use Rattle.spans.specs.declared.range.Run.{Run}
-use Rattle.spans.specs.Kept.{AreFilled, joined}
+use Rattle.spans.specs.Chunks.{joined}
 use Rattle.spans.proofs.Joined.{AreFilled-set, AreFilled-at}
 use Rattle.spans.proofs.Split.{joined-insert}
 use Rattle.spans.proofs.pieces.insert.Goals as goal
@@ -21,5 +21,5 @@ pub returns-clause-ok : goal.returns-clause-ok
 returns-clause-ok c =
     on_ok_weaker c.insert.result
     (λ h. ap (λ (k : List Run). joined (set c.args.chunks.now.items c.args.place.chunk k)) h
-     ∙ joined-insert c.args.chunks.now.items c.args.place.chunk c.args.place.at c.args.run c.index_mut.result.now c.requires.within (chunk c))
+    ∙ joined-insert c.args.chunks.now.items c.args.place.chunk c.args.place.at c.args.run c.index_mut.result.now c.requires.within (chunk c))
     c.insert.ensures.ok

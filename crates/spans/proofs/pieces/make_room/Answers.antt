@@ -1,7 +1,7 @@
-use Rattle.std.proofs.Common.{◌≡◌, ◌≤◌, ◌<◌, ◌/◌, List, [], length, get_or, arith, ap, subst, sym, refl}
+use Rattle.std.proofs.Common.{◌≡◌, ◌<◌, ◌/◌, List, [], length, get_or, arith, subst, sym, refl}
 use Rattle.std.proofs.lemmas.List.{get_or_read}
 use Rattle.spans.specs.declared.range.Run.{Run}
-use Rattle.spans.specs.Kept.{AreFilled, split_at}
+use Rattle.spans.specs.Chunks.{AreFilled}
 use Rattle.spans.proofs.Split.{StandsAt, StandsAt-moved, AreFilled-split_at}
 use Rattle.spans.proofs.pieces.make_room.Goals as goal
 

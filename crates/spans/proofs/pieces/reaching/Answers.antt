@@ -1,9 +1,8 @@
-use Rattle.std.proofs.Common.{◌≡◌, ℕ, ◌<◌, ◌≤◌, List, [], ltb, true, false, length, take, drop, get_or, subst, rules}
+use Rattle.std.proofs.Common.{◌≡◌, ◌≤◌, List, [], ltb, length, take, drop, get_or, subst, rules}
 use Rattle.std.proofs.lemmas.List.{get_or_read}
 use Rattle.std.proofs.lemmas.List.Sorted.{IsPartitionPoint-from_clause}
-use Rattle.std.specs.List.Sorted.{IsPartitionPoint}
 use Rattle.spans.specs.declared.range.Run.{Run}
-use Rattle.spans.specs.Kept.{AreApart, EndBefore, FirstReaches, end_after}
+use Rattle.spans.specs.Runs.{EndBefore, FirstReaches, end_after}
 use Rattle.spans.proofs.Joined.{IsPartitionedBy-ends, AreApart-at, Found, Found-in, Found-past}
 use Rattle.spans.proofs.pieces.reaching.Goals as goal
 
@@ -21,7 +20,7 @@ found c =
     let k = get_or_read chunks at c.index-chunks-chunk.result c.if-chunk-chunks.true c.index-chunks-chunk.is [] in
     Found-in c.args.from chunks at c.reaching-at.result c.requires.apart c.requires.filled c.if-chunk-chunks.true
     (IsPartitionPoint-from_clause (λ k. ltb (end_after 0 k) c.args.from) chunks at c.partition_point-chunk.ensures.partitioned
-     (IsPartitionedBy-ends c.args.from chunks c.requires.apart c.requires.filled) (search rules))
+    (IsPartitionedBy-ends c.args.from chunks c.requires.apart c.requires.filled) (search rules))
     (subst (λ (xs : List Run). c.reaching-at.result ≤ length xs) k c.reaching-at.ensures.within)
     (subst (λ (xs : List Run). EndBefore c.args.from (take c.reaching-at.result xs)) k c.reaching-at.ensures.before)
     (subst (λ (xs : List Run). FirstReaches c.args.from (drop c.reaching-at.result xs)) k c.reaching-at.ensures.reached)
@@ -41,7 +40,7 @@ past c =
     let at = c.partition_point-chunk.result in
     Found-past c.args.from chunks at c.requires.apart c.if-chunk-chunks.false c.partition_point-chunk.ensures.bound
     (IsPartitionPoint-from_clause (λ k. ltb (end_after 0 k) c.args.from) chunks at c.partition_point-chunk.ensures.partitioned
-     (IsPartitionedBy-ends c.args.from chunks c.requires.apart c.requires.filled) (search rules))
+    (IsPartitionedBy-ends c.args.from chunks c.requires.apart c.requires.filled) (search rules))
 
 pub returns-else-chunk-chunks-clause-before : goal.returns-else-chunk-chunks-clause-before
 returns-else-chunk-chunks-clause-before c = (past c).before

@@ -1,4 +1,4 @@
-use Rattle.std.proofs.Common.{◌≡◌, ◌<◌, List, [], length, get_or, set, arith, ap, subst, sym}
+use Rattle.std.proofs.Common.{◌<◌, List, [], length, arith, ap, subst, sym}
 use Rattle.std.proofs.lemmas.List.{get_or_read, length-set}
 use Rattle.spans.specs.declared.range.Run.{Run}
 use Rattle.spans.proofs.Joined.{AreFilled-set}

@@ -1,7 +1,7 @@
-use Rattle.std.proofs.Common.{◌≡◌, ℕ, ◌+◌, ◌<◌, ◌≤◌, List, [], length, get_or, arith, subst, sym, ◌∙◌}
+use Rattle.std.proofs.Common.{◌≡◌, ◌+◌, ◌<◌, ◌≤◌, List, [], length, arith, subst, sym, ◌∙◌}
 use Rattle.std.proofs.lemmas.List.{get_or_read}
 use Rattle.spans.specs.declared.range.Run.{Run}
-use Rattle.spans.specs.Kept.{last_begin}
+use Rattle.spans.specs.Runs.{last_begin}
 use Rattle.spans.proofs.Absorbing.{MeetsWhole-more, apart-front}
 use Rattle.spans.proofs.pieces.whole_chunks.Goals as goal
 
@@ -16,7 +16,7 @@ loop-whole-preserved c =
     let k = c.index-chunks-whole-in-loop-whole.result in
     let below : whole < length chunks = omega arith in
     let same : c.index-chunks-whole.result ≡ k =
-      get_or_read chunks whole c.index-chunks-whole.result below c.index-chunks-whole.is [] ∙ sym (get_or_read chunks whole k below c.index-chunks-whole-in-loop-whole.is []) in
+    get_or_read chunks whole c.index-chunks-whole.result below c.index-chunks-whole.is [] ∙ sym (get_or_read chunks whole k below c.index-chunks-whole-in-loop-whole.is []) in
     let last : last_begin 0 c.index-chunks-whole.result ≤ c.args.to = omega arith in
     MeetsWhole-more c.args.to c.args.growth c.loop-whole.growth c.swallowed-growth.result chunks c.args.from whole k
     c.loop-whole.invariant below c.index-chunks-whole-in-loop-whole.is

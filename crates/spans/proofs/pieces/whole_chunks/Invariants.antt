@@ -1,5 +1,5 @@
 use Rattle.std.proofs.Common.{length, ◌-◌}
-use Rattle.spans.specs.Kept.{MeetsWhole}
+use Rattle.spans.specs.Chunks.{MeetsWhole}
 use Rattle.spans.proofs.pieces.whole_chunks.Given as goal
 
 abbrev pub invariant-loop-whole : goal.invariant-loop-whole

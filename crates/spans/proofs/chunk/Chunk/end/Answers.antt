@@ -1,6 +1,6 @@
 use Rattle.std.proofs.Common.{◌≡◌, List, subst, ◌∙◌}
 use Rattle.spans.specs.declared.range.Run.{Run}
-use Rattle.spans.specs.Kept.{end_after}
+use Rattle.spans.specs.Runs.{end_after}
 use Rattle.spans.proofs.Apart.{end_after-read}
 use Rattle.spans.proofs.chunk.Chunk.end.Goals as goal
 

@@ -1,6 +1,6 @@
 use Rattle.std.proofs.Common.{◌≡◌, List, subst, ◌∙◌}
 use Rattle.spans.specs.declared.range.Run.{Run}
-use Rattle.spans.specs.Kept.{last_begin}
+use Rattle.spans.specs.Runs.{last_begin}
 use Rattle.spans.proofs.Apart.{last_begin-read}
 use Rattle.spans.proofs.chunk.Chunk.last_begin.Goals as goal
 

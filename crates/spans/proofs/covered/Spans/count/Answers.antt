@@ -1,8 +1,8 @@
-use Rattle.std.proofs.Common.{◌≡◌, ◌<◌, ◌^◌, List, length, ltb, ap, subst, sym, ◌∙◌}
+use Rattle.std.proofs.Common.{◌<◌, ◌^◌, List, length, ltb, ap, subst, sym, ◌∙◌}
 use Rattle.std.specs.List.{count_by}
 use Rattle.spans.specs.declared.range.Run.{Run}
-use Rattle.spans.specs.Kept.{joined}
-use Rattle.spans.proofs.Kept.{StandFor, length-kept_runs, runs_below-kept}
+use Rattle.spans.specs.Chunks.{joined}
+use Rattle.spans.proofs.Kept.{length-kept_runs, runs_below-kept}
 use Rattle.spans.proofs.covered.Spans.count.Goals as goal
 
 pub count-requires-clause-fits : goal.count-requires-clause-fits

@@ -1,4 +1,4 @@
-use Rattle.std.proofs.Common.{◌≤◌, List, length, sym}
+use Rattle.std.proofs.Common.{sym}
 use Rattle.spans.proofs.Places.{with_covered-empty, uncovered_in-empty}
 use Rattle.spans.proofs.Kept.{StandFor, IsKept-covered, view-covered, fresh-covered, refused-covered, length-covered}
 use Rattle.spans.proofs.covered.Spans.cover.Goals as goal
@@ -36,5 +36,5 @@ pub returns-clause-limit : goal.returns-clause-limit
 returns-clause-limit c =
     let old : StandFor c.self.inside.limit c.self.inside.chunks.items c.args.self.now = record { kept = c.self.invariant; view = c.self.view_is } in
     let kept = IsKept-covered c.self.inside.limit c.args.from c.args.to c.self.inside.chunks.items c.cover.new.chunks.items c.args.self.now c.cover.result
-      old c.requires.within c.cover.ensures.filled c.cover.ensures.ok c.cover.ensures.err in
+    old c.requires.within c.cover.ensures.filled c.cover.ensures.ok c.cover.ensures.err in
     length-covered c.self.inside.limit c.self.inside.chunks.items c.cover.new.chunks.items c.args.self.now old kept

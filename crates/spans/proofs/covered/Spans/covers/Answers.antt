@@ -1,9 +1,10 @@
-use Rattle.std.proofs.Common.{◌≡◌, List, ap, subst, sym, ◌∙◌}
+use Rattle.std.proofs.Common.{List, subst, sym, ◌∙◌}
 use Rattle.std.proofs.lemmas.Bool.{eq-eqb}
 use Rattle.spans.specs.declared.range.Run.{Run}
-use Rattle.spans.specs.Kept.{HasAll, joined}
+use Rattle.spans.specs.Chunks.{joined}
+use Rattle.spans.specs.Runs.{HasAll}
 use Rattle.spans.proofs.Places.{all_covered-empty}
-use Rattle.spans.proofs.Kept.{StandFor, all_covered-kept}
+use Rattle.spans.proofs.Kept.{all_covered-kept}
 use Rattle.spans.proofs.covered.Spans.covers.Goals as goal
 
 pub returns-then-from-to : goal.returns-then-from-to

@@ -1,6 +1,7 @@
-use Rattle.std.proofs.Common.{◌≡◌, List, length, ap, ◌∙◌}
+use Rattle.std.proofs.Common.{List, length, ap, ◌∙◌}
 use Rattle.spans.specs.declared.range.Run.{Run}
-use Rattle.spans.specs.Kept.{joined, places_from}
+use Rattle.spans.specs.Chunks.{joined}
+use Rattle.spans.specs.Kept.{places_from}
 use Rattle.spans.proofs.Places.{places_from-none, length-uncovered}
 use Rattle.spans.proofs.covered.Spans.new.Goals as goal
 

@@ -1,8 +1,8 @@
-use Rattle.std.proofs.Common.{◌≡◌, List, ap, ◌∙◌}
+use Rattle.std.proofs.Common.{List, ap, ◌∙◌}
 use Rattle.std.specs.List.{slice_get}
 use Rattle.spans.specs.declared.range.Run.{Run}
-use Rattle.spans.specs.Kept.{joined}
-use Rattle.spans.proofs.Kept.{StandFor, runs_of-kept}
+use Rattle.spans.specs.Chunks.{joined}
+use Rattle.spans.proofs.Kept.{runs_of-kept}
 use Rattle.spans.proofs.covered.Spans.run.Goals as goal
 
 pub returns : goal.returns

@@ -1,7 +1,7 @@
-use Rattle.std.proofs.Common.{◌≡◌, List, ap, ◌∙◌}
+use Rattle.std.proofs.Common.{List, ap, ◌∙◌}
 use Rattle.spans.specs.declared.range.Run.{Run}
-use Rattle.spans.specs.Kept.{joined}
-use Rattle.spans.proofs.Kept.{StandFor, runs_of-kept}
+use Rattle.spans.specs.Chunks.{joined}
+use Rattle.spans.proofs.Kept.{runs_of-kept}
 use Rattle.spans.proofs.covered.Spans.runs.Goals as goal
 
 pub returns : goal.returns

@@ -1,0 +1,33 @@
+//! What the words of the contracts mean, place by place and range by range. Each law is the contract of a function that does nothing.
+
+ghost use Rattle.spans.specs.Laws.{CoversTheRange, CountsTheFresh, AllIsEach, RunsAreMaximal, WholeIsOneRun, CountsThoseBelow};
+
+/// Covering a range covers its places and no others, and the limit stays.
+pub fn covers_the_range()
+    ensures { CoversTheRange }
+{}
+
+/// As many places more are covered as were not covered in the range.
+pub fn counts_the_fresh()
+    ensures { CountsTheFresh }
+{}
+
+/// All places of a range are covered exactly where each of them is.
+pub fn all_is_each()
+    ensures { AllIsEach }
+{}
+
+/// The runs are the maximal covered ranges, in order, and have all covered places.
+pub fn runs_are_maximal()
+    ensures { RunsAreMaximal }
+{}
+
+/// All places below another are covered exactly where one run has them all.
+pub fn whole_is_one_run()
+    ensures { WholeIsOneRun }
+{}
+
+/// The runs that begin below a place are the first ones, and as many as are counted.
+pub fn counts_those_below()
+    ensures { CountsThoseBelow }
+{}

@@ -1,6 +1,8 @@
-//! What the words of the contracts mean, place by place and range by range. Each law is the contract of a function that does nothing.
+//! What the words of the contracts mean, place by place and range by range. Each law is the
+//! contract of a function that does nothing.
 
-ghost use Rattle.spans.specs.Laws.{CoversTheRange, CountsTheFresh, AllIsEach, RunsAreMaximal, WholeIsOneRun, CountsThoseBelow};
+ghost use Rattle.spans.specs.Laws.{CoversTheRange, CountsTheFresh, AllIsEach, RunsAreMaximal};
+ghost use Rattle.spans.specs.Laws.{WholeIsOneRun, CountsThoseBelow};
 
 /// Covering a range covers its places and no others, and the limit stays.
 pub fn covers_the_range()

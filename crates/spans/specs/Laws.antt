@@ -1,11 +1,19 @@
 -- What the words of `Places` mean, place by place and range by range.
 
-use Rattle.std.specs.Prelude.{◌≡◌, ℕ, ◌+◌, ◌<◌, ◌≤◌, ◌↔◌, Bool, true, false, ◌||◌, List, length}
+use Rattle.std.specs.Prelude.{◌≡◌, ℕ, ◌+◌, ◌<◌, ◌≤◌, ◌↔◌, Bool, true, false, ◌||◌, List, [], length}
 use Rattle.std.specs.Prelude.{Some, slice_get}
 use Rattle.spans.specs.declared.range.Run.{Run}
-use Rattle.spans.specs.Places.{is_covered, is_in, with_covered, uncovered_in, covered_count}
+use Rattle.spans.specs.Places.{uncovered, is_covered, is_in, with_covered, uncovered_in, covered_count}
 use Rattle.spans.specs.Places.{all_covered, AreCovered, runs_of, runs_below}
 use Rattle.spans.specs.Runs.{AreApart, FirstHasAll, has_place}
+
+-- where nothing was covered no place is covered, there is no run, and the limit is the length
+abbrev pub NothingIsCovered : Type 0
+NothingIsCovered =
+    (limit : ℕ)
+    → ((k : ℕ) → is_covered (uncovered limit) k ≡ false)
+    × (runs_of (uncovered limit) ≡ [])
+    × (length (uncovered limit) ≡ limit)
 
 -- covering a range covers its places and no others, and the limit stays
 abbrev pub CoversTheRange : Type 0

@@ -18,7 +18,8 @@ fn whole_chunks(chunks: &[Chunk], from: usize, to: u64, mut growth: Growth) -> (
     requires apart { AreApart (growth.end + 1) (joined (drop from chunks.now)) }
     requires bound { growth.fresh ≤ growth.end }
     ensures met { MeetsWhole to growth result.1 chunks.now from result.0 }
-    ensures stops { result.0 < length chunks.now → to < last_begin 0 (slice_index_or chunks.now result.0 []) }
+    ensures stops { result.0 < length chunks.now
+        → to < last_begin 0 (slice_index_or chunks.now result.0 []) }
 {
     let mut whole = from;
     while whole < chunks.len() && chunks[whole].last_begin() <= to {
@@ -93,7 +94,8 @@ fn absorb_from(chunks: &mut Vec<Chunk>, place: Place, to: u64, growth: Growth) -
         ≡ before chunks.old.items place.chunk place.at }
     ensures left { from_there chunks.new.items place.chunk place.at
         ≡ left_after to (from_there chunks.old.items place.chunk place.at) }
-    ensures grown { result ≡ grown_over to growth (from_there chunks.old.items place.chunk place.at) }
+    ensures grown { result
+        ≡ grown_over to growth (from_there chunks.old.items place.chunk place.at) }
     ensures bound { result.fresh ≤ result.end }
 {
     let growth = chunks[place.chunk].absorb(place.at, to, growth);

@@ -91,7 +91,8 @@ fn make_room(chunks: &mut Vec<Chunk>, alloc: Global, place: Place) -> Result<Pla
 fn moved(place: Place, keep: usize) -> Place
     requires { place.chunk + 1 < 2 ^ 64 }
     ensures below { place.at ≤ keep → result ≡ place }
-    ensures above { keep < place.at → (result.chunk ≡ place.chunk + 1) × (result.at + keep ≡ place.at) }
+    ensures above { keep < place.at
+        → (result.chunk ≡ place.chunk + 1) × (result.at + keep ≡ place.at) }
 {
     if place.at <= keep {
         place

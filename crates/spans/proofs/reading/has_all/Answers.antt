@@ -1,7 +1,7 @@
 use Rattle.std.proofs.Common.{arith}
 use Rattle.std.proofs.lemmas.Bool.{false≢true, le-leb, leb-true}
 use Rattle.spans.proofs.Split.{FirstHasAll-past, FirstHasAll-read}
-use Rattle.spans.proofs.pieces.has_all.Goals as goal
+use Rattle.spans.proofs.reading.has_all.Goals as goal
 
 pub returns-then-place-chunks : goal.returns-then-place-chunks
 returns-then-place-chunks c = (

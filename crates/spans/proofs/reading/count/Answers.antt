@@ -8,7 +8,7 @@ use Rattle.spans.specs.Chunks.{joined}
 use Rattle.spans.specs.Runs.{last_begin}
 use Rattle.spans.proofs.Counting.{IsPartitionedBy-last_begins, count-chunks, length-joined-take}
 use Rattle.spans.proofs.Joined.{AreApart-at}
-use Rattle.spans.proofs.pieces.count.Goals as goal
+use Rattle.spans.proofs.reading.count.Goals as goal
 
 pub total-before-requires : goal.total-before-requires
 total-before-requires c = omega (arith, length-joined-take c.args.chunks.now c.partition_point-whole.result)

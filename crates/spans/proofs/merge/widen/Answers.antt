@@ -2,7 +2,7 @@ use Rattle.std.proofs.Common.{◌≡◌, ◌+◌, ◌-◌, arith, ap, ◌∙◌}
 use Rattle.spans.specs.Chunks.{from_there}
 use Rattle.spans.specs.Growing.{grown_over}
 use Rattle.spans.proofs.Widening.{apart-next, widened-made}
-use Rattle.spans.proofs.pieces.widen.Goals as goal
+use Rattle.spans.proofs.merge.widen.Goals as goal
 
 pub absorb_from-growth-requires-clause-apart : goal.absorb_from-growth-requires-clause-apart
 absorb_from-growth-requires-clause-apart c =

@@ -2,7 +2,7 @@ use Rattle.std.proofs.Common.{List, take, arith, ap, subst, sym, ◌∙◌}
 use Rattle.spans.specs.declared.range.Run.{Run}
 use Rattle.spans.specs.Chunks.{AreFilled}
 use Rattle.spans.proofs.Absorbing.{AreFilled-cut, take-cut}
-use Rattle.spans.proofs.pieces.absorb.Goals as goal
+use Rattle.spans.proofs.merge.absorb.Goals as goal
 
 pub returns-clause-filled : goal.returns-clause-filled
 returns-clause-filled c =

@@ -2,7 +2,7 @@ use Rattle.std.proofs.Common.{◌+◌, ◌≤◌, List, [], length, subst, sym}
 use Rattle.std.proofs.lemmas.List.{get_or_read}
 use Rattle.spans.specs.declared.range.Run.{Run}
 use Rattle.spans.proofs.Widening.{Absorbed, Absorbed-made, apart-here, apart-behind, filled-made}
-use Rattle.spans.proofs.pieces.absorb_from.Goals as goal
+use Rattle.spans.proofs.merge.absorb_from.Goals as goal
 
 pub absorb-growth-requires-clause-apart : goal.absorb-growth-requires-clause-apart
 absorb-growth-requires-clause-apart c =

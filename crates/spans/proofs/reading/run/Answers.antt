@@ -1,6 +1,6 @@
 use Rattle.std.proofs.Common.{◌-◌, arith}
 use Rattle.spans.proofs.Iterating.{Walking-more, Walking-found}
-use Rattle.spans.proofs.pieces.run.Goals as goal
+use Rattle.spans.proofs.reading.run.Goals as goal
 
 pub returns-then-left-len : goal.returns-then-left-len
 returns-then-left-len c =

@@ -5,7 +5,7 @@ use Rattle.spans.specs.Runs.{last_begin}
 use Rattle.spans.proofs.Absorbing.{left-front, grown-front, apart-front, some-front}
 use Rattle.spans.proofs.Grows.{left_after-some}
 use Rattle.spans.proofs.Joined.{AreFilled-set}
-use Rattle.spans.proofs.pieces.absorb_front.Goals as goal
+use Rattle.spans.proofs.merge.absorb_front.Goals as goal
 
 pub absorb-requires-clause-apart : goal.absorb-requires-clause-apart
 absorb-requires-clause-apart c =

@@ -3,7 +3,7 @@ use Rattle.std.proofs.lemmas.List.{get_or_read}
 use Rattle.spans.specs.declared.range.Run.{Run}
 use Rattle.spans.specs.Runs.{last_begin}
 use Rattle.spans.proofs.Absorbing.{MeetsWhole-more, apart-front}
-use Rattle.spans.proofs.pieces.whole_chunks.Goals as goal
+use Rattle.spans.proofs.merge.whole_chunks.Goals as goal
 
 pub swallowed-growth-requires-clause-apart : goal.swallowed-growth-requires-clause-apart
 swallowed-growth-requires-clause-apart c =

@@ -1,6 +1,6 @@
 use Rattle.std.proofs.Common.{length, ◌-◌}
 use Rattle.spans.specs.Chunks.{MeetsWhole}
-use Rattle.spans.proofs.pieces.whole_chunks.Given as goal
+use Rattle.spans.proofs.merge.whole_chunks.Given as goal
 
 abbrev pub invariant-loop-whole : goal.invariant-loop-whole
 invariant-loop-whole l = MeetsWhole l.to l.initial.growth l.growth l.chunks l.from l.whole

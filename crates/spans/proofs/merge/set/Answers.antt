@@ -3,7 +3,7 @@ use Rattle.std.proofs.lemmas.List.{get_or_read, length-set}
 use Rattle.spans.specs.declared.range.Run.{Run}
 use Rattle.spans.proofs.Joined.{AreFilled-set}
 use Rattle.spans.proofs.Widening.{joined-replaced}
-use Rattle.spans.proofs.pieces.set.Goals as goal
+use Rattle.spans.proofs.merge.set.Goals as goal
 
 at : (c : goal.After-chunks-1) → c.args.place.at < length c.index_mut.result.now
 at c =

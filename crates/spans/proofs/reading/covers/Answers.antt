@@ -4,7 +4,7 @@ use Rattle.spans.specs.Chunks.{before, from_there}
 use Rattle.spans.specs.Runs.{AreApart, HasAll}
 use Rattle.spans.proofs.Covering.{HasAll-first, FirstHasAll-all}
 use Rattle.spans.proofs.Joined.{joined-place}
-use Rattle.spans.proofs.pieces.covers.Goals as goal
+use Rattle.spans.proofs.reading.covers.Goals as goal
 
 pub returns : goal.returns
 returns c =

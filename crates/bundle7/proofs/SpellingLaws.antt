@@ -56,8 +56,8 @@ ipn-spelled : (front w : List ℕ) (e : Endpoint) → Spells ipn_name front w e
 unfolding ipn_name
 ipn-spelled front w e (u, v, items, parts, (heads, two), (u1, v1, node, parts1, node_is, (u2, v2, service, parts2, service_is, (nothing, is)))) w' whole =
     let rest : w ≡ head 4 2 ++ (head 0 node ++ head 0 service) =
-        joined w u (head 4 2) v (head 0 node ++ head 0 service) parts (exact-head 4 2 u items causes.Eid heads two)
-          (joined v u1 (head 0 node) v1 (head 0 service) parts1 node_is.spelt (ended v1 u2 (head 0 service) v2 parts2 service_is.spelt nothing)) in
+    joined w u (head 4 2) v (head 0 node ++ head 0 service) parts (exact-head 4 2 u items causes.Eid heads two)
+    (joined v u1 (head 0 node) v1 (head 0 service) parts1 node_is.spelt (ended v1 u2 (head 0 service) v2 parts2 service_is.spelt nothing)) in
     rw is (record {
       legal = (node_is.small, service_is.small);
       octets = whole ∙ ap (λ (t : List ℕ). head 4 2 ++ (head 0 2 ++ t)) rest;
@@ -93,7 +93,7 @@ pub eid-spelled : (front w : List ℕ) (e : Endpoint) → Spells eid front w e �
 unfolding eid
 eid-spelled front w e (u, v, items, parts, (heads, two), (u1, v1, number, parts1, (number_is, one_or_two), rest)) =
     choice-spelled (number == 1) number (front ++ u ++ u1) v1 e u1 refl one_or_two number_is rest w
-      (joined w u (head 4 2) v (u1 ++ v1) parts (exact-head 4 2 u items causes.Eid heads two) parts1)
+    (joined w u (head 4 2) v (u1 ++ v1) parts (exact-head 4 2 u items causes.Eid heads two) parts1)
 
 -- a head spells its number
 pub head-spells : (kind n : ℕ) → n < 2 ^ 64 → SpellsHead kind (head kind n) n
@@ -110,18 +110,69 @@ ssp-fits octets legal =
 
 pub eid-spells : (front : List ℕ) (e : Endpoint) → IsEndpoint e → Spells eid front (eid_octets e) e
 unfolding eid dtn_name ipn_name
-eid-spells front Null legal =
-    (head 4 2, head 0 1 ++ head 0 0, 2, refl, (head-spells 4 2 (omega arith), refl),
-    (head 0 1, head 0 0, 1, refl, (head-spells 0 1 (omega arith), refl),
-    (head 0 0, [], leads.Unsigned 0, refl, (head-spells 0 0 (omega arith), refl), (refl, refl))))
-eid-spells front (Ipn node service) (small_node, small_service) =
-    (head 4 2, head 0 2 ++ (head 4 2 ++ (head 0 node ++ head 0 service)), 2, refl, (head-spells 4 2 (omega arith), refl),
-    (head 0 2, head 4 2 ++ (head 0 node ++ head 0 service), 2, refl, (head-spells 0 2 (omega arith), refl),
-    (head 4 2, head 0 node ++ head 0 service, 2, refl, (head-spells 4 2 (omega arith), refl),
-    (head 0 node, head 0 service, node, refl, head-spells 0 node small_node,
-    (head 0 service, [], service, sym (append-nil (head 0 service)), head-spells 0 service small_service, (refl, refl))))))
-eid-spells front (Dtn octets) legal =
-    (head 4 2, head 0 1 ++ string 3 octets, 2, refl, (head-spells 4 2 (omega arith), refl),
-    (head 0 1, string 3 octets, 1, refl, (head-spells 0 1 (omega arith), refl),
-    (head 3 (length octets), octets, leads.Text (length octets), refl, (head-spells 3 (length octets) (ssp-fits octets legal), refl),
-    (octets, [], octets, sym (append-nil octets), ((refl, refl), rw legal refl), (refl, refl)))))
+eid-spells front Null legal = (
+  head 4 2,
+  head 0 1 ++ head 0 0,
+  2,
+  refl,
+  (head-spells 4 2 (omega arith), refl),
+  (
+    head 0 1,
+    head 0 0,
+    1,
+    refl,
+    (head-spells 0 1 (omega arith), refl),
+    (head 0 0, [], leads.Unsigned 0, refl, (head-spells 0 0 (omega arith), refl), (refl, refl)),
+  ),
+)
+eid-spells front (Ipn node service) (small_node, small_service) = (
+  head 4 2,
+  head 0 2 ++ (head 4 2 ++ (head 0 node ++ head 0 service)),
+  2,
+  refl,
+  (head-spells 4 2 (omega arith), refl),
+  (
+    head 0 2,
+    head 4 2 ++ (head 0 node ++ head 0 service),
+    2,
+    refl,
+    (head-spells 0 2 (omega arith), refl),
+    (
+      head 4 2,
+      head 0 node ++ head 0 service,
+      2,
+      refl,
+      (head-spells 4 2 (omega arith), refl),
+      (
+        head 0 node,
+        head 0 service,
+        node,
+        refl,
+        head-spells 0 node small_node,
+        (head 0 service, [], service, sym (append-nil (head 0 service)), head-spells 0 service small_service, (refl, refl)),
+      ),
+    ),
+  ),
+)
+eid-spells front (Dtn octets) legal = (
+  head 4 2,
+  head 0 1 ++ string 3 octets,
+  2,
+  refl,
+  (head-spells 4 2 (omega arith), refl),
+  (
+    head 0 1,
+    string 3 octets,
+    1,
+    refl,
+    (head-spells 0 1 (omega arith), refl),
+    (
+      head 3 (length octets),
+      octets,
+      leads.Text (length octets),
+      refl,
+      (head-spells 3 (length octets) (ssp-fits octets legal), refl),
+      (octets, [], octets, sym (append-nil octets), ((refl, refl), rw legal refl), (refl, refl)),
+    ),
+  ),
+)

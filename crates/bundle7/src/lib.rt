@@ -22,6 +22,8 @@ mod fault;
 mod field;
 mod groups;
 mod primary;
+#[cfg(test)]
+mod tests;
 mod writing;
 
 pub use block::{Block7, Blocks7};

@@ -1,25 +1,24 @@
 -- The other blocks and the whole bundle: what is spelled is legal, and has one spelling; what is legal
 -- is spelled.
-use Rattle.std.proofs.Common.{◌≡◌, ◌⊎◌, inl, inr, ℕ, zero, suc, ◌+◌, ◌^◌, ◌<◌, ◌≤◌, ◌==◌, nat_lt, nat_le, Bool, true, false, ◌&&◌, ◌||◌, not, List, [], ◌∷◌, ◌++◌, length, take, drop, Option, Some, None, Result, Ok, Err, IfOk, refl, sym, ap, ◌∙◌, subst, append_assoc, arith}
-use Rattle.std.proofs.lemmas.Bool.{eqb-true, eqb-false, eq-eqb, ne_eqb, ltb-true, lt-ltb, le-leb, false≢true}
+use Rattle.std.proofs.Common.{◌≡◌, ℕ, zero, suc, ◌+◌, ◌^◌, ◌<◌, ◌≤◌, ◌==◌, nat_lt, Bool, true, false, ◌&&◌, ◌||◌, not, List, [], ◌∷◌, ◌++◌, length, take, Option, None, Result, Ok, Err, IfOk, refl, sym, ap, ◌∙◌, subst, append_assoc, arith}
+use Rattle.std.proofs.lemmas.Bool.{eqb-true, eqb-false, eq-eqb, ne_eqb, ltb-true, false≢true}
 use Rattle.std.proofs.lemmas.List.{append-nil}
-use Rattle.cbor_lite.specs.Head.{head, SpellsHead}
+use Rattle.cbor_lite.specs.Head.{head}
 use Rattle.cbor_lite.specs.Item.{string}
 use Rattle.endpoint.specs.declared.extent.Fragment.{Fragment}
-use Rattle.wire_fields.specs.Format.{Format, Spells, give}
+use Rattle.wire_fields.specs.Format.{Spells, give}
 use Rattle.wire_fields.specs.Refusal.{Begins}
-use Rattle.wire_fields.specs.Words.{needs, ◌also◌, choice}
-use Rattle.bundle7.specs.declared.fault.Cause7.{Cause7}
+use Rattle.wire_fields.specs.Words.{needs, choice}
 use Rattle.bundle7.specs.declared.fault.Cause7.TheVariants as causes
 use Rattle.bundle7.specs.declared.groups.Lead.{Lead}
 use Rattle.bundle7.specs.declared.block.Block7.{Block7}
 use Rattle.bundle7.specs.declared.bundle.Bundle7.{Bundle7}
 use Rattle.bundle7.specs.Body.{is_body}
 use Rattle.bundle7.specs.Check.{crc}
-use Rattle.bundle7.specs.Table.{check_items, is_single, has_kind, is_number, is_within, kind_field, lead, block, blocks, bundle}
+use Rattle.bundle7.specs.Table.{check_items, is_single, has_kind, is_number, is_within, lead, block, blocks, bundle}
 use Rattle.bundle7.specs.Spelling.{crc_octets, with_check, bare_octets, block_octets, blocks_octets, primary_octets, octets7}
 use Rattle.bundle7.specs.Legal.{IsLegalBlock, AreLegal, IsLegal}
-use Rattle.bundle7.proofs.SpellingLaws.{needs-true, also-first, also-second, joined, ended, exact-head, head-spells}
+use Rattle.bundle7.proofs.SpellingLaws.{needs-true, also-first, also-second, joined, ended, head-spells}
 use Rattle.bundle7.proofs.PrimaryLaws.{needs-none, check_items-small, crc-spelled, crc-spells, crc_kind-holds, primary-spelled, primary-spells}
 
 not-true : (b : Bool) → not b ≡ true → b ≡ false

@@ -1,15 +1,14 @@
 -- The primary block: what is spelled is legal, and has one spelling; what is legal is spelled.
-use Rattle.std.proofs.Common.{◌≡◌, ◌⊎◌, inl, inr, ℕ, zero, suc, ◌+◌, ◌^◌, ◌<◌, ◌≤◌, ◌==◌, nat_lt, nat_le, Bool, true, false, ◌&&◌, ◌||◌, not, if◌then◌else◌, List, [], ◌∷◌, ◌++◌, length, take, drop, replicate, Option, Some, None, is_some, refl, sym, ap, ◌∙◌, subst, append_assoc, arith, lit<}
-use Rattle.std.proofs.lemmas.Bool.{le-leb, eqb-true, eq-eqb, ltb-true, lt-ltb, false≢true, and_parts}
+use Rattle.std.proofs.Common.{◌≡◌, ℕ, zero, suc, ◌+◌, ◌^◌, ◌<◌, ◌≤◌, ◌==◌, nat_lt, nat_le, Bool, true, false, ◌&&◌, if◌then◌else◌, List, [], ◌++◌, length, drop, Option, Some, None, is_some, refl, sym, ap, ◌∙◌, append_assoc, arith}
+use Rattle.std.proofs.lemmas.Bool.{le-leb, eqb-true, eq-eqb, ltb-true, lt-ltb, false≢true}
 use Rattle.std.proofs.lemmas.List.{append-nil}
 use Rattle.std.proofs.Math.Seq.{drop-append_seam}
 use Rattle.std.specs.Str.{bytes_eq}
 use Rattle.std.proofs.lemmas.Slice.Eq.{bytes_eq-Decides}
-use Rattle.cbor_lite.specs.Head.{head, SpellsHead}
-use Rattle.endpoint.specs.declared.name.Endpoint.{Endpoint}
+use Rattle.cbor_lite.specs.Head.{head}
 use Rattle.endpoint.specs.declared.extent.Fragment.{Fragment}
 use Rattle.endpoint.specs.Endpoints.{IsEndpoint}
-use Rattle.wire_fields.specs.Format.{Format, Spells}
+use Rattle.wire_fields.specs.Format.{Spells}
 use Rattle.wire_fields.specs.Words.{needs, ◌also◌, optional}
 use Rattle.bundle7.specs.declared.fault.Cause7.{Cause7}
 use Rattle.bundle7.specs.declared.fault.Cause7.TheVariants as causes
@@ -17,12 +16,11 @@ use Rattle.bundle7.specs.declared.groups.Opening.{Opening}
 use Rattle.bundle7.specs.declared.groups.Names.{Names}
 use Rattle.bundle7.specs.declared.groups.Creation.{Creation}
 use Rattle.bundle7.specs.declared.primary.Primary7.{Primary7}
-use Rattle.bundle7.specs.Eid.{eid}
 use Rattle.bundle7.specs.Check.{check16, check32, crc}
 use Rattle.bundle7.specs.Table.{is_fragment, fragment_items, check_items, opening, names, creation, fragment, primary}
 use Rattle.bundle7.specs.Spelling.{eid_octets, crc_octets, with_check, part_octets, opening_octets, names_octets, creation_octets, main_octets, primary_octets}
 use Rattle.bundle7.specs.Legal.{IsPart, IsLegalPrimary}
-use Rattle.bundle7.proofs.SpellingLaws.{needs-true, also-first, also-second, joined, ended, exact-head, IsSpelled, eid-spelled, eid-spells, head-spells}
+use Rattle.bundle7.proofs.SpellingLaws.{needs-true, also-first, also-second, joined, ended, exact-head, eid-spelled, eid-spells, head-spells}
 
 bytes_eq-true : (xs ys : List ℕ) → bytes_eq xs ys ≡ true → xs ≡ ys
 bytes_eq-true xs ys is = (bytes_eq-Decides xs ys).0 is

@@ -1,6 +1,6 @@
 -- What is spelled is legal, and each value has one spelling.
-use Rattle.std.proofs.Common.{◌≡◌, ◌⊎◌, inl, inr, ℕ, zero, suc, ◌+◌, ◌^◌, ◌<◌, ◌≤◌, ◌==◌, Bool, true, false, ◌&&◌, ◌||◌, not, List, [], ◌∷◌, ◌++◌, length, take, drop, leb, codes, Option, Some, None, refl, sym, ap, ◌∙◌, subst, append_assoc, arith}
-use Rattle.std.proofs.lemmas.Bool.{and_parts, leb-true, eqb-true, eq-eqb, ltb-true, lt-ltb, false≢true}
+use Rattle.std.proofs.Common.{◌≡◌, ℕ, ◌^◌, ◌<◌, ◌≤◌, ◌==◌, Bool, true, false, ◌&&◌, ◌||◌, not, List, [], ◌++◌, length, leb, codes, Option, Some, None, refl, sym, ap, ◌∙◌, arith}
+use Rattle.std.proofs.lemmas.Bool.{and_parts, leb-true, eqb-true}
 use Rattle.std.proofs.lemmas.List.{append-nil}
 use Rattle.cbor_lite.specs.Head.{head, SpellsHead}
 use Rattle.cbor_lite.specs.Item.{string}
@@ -11,11 +11,11 @@ use Rattle.std.specs.List.{list_all}
 use Rattle.std.specs.Str.{bytes_eq}
 use Rattle.wire_fields.specs.declared.lead.UnsignedOrText.{UnsignedOrText}
 use Rattle.wire_fields.specs.declared.lead.UnsignedOrText.TheVariants as leads
-use Rattle.wire_fields.specs.Format.{Format, Spells}
+use Rattle.wire_fields.specs.Format.{Spells}
 use Rattle.wire_fields.specs.Words.{needs, ◌also◌, choice}
 use Rattle.bundle7.specs.declared.fault.Cause7.{Cause7}
 use Rattle.bundle7.specs.declared.fault.Cause7.TheVariants as causes
-use Rattle.bundle7.specs.Eid.{may_lead, dtn_lead, ssp, dtn_rest, dtn_name, ipn_name, scheme, eid}
+use Rattle.bundle7.specs.Eid.{dtn_lead, dtn_rest, dtn_name, ipn_name, eid}
 use Rattle.bundle7.specs.Spelling.{eid_octets}
 
 -- ---- conditions

@@ -1,6 +1,5 @@
 -- Legal bundles: those that have a spelling.
-use Rattle.std.specs.Prelude.{◌≡◌, ℕ, ◌+◌, ◌^◌, ◌<◌, ◌≤◌, Bool, true, false, not, ◌&&◌, List, [], ◌∷◌, ◌++◌, length, Option, Some, None, is_some}
-use Rattle.endpoint.specs.declared.name.Endpoint.{Endpoint}
+use Rattle.std.specs.Prelude.{◌≡◌, ℕ, ◌^◌, ◌<◌, ◌≤◌, true, false, ◌&&◌, List, [], ◌∷◌, ◌++◌, length, Option, Some, None, is_some}
 use Rattle.endpoint.specs.declared.extent.Fragment.{Fragment}
 use Rattle.endpoint.specs.Endpoints.{IsEndpoint}
 use Rattle.wire_fields.specs.Format.{Spells}

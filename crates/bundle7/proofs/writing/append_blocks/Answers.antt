@@ -1,4 +1,3 @@
-use Rattle.std.proofs.Common.{rules}
 use Rattle.bundle7.proofs.WritingLemmas.{blocks-more-at, blocks-none-yet}
 use Rattle.bundle7.proofs.writing.append_blocks.Goals as goal
 

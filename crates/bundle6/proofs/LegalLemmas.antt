@@ -277,7 +277,7 @@ blocks-push most part earlier x are is = record {
     few_left false other low few = omega (arith, few refl)
 
 -- the payload and the others are all
-blocks-count : (blocks : List Block6) → count_by is_payload blocks + others blocks ≡ length blocks
+pub blocks-count : (blocks : List Block6) → count_by is_payload blocks + others blocks ≡ length blocks
 blocks-count blocks =
     rw (← (length-filter is_payload blocks), ← (length-filter (λ b. not (is_payload b)) blocks))
     (length-filter_both is_payload (λ b. not (is_payload b)) (λ b. refl) blocks)

@@ -7,3 +7,4 @@ pub mod SessionsLemmas
 pub mod OpenPartLemmas
 pub mod ReceiveLemmas
 pub mod CommandLemmas
+pub mod BlockLemmas

@@ -1,30 +1,28 @@
 -- The dictionary of the canonical spelling: each text stands where its offset says.
 
-use Rattle.std.proofs.Common.{◌≡◌, ℕ, ◌+◌, ◌-◌, ◌^◌, ◌<◌, ◌≤◌, suc, zero, Bool, true, false, ◌&&◌, ◌||◌, not, cond, eqb, ltb, leb, ◌⊎◌, inl, inr}
-use Rattle.std.proofs.Common.{List, [], ◌∷◌, ◌++◌, length, take, drop, get_or, refl, sym, ◌∙◌, ap, subst, arith, rules, length-append, append_assoc}
-use Rattle.std.proofs.Common.{Option, None, Some}
-use Rattle.std.specs.Prelude.{codes, map}
+use Rattle.std.proofs.Common.{◌≡◌, ℕ, ◌+◌, ◌^◌, ◌<◌, suc, zero, Bool, true, false, ◌&&◌, not, eqb, ltb, leb}
+use Rattle.std.proofs.Common.{List, [], ◌∷◌, ◌++◌, length, drop, get_or, refl, arith, rules, length-append, append_assoc}
+use Rattle.std.proofs.Common.{Some}
+use Rattle.std.specs.Prelude.{codes}
 use Rattle.std.specs.Char.{is_ascii_digit}
 use Rattle.std.specs.Fmt.{decimal}
-use Rattle.std.specs.List.{All, list_all, list_any, flat_map, position, position_or_len}
+use Rattle.std.specs.List.{All, list_all, position_or_len}
 use Rattle.std.specs.Str.{bytes_eq}
-use Rattle.std.proofs.lemmas.Bool.{eqb-true, eqb-false, ne_eqb, ltb-true, leb-true, lt-ltb, le-leb}
+use Rattle.std.proofs.lemmas.Bool.{ne_eqb, lt-ltb}
 use Rattle.std.proofs.lemmas.List.{get_or_append_left}
-use Rattle.std.proofs.lemmas.List.Folds.{list_any-append, list_all-append}
+use Rattle.std.proofs.lemmas.List.Folds.{list_all-append}
 use Rattle.std.proofs.lemmas.List.Sums.{AllPass-from_list_all, position_or_len_is}
 use Rattle.std.proofs.lemmas.Slice.Eq.{bytes_eq-Decides}
 use Rattle.std.proofs.Math.Seq.{drop-append-add, take-append_seam, get_or-append_seam}
 use Rattle.endpoint.specs.declared.name.Endpoint.{Endpoint}
 use Rattle.endpoint.specs.declared.name.Endpoint.TheVariants.{Null, Ipn, Dtn}
 use Rattle.endpoint.specs.Endpoints.{IsEndpoint, is_ssp, is_visible, scheme_of, ssp_of}
-use Rattle.endpoint.specs.Reading.{named}
 use Rattle.endpoint.proofs.ReadingLemmas.{named-only}
 use Rattle.std.specs.Str.Parse.{digits_value}
 use Rattle.std.proofs.lemmas.Str.Parse.{IsNumeralModel, numerals_by_value}
 use Rattle.std.proofs.lemmas.Fmt.{digits_decimal}
-use Rattle.bundle6.specs.declared.names.Offsets.{Offsets}
-use Rattle.bundle6.specs.Names.{is_nul, up_to_nul, text_at, named_by, resolve, resolves, name_of}
-use Rattle.bundle6.specs.Canon.{is_numbered, has_text, with_text, with_name, with_names, dictionary_of, offset_of, numbers_of, places_of, offsets_of}
+use Rattle.bundle6.specs.Names.{is_nul, up_to_nul, text_at, resolve}
+use Rattle.bundle6.specs.Canon.{is_numbered, has_text, dictionary_of, offset_of, offsets_of}
 
 -- ---- texts without a NUL
 

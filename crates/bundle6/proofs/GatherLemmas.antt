@@ -1,21 +1,19 @@
 -- Gathering the texts of a dictionary: what stands in it stays where it is, and each name's texts are in it.
 
-use Rattle.std.proofs.Common.{◌≡◌, ℕ, ◌+◌, ◌-◌, ◌^◌, ◌<◌, ◌≤◌, suc, zero, Bool, true, false, ◌&&◌, ◌||◌, not, cond, eqb, ◌⊎◌, inl, inr}
-use Rattle.std.proofs.Common.{List, [], ◌∷◌, ◌++◌, length, take, drop, get_or, refl, sym, ◌∙◌, ap, subst, arith, rules, length-append, append_assoc}
-use Rattle.std.proofs.Common.{Option, None, Some}
+use Rattle.std.proofs.Common.{◌≡◌, ℕ, ◌^◌, ◌<◌, Bool, true, false, ◌||◌}
+use Rattle.std.proofs.Common.{List, [], ◌∷◌, ◌++◌, length, refl, sym, ◌∙◌, ap, subst, arith, length-append}
 use Rattle.std.specs.Prelude.{map, if◌then◌else◌}
-use Rattle.std.specs.List.{All, AllByRecursion, list_all, list_any, flat_map}
+use Rattle.std.specs.List.{AllByRecursion, list_all, flat_map}
 use Rattle.std.specs.Str.{bytes_eq}
 use Rattle.std.proofs.lemmas.List.Folds.{list_any-append}
 use Rattle.std.proofs.lemmas.Slice.Eq.{bytes_eq-Decides}
-use Rattle.std.proofs.Math.Bool.{or-true, or-false}
+use Rattle.std.proofs.Math.Bool.{or-true}
 use Rattle.std.proofs.lemmas.List.{append-nil}
 use Rattle.std.proofs.lemmas.List.Concat.{flat_map-append}
 use Rattle.endpoint.specs.declared.name.Endpoint.{Endpoint}
 use Rattle.endpoint.specs.Endpoints.{IsEndpoint, scheme_of, ssp_of}
-use Rattle.bundle6.specs.declared.names.Offsets.{Offsets}
 use Rattle.bundle6.specs.declared.bundle.Bundle6.{Bundle6}
-use Rattle.bundle6.specs.Canon.{endpoints_of, is_numbered, has_text, with_text, with_name, with_names, texts_of, dictionary_of, offset_of, numbers_of, places_of, offsets_of}
+use Rattle.bundle6.specs.Canon.{endpoints_of, is_numbered, has_text, with_text, with_name, with_names, texts_of, dictionary_of, offset_of, places_of}
 use Rattle.bundle6.proofs.CanonLemmas.{Holds, IsNamed, named-in, named-numbered, both_parts}
 
 -- ---- one text

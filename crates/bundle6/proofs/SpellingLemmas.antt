@@ -1,32 +1,30 @@
 -- The canonical spelling spells the bundle.
 
-use Rattle.std.proofs.Common.{◌≡◌, ℕ, ◌+◌, ◌-◌, ◌/◌, ◌%◌, ◌^◌, ◌<◌, ◌≤◌, suc, zero, Bool, true, false, ◌&&◌, ◌||◌, not, cond, eqb, ltb, leb}
-use Rattle.std.proofs.Common.{List, [], ◌∷◌, ◌++◌, length, take, drop, get_or, refl, sym, ◌∙◌, ap, subst, arith, rules, length-append, append_assoc}
+use Rattle.std.proofs.Common.{◌≡◌, ℕ, ◌+◌, ◌-◌, ◌/◌, ◌%◌, ◌^◌, ◌<◌, ◌≤◌, suc, zero, Bool, true, false, ◌&&◌, ◌||◌, not, cond, eqb, ltb}
+use Rattle.std.proofs.Common.{List, [], ◌∷◌, ◌++◌, length, get_or, refl, sym, ◌∙◌, ap, subst, arith, length-append, append_assoc}
 use Rattle.std.proofs.Common.{Option, None, Some}
-use Rattle.std.specs.Prelude.{is_some, unwrap_or}
-use Rattle.std.specs.List.{All, AllByRecursion, list_all, list_any, flat_map, count_by}
+use Rattle.std.specs.Prelude.{is_some}
+use Rattle.std.specs.List.{All, AllByRecursion, list_any, flat_map, count_by}
 use Rattle.std.proofs.lemmas.List.{append-nil}
 use Rattle.std.proofs.lemmas.List.Sums.{sum_by-append, sum_by-cons}
 use Rattle.std.proofs.Math.Seq.{get_or-append_seam}
-use Rattle.std.proofs.lemmas.Bool.{eqb-true, eqb-false, ne_eqb, ltb-true, lt-ltb, le-leb, eq-eqb}
+use Rattle.std.proofs.lemmas.Bool.{eqb-false, ne_eqb, lt-ltb, le-leb, eq-eqb}
 use Rattle.sdnv.specs.Shortest.{spelling}
 use Rattle.sdnv.proofs.ShortestLemmas.{spelling-spells}
 use Rattle.endpoint.specs.declared.name.Endpoint.{Endpoint}
 use Rattle.endpoint.specs.declared.extent.Fragment.{Fragment}
-use Rattle.endpoint.specs.Endpoints.{IsEndpoint}
-use Rattle.wire_fields.specs.Format.{Format, give, Spells}
-use Rattle.wire_fields.specs.Words.{needs, optional, choice, repeated, one_more, listed, until}
+use Rattle.wire_fields.specs.Format.{Spells}
+use Rattle.wire_fields.specs.Words.{needs, optional, repeated, one_more, until}
 use Rattle.bundle6.specs.declared.fault.Cause6.TheVariants.{PrimaryEnd, NoPayload}
 use Rattle.bundle6.specs.declared.names.Offsets.{Offsets}
 use Rattle.bundle6.specs.declared.names.Pairs.{Pairs}
 use Rattle.bundle6.specs.declared.primary.Primary6.{Primary6}
 use Rattle.bundle6.specs.declared.block.Block6.{Block6}
-use Rattle.bundle6.specs.declared.bundle.Bundle6.{Bundle6}
 use Rattle.bundle6.specs.Bits.{has_bit, without}
-use Rattle.bundle6.specs.Names.{resolve, resolves, name_of, all_resolve, names_of}
-use Rattle.bundle6.specs.Table.{offsets, four_names, dictionary, fragment, primary, is_payload, has_payload, others, name, references, is_within, block, next_block, bundle}
-use Rattle.bundle6.specs.Legal.{IsPart, IsLegalPrimary, IsLegalBlock, IsWithin, IsLegal, Spells6}
-use Rattle.bundle6.specs.Canon.{texts_of, dictionary_of, offsets_of, pair_octets, name_octets, names_octets, dictionary_octets, part_octets, rest_octets, primary_octets, marked, refs_octets, block_octets, blocks_octets, canon6}
+use Rattle.bundle6.specs.Names.{resolves, name_of}
+use Rattle.bundle6.specs.Table.{offsets, four_names, dictionary, fragment, primary, is_payload, has_payload, others, name, references, is_within, block, next_block}
+use Rattle.bundle6.specs.Legal.{IsPart, IsLegalPrimary, IsLegalBlock, IsWithin}
+use Rattle.bundle6.specs.Canon.{dictionary_of, offsets_of, pair_octets, name_octets, names_octets, dictionary_octets, part_octets, rest_octets, primary_octets, marked, refs_octets, block_octets, blocks_octets}
 use Rattle.bundle6.specs.Writing.{Fits}
 use Rattle.bundle6.proofs.CanonLemmas.{IsNamed}
 use Rattle.bundle6.proofs.LegalLemmas.{blocks-count}

@@ -1,10 +1,10 @@
 -- What code writes is the canonical spelling, and it spells the bundle.
 
-use Rattle.std.proofs.Common.{◌≡◌, ℕ, ◌+◌, ◌-◌, ◌^◌, ◌<◌, ◌≤◌, suc, Bool, true, false, eqb}
+use Rattle.std.proofs.Common.{◌≡◌, ℕ, ◌+◌, ◌^◌, ◌<◌, ◌≤◌, suc, Bool, eqb}
 use Rattle.std.proofs.Common.{List, [], ◌∷◌, ◌++◌, length, take, drop, get_or, refl, sym, ◌∙◌, ap, subst, arith, length-append, append_assoc, add-one, zero-add, Ok}
 use Rattle.std.specs.Prelude.{map}
 use Rattle.std.specs.List.{All, AllByRecursion, flat_map, count_by}
-use Rattle.std.proofs.lemmas.Bool.{eqb-true, eq-eqb, ne_eqb}
+use Rattle.std.proofs.lemmas.Bool.{eqb-true, eq-eqb}
 use Rattle.std.proofs.lemmas.Bool.Decides.{same_from_decides, Decides-eqb}
 use Rattle.std.proofs.lemmas.List.{take_more, append-nil, map-append, length-map, length-drop, drop_all}
 use Rattle.std.proofs.lemmas.List.Elements.{All-push, recursion_from_All}
@@ -13,7 +13,6 @@ use Rattle.sdnv.specs.Shortest.{spelling}
 use Rattle.endpoint.specs.declared.name.Endpoint.{Endpoint}
 use Rattle.endpoint.specs.Endpoints.{IsEndpoint}
 use Rattle.wire_fields.specs.Format.{Spells}
-use Rattle.wire_fields.specs.Reading.{read}
 use Rattle.wire_fields.proofs.ReadLemmas.{read-only}
 use Rattle.bundle6.specs.declared.names.Offsets.{Offsets}
 use Rattle.bundle6.specs.declared.primary.Primary6.{Primary6}
@@ -21,7 +20,7 @@ use Rattle.bundle6.specs.declared.block.Block6.{Block6}
 use Rattle.bundle6.specs.declared.bundle.Bundle6.{Bundle6}
 use Rattle.bundle6.specs.Table.{is_payload, bundle}
 use Rattle.bundle6.specs.Legal.{IsLegalBlock, IsLegal, IsReadAgain, Spells6}
-use Rattle.bundle6.specs.Canon.{endpoints_of, texts_of, dictionary_of, offsets_of, pair_octets, name_octets, names_octets, dictionary_octets, part_octets, rest_octets, primary_octets, marked, refs_octets, block_octets, blocks_octets, canon6}
+use Rattle.bundle6.specs.Canon.{endpoints_of, texts_of, dictionary_of, offsets_of, name_octets, rest_octets, primary_octets, marked, refs_octets, block_octets, blocks_octets, canon6}
 use Rattle.bundle6.specs.Writing.{pairs_octets, rest_written, primary_written, refs_written, block_written, blocks_written, Fits}
 use Rattle.bundle6.proofs.CanonLemmas.{IsNamed}
 use Rattle.bundle6.proofs.GatherLemmas.{endpoints-named}

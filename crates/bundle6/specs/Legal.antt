@@ -1,8 +1,7 @@
 -- Legal bundles, and what spells them.
 
-use Rattle.std.specs.Prelude.{◌≡◌, ℕ, ◌+◌, ◌^◌, ◌<◌, ◌≤◌, Bool, true, false, List, [], ◌++◌, length, Ok, Option, Some, None, is_some}
+use Rattle.std.specs.Prelude.{◌≡◌, ℕ, ◌+◌, ◌^◌, ◌<◌, ◌≤◌, true, false, List, [], ◌++◌, length, Ok, Option, Some, None, is_some}
 use Rattle.std.specs.List.{All, count_by}
-use Rattle.endpoint.specs.declared.name.Endpoint.{Endpoint}
 use Rattle.endpoint.specs.declared.extent.Fragment.{Fragment}
 use Rattle.endpoint.specs.Endpoints.{IsEndpoint}
 use Rattle.wire_fields.specs.Format.{Spells}

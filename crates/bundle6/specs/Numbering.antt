@@ -1,6 +1,6 @@
 -- What code numbers: the dictionary and the numbers of endpoints.
 
-use Rattle.std.specs.Prelude.{◌≡◌, ℕ, List, [], map}
+use Rattle.std.specs.Prelude.{◌≡◌, List, [], map}
 use Rattle.std.specs.Borrow.{Bor}
 use Rattle.endpoint.specs.declared.name.Endpoint.{Endpoint}
 use Rattle.bundle6.specs.declared.bundle.Bundle6.{Bundle6}

@@ -1,6 +1,6 @@
 -- What code writes of a bundle whose endpoints' numbers are known.
 
-use Rattle.std.specs.Prelude.{◌≡◌, ℕ, ◌^◌, ◌<◌, ◌==◌, Bool, List, [], ◌∷◌, ◌++◌, length, take, drop}
+use Rattle.std.specs.Prelude.{ℕ, ◌^◌, ◌<◌, ◌==◌, Bool, List, [], ◌∷◌, ◌++◌, length, take, drop}
 use Rattle.std.specs.List.{flat_map}
 use Rattle.sdnv.specs.Shortest.{spelling}
 use Rattle.bundle6.specs.declared.names.Offsets.{Offsets}

@@ -25,3 +25,6 @@ pub use bundle::{Bundle6, decode6, exactly_one};
 pub use fault::{Cause6, Fail6};
 pub use primary::Primary6;
 pub use writing::encode6;
+
+#[cfg(test)]
+mod tests;

@@ -1,4 +1,4 @@
-use Rattle.std.proofs.Common.{take, [], sym}
+use Rattle.std.proofs.Common.{take, []}
 use Rattle.bundle6.specs.Canon.{with_names}
 use Rattle.bundle6.specs.Numbering.{lent_out}
 use Rattle.bundle6.proofs.NumberingLemmas.{so_far-start, so_far-more, lent-more}

@@ -1,8 +1,8 @@
 -- The octets are the canonical spelling, and from that all follows.
-use Rattle.std.proofs.Common.{◌≡◌, ◌++◌, ◌^◌, ◌<◌, arith, ap, sym, ◌∙◌, length}
+use Rattle.std.proofs.Common.{◌++◌, ◌^◌, ◌<◌, arith, ap, ◌∙◌, length}
 use Rattle.std.specs.List.{All}
-use Rattle.bundle6.specs.Canon.{texts_of, dictionary_of, offsets_of, rest_octets}
-use Rattle.bundle6.specs.Writing.{Fits, rest_written, primary_written, blocks_written}
+use Rattle.bundle6.specs.Canon.{texts_of, rest_octets}
+use Rattle.bundle6.specs.Writing.{Fits, primary_written, blocks_written}
 use Rattle.bundle6.proofs.WritingLemmas.{IsWritten, canon-written, written-is}
 use Rattle.bundle6.proofs.writing.encode6.Goals as goal
 

@@ -1,8 +1,6 @@
 -- One block more is written, of which the numbers stand in front.
-use Rattle.std.proofs.Common.{◌≡◌, arith, ap, ◌∙◌, drop, length, take}
-use Rattle.std.specs.List.{All}
+use Rattle.std.proofs.Common.{◌≡◌, ap, ◌∙◌, drop, length, take}
 use Rattle.std.proofs.lemmas.List.{take_all}
-use Rattle.bundle6.specs.Writing.{Fits, block_written, blocks_written}
 use Rattle.bundle6.proofs.WritingLemmas.{counted-step, written-step, written-end, fits-step}
 use Rattle.bundle6.proofs.writing.write_blocks.Goals as goal
 

@@ -1,4 +1,4 @@
-use Rattle.endpoint.specs.Endpoints.{scheme_of, ssp_of}
+use Rattle.endpoint.specs.Endpoints.{scheme_of}
 use Rattle.bundle6.specs.Canon.{with_text}
 use Rattle.bundle6.proofs.PlacesLemmas.{named-placed}
 use Rattle.bundle6.proofs.gathering.Gathering.name.Goals as goal

@@ -1,5 +1,5 @@
 -- A text that is found stays where it is; another is put at the end.
-use Rattle.std.proofs.Common.{◌≡◌, ◌∙◌, ◌++◌, ◌∷◌, [], ap, append_assoc, length}
+use Rattle.std.proofs.Common.{◌∙◌, ◌++◌, ◌∷◌, [], ap, append_assoc, length}
 use Rattle.bundle6.proofs.PlacesLemmas.{found_at, shows-there, shows-put}
 use Rattle.bundle6.proofs.gathering.Gathering.place.Goals as goal
 

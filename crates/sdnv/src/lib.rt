@@ -10,6 +10,8 @@
 
 mod fault;
 mod reading;
+#[cfg(test)]
+mod tests;
 mod writing;
 
 pub use fault::SdnvFault;

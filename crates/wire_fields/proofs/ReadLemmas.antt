@@ -222,3 +222,20 @@ read-refuses (and_then f g) front w p s fits (inr (u, v, x, parts, first, second
     ∙ ap (λ n. read (g x) (front ++ (u ++ v)) n) (sym (length-append front u))
     ∙ ap (λ t. read (g x) t (length (front ++ u))) (sym moved)
     ∙ there
+
+-- ---- a refusal stands within the text
+
+pub refusal-place : {C A : Type 0} (f : Format C A) (front w : List ℕ) (p : ℕ) (s : Stop C) → Refusal f front w p s
+    → (length front ≤ p) × (p ≤ length front + length w)
+refusal-place (give x) front w p s r = absurd r
+refusal-place place front w p s r = absurd r
+refusal-place (since q) front w p s r = absurd r
+refusal-place (field k cause) front w p s r = (omega (arith, r.0), omega (arith, r.0))
+refusal-place (such_that f conditions) front w p s (inl r) = refusal-place f front w p s r
+refusal-place (such_that f conditions) front w p s (inr (spot, r)) = (omega (arith, spot), omega (arith, spot))
+refusal-place (and_then f g) front w p s (inl r) = refusal-place f front w p s r
+refusal-place (and_then f g) front w p s (inr (u, v, x, parts, first, second)) =
+    let there = refusal-place (g x) (front ++ u) v p s second in
+    let before = length-append front u in
+    let all : length w ≡ length u + length v = ap length parts ∙ length-append u v in
+    (omega (arith, there.0, before), omega (arith, there.1, before, all))

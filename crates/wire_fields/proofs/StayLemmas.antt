@@ -1,5 +1,5 @@
 -- A settled answer stays, whatever octets follow; and a text has one front or one refusal.
-use Rattle.std.proofs.Common.{◌≡◌, ℕ, ◌-◌, ◌≤◌, List, [], ◌++◌, length, take, drop, Result, Ok, Err, ◌⊎◌, refl, sym, ap, ◌∙◌, inl, inr, arith, take-append-drop}
+use Rattle.std.proofs.Common.{zero, suc, lit<, ◌∷◌, length-append, ◌≡◌, ℕ, ◌-◌, ◌≤◌, List, [], ◌++◌, length, take, drop, Result, Ok, Err, ◌⊎◌, refl, sym, ap, ◌∙◌, inl, inr, arith, take-append-drop}
 use Rattle.std.proofs.Math.Nat.{sub-zero}
 use Rattle.std.proofs.lemmas.List.{length-take-le, drop-append-le, take-append-le}
 use Rattle.wire_fields.specs.declared.miss.Miss.{Miss}
@@ -11,7 +11,7 @@ use Rattle.wire_fields.specs.Reading.{look, ahead, named, judged, go_on, read, I
 use Rattle.wire_fields.proofs.TextLemmas.{octets-drop, since_place}
 use Rattle.wire_fields.proofs.ResultLemmas.{found, found_is, stopped_is}
 use Rattle.wire_fields.proofs.KindLemmas.{look-absent-more, look-found-more}
-use Rattle.wire_fields.proofs.ReadLemmas.{read-only, read-found, read-refused, read-refuses}
+use Rattle.wire_fields.proofs.ReadLemmas.{read-only, read-found, read-refused, read-refuses, refusal-place}
 
 -- ---- a settled answer stays
 
@@ -91,3 +91,34 @@ pub read-within : {C A : Type 0} (f : Format C A) (text more : List ℕ) (a : A)
 read-within f text more a k fits h e =
     let there = read-begins f (text ++ more) k a fits e in
     begins-read f text k a (record { within = h; spells = rw (take-append-le k text more h) at there.spells })
+
+-- ---- the same of spellings and refusals, without reading
+
+octets-front : (text more : List ℕ) → IsOctets (text ++ more) → IsOctets text
+octets-front [] more fits i = lit< tt
+octets-front (x ∷ text) more fits zero = fits 0
+octets-front (x ∷ text) more fits (suc i) = octets-front text more (λ j. fits (suc j)) i
+
+-- a refusal for a cause stays
+pub refusal-stays : {C A : Type 0} (f : Format C A) (text more : List ℕ) (at : ℕ) (cause : C) → IsOctets (text ++ more)
+    → Refusal f [] text at (because cause) → Refusal f [] (text ++ more) at (because cause)
+refusal-stays f text more at cause fits r =
+    let short = octets-front text more fits in
+    let refused = read-refuses f [] text at (because cause) short r in
+    let settled : IsSettled (read f text 0) = rw refused tt in
+    read-refused f (text ++ more) 0 at (because cause) fits (omega arith) (read-stays f text more 0 short (omega arith) settled ∙ refused)
+
+-- a front stays one, and is one of each shorter text that holds it
+pub begins-stays : {C A : Type 0} (f : Format C A) (text more : List ℕ) (k : ℕ) (a : A) → Begins f text k a → Begins f (text ++ more) k a
+begins-stays f text more k a b = record {
+  within = omega (arith, b.within, length-append text more);
+  spells = rw (take-append-le k text more b.within) b.spells;
+}
+
+pub begins-within : {C A : Type 0} (f : Format C A) (text more : List ℕ) (k : ℕ) (a : A) → k ≤ length text
+    → Begins f (text ++ more) k a → Begins f text k a
+begins-within f text more k a h b = record { within = h; spells = rw (take-append-le k text more h) at b.spells }
+
+-- a refusal stands in the text, or at its end
+pub refusal-within : {C A : Type 0} (f : Format C A) (text : List ℕ) (at : ℕ) (s : Stop C) → Refusal f [] text at s → at ≤ length text
+refusal-within f text at s r = omega (arith, (refusal-place f [] text at s r).1)

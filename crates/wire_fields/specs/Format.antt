@@ -22,7 +22,8 @@ infixl 10 ◌>>=◌
 abbrev pub ◌>>=◌ : {C A B : Type 0} → Format C A → (A → Format C B) → Format C B
 f >>= g = and_then f g
 
--- Behind the octets front, the octets w spell the fields with their conditions, and a is what they make up.
+-- Behind the octets front, the octets w spell the fields with their conditions, and a is what they
+-- make up.
 abbrev pub Spells : {C A : Type 0} → Format C A → List ℕ → List ℕ → A → Type 0
 Spells (give x) front w a = (w ≡ []) × (a ≡ x)
 Spells place front w a = (w ≡ []) × (a ≡ length front)
@@ -30,4 +31,5 @@ Spells (since p) front w a = (w ≡ []) × (a ≡ drop p front)
 Spells (field k c) front w a = SpellsKind k w a
 Spells (such_that f conditions) front w a = Spells f front w a × (conditions a ≡ None)
 Spells (and_then {A = X} f g) front w a =
-    (u v : List ℕ) × (x : X) × (w ≡ u ++ v) × Spells f front u x × Spells (g x) (front ++ u) v a
+    (u v : List ℕ) × (x : X) × (w ≡ u ++ v)
+    × Spells f front u x × Spells (g x) (front ++ u) v a

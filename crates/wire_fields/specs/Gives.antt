@@ -8,22 +8,29 @@ pub record IsOn (before : ℕ) (text : List ℕ) (at : ℕ) : Type 0 where
   pub behind : before ≤ at
   pub within : at ≤ length text
 
--- a fault that code answered is the refusal that reading gives; want of memory, which is none, says nothing
+-- A fault that code answered is the refusal that reading gives. Want of memory is no refusal, and
+-- says nothing of what reading gives.
 abbrev pub Fails : {C B : Type 0} → Option (ℕ × Stop C) → Result B (ℕ × Stop C) → Type 0
 Fails None given = Unit {0}
 Fails (Some s) given = given ≡ Err s
 
--- What code returned from a place, its value seen by view and its fault by fault, is what reading gives.
-abbrev pub Gives : {C X Y E : Type 0} → (X → Y) → (E → Option (ℕ × Stop C)) → Result (X × ℕ) E → Result (Y × ℕ) (ℕ × Stop C) → Type 0
+-- What code returned from a place, its value seen by view and its fault by fault, is what reading
+-- gives.
+abbrev pub Gives : {C X Y E : Type 0}
+    → (X → Y) → (E → Option (ℕ × Stop C))
+    → Result (X × ℕ) E → Result (Y × ℕ) (ℕ × Stop C) → Type 0
 Gives view fault (Ok x) given = given ≡ Ok (view x.0, x.1)
 Gives view fault (Err e) given = Fails (fault e) given
 
 -- The same of a whole text.
-abbrev pub GivesWhole : {C X Y E : Type 0} → (X → Y) → (E → Option (ℕ × Stop C)) → Result X E → Result Y (ℕ × Stop C) → Type 0
+abbrev pub GivesWhole : {C X Y E : Type 0}
+    → (X → Y) → (E → Option (ℕ × Stop C))
+    → Result X E → Result Y (ℕ × Stop C) → Type 0
 GivesWhole view fault (Ok x) given = given ≡ Ok (view x)
 GivesWhole view fault (Err e) given = Fails (fault e) given
 
 -- What code found at a place, its value seen by view, is what a field of the kind is there.
-abbrev pub Finds : {X Y : Type 0} → (X → Y) → Result (X × ℕ) Miss → Result (Y × ℕ) Miss → Type 0
+abbrev pub Finds : {X Y : Type 0}
+    → (X → Y) → Result (X × ℕ) Miss → Result (Y × ℕ) Miss → Type 0
 Finds view (Ok x) given = given ≡ Ok (view x.0, x.1)
 Finds view (Err m) given = given ≡ Err m

@@ -5,4 +5,5 @@ pub mod Reading
 pub mod Words
 pub mod Whole
 pub mod Gives
+pub mod Word
 pub mod Waybill

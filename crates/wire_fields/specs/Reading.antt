@@ -22,13 +22,14 @@ look_number (Err sdnv_faults.TooLong) = Err misses.Absent
 look_number (Err sdnv_faults.TooLarge) = Err misses.Absent
 
 -- a head of the kind at the front of w, its number seen by a function
-abbrev pub look_head : {A : Type 0} → (ℕ → A) → Result (ℕ × ℕ) CborFault → Result (A × ℕ) Miss
+abbrev pub look_head : {A : Type 0}
+    → (ℕ → A) → Result (ℕ × ℕ) CborFault → Result (A × ℕ) Miss
 look_head view (Ok x) = Ok (view x.0, x.1)
 look_head view (Err cbor_faults.Short) = Err misses.Truncated
 look_head view (Err cbor_faults.Kind) = Err misses.Absent
 look_head view (Err cbor_faults.NotShortest) = Err misses.Absent
 
--- where the next octet is of the kind of text strings, a head of a text, else one of an unsigned number
+-- a head of a text string where the next octet is of that kind, else one of an unsigned number
 abbrev pub look_lead : List ℕ → Result (UnsignedOrText × ℕ) Miss
 look_lead w =
     if slice_index w 0 / 32 == 3
@@ -54,13 +55,15 @@ abbrev pub look_at : (k : Kind) → List ℕ → ℕ → Result (ValueOf k × �
 look_at k text at = ahead at (look k (drop at text))
 
 -- a field that isn't there is refused at its place: as truncated, or for its cause
-abbrev pub named : {C A : Type 0} → ℕ → C → Result (A × ℕ) Miss → Result (A × ℕ) (ℕ × Stop C)
+abbrev pub named : {C A : Type 0}
+    → ℕ → C → Result (A × ℕ) Miss → Result (A × ℕ) (ℕ × Stop C)
 named at cause (Ok x) = Ok x
 named at cause (Err misses.Truncated) = Err (at, truncated)
 named at cause (Err misses.Absent) = Err (at, because cause)
 
 -- a value under its conditions: the first that fails refuses it at the place where it stands
-abbrev pub judged : {C A : Type 0} → ℕ → Option C → A × ℕ → Result (A × ℕ) (ℕ × Stop C)
+abbrev pub judged : {C A : Type 0}
+    → ℕ → Option C → A × ℕ → Result (A × ℕ) (ℕ × Stop C)
 judged at None x = Ok x
 judged at (Some cause) x = Err (at, because cause)
 

@@ -19,7 +19,8 @@ Misfit k cause w truncated = EndsInside k w
 Misfit k cause w (because d) = IsAbsent k w × (d ≡ cause)
 
 -- a front of w spells the fields, and a condition on their value fails, the first with this cause
-pub record HasFailed {C A : Type 0} (f : Format C A) (conditions : A → Option C) (front w : List ℕ) (s : Stop C) : Type 0 where
+pub record HasFailed {C A : Type 0} (f : Format C A) (conditions : A → Option C)
+    (front w : List ℕ) (s : Stop C) : Type 0 where
   pub text : List ℕ
   pub rest : List ℕ
   pub value : A
@@ -40,7 +41,8 @@ Refusal (such_that f conditions) front w at s =
     Refusal f front w at s ⊎ ((at ≡ length front) × HasFailed f conditions front w s)
 Refusal (and_then {A = X} f g) front w at s =
     Refusal f front w at s
-    ⊎ ((u v : List ℕ) × (x : X) × (w ≡ u ++ v) × Spells f front u x × Refusal (g x) (front ++ u) v at s)
+    ⊎ ((u v : List ℕ) × (x : X) × (w ≡ u ++ v)
+    × Spells f front u x × Refusal (g x) (front ++ u) v at s)
 
 -- the first k octets of the text spell the fields, and a is what they make up
 pub record Begins {C A : Type 0} (f : Format C A) (text : List ℕ) (k : ℕ) (a : A) : Type 0 where
@@ -50,7 +52,12 @@ pub record Begins {C A : Type 0} (f : Format C A) (text : List ℕ) (k : ℕ) (a
 -- Of the text exactly one holds: one front of it spells the fields, with one value, or it is refused
 -- at one place for one reason.
 pub record ExactlyOne {C A : Type 0} (f : Format C A) (text : List ℕ) : Type 0 where
-  pub one : ((k : ℕ) × (a : A) × Begins f text k a) ⊎ ((at : ℕ) × (s : Stop C) × Refusal f [] text at s)
-  pub one_front : (j k : ℕ) (a b : A) → Begins f text j a → Begins f text k b → (j ≡ k) × (a ≡ b)
-  pub one_refusal : (p q : ℕ) (s t : Stop C) → Refusal f [] text p s → Refusal f [] text q t → (p ≡ q) × (s ≡ t)
-  pub not_both : (k p : ℕ) (a : A) (s : Stop C) → Begins f text k a → Refusal f [] text p s → ⊥
+  pub one :
+      ((k : ℕ) × (a : A) × Begins f text k a)
+      ⊎ ((at : ℕ) × (s : Stop C) × Refusal f [] text at s)
+  pub one_front : (j k : ℕ) (a b : A)
+      → Begins f text j a → Begins f text k b → (j ≡ k) × (a ≡ b)
+  pub one_refusal : (p q : ℕ) (s t : Stop C)
+      → Refusal f [] text p s → Refusal f [] text q t → (p ≡ q) × (s ≡ t)
+  pub not_both : (k p : ℕ) (a : A) (s : Stop C)
+      → Begins f text k a → Refusal f [] text p s → ⊥

@@ -1,5 +1,5 @@
 -- A small format in which every word of tables stands: a waybill. It belongs to no standard.
-use Rattle.std.specs.Prelude.{ℕ, ◌+◌, ◌%◌, Bool, not, ◌&&◌, ◌||◌, ◌==◌, nat_lt, nat_le, List, [], ◌∷◌, Option, Some, None, fold, bit_xor, option_copied}
+use Rattle.std.specs.Prelude.{ℕ, ◌+◌, ◌%◌, Bool, not, ◌&&◌, ◌||◌, ◌==◌, nat_lt, nat_le, List, [], ◌∷◌, Option, Some, None, fold, bit_xor, option_copied, codes}
 use Rattle.std.specs.List.{list_any}
 use Rattle.wire_fields.specs.declared.lead.UnsignedOrText.{UnsignedOrText}
 use Rattle.wire_fields.specs.declared.lead.UnsignedOrText.TheVariants as leads
@@ -31,7 +31,12 @@ pub record Bill : Type 0 where
   pub seals : List ℕ
 
 abbrev pub front_of : Front → FrontValue
-front_of f = record { seals = f.seals; flags = f.flags; sender = option_copied f.sender; part = f.part }
+front_of f = record {
+  seals = f.seals;
+  flags = f.flags;
+  sender = option_copied f.sender;
+  part = f.part;
+}
 
 abbrev pub bill_of : Waybill → Bill
 bill_of w = record { front = front_of w.front; items = w.items.items; seals = w.seals.items }
@@ -79,7 +84,8 @@ name (leads.Unsigned n) = give None
 name (leads.Text n) = any_octets n causes.Sender >>= (λ octets. give (Some octets))
 
 abbrev pub sender_lead : Format Cause UnsignedOrText
-sender_lead = such_that (any_unsigned_or_text causes.Sender) (λ lead. needs (may_lead lead) causes.Sender)
+sender_lead =
+    such_that (any_unsigned_or_text causes.Sender) (λ lead. needs (may_lead lead) causes.Sender)
 
 unfoldable pub sender : Format Cause (Option (List ℕ))
 sender = do
@@ -111,7 +117,7 @@ front = do
   full ← test (end == start + size) causes.FrontEnd
   give (record { seals = seals; flags = flags; sender = from; part = piece })
 
--- one of the four kinds, no second goods, and no item that may not be followed by its last
+-- one of the four kinds, no second goods, and the last item where no more may follow
 abbrev pub kind_needs : ℕ → List Item → ℕ → Option Cause
 kind_needs left earlier kind =
     needs (nat_lt kind 4) causes.Kind
@@ -134,7 +140,9 @@ item left earlier = do
 
 -- one octet, the sum of all octets since a place
 abbrev pub check : ℕ → Format Cause ℕ
-check start = since start >>= (λ octets. such_that (any_octet causes.Check) (λ b. needs (b == sum_of octets) causes.Check))
+check start = do
+  octets ← since start
+  such_that (any_octet causes.Check) (λ b. needs (b == sum_of octets) causes.Check)
 
 -- seals do not fall
 abbrev pub seal : List ℕ → Format Cause ℕ
@@ -165,3 +173,19 @@ why cause = because cause
 abbrev pub refusal : Fail → Option (ℕ × Stop Cause)
 refusal (fails.Refused at cause) = Some (at, why cause)
 refusal fails.Memory = None
+
+abbrev pub word_of : Cause → List ℕ
+word_of causes.Truncated = codes "Truncated"
+word_of causes.Mark = codes "Mark"
+word_of causes.Count = codes "Count"
+word_of causes.Number = codes "Number"
+word_of causes.Sender = codes "Sender"
+word_of causes.Range = codes "Range"
+word_of causes.FrontEnd = codes "FrontEnd"
+word_of causes.Kind = codes "Kind"
+word_of causes.SecondGoods = codes "SecondGoods"
+word_of causes.TooManyItems = codes "TooManyItems"
+word_of causes.Repeated = codes "Repeated"
+word_of causes.Check = codes "Check"
+word_of causes.Order = codes "Order"
+word_of causes.Trailing = codes "Trailing"

@@ -12,7 +12,8 @@ pub record HasMore {C A : Type 0} (f : Format C A) (text : List ℕ) (at : ℕ) 
 
 -- The whole text is refused: its fields are, or the text goes on behind the last of them.
 abbrev pub WholeRefusal : {C A : Type 0} → Format C A → C → List ℕ → ℕ → Stop C → Type 0
-WholeRefusal f trailing text at s = Refusal f [] text at s ⊎ (HasMore f text at × (s ≡ because trailing))
+WholeRefusal f trailing text at s =
+    Refusal f [] text at s ⊎ (HasMore f text at × (s ≡ because trailing))
 
 -- nothing may follow the value
 abbrev pub ended : {C A : Type 0} → C → List ℕ → A × ℕ → Result A (ℕ × Stop C)
@@ -22,10 +23,15 @@ ended trailing text x = if x.1 == length text then Ok x.0 else Err (x.1, because
 abbrev pub read_whole : {C A : Type 0} → Format C A → C → List ℕ → Result A (ℕ × Stop C)
 read_whole f trailing text = go_on (read f text 0) (ended trailing text)
 
--- Of the text exactly one holds: the whole of it spells the fields, with one value, or it is refused at
--- one place for one reason.
-pub record ExactlyOneWhole {C A : Type 0} (f : Format C A) (trailing : C) (text : List ℕ) : Type 0 where
-  pub one : ((a : A) × Spells f [] text a) ⊎ ((at : ℕ) × (s : Stop C) × WholeRefusal f trailing text at s)
+-- Of the text exactly one holds: the whole of it spells the fields, with one value, or it is refused
+-- at one place for one reason.
+pub record ExactlyOneWhole {C A : Type 0} (f : Format C A) (trailing : C)
+    (text : List ℕ) : Type 0 where
+  pub one :
+      ((a : A) × Spells f [] text a)
+      ⊎ ((at : ℕ) × (s : Stop C) × WholeRefusal f trailing text at s)
   pub one_value : (a b : A) → Spells f [] text a → Spells f [] text b → a ≡ b
-  pub one_refusal : (p q : ℕ) (s t : Stop C) → WholeRefusal f trailing text p s → WholeRefusal f trailing text q t → (p ≡ q) × (s ≡ t)
-  pub not_both : (p : ℕ) (a : A) (s : Stop C) → Spells f [] text a → WholeRefusal f trailing text p s → ⊥
+  pub one_refusal : (p q : ℕ) (s t : Stop C)
+      → WholeRefusal f trailing text p s → WholeRefusal f trailing text q t → (p ≡ q) × (s ≡ t)
+  pub not_both : (p : ℕ) (a : A) (s : Stop C)
+      → Spells f [] text a → WholeRefusal f trailing text p s → ⊥

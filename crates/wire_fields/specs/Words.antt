@@ -58,6 +58,8 @@ exact_byte_string n cause = such_that (any_byte_string cause) (λ x. needs (x ==
 abbrev pub exact_array : {C : Type 0} → ℕ → C → Format C ℕ
 exact_array n cause = such_that (any_array cause) (λ x. needs (x == n) cause)
 
+-- ---- no value at all
+
 -- a field of 0 octets: nothing stands here but a condition
 abbrev pub test : {C : Type 0} → Bool → C → Format C (Unit {0})
 test holds cause = such_that (give tt) (λ _. needs holds cause)
@@ -90,13 +92,16 @@ abbrev pub one_more : {C A : Type 0} → (List A → Format C A) → List A → 
 one_more f earlier = f earlier >>= (λ x. give (earlier ++ x ∷ []))
 
 -- and whether it was the last
-abbrev pub one_more_until : {C A : Type 0} → (ℕ → List A → Format C A) → (A → Bool) → ℕ → List A → Format C (List A × Bool)
-one_more_until f is_last left earlier = f left earlier >>= (λ x. give (earlier ++ x ∷ [], is_last x))
+abbrev pub one_more_until : {C A : Type 0}
+    → (ℕ → List A → Format C A) → (A → Bool) → ℕ → List A → Format C (List A × Bool)
+one_more_until f is_last left earlier =
+    f left earlier >>= (λ x. give (earlier ++ x ∷ [], is_last x))
 
 -- so many of them
 abbrev pub listed : {C A : Type 0} → ℕ → (List A → Format C A) → Format C (List A)
 listed n f = repeated n (one_more f) []
 
 -- all up to the last, each with how many more may follow it
-abbrev pub listed_until : {C A : Type 0} → ℕ → (ℕ → List A → Format C A) → (A → Bool) → Format C (List A)
+abbrev pub listed_until : {C A : Type 0}
+    → ℕ → (ℕ → List A → Format C A) → (A → Bool) → Format C (List A)
 listed_until n f is_last = until n (one_more_until f is_last) []

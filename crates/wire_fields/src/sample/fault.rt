@@ -2,6 +2,7 @@
 
 ghost use Rattle.std.specs.Prelude.{◌≡◌};
 ghost use Rattle.wire_fields.specs.declared.sample.fault.Fail.TheVariants.{Memory};
+ghost use Rattle.wire_fields.specs.Waybill.{word_of};
 
 use std::alloc::{AllocError, AllocFailed};
 use thiserror::Error;
@@ -53,11 +54,35 @@ pub enum Cause {
     Trailing,
 }
 
+impl Cause {
+    /// The variant's name.
+    pub fn word(&self) -> &'static str
+        ensures { result.now ≡ word_of self.now }
+    {
+        match self {
+            Cause::Truncated => "Truncated",
+            Cause::Mark => "Mark",
+            Cause::Count => "Count",
+            Cause::Number => "Number",
+            Cause::Sender => "Sender",
+            Cause::Range => "Range",
+            Cause::FrontEnd => "FrontEnd",
+            Cause::Kind => "Kind",
+            Cause::SecondGoods => "SecondGoods",
+            Cause::TooManyItems => "TooManyItems",
+            Cause::Repeated => "Repeated",
+            Cause::Check => "Check",
+            Cause::Order => "Order",
+            Cause::Trailing => "Trailing",
+        }
+    }
+}
+
 /// Why no waybill was read.
 #[derive(Clone, Copy, Debug, PartialEq, Eq, Error)]
 pub enum Fail {
     /// The octets before `at` are as they should be, and what stands there isn't.
-    #[error("Refused")]
+    #[error("{cause} at {at}")]
     Refused { at: usize, cause: Cause },
     /// Memory ran out.
     #[error("Memory")]

@@ -450,10 +450,12 @@ pub fn exactly_one_whole()
     ensures { (text : List ℕ) → IsOctets text → ExactlyOneWhole (waybill 3) Cause.Trailing text }
 {}
 
-/// Where a waybill is refused for a cause, it is refused so however the octets go on; and no front of
-/// what stands there spells it.
-pub fn refusals_stay()
-    ensures stays { (text more : List ℕ) → IsOctets text → IsSettled (read (waybill 3) text 0) → read (waybill 3) (text ++ more) 0 ≡ read (waybill 3) text 0 }
-    ensures no_front { (text : List ℕ) (at k : ℕ) (s : Stop Cause) (b : Bill) → IsOctets text → Refusal (waybill 3) [] text at s → Begins (waybill 3) text k b → ⊥ }
-    ensures within { (text more : List ℕ) (b : Bill) (k : ℕ) → IsOctets (text ++ more) → k ≤ length text → read (waybill 3) (text ++ more) 0 ≡ Ok (b, k) → read (waybill 3) text 0 ≡ Ok (b, k) }
+/// What is settled stays so, however the octets go on.
+pub fn answers_stay()
+    // A refusal other than the end of the input stays, and its place is in the text or at its end.
+    ensures refusals { (text more : List ℕ) (at : ℕ) (cause : Cause) → IsOctets (text ++ more) → Refusal (waybill 3) [] text at (because cause) → Refusal (waybill 3) [] (text ++ more) at (because cause) }
+    ensures places { (text : List ℕ) (at : ℕ) (s : Stop Cause) → Refusal (waybill 3) [] text at s → at ≤ length text }
+    // A front stays one, and is one of each shorter text that holds it.
+    ensures fronts { (text more : List ℕ) (k : ℕ) (b : Bill) → Begins (waybill 3) text k b → Begins (waybill 3) (text ++ more) k b }
+    ensures shorter { (text more : List ℕ) (k : ℕ) (b : Bill) → k ≤ length text → Begins (waybill 3) (text ++ more) k b → Begins (waybill 3) text k b }
 {}

@@ -1,0 +1,39 @@
+//! Segments of the Licklider Transmission Protocol (RFC 5326), and what its machines share.
+//!
+//! A datagram is one segment. `decode` takes it apart without taking memory, and lends data and
+//! claims out of it; what is no segment is refused at one place for one cause. The five writers make
+//! the octets of a segment, with shortest numbers and no extensions, and `decode` reads them back.
+//! The table of the fields is in docs/formats-ltp.md.
+//!
+//! `Policy` says how segments are cut and how long answers are waited for. `Step` and `Note` are what
+//! a session answers to an event.
+//!
+//! Extensions are passed over unread. Which segment may come when is not known here.
+#![tactic(auto)]
+
+mod cause;
+mod claims;
+mod decoding;
+mod fault;
+mod fields;
+mod outs;
+mod pieces;
+mod policy;
+mod reports;
+mod segment;
+mod session;
+#[cfg(test)]
+mod tests;
+mod writing;
+
+pub use cause::{SegmentCause, SegmentFault};
+pub use claims::Claims;
+pub use decoding::{decode, is_segment_or_refused};
+pub use fault::PolicyFault;
+pub use outs::Outs;
+pub use policy::Policy;
+pub use segment::{Claim, Content, PieceKind, Segment};
+pub use session::{BLOCK_MAX, Green, Note, PieceView, ReportView, Step};
+pub use writing::{
+    is_read_back, write_ack, write_cancel, write_cancel_ack, write_piece, write_report,
+};

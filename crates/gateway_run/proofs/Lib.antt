@@ -8,3 +8,4 @@ pub mod OpenPartLemmas
 pub mod ReceiveLemmas
 pub mod CommandLemmas
 pub mod BlockLemmas
+pub mod EndLemmas

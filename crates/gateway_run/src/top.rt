@@ -1,4 +1,5 @@
 //! The program's one call.
+ghost use Rattle.std.specs.Io.KnownBytes.{IsAtEnd};
 ghost use Rattle.std.specs.Prelude.{◌≡◌, ◌↔◌, ◌⊎◌, ◌-◌, ◌<◌, ◌^◌, None, IfSome, IfOk};
 ghost use Rattle.edge_traits.specs.AnswerView.{answered};
 ghost use Rattle.edge_traits.specs.Faults.{StopsAtFailure};
@@ -48,6 +49,9 @@ pub fn run<S: Source, K: Sink, L: Link, C: Clock>(
     ensures complete { S.faults source.new ≡ S.faults source.old → K.faults sink.new ≡ K.faults sink.old
         → IfSome (S.left source.old) (λ input. CompletesCommand (command_of words.now) input result) }
 
+    // A run that is done read the source to its end.
+    ensures read_whole { result ≡ Status.Done → IsAtEnd (S.left source.new) }
+
     // `receive` hands up exactly the red parts that become whole.
     ensures red_parts { IfSome (S.left source.old) (λ input.
         KeepsLaw (command_of words.now) input result (K.held sink.old) (K.held sink.new)) }
@@ -78,6 +82,7 @@ fn run_command<S: Source, K: Sink>(
     ensures write_fault { RoseByWrite result (K.faults sink.old) (K.faults sink.new) }
     ensures read_stops { result ≡ Status.ReadFault → StopsAtFailure (S.failing source.old) (S.failing source.new) }
     ensures write_stops { result ≡ Status.WriteFault → StopsAtFailure (K.failing sink.old) (K.failing sink.new) }
+    ensures read_whole { result ≡ Status.Done → IsAtEnd (S.left source.new) }
 {
     let input = match read_all(alloc, source, MOST_INPUT) {
         Ok(input) => input,

@@ -16,14 +16,6 @@ COLUMNS = (f"{'case':<58}{'lines in':>10}{'lines out':>11}{'MB in':>8}{'s user':
            f"{'peak MB':>9}  status")
 
 
-def sdnv(value):
-    """The shortest spelling of a number."""
-    octets = [value & 127]
-    while value := value >> 7:
-        octets.append(value & 127 | 128)
-    return bytes(reversed(octets))
-
-
 def program_of(words):
     """The first argument, or the program as this repository builds it."""
     path = os.path.abspath(words[0]) if words else PROGRAM

@@ -6,10 +6,14 @@ usage: bench/receive.py [PROGRAM]    the program as this repository builds it, w
 The inputs stay within what the command takes: 67,108,864 octets, 1,000,000 lines, 9,000,000 octets a line.
 Seconds are the processor's for the program alone, MB are millions of octets of hex as they are read.
 """
+import os
 import sys
 
 sys.dont_write_bytecode = True
-from measure import Bench, Wanted, program_of, sdnv
+from measure import ROOT, Bench, Wanted, program_of
+
+sys.path.insert(0, os.path.join(ROOT, "examples"))
+from make_bundles import sdnv
 
 MILLION = 1_000_000
 BLOCK = 4_194_304       # the longest block, in octets
@@ -69,7 +73,7 @@ def backwards(file):
 
 
 def evens_then_odds(file):
-    """Single octets that first leave a gap between any two: the most ranges that a block of a million can have."""
+    """Single octets that at first leave a gap between any two: the most ranges that a block of a million can have."""
     for at in [*range(0, MILLION, 2), *range(1, MILLION, 2)]:
         file.write(segment(RED_END_BLOCK if at == MILLION - 1 else RED, 7, at, bytes([at & 255])))
     return MILLION
@@ -99,7 +103,7 @@ def main():
     row("a million single octets of one part, evens, then odds", evens_then_odds,
         Wanted(0, 1, lambda: up(7, [bytes(at & 255 for at in range(MILLION))])))
     row("the last octet of 4 MiB, of a fresh session in each line", far_ends, Wanted(6, 0, lambda: b""),
-        "as it should: a 65th unfinished session ends the run at line 65")
+        "a 65th unfinished session ends the run at line 65")
     row("seven parts of 4 MiB in 28,672 pieces", seven_blocks, Wanted(0, 7, lambda: whole_up(7)))
     bench.end()
 

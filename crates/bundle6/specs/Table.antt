@@ -92,7 +92,8 @@ has_payload blocks = list_any is_payload blocks
 abbrev pub others : List Block6 → ℕ
 others blocks = count_by (λ block. not (is_payload block)) blocks
 
--- the type: no second payload, and at most so many of another type
+-- the type: no second payload, and at most so many of another type; an octet is missing only where the
+-- input ends, so its own cause never comes
 abbrev pub kind_field : ℕ → Bool → ℕ → Format Cause6 ℕ
 kind_field most payload other = such_that (any_octet Number) (λ kind.
     needs (not (kind == 1 && payload)) SecondPayload

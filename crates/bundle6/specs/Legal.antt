@@ -52,7 +52,8 @@ pub record IsLegal (b : Bundle6) : Type 0 where
   pub others_are_few : others b.blocks ≤ 64
   pub within : All (IsWithin b.primary.fragment) b.blocks
 
--- the octets w spell the legal bundle b
+-- The octets w spell the legal bundle b. What the table spells is legal (`OnlyLegal`); it is stated for
+-- those who need it.
 pub record Spells6 (b : Bundle6) (w : List ℕ) : Type 0 where
   pub legal : IsLegal b
   pub spelled : Spells (bundle 64) [] w b
@@ -64,3 +65,7 @@ Refusal6 w at reason = Refusal (bundle 64) [] w at reason
 -- the octets w are read as the bundle b, whatever follows them
 abbrev pub IsReadAgain : Bundle6 → List ℕ → Type 0
 IsReadAgain b w = (more : List ℕ) → read (bundle 64) (w ++ more) 0 ≡ Ok (b, length w)
+
+-- what octets spell is a legal bundle
+abbrev pub OnlyLegal : Type 0
+OnlyLegal = (b : Bundle6) (w : List ℕ) → Spells (bundle 64) [] w b → IsLegal b

@@ -92,15 +92,17 @@ has_payload blocks = list_any is_payload blocks
 abbrev pub others : List Block6 → ℕ
 others blocks = count_by (λ block. not (is_payload block)) blocks
 
--- the type: no second payload, and at most so many of another type
+-- the type: no second payload, and at most so many of another type; an octet is missing only where the
+-- input ends, so its own cause never comes
 abbrev pub kind_field : ℕ → Bool → ℕ → Format Cause6 ℕ
-kind_field most payload other = such_that (any_octet Number) (λ kind.
-    needs (not (kind == 1 && payload)) SecondPayload
-    also needs (kind == 1 || nat_lt other most) TooManyBlocks)
+kind_field most paid before = such_that (any_octet Number) (λ kind.
+    needs (not (kind == 1 && paid)) SecondPayload
+    also needs (kind == 1 || nat_lt before most) TooManyBlocks)
 
 -- the flags: the last block isn't one before the payload
 abbrev pub flags_field : Bool → Format Cause6 ℕ
-flags_field paid = such_that (any_number Number) (λ flags. needs (not (has_bit 3 flags) || paid) NoPayload)
+flags_field may_end =
+    such_that (any_number Number) (λ flags. needs (not (has_bit 3 flags) || may_end) NoPayload)
 
 -- a reference: scheme offset and SSP offset, which resolve
 unfoldable pub name : List ℕ → Format Cause6 Endpoint
@@ -127,11 +129,12 @@ is_within (Some part) payload size = not payload || nat_le (part.offset + size) 
 abbrev pub size_field : Option Fragment → Bool → Format Cause6 ℕ
 size_field part payload = such_that (any_number Number) (λ size. needs (is_within part payload size) FragmentRange)
 
--- a block, and whether it is marked as the last
+-- A block, and whether it is marked as the last. Behind others: whether the payload is among them, and
+-- how many of another type are. Of octets nothing can be wrong but that the input ends.
 unfoldable pub block : ℕ → Option Fragment → List ℕ → Bool → ℕ → Format Cause6 (Block6 × Bool)
-block most part dictionary payload other = do
-  kind ← kind_field most payload other
-  flags ← flags_field (kind == 1 || payload)
+block most part dictionary paid before = do
+  kind ← kind_field most paid before
+  flags ← flags_field (kind == 1 || paid)
   refs ← references (has_bit 6 flags) dictionary
   size ← size_field part (kind == 1)
   body ← any_octets size Truncated
@@ -146,7 +149,8 @@ next_block most part dictionary left earlier = do
 -- ---- the bundle
 
 -- The primary block, and blocks until the one that is marked as the last: at most so many of another
--- type than the payload, and the payload.
+-- type than the payload, and the payload. Behind as many as that any block is refused by its type, so
+-- the list never ends but with the last block.
 unfoldable pub bundle : ℕ → Format Cause6 Bundle6
 bundle most = do
   main ← primary

@@ -7,7 +7,7 @@ ghost use Rattle.wire_fields.specs.Words.{until};
 ghost use Rattle.wire_fields.specs.Gives.{Gives, IsOn};
 ghost use Rattle.bundle6.specs.Cause.{refusal};
 ghost use Rattle.bundle6.specs.Table.{next_block, bundle};
-ghost use Rattle.bundle6.specs.Legal.{Spells6, Refusal6};
+ghost use Rattle.bundle6.specs.Legal.{Spells6, Refusal6, OnlyLegal};
 
 use crate::block::{Blocks6, Seen, block_at};
 use crate::fault::{Cause6, Fail6};
@@ -102,4 +102,9 @@ pub fn decode6(alloc: Global, bytes: &[u8]) -> Result<(Bundle6, usize), Fail6>
 /// refused at one place for one reason.
 pub fn exactly_one()
     ensures { (text : List ℕ) → IsOctets text → ExactlyOne (bundle 64) text }
+{}
+
+/// What octets spell by the table is a legal bundle.
+pub fn only_legal()
+    ensures { OnlyLegal }
 {}

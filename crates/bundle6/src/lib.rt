@@ -21,7 +21,7 @@ mod reading;
 mod writing;
 
 pub use block::{Block6, Blocks6};
-pub use bundle::{Bundle6, decode6, exactly_one};
+pub use bundle::{Bundle6, decode6, exactly_one, only_legal};
 pub use fault::{Cause6, Fail6};
 pub use primary::Primary6;
 pub use writing::encode6;

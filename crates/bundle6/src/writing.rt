@@ -141,7 +141,7 @@ fn write_blocks(out: &mut Vec<u8>, blocks: &[Block6], pairs: &[Offsets]) -> Resu
     Ok(())
 }
 
-/// How many octets the blocks' bodies have, or more than there are.
+/// How many octets the bodies of the blocks have: only a guess at the room that they take.
 fn octets_of(blocks: &[Block6]) -> usize {
     blocks
         .iter()

@@ -3,12 +3,14 @@
 
 usage: bench/spans.py build [FOLDER]    copies the crates, adds the program spans.rt.txt as one more, proves and builds it
        bench/spans.py [FOLDER]          runs it (and builds it first where it isn't there), and prints covers a second
-FOLDER is bench/out/spans where none is named. The time is taken from outside, and a run over no covers is taken off.
+FOLDER is one in the system's folder for temporary files where none is named. The time is taken from outside, as the
+least of three runs that make a million covers each, and a run over none is taken off.
 """
 import os
 import shutil
 import subprocess
 import sys
+import tempfile
 import time
 
 HERE = os.path.dirname(os.path.abspath(__file__))
@@ -39,31 +41,34 @@ def build(folder):
         sys.exit("the program was not built")
 
 
-def seconds(program, line):
-    """The least of three runs over a line."""
+def seconds(program, line, times):
+    """The least of three runs over a line that stands there so many times, for one of them."""
     best = None
     for _ in range(3):
         start = time.perf_counter()
-        subprocess.run([program], input=line.encode(), stdout=subprocess.PIPE, check=True)
+        subprocess.run([program], input=(line * times).encode(), stdout=subprocess.PIPE, check=True)
         taken = time.perf_counter() - start
         best = taken if best is None else min(best, taken)
-    return best
+    return best / times
 
 
 def main():
     words = sys.argv[1:]
     only_build = words[:1] == ["build"]
     folder = (words[1:] if only_build else words)[:1]
-    folder = os.path.abspath(folder[0]) if folder else os.path.join(HERE, "out", "spans")
+    folder = os.path.abspath(folder[0]) if folder else os.path.join(tempfile.gettempdir(), "fimdahol-bench-spans")
     program = os.path.join(folder, "crates", "spans_bench", "out", "spans_bench")
     if only_build or not os.path.exists(program):
         build(folder)
     if only_build:
         return
-    nothing = seconds(program, "")
+    nothing = seconds(program, "", 1)
     print("order         " + "".join(f"{count:>14,}" for count in COUNTS) + "   covers, in covers/s")
     for order in ORDERS:
-        rates = [count / max(seconds(program, f"{order} {count}\n") - nothing, 1e-6) for count in COUNTS]
+        rates = []
+        for count in COUNTS:
+            times = COUNTS[-1] // count
+            rates.append(count / max(seconds(program, f"{order} {count}\n", times) - nothing / times, 1e-9))
         print(f"{order:<14}" + "".join(f"{rate:>14,.0f}" for rate in rates))
 
 

@@ -1,25 +1,23 @@
 -- What octets spell is a legal bundle.
 
-use Rattle.std.proofs.Common.{◌≡◌, ℕ, ◌+◌, ◌-◌, ◌/◌, ◌%◌, ◌^◌, ◌<◌, ◌≤◌, suc, zero, Bool, true, false, ◌&&◌, ◌||◌, not, cond, eqb, ltb, leb, ◌⊎◌, inl, inr}
-use Rattle.std.proofs.Common.{List, [], ◌∷◌, ◌++◌, length, take, refl, sym, ◌∙◌, ap, subst, arith, rules, length-append}
+use Rattle.std.proofs.Common.{◌≡◌, ℕ, ◌+◌, ◌/◌, ◌%◌, ◌^◌, ◌<◌, ◌≤◌, suc, zero, Bool, true, false, ◌&&◌, ◌||◌, not, cond, eqb, ltb}
+use Rattle.std.proofs.Common.{List, [], ◌∷◌, ◌++◌, length, take, refl, sym, ◌∙◌, arith, length-append}
 use Rattle.std.proofs.Common.{Option, None, Some, Result, Ok, Err}
 use Rattle.std.specs.Prelude.{IfOk, is_some}
-use Rattle.std.specs.List.{All, list_any, count_by}
+use Rattle.std.specs.List.{All, count_by}
 use Rattle.std.proofs.lemmas.Bool.{eqb-true, eqb-false, ne_eqb, ltb-true, leb-true}
 use Rattle.std.proofs.lemmas.List.Elements.{All-push}
 use Rattle.std.proofs.lemmas.List.Folds.{list_any-append}
 use Rattle.std.proofs.lemmas.List.Sums.{length-filter}
 use Rattle.std.proofs.lemmas.List.Filters.{length-filter_both}
 use Rattle.endpoint.specs.declared.name.Endpoint.{Endpoint}
-use Rattle.endpoint.specs.declared.name.Endpoint.TheVariants.{Null, Ipn, Dtn}
+use Rattle.endpoint.specs.declared.name.Endpoint.TheVariants.{Null, Ipn}
 use Rattle.endpoint.specs.declared.extent.Fragment.{Fragment}
 use Rattle.endpoint.specs.Endpoints.{IsEndpoint}
-use Rattle.endpoint.specs.Reading.{named}
 use Rattle.endpoint.proofs.ReadingLemmas.{named-found}
-use Rattle.wire_fields.specs.Format.{Format, give, Spells}
+use Rattle.wire_fields.specs.Format.{give, Spells}
 use Rattle.wire_fields.specs.Refusal.{Begins}
-use Rattle.wire_fields.specs.Words.{needs, ◌also◌, optional, repeated, one_more, listed, until, choice}
-use Rattle.bundle6.specs.declared.fault.Cause6.{Cause6}
+use Rattle.wire_fields.specs.Words.{needs, ◌also◌, optional, repeated, one_more, until, choice}
 use Rattle.bundle6.specs.declared.fault.Cause6.TheVariants.{Names, SecondPayload, TooManyBlocks, NoPayload, BlockRefs, FragmentRange}
 use Rattle.bundle6.specs.declared.fault.Fail6.{Fail6}
 use Rattle.bundle6.specs.declared.names.Offsets.{Offsets}
@@ -29,7 +27,7 @@ use Rattle.bundle6.specs.declared.primary.Primary6.{Primary6}
 use Rattle.bundle6.specs.declared.block.Block6.{Block6}
 use Rattle.bundle6.specs.declared.bundle.Bundle6.{Bundle6}
 use Rattle.bundle6.specs.Bits.{has_bit, without}
-use Rattle.bundle6.specs.Names.{text_at, named_by, numbered, resolve, resolves, name_of, all_resolve, names_of}
+use Rattle.bundle6.specs.Names.{text_at, named_by, resolve, resolves, name_of, all_resolve}
 use Rattle.bundle6.specs.Table.{offsets, four_names, dictionary, fragment, primary, is_payload, has_payload, others, name, references, is_within, block, next_block, bundle}
 use Rattle.bundle6.specs.Legal.{IsPart, IsLegalPrimary, IsLegalBlock, IsWithin, IsLegal, Spells6}
 use Rattle.bundle6.proofs.BlocksLemmas.{count-push, others-push}
@@ -277,7 +275,7 @@ blocks-push most part earlier x are is = record {
     few_left false other low few = omega (arith, few refl)
 
 -- the payload and the others are all
-blocks-count : (blocks : List Block6) → count_by is_payload blocks + others blocks ≡ length blocks
+pub blocks-count : (blocks : List Block6) → count_by is_payload blocks + others blocks ≡ length blocks
 blocks-count blocks =
     rw (← (length-filter is_payload blocks), ← (length-filter (λ b. not (is_payload b)) blocks))
     (length-filter_both is_payload (λ b. not (is_payload b)) (λ b. refl) blocks)

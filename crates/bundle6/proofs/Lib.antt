@@ -1,3 +1,9 @@
 pub mod NamesLemmas
 pub mod BlocksLemmas
 pub mod LegalLemmas
+pub mod CanonLemmas
+pub mod GatherLemmas
+pub mod SpellingLemmas
+pub mod PlacesLemmas
+pub mod NumberingLemmas
+pub mod WritingLemmas

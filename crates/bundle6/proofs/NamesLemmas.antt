@@ -1,22 +1,21 @@
 -- Looking a name up in the dictionary: a text that is too long to name something may be missed.
 
-use Rattle.std.proofs.Common.{◌≡◌, ℕ, ◌+◌, ◌-◌, ◌<◌, ◌≤◌, min, Bool, true, false, ◌&&◌, not, cond, eqb, ltb, leb, ◌⊎◌, inl, inr}
-use Rattle.std.proofs.Common.{List, [], ◌∷◌, ◌++◌, length, take, drop, get_or, refl, sym, ◌∙◌, ap, subst, arith, rules}
+use Rattle.std.proofs.Common.{◌≡◌, ℕ, ◌<◌, ◌≤◌, min, Bool, true, false, ◌&&◌, eqb, ltb, leb, ◌⊎◌, inl, inr}
+use Rattle.std.proofs.Common.{List, ◌++◌, length, take, drop, get_or, refl, sym, ap, arith}
 use Rattle.std.proofs.Common.{Option, None, Some, length-append}
 use Rattle.std.specs.Prelude.{codes, IfSome}
-use Rattle.std.specs.List.{position, position_or_len, list_all}
-use Rattle.std.specs.Str.{bytes_eq}
+use Rattle.std.specs.List.{position, position_or_len}
 use Rattle.std.specs.Fmt.{decimal}
-use Rattle.std.proofs.lemmas.Bool.{cases_lt, ltb-true, ltb-false, lt-ltb, leb-true}
-use Rattle.std.proofs.lemmas.List.{get_or-take, take-take, length-take, length-take-le, drop_all}
+use Rattle.std.proofs.lemmas.Bool.{cases_lt, ltb-true, lt-ltb, leb-true}
+use Rattle.std.proofs.lemmas.List.{get_or-take, take-take, length-take-le, drop_all}
 use Rattle.std.proofs.lemmas.List.Sums.{fails_before_first, passes_at_first, position_or_len_is}
 use Rattle.std.proofs.lemmas.Fmt.{length-decimal-le}
 use Rattle.endpoint.specs.declared.name.Endpoint.{Endpoint}
 use Rattle.endpoint.specs.declared.name.Endpoint.TheVariants.{Null, Ipn, Dtn}
-use Rattle.endpoint.specs.Endpoints.{IsEndpoint, is_ssp, is_visible, ssp_of, scheme_of}
+use Rattle.endpoint.specs.Endpoints.{IsEndpoint, is_ssp, ssp_of, scheme_of}
 use Rattle.endpoint.specs.Reading.{named}
-use Rattle.endpoint.proofs.ReadingLemmas.{named-found, HasParts}
-use Rattle.bundle6.specs.Names.{is_nul, up_to_nul, text_at, Shows, named_by, resolve}
+use Rattle.endpoint.proofs.ReadingLemmas.{named-found}
+use Rattle.bundle6.specs.Names.{is_nul, up_to_nul, text_at, named_by, resolve}
 use Rattle.bundle6.specs.declared.names.Offsets.{Offsets}
 
 -- ---- the first NUL

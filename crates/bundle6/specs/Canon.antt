@@ -36,11 +36,14 @@ has_text texts text = list_any (bytes_eq text) texts
 abbrev pub with_text : List (List ℕ) → List ℕ → List (List ℕ)
 with_text texts text = if has_text texts text then texts else texts ++ text ∷ []
 
+-- an endpoint's scheme and scheme-specific part behind the others, each unless it is among them
+abbrev pub with_name : List (List ℕ) → Endpoint → List (List ℕ)
+with_name texts endpoint = with_text (with_text texts (scheme_of endpoint)) (ssp_of endpoint)
+
 -- the texts of these endpoints behind the others: each once, in the order of first use
 unfoldable pub with_names : List (List ℕ) → List Endpoint → List (List ℕ)
 with_names texts [] = texts
-with_names texts (endpoint ∷ more) =
-    with_names (with_text (with_text texts (scheme_of endpoint)) (ssp_of endpoint)) more
+with_names texts (endpoint ∷ more) = with_names (with_name texts endpoint) more
 
 -- the texts of a bundle's dictionary: none, where two numbers spell each endpoint
 unfoldable pub texts_of : Bundle6 → List (List ℕ)
@@ -53,39 +56,50 @@ dictionary_of texts = flat_map (λ text. text ++ 0 ∷ []) texts
 -- where a text stands in it
 unfoldable pub offset_of : List (List ℕ) → List ℕ → ℕ
 offset_of [] text = 0
-offset_of (first ∷ more) text = if bytes_eq first text then 0 else length first + 1 + offset_of more text
+offset_of (first ∷ more) text = if bytes_eq text first then 0 else length first + 1 + offset_of more text
 
--- the two numbers of an endpoint
+-- the two numbers of an endpoint without a dictionary
 abbrev pub numbers_of : Endpoint → Offsets
 numbers_of Null = record { scheme = 0; ssp = 0 }
 numbers_of (Ipn node service) = record { scheme = node; ssp = service }
 numbers_of (Dtn ssp) = record { scheme = 0; ssp = 0 }
 
-abbrev pub offsets_of : List (List ℕ) → Endpoint → Offsets
-offsets_of [] endpoint = numbers_of endpoint
-offsets_of (first ∷ more) endpoint = record {
-  scheme = offset_of (first ∷ more) (scheme_of endpoint);
-  ssp = offset_of (first ∷ more) (ssp_of endpoint);
+-- the two numbers of an endpoint in a dictionary
+abbrev pub places_of : List (List ℕ) → Endpoint → Offsets
+places_of texts endpoint = record {
+  scheme = offset_of texts (scheme_of endpoint);
+  ssp = offset_of texts (ssp_of endpoint);
 }
+
+unfoldable pub offsets_of : List (List ℕ) → Endpoint → Offsets
+offsets_of texts endpoint = if length texts == 0 then numbers_of endpoint else places_of texts endpoint
 
 -- ---- the octets
 
-unfoldable pub name_octets : List (List ℕ) → Endpoint → List ℕ
-name_octets texts endpoint =
-    spelling (offsets_of texts endpoint).scheme ++ spelling (offsets_of texts endpoint).ssp
+abbrev pub pair_octets : Offsets → List ℕ
+pair_octets pair = spelling pair.scheme ++ spelling pair.ssp
+
+abbrev pub name_octets : List (List ℕ) → Endpoint → List ℕ
+name_octets texts endpoint = pair_octets (offsets_of texts endpoint)
 
 abbrev pub part_octets : Option Fragment → List ℕ
 part_octets None = []
 part_octets (Some part) = spelling part.offset ++ spelling part.total
 
+abbrev pub names_octets : List (List ℕ) → Primary6 → List ℕ
+names_octets texts primary =
+    name_octets texts primary.destination ++ (name_octets texts primary.source
+    ++ (name_octets texts primary.report_to ++ name_octets texts primary.custodian))
+
+abbrev pub dictionary_octets : List (List ℕ) → List ℕ
+dictionary_octets texts = spelling (length (dictionary_of texts)) ++ dictionary_of texts
+
 -- what stands behind the primary block's length field
 unfoldable pub rest_octets : List (List ℕ) → Primary6 → List ℕ
 rest_octets texts primary =
-    name_octets texts primary.destination ++ (name_octets texts primary.source
-    ++ (name_octets texts primary.report_to ++ (name_octets texts primary.custodian
+    names_octets texts primary
     ++ (spelling primary.seconds ++ (spelling primary.sequence ++ (spelling primary.lifetime
-    ++ (spelling (length (dictionary_of texts)) ++ (dictionary_of texts
-    ++ part_octets primary.fragment))))))))
+    ++ (dictionary_octets texts ++ part_octets primary.fragment))))
 
 unfoldable pub primary_octets : List (List ℕ) → Primary6 → List ℕ
 primary_octets texts primary =

@@ -1,11 +1,11 @@
 -- Legal bundles, and what spells them.
 
-use Rattle.std.specs.Prelude.{◌≡◌, ℕ, ◌+◌, ◌^◌, ◌<◌, ◌≤◌, Bool, true, false, List, [], length, Option, Some, None, is_some}
+use Rattle.std.specs.Prelude.{◌≡◌, ℕ, ◌+◌, ◌^◌, ◌<◌, ◌≤◌, true, false, List, [], ◌++◌, length, Ok, Option, Some, None, is_some}
 use Rattle.std.specs.List.{All, count_by}
-use Rattle.endpoint.specs.declared.name.Endpoint.{Endpoint}
 use Rattle.endpoint.specs.declared.extent.Fragment.{Fragment}
 use Rattle.endpoint.specs.Endpoints.{IsEndpoint}
 use Rattle.wire_fields.specs.Format.{Spells}
+use Rattle.wire_fields.specs.Reading.{read}
 use Rattle.wire_fields.specs.Refusal.{Stop, Refusal}
 use Rattle.bundle6.specs.declared.fault.Cause6.{Cause6}
 use Rattle.bundle6.specs.declared.primary.Primary6.{Primary6}
@@ -60,3 +60,7 @@ pub record Spells6 (b : Bundle6) (w : List ℕ) : Type 0 where
 -- the octets w are refused at a place: those before it spell the earlier fields, and the next isn't there
 abbrev pub Refusal6 : List ℕ → ℕ → Stop Cause6 → Type 0
 Refusal6 w at reason = Refusal (bundle 64) [] w at reason
+
+-- the octets w are read as the bundle b, whatever follows them
+abbrev pub IsReadAgain : Bundle6 → List ℕ → Type 0
+IsReadAgain b w = (more : List ℕ) → read (bundle 64) (w ++ more) 0 ≡ Ok (b, length w)

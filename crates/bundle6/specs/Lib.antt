@@ -5,3 +5,6 @@ pub mod Table
 pub mod Seen
 pub mod Legal
 pub mod Canon
+pub mod Gathering
+pub mod Numbering
+pub mod Writing

@@ -1,6 +1,6 @@
 -- The blocks so far, as far as they decide on the next: what code keeps of them.
 
-use Rattle.std.specs.Prelude.{◌≡◌, ◌≤◌, ℕ, ◌+◌, Bool, true, ◌==◌, if◌then◌else◌}
+use Rattle.std.specs.Prelude.{◌≡◌, ◌≤◌, ℕ, ◌+◌, true, ◌==◌, if◌then◌else◌}
 use Rattle.bundle6.specs.declared.block.Seen.{Seen}
 
 -- one more of this type

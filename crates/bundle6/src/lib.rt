@@ -13,11 +13,18 @@ mod block;
 mod bundle;
 mod fault;
 mod flags;
+mod gathering;
 mod names;
+mod numbering;
 mod primary;
 mod reading;
+mod writing;
 
 pub use block::{Block6, Blocks6};
 pub use bundle::{Bundle6, decode6, exactly_one};
 pub use fault::{Cause6, Fail6};
 pub use primary::Primary6;
+pub use writing::encode6;
+
+#[cfg(test)]
+mod tests;

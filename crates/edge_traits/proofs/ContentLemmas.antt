@@ -39,12 +39,13 @@ Written-end before now [] text none so_far = rw (so_far.whole ∙ append-nil so_
 Written-end before now (x ∷ rest) text none so_far = absurd (omega arith)
 
 pub Written-front : (before now later : Option (List ℕ)) (rest text : List ℕ)
-    → Written before now rest text → Gains now later [] → GainsFront before later text
-Written-front before now None rest text so_far more = tt
-Written-front before None (Some held) rest text so_far more = absurd more
-Written-front None (Some mid) (Some held) rest text so_far more = absurd so_far.gains
-Written-front (Some first) (Some mid) (Some held) rest text so_far more =
-    (so_far.front, rest, so_far.whole, more ∙ append-nil mid ∙ so_far.gains)
+    → Written before now rest text → later ≡ now → GainsFront before later text
+Written-front before now later rest text so_far same = rw same (front before now so_far.gains)
+  where
+    front : (first mid : Option (List ℕ)) → Gains first mid so_far.front → GainsFront first mid text
+    front first None gains = tt
+    front None (Some held) gains = absurd gains
+    front (Some held_first) (Some held) gains = (so_far.front, rest, so_far.whole, gains)
 
 pub Consumes-more : (a b c : Option (List ℕ)) (xs ys : List ℕ) → Consumes a b xs → Consumes b c ys → Consumes a c (xs ++ ys)
 Consumes-more None b c xs ys first second = tt

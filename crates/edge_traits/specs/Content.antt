@@ -16,10 +16,10 @@ abbrev pub GainsFront : {X : Type 0} → Option (List X) → Option (List X) →
 GainsFront {X} before now xs = IfSome now (λ after. IsSomeAnd before (λ held.
     (front : List X) × (rest : List X) × (xs ≡ front ++ rest) × (after ≡ held ++ front)))
 
--- a write took the first n octets of the piece at Ok n, and none where it failed
+-- a write took the first n octets of the piece at Ok n, and left what is held where it failed
 abbrev pub WriteGains : {E : Type 0} → Option (List ℕ) → Option (List ℕ) → Result ℕ E → List ℕ → Type 0
 WriteGains before now result piece =
-    MatchResult result (λ n. Gains before now (take n piece)) (λ _. Gains before now [])
+    MatchResult result (λ n. Gains before now (take n piece)) (λ _. now ≡ before)
 
 -- a write takes at least one octet of a piece that has one, or it fails
 abbrev pub TakesSome : {E : Type 0} → Result ℕ E → List ℕ → Type 0

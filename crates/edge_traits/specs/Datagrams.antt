@@ -20,10 +20,10 @@ PollsAtMost (Ok (Some n)) buf = n ≤ length buf
 PollsAtMost (Ok None) buf = Unit {0}
 PollsAtMost (Err e) buf = Unit {0}
 
--- a datagram that was sent is the last of those gone, and one whose sending failed isn't there
+-- a datagram that was sent is the last of those gone; where the sending failed they are as before
 abbrev pub SendGains : {E : Type 0} → Option (List (List ℕ)) → Option (List (List ℕ)) → Result (Unit {0}) E → List ℕ → Type 0
 SendGains before now result datagram =
-    MatchResult result (λ _. Gains before now (datagram ∷ [])) (λ _. Gains before now [])
+    MatchResult result (λ _. Gains before now (datagram ∷ [])) (λ _. now ≡ before)
 
 -- the texts that lie end to end in octets, by their lengths
 abbrev pub texts_of : List ℕ → List ℕ → List (List ℕ)

@@ -1,11 +1,12 @@
 -- What a run answers, and what each answer means for the octets written and for the counts of
 -- faults.
-use Rattle.std.specs.Prelude.{◌≡◌, ℕ, ◌<◌, List, [], Option, Result, Ok, Err}
+use Rattle.std.specs.Prelude.{◌≡◌, ℕ, ◌<◌, List, [], Bool, Option, Result, Ok, Err}
 use Rattle.edge_traits.specs.declared.status.Status.{Status}
 use Rattle.edge_traits.specs.declared.status.Status.TheVariants.{Done, Refused, Usage, ReadFault, WriteFault, Limit, Memory}
 use Rattle.edge_traits.specs.declared.input.ReadRefused.{ReadRefused}
 use Rattle.edge_traits.specs.declared.input.ReadRefused.TheVariants.{Fault, NoMemory}
 use Rattle.edge_traits.specs.Content.{Gains, GainsFront}
+use Rattle.edge_traits.specs.Faults.{StopsAtFailure, NoneFailed}
 
 -- the program's exit status
 abbrev pub code_of : Status → ℕ
@@ -59,6 +60,12 @@ abbrev pub ReadRose : {T : Type 0} → Result T ReadRefused → ℕ → ℕ → 
 ReadRose (Ok input) before now = now ≡ before
 ReadRose (Err Fault) before now = before < now
 ReadRose (Err NoMemory) before now = now ≡ before
+
+-- no read follows one that failed
+abbrev pub ReadStops : {T : Type 0} → Result T ReadRefused → Option (List Bool) → Option (List Bool) → Type 0
+ReadStops (Ok input) before now = NoneFailed before now
+ReadStops (Err Fault) before now = StopsAtFailure before now
+ReadStops (Err NoMemory) before now = NoneFailed before now
 
 -- the source's count rose where the run ended by a read fault, and else it stayed
 abbrev pub RoseByRead : Status → ℕ → ℕ → Type 0

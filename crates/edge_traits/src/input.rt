@@ -1,7 +1,8 @@
 //! Reading the whole input.
 ghost use Rattle.std.specs.Prelude.{◌≡◌, ℕ, ◌+◌, ◌-◌, ◌<◌, ◌≤◌, ◌^◌, take, length, vec_len, IfOk, IfSome, OnOk};
+ghost use Rattle.std.specs.Io.KnownBytes.{IsAtEnd};
 ghost use Rattle.edge_traits.specs.Content.{ReadsOn, read_front};
-ghost use Rattle.edge_traits.specs.Outcome.{ReadRose};
+ghost use Rattle.edge_traits.specs.Outcome.{ReadRose, ReadStops};
 
 use crate::failing::Failed;
 use crate::source::Source;
@@ -53,15 +54,18 @@ pub fn read_all<S: Source>(
     requires room { most < 2 ^ 62 }
     requires fresh { S.faults source.old < 2 ^ 64 - 1 }
     ensures input { IfOk result (λ input. IfSome (S.left source.old) (λ left. input.items ≡ read_front most left)) }
+    ensures ended { IfOk result (λ input. length input.items ≤ most → IsAtEnd (S.left source.new)) }
     ensures cause { ReadRose result (S.faults source.old) (S.faults source.new) }
+    ensures stops { ReadStops result (S.failing source.old) (S.failing source.new) }
 {
     let mut input = Vec::new(alloc);
     let mut buffer = zeros(alloc, BUFFER)?;
     'reading: while input.len() <= most {
         let want = BUFFER.min(most + 1 - input.len());
-        let n = read_some(source, &mut buffer[..want], &mut input)?;
-        if n == 0 {
-            break;
+        match read_some(source, &mut buffer[..want], &mut input) {
+            Ok(0) => return Ok(input),
+            Ok(_) => {}
+            Err(refused) => return Err(refused),
         }
     }
     Ok(input)
@@ -78,6 +82,7 @@ fn read_some<S: Source>(
     ensures more { IfOk result (ReadsOn (S.left source.old) (S.left source.new) input.old.items input.new.items) }
     ensures bound { IfOk result (λ n. n ≤ length buffer.new) }
     ensures cause { ReadRose result (S.faults source.old) (S.faults source.new) }
+    ensures stops { ReadStops result (S.failing source.old) (S.failing source.new) }
 {
     let n = source.read(buffer)?;
     input.extend_from_slice(&buffer[..n])?;

@@ -1,6 +1,7 @@
 //! Writing a whole text, and a whole answer.
 ghost use Rattle.std.specs.Prelude.{◌≡◌, ℕ, ◌+◌, ◌-◌, ◌<◌, ◌≤◌, ◌^◌, length, OnOk, OnErr};
 ghost use Rattle.edge_traits.specs.AnswerView.{answered};
+ghost use Rattle.edge_traits.specs.Faults.{StopsAtFailure};
 ghost use Rattle.edge_traits.specs.Content.{Gains, GainsFront};
 ghost use Rattle.edge_traits.specs.Outcome.{Answers, IsAnswer, EndsWriting, RoseByWrite};
 
@@ -17,11 +18,14 @@ pub fn write_all<K: Sink>(sink: &mut K, text: &[u8]) -> Result<(), Failed>
     ensures err { OnErr result (GainsFront (K.held sink.old) (K.held sink.new) text.now) }
     ensures kept { OnOk result (K.faults sink.new ≡ K.faults sink.old) }
     ensures rose { OnErr result (K.faults sink.old < K.faults sink.new) }
+    ensures stops { OnErr result (StopsAtFailure (K.failing sink.old) (K.failing sink.new)) }
 {
     let mut rest = text;
     'writing: while !rest.is_empty() {
-        let n = sink.write(rest)?;
-        rest = &rest[n..];
+        match sink.write(rest) {
+            Ok(n) => rest = &rest[n..],
+            Err(failed) => return Err(failed),
+        }
     }
     Ok(())
 }
@@ -33,6 +37,7 @@ pub fn write_answer<K: Sink>(sink: &mut K, answer: &Answer) -> Status
     ensures answers { Answers (answered answer.now) result (K.held sink.old) (K.held sink.new) }
     ensures ends { EndsWriting result }
     ensures fault { RoseByWrite result (K.faults sink.old) (K.faults sink.new) }
+    ensures stops { result ≡ Status.WriteFault → StopsAtFailure (K.failing sink.old) (K.failing sink.new) }
 {
     match write_all(sink, answer.text.as_bytes()) {
         Ok(()) => answer.status,

@@ -1,5 +1,6 @@
 -- What a run wrote, by its command.
-use Rattle.std.proofs.Common.{◌≡◌, ℕ, List, [], ◌++◌, Option, None, Some, IfSome, IsSomeAnd, refl, sym}
+use Rattle.std.proofs.Common.{◌≡◌, ℕ, ◌≤◌, List, [], ◌++◌, length, Option, None, Some, IfSome, IsSomeAnd, refl, sym, ◌∙◌, ap}
+use Rattle.std.specs.Io.KnownBytes.{IsAtEnd}
 use Rattle.std.proofs.lemmas.List.{append-nil}
 use Rattle.edge_traits.specs.declared.status.Status.{Status}
 use Rattle.edge_traits.specs.declared.status.Status.TheVariants as statuses
@@ -13,6 +14,7 @@ use Rattle.gateway_run.specs.RedPart.{KeepsReceiverLaw}
 use Rattle.gateway_run.specs.Words.{most_input, answer_to, KeepsLaw, WritesLawfully}
 use Rattle.gateway_run.proofs.ReceiveLemmas.{received-front}
 use Rattle.gateway_run.proofs.TranscriptLemmas.{received-law}
+use Rattle.gateway_run.proofs.EndLemmas.{received-done}
 
 answer_to-front : (command : Command) (input : List ℕ) → answer_to command (read_front most_input input) ≡ answer_to command input
 answer_to-front commands.Receive input = received-front most_input input
@@ -94,3 +96,20 @@ pub keeps_law : (left : Option (List ℕ)) (named : Option Command) (command : C
 keeps_law None named command status before now is answers = tt
 keeps_law (Some input) named commands.Receive status before now is answers =
     rw is (lawful input (answer_to commands.Receive input) (received-law the_limits most_input input) status before now answers)
+
+-- ---- a run that is done
+
+done_within : (command : Command) (input : List ℕ) → (answer_to command input).status ≡ statuses.Done → length input ≤ most_input
+done_within commands.Receive input is = received-done most_input input is
+
+pub read_to_end : (left : Option (List ℕ)) (command : Command) (input : List ℕ) (due : Answered) (status : Status) (before now : Option (List ℕ))
+    → due ≡ answer_to command input → Answers due status before now
+    → (length input ≤ most_input → IsAtEnd left) → status ≡ statuses.Done → IsAtEnd left
+read_to_end left command input due statuses.Done before now is answers ended done =
+    ended (done_within command input (sym (ap (λ (a : Answered). a.status) is) ∙ answers.0))
+read_to_end left command input due statuses.Refused before now is answers ended done = absurd (cc)
+read_to_end left command input due statuses.Usage before now is answers ended done = absurd (cc)
+read_to_end left command input due statuses.ReadFault before now is answers ended done = absurd (cc)
+read_to_end left command input due statuses.WriteFault before now is answers ended done = absurd (cc)
+read_to_end left command input due statuses.Limit before now is answers ended done = absurd (cc)
+read_to_end left command input due statuses.Memory before now is answers ended done = absurd (cc)

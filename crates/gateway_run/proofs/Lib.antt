@@ -7,3 +7,5 @@ pub mod SessionsLemmas
 pub mod OpenPartLemmas
 pub mod ReceiveLemmas
 pub mod CommandLemmas
+pub mod BlockLemmas
+pub mod EndLemmas

@@ -5,9 +5,8 @@ use Rattle.std.proofs.Math.Seq.{get_or-append_seam}
 use Rattle.std.proofs.lemmas.Bool.{cases_lt}
 use Rattle.std.proofs.lemmas.Bool.Decides.{nat_tests}
 use Rattle.std.specs.Option.{option_eq}
-use Rattle.spans.specs.Places.{is_covered, uncovered, with_covered, all_covered}
+use Rattle.spans.specs.Places.{is_covered, is_in, uncovered, with_covered, all_covered}
 use Rattle.spans.proofs.Covering.{same_truth}
-use Rattle.spans.specs.Kept.{is_in}
 use Rattle.spans.proofs.Places.{is_covered-with_covered, all_covered-true, all_covered-from}
 use Rattle.gateway_run.specs.declared.part.Held.{Held}
 use Rattle.gateway_run.specs.Session.{RedPiece, stop_of, filled, all_octets, known_after, whole_part}

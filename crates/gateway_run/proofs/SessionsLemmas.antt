@@ -9,11 +9,12 @@ use Rattle.std.specs.Ordering.{nat_cmp, ordering_then, is_eq}
 use Rattle.std.specs.BTreeMap.{get}
 use Rattle.gateway_run.specs.declared.table.Standing.{Standing}
 use Rattle.gateway_run.specs.declared.table.Standing.TheVariants as standings
+use Rattle.gateway_run.specs.declared.table.Found.TheVariants as founds
 use Rattle.gateway_run.specs.declared.table.Sessions.{Sessions}
 use Rattle.gateway_run.specs.Session.{RedPiece, Session, fresh, open_part, handed_up, nothing, up, out_of_bounds, passed_over, laid_over, filled, all_octets, known_after, whole_part, handing_up, meets}
 use Rattle.gateway_run.specs.Receive.{Kept, session_in, with_session, is_unfinished, same_name}
 use Rattle.gateway_run.specs.OpenPart.{is_outside_of}
-use Rattle.gateway_run.specs.Sessions.{key_cmp, StandsFor, Shows, ShowsOthers, LacksFirst, Puts, is_handed_up}
+use Rattle.gateway_run.specs.Sessions.{key_cmp, StandsFor, Shows, ShowsOthers, LacksFirst, Puts, found_at}
 use Rattle.gateway_run.proofs.CellLemmas.{length-laid_over}
 use Rattle.gateway_run.proofs.TableLemmas.{session_in-with, unfinished-with, count, same_name-is, both}
 
@@ -139,7 +140,7 @@ puts_of old new o s standing updates counted = record {
 -- ---- an entry is found
 
 pub found_handed_up : (entry : Option Standing) (session : Session) (most : ℕ) (p : RedPiece) → StandsFor entry session
-    → is_handed_up entry ≡ true → meets most session p ≡ (passed_over, handed_up)
+    → found_at entry ≡ founds.HandedUp → meets most session p ≡ (passed_over, handed_up)
 unfolding meets
 found_handed_up None session most p stands is = absurd (cc)
 found_handed_up (Some (standings.Open part)) session most p stands is = absurd (cc)
@@ -175,7 +176,7 @@ others_of old new kept o s updates counted shows = record {
 }
 
 pub handed_up_of : (entry : Option Standing) (session : Session) → StandsFor entry session
-    → is_handed_up entry ≡ true → session ≡ handed_up
+    → found_at entry ≡ founds.HandedUp → session ≡ handed_up
 handed_up_of None session stands is = absurd (cc)
 handed_up_of (Some (standings.Open part)) session stands is = absurd (cc)
 handed_up_of (Some standings.HandedUp) session stands is = stands
@@ -183,3 +184,18 @@ handed_up_of (Some standings.HandedUp) session stands is = stands
 pub found_entry : (entry : Option Standing) (standing : Standing) (session : Session) → entry ≡ Some standing
     → StandsFor entry session → StandsFor (Some standing) session
 found_entry entry standing session is stands = subst (λ (e : Option Standing). StandsFor e session) is stands
+
+-- no entry is found where none came
+pub lacks_first : (sessions : Sessions) (kept : List Kept) (o s : ℕ) → Shows sessions kept
+    → found_at (get key_cmp sessions.table (o, s)) ≡ founds.Nothing → LacksFirst sessions kept o s
+lacks_first sessions kept o s shows is = by_entry (get key_cmp sessions.table (o, s)) refl is (shows.each o s)
+  where
+    by_entry : (entry : Option Standing) → get key_cmp sessions.table (o, s) ≡ entry → found_at entry ≡ founds.Nothing
+        → StandsFor entry (session_in o s kept) → LacksFirst sessions kept o s
+    by_entry None at nothing_found stands = record {
+      others = record { each = λ p q apart. shows.each p q; count = shows.count };
+      absent = at;
+      first = stands;
+    }
+    by_entry (Some standings.HandedUp) at nothing_found stands = absurd (cc)
+    by_entry (Some (standings.Open part)) at nothing_found stands = absurd (cc)

@@ -1,5 +1,5 @@
 -- The text that `receive` writes keeps the receiver's law.
-use Rattle.std.proofs.Common.{◌≡◌, ℕ, zero, suc, ◌+◌, ◌<◌, ◌≤◌, Bool, true, false, ◌&&◌, ◌||◌, ◌↔◌, ◌⊎◌, inl, inr, List, [], ◌∷◌, ◌++◌, length, take, get_or, refl, sym, ◌∙◌, ap, arith, append_assoc, if◌then◌else◌, codes, nat_lt}
+use Rattle.std.proofs.Common.{◌≡◌, ℕ, zero, suc, ◌+◌, ◌<◌, Bool, true, false, ◌&&◌, ◌||◌, ◌↔◌, inl, inr, List, [], ◌∷◌, ◌++◌, length, take, get_or, refl, sym, ◌∙◌, ap, arith, append_assoc, if◌then◌else◌, nat_lt}
 use Rattle.std.proofs.lemmas.List.{append-nil}
 use Rattle.edge_traits.specs.declared.status.Status.{Status}
 use Rattle.edge_traits.specs.declared.status.Status.TheVariants as statuses
@@ -7,7 +7,7 @@ use Rattle.edge_traits.specs.Outcome.{Answered}
 use Rattle.gateway_run.specs.Lines.{lines_within}
 use Rattle.gateway_run.specs.Session.{RedPiece, Session, Said, nothing, up, out_of_bounds, passed_over, meets}
 use Rattle.gateway_run.specs.Receive.{Heard, not_hex, malformed, other, red, heard_of, Kept, session_in, with_session, same_name, skip_line, line_of, Limits, Turn, goes_on, stops, turn_heard, turn_of, after_turn, answers_from, ending_of, received}
-use Rattle.gateway_run.specs.RedPart.{counts, with_piece, taken, BecomesWhole, Reply, hands_up, silent, notes, skips, reply_line, replies_text, KeepsReceiverLaw}
+use Rattle.gateway_run.specs.RedPart.{counts, with_piece, taken, BecomesWhole, IsRefusal, Closes, Reply, hands_up, silent, notes, skips, reply_line, replies_text, KeepsReceiverLaw}
 use Rattle.gateway_run.proofs.LawLemmas.{Told, with_counted, MetByLaw, meets-law, red_part-whole}
 use Rattle.gateway_run.proofs.TableLemmas.{same_name-is, same_name-refl, session_in-with}
 
@@ -58,16 +58,19 @@ pub record GoesOnByLaw (most n : ℕ) (before : List (List ℕ)) (line text : Li
   pub law : ReplyByLaw most before line reply
   pub shows : ShowsAll most kept (before ++ line ∷ [])
 
-abbrev pub IsClosing : List ℕ → Type 0
-IsClosing text = (text ≡ []) ⊎ ((rest : List ℕ) × (text ≡ codes "refused line " ++ rest))
-
-pub record StopsByLaw (text : List ℕ) (status : Status) : Type 0 where
-  pub close : IsClosing text
-  pub early : status ≡ statuses.Done → ⊥
+-- a run that ends with line n: it is refused in one line, or passes a limit
+abbrev pub StopsByLaw : ℕ → List ℕ → Status → Type 0
+StopsByLaw n text statuses.Done = ⊥
+StopsByLaw n text statuses.Refused = IsRefusal n text
+StopsByLaw n text statuses.Limit = text ≡ []
+StopsByLaw n text statuses.Usage = ⊥
+StopsByLaw n text statuses.ReadFault = ⊥
+StopsByLaw n text statuses.WriteFault = ⊥
+StopsByLaw n text statuses.Memory = ⊥
 
 abbrev pub TurnByLaw : ℕ → ℕ → List (List ℕ) → List ℕ → Turn → Type 0
 TurnByLaw most n before line (goes_on text kept) = GoesOnByLaw most n before line text kept
-TurnByLaw most n before line (stops text status) = StopsByLaw text status
+TurnByLaw most n before line (stops text status) = StopsByLaw n text status
 
 -- a line that brings no piece changes nothing
 idle-law : (most : ℕ) (before : List (List ℕ)) (line : List ℕ) (reply : Reply) (o s : ℕ) (body : List ℕ)
@@ -168,16 +171,11 @@ module _ (most n : ℕ) (kept : List Kept) (before : List (List ℕ)) (line : Li
 
 -- ---- any line
 
-limit-law : StopsByLaw [] statuses.Limit
-limit-law = record { close = inl refl; early = λ is. cc }
-
 heard-law : (limits : Limits) (n : ℕ) (kept : List Kept) (before : List (List ℕ)) (line : List ℕ) (h : Heard)
     → ShowsAll limits.block kept before → heard_of line ≡ h
     → TurnByLaw limits.block n before line (turn_heard limits n kept h)
-heard-law limits n kept before line not_hex shows is =
-    record { close = inr (_, refl); early = λ done. cc }
-heard-law limits n kept before line (malformed at cause) shows is =
-    record { close = inr (_, refl); early = λ done. cc }
+heard-law limits n kept before line not_hex shows is = inl refl
+heard-law limits n kept before line (malformed at cause) shows is = inr (at, cause, refl)
 heard-law limits n kept before line other shows is = other-law limits.block n kept before line shows is
 heard-law limits n kept before line (red p) shows is = by_test (nat_lt limits.sessions _)
   where
@@ -185,7 +183,7 @@ heard-law limits n kept before line (red p) shows is = by_test (nat_lt limits.se
         (if t then stops [] statuses.Limit
         else goes_on (line_of n p (meets limits.block (session_in p.originator p.session kept) p).0)
         (with_session p.originator p.session (meets limits.block (session_in p.originator p.session kept) p).1 kept))
-    by_test true = limit-law
+    by_test true = refl
     by_test false = red-law limits.block n kept before line p shows is
 
 pub turn-law : (limits : Limits) (n : ℕ) (kept : List Kept) (before : List (List ℕ)) (line : List ℕ)
@@ -195,7 +193,7 @@ turn-law limits n kept before line shows = by_test (nat_lt limits.lines n || nat
   where
     by_test : (t : Bool) → TurnByLaw limits.block n before line
         (if t then stops [] statuses.Limit else turn_heard limits n kept (heard_of line))
-    by_test true = limit-law
+    by_test true = refl
     by_test false = heard-law limits n kept before line (heard_of line) shows refl
 
 -- ---- all lines
@@ -205,22 +203,39 @@ pub record KeepsFrom (most n : ℕ) (before lines : List (List ℕ)) (text : Lis
   pub replies : List Reply
   pub closing : List ℕ
   pub written : text ≡ replies_text n replies ++ closing
-  pub close : IsClosing closing
-  pub some : length replies ≤ length lines
-  pub all : status ≡ statuses.Done → length replies ≡ length lines
+  pub close : Closes n status (length replies) (length lines) closing
   pub law : (i o s : ℕ) (body : List ℕ) → i < length replies
       → ((get_or replies i silent ≡ hands_up o s body) ↔ BecomesWhole most (before ++ take i lines) (get_or lines i []) o s body)
 
-keeps_stop : (most n : ℕ) (before lines : List (List ℕ)) (text : List ℕ) (status : Status)
-    → StopsByLaw text status → KeepsFrom most n before lines text status
+closes_stop : (n lines : ℕ) (text : List ℕ) (status : Status) → StopsByLaw n text status → Closes n status 0 (suc lines) text
+closes_stop n lines text statuses.Done stop = absurd stop
+closes_stop n lines text statuses.Refused stop =
+    let same : n + 0 ≡ n = omega arith in (rw same stop, omega arith)
+closes_stop n lines text statuses.Limit stop = (stop, omega arith)
+closes_stop n lines text statuses.Usage stop = absurd stop
+closes_stop n lines text statuses.ReadFault stop = absurd stop
+closes_stop n lines text statuses.WriteFault stop = absurd stop
+closes_stop n lines text statuses.Memory stop = absurd stop
+
+closes_more : (n replies lines : ℕ) (text : List ℕ) (status : Status) → Closes (n + 1) status replies lines text
+    → Closes n status (suc replies) (suc lines) text
+closes_more n replies lines text statuses.Done later = (later.0, omega (arith, later.1))
+closes_more n replies lines text statuses.Refused later =
+    let same : n + suc replies ≡ n + 1 + replies = omega arith in (rw same later.0, omega (arith, later.1))
+closes_more n replies lines text statuses.Limit later = (later.0, omega (arith, later.1))
+closes_more n replies lines text statuses.Usage later = absurd later
+closes_more n replies lines text statuses.ReadFault later = absurd later
+closes_more n replies lines text statuses.WriteFault later = absurd later
+closes_more n replies lines text statuses.Memory later = absurd later
+
+keeps_stop : (most n : ℕ) (before : List (List ℕ)) (line : List ℕ) (lines : List (List ℕ)) (text : List ℕ) (status : Status)
+    → StopsByLaw n text status → KeepsFrom most n before (line ∷ lines) text status
 unfolding replies_text
-keeps_stop most n before lines text status stop = record {
+keeps_stop most n before line lines text status stop = record {
   replies = [];
   closing = text;
   written = refl;
-  close = stop.close;
-  some = omega arith;
-  all = λ done. absurd (stop.early done);
+  close = closes_stop n (length lines) text status stop;
   law = λ i o s body low. absurd (omega arith);
 }
 
@@ -233,9 +248,7 @@ keeps_more most n before line lines text kept rest turn later = record {
   replies = turn.reply ∷ later.replies;
   closing = later.closing;
   written = rw (turn.says, later.written) (sym (append_assoc (reply_line n turn.reply) (replies_text (n + 1) later.replies) later.closing));
-  close = later.close;
-  some = omega (arith, later.some);
-  all = λ done. omega (arith, later.all done);
+  close = closes_more n (length later.replies) (length lines) later.closing rest.status later.close;
   law = each;
 }
   where
@@ -255,37 +268,42 @@ keeps_turn : (limits : Limits) (n : ℕ) (before : List (List ℕ)) (line : List
 keeps_turn limits n before line lines ending (goes_on text kept) turn later =
     keeps_more limits.block n before line lines text kept (answers_from limits (n + 1) kept lines ending) turn (later kept turn.shows)
 keeps_turn limits n before line lines ending (stops text status) turn later =
-    keeps_stop limits.block n before (line ∷ lines) text status turn
+    keeps_stop limits.block n before line lines text status turn
+
+-- a run may end so behind its last line
+abbrev pub IsEnding : Status → Type 0
+IsEnding ending = (n : ℕ) → Closes n ending 0 0 []
 
 pub keeps_from : (limits : Limits) (n : ℕ) (kept : List Kept) (before lines : List (List ℕ)) (ending : Status)
-    → ShowsAll limits.block kept before
+    → IsEnding ending → ShowsAll limits.block kept before
     → KeepsFrom limits.block n before lines (answers_from limits n kept lines ending).text (answers_from limits n kept lines ending).status
 unfolding answers_from replies_text
-keeps_from limits n kept before [] ending shows = record {
+keeps_from limits n kept before [] ending ends shows = record {
   replies = [];
   closing = [];
   written = refl;
-  close = inl refl;
-  some = omega arith;
-  all = λ done. refl;
+  close = ends n;
   law = λ i o s body low. absurd (omega arith);
 }
-keeps_from limits n kept before (line ∷ lines) ending shows =
+keeps_from limits n kept before (line ∷ lines) ending ends shows =
     keeps_turn limits n before line lines ending (turn_of limits n kept line) (turn-law limits n kept before line shows)
-    (λ now later. keeps_from limits (n + 1) now (before ++ line ∷ []) lines ending later)
+    (λ now later. keeps_from limits (n + 1) now (before ++ line ∷ []) lines ending ends later)
+
+ending-is : (t : Bool) → IsEnding (if t then statuses.Limit else statuses.Done)
+ending-is true = λ n. (refl, omega arith)
+ending-is false = λ n. (refl, refl)
 
 -- what `receive` writes keeps the receiver's law
 pub received-law : (limits : Limits) (most : ℕ) (input : List ℕ)
     → KeepsReceiverLaw limits.block (lines_within most input) (received limits most input).text (received limits most input).status
 unfolding received taken session_in
 received-law limits most input =
-    let law = keeps_from limits 1 [] [] (lines_within most input) (ending_of most input) (record { each = λ o s. refl }) in
+    let law = keeps_from limits 1 [] [] (lines_within most input) (ending_of most input)
+    (ending-is (nat_lt most (length input))) (record { each = λ o s. refl }) in
     record {
       replies = law.replies;
       closing = law.closing;
       written = law.written;
       close = law.close;
-      some = law.some;
-      all = law.all;
       law = law.law;
     }

@@ -1,11 +1,12 @@
 -- The receiver's law, place by place: which pieces of a session count, when its red part is
 -- whole, and which octets it has. No cells stand here; that the cells of a session agree with it
 -- is proved.
-use Rattle.std.specs.Prelude.{◌≡◌, ℕ, zero, suc, ◌+◌, ◌-◌, ◌<◌, ◌≤◌, Bool, true, false, not, ◌==◌, ◌&&◌, ◌||◌, nat_lt, nat_le, max, List, [], ◌∷◌, ◌++◌, length, take, codes, slice_index, slice_index_or, Option, None, Some, is_some, ◌↔◌, ◌⊎◌, if◌then◌else◌}
+use Rattle.std.specs.Prelude.{◌≡◌, ℕ, zero, suc, ◌+◌, ◌-◌, ◌<◌, ◌≤◌, Bool, true, false, not, ◌==◌, ◌&&◌, ◌||◌, nat_lt, nat_le, max, All, List, [], ◌∷◌, ◌++◌, length, take, slice_index, slice_index_or, Option, None, Some, is_some, ◌↔◌, ◌⊎◌, if◌then◌else◌}
 use Rattle.edge_traits.specs.declared.status.Status.{Status}
 use Rattle.edge_traits.specs.declared.status.Status.TheVariants as statuses
+use Rattle.ltp_segment.specs.declared.cause.SegmentCause.{SegmentCause}
 use Rattle.gateway_run.specs.Session.{RedPiece, stop_of, is_past, is_another}
-use Rattle.gateway_run.specs.Receive.{Heard, not_hex, malformed, other, red, heard_of, up_line, note_line, skip_line}
+use Rattle.gateway_run.specs.Receive.{Heard, not_hex, malformed, other, red, heard_of, up_line, note_line, skip_line, hex_line, cause_line}
 
 -- the first of two, where there is one
 abbrev pub or_else : {X : Type 0} → Option X → Option X → Option X
@@ -105,15 +106,39 @@ unfoldable pub replies_text : ℕ → List Reply → List ℕ
 replies_text n [] = []
 replies_text n (reply ∷ replies) = reply_line n reply ++ replies_text (n + 1) replies
 
+-- the line that refuses line n
+abbrev pub IsRefusal : ℕ → List ℕ → Type 0
+IsRefusal n text =
+    (text ≡ hex_line n) ⊎ ((at : ℕ) × (cause : SegmentCause) × (text ≡ cause_line n at cause))
+
+-- the end of a run over so many lines from line n on, of which so many have a reply: all of them;
+-- or the next one is refused in one line; or a limit is passed, and nothing more is said
+abbrev pub Closes : ℕ → Status → ℕ → ℕ → List ℕ → Type 0
+Closes n statuses.Done replies lines closing = (closing ≡ []) × (replies ≡ lines)
+Closes n statuses.Refused replies lines closing = IsRefusal (n + replies) closing × (replies < lines)
+Closes n statuses.Limit replies lines closing = (closing ≡ []) × (replies ≤ lines)
+Closes n statuses.Usage replies lines closing = ⊥
+Closes n statuses.ReadFault replies lines closing = ⊥
+Closes n statuses.WriteFault replies lines closing = ⊥
+Closes n statuses.Memory replies lines closing = ⊥
+
 -- the text hands up exactly the red parts that become whole, each with the line that completes
--- it; behind the lines of its replies it has at most one that refuses
+-- it, and ends as it says
 pub record KeepsReceiverLaw (most : ℕ) (lines : List (List ℕ)) (text : List ℕ) (status : Status) : Type 0 where
   pub replies : List Reply
   pub closing : List ℕ
   pub written : text ≡ replies_text 1 replies ++ closing
-  pub close : (closing ≡ []) ⊎ ((rest : List ℕ) × (closing ≡ codes "refused line " ++ rest))
-  pub some : length replies ≤ length lines
-  pub all : status ≡ statuses.Done → length replies ≡ length lines
+  pub close : Closes 1 status (length replies) (length lines) closing
   pub law : (i originator session : ℕ) (body : List ℕ) → i < length replies
       → ((slice_index_or replies i silent ≡ hands_up originator session body)
       ↔ BecomesWhole most (take i lines) (slice_index_or lines i []) originator session body)
+
+-- every octet that a piece has is the block's at its place
+abbrev pub IsOfBlock : List ℕ → RedPiece → Type 0
+IsOfBlock block p = (k : ℕ) → k < length p.body
+    → (p.offset + k < length block) × (slice_index p.body k ≡ slice_index block (p.offset + k))
+
+-- where all pieces are of one block, the red part is the front of it
+abbrev pub IsFrontOfBlock : List ℕ → List RedPiece → List ℕ → Type 0
+IsFrontOfBlock block pieces body = All (IsOfBlock block) pieces → IsRedPart pieces body
+    → body ≡ take (length body) block

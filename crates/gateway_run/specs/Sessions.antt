@@ -1,5 +1,5 @@
 -- The table of sessions that the code keeps, and the list that it stands for.
-use Rattle.std.specs.Prelude.{◌≡◌, ℕ, List, Option, None, Some, Bool, true, false}
+use Rattle.std.specs.Prelude.{◌≡◌, ℕ, List, Option, None, Some, true, false}
 use Rattle.std.specs.Ordering.{nat_cmp, ordering_then}
 use Rattle.std.specs.declared.cmp.Ordering.{Ordering}
 use Rattle.std.specs.BTreeMap.{get}
@@ -7,6 +7,8 @@ use Rattle.gateway_run.specs.declared.part.OpenPart.{OpenPart}
 use Rattle.gateway_run.specs.declared.table.Standing.{Standing}
 use Rattle.gateway_run.specs.declared.table.Standing.TheVariants as standings
 use Rattle.gateway_run.specs.declared.table.Sessions.{Sessions}
+use Rattle.gateway_run.specs.declared.table.Found.{Found}
+use Rattle.gateway_run.specs.declared.table.Found.TheVariants as founds
 use Rattle.gateway_run.specs.declared.table.Reply.{Reply}
 use Rattle.gateway_run.specs.declared.table.Reply.TheVariants as replies
 use Rattle.gateway_run.specs.Session.{RedPiece, Session, fresh, open_part, handed_up, Said, nothing, up, out_of_bounds, passed_over, meets}
@@ -56,11 +58,11 @@ pub record Puts (old new : Sessions) (originator session : ℕ) (standing : Stan
       → get key_cmp new.table (o, s) ≡ get key_cmp old.table (o, s)
   pub count : new.unfinished ≡ old.unfinished
 
--- an entry says that the red part was handed up
-abbrev pub is_handed_up : Option Standing → Bool
-is_handed_up (Some standings.HandedUp) = true
-is_handed_up (Some (standings.Open part)) = false
-is_handed_up None = false
+-- how a session is found
+abbrev pub found_at : Option Standing → Found
+found_at None = founds.Nothing
+found_at (Some (standings.Open part)) = founds.Open
+found_at (Some standings.HandedUp) = founds.HandedUp
 
 -- what a reply to a piece says
 abbrev pub said_by : RedPiece → Reply → Said

@@ -11,6 +11,7 @@
 
 mod command;
 mod hearing;
+mod laws;
 mod lines;
 mod open_part;
 mod part;
@@ -24,5 +25,6 @@ mod text;
 mod top;
 mod word;
 
+pub use laws::red_part_is_front_of_block;
 pub use top::run;
 pub use word::Word;

@@ -42,7 +42,7 @@ pub fn is_outside(reach: u64, length: Option<u64>, piece: &Piece<'_>) -> bool
 
 /// Takes a piece that can be one of the red part.
 pub fn take(alloc: Global, part: &mut OpenPart, piece: &Piece<'_>) -> Result<(), AllocError>
-    requires { stop_of (red_piece piece.now) ≤ 4194304 }
+    requires { stop_of (red_piece piece.now) ≤ BLOCK_MAX }
     ensures { (cells : List (Option ℕ)) (known : Option ℕ) → Stands part.old cells known
         → OnOk result (Stands part.new (filled cells piece.now.offset piece.now.body.now) (known_after known (red_piece piece.now))) }
 {

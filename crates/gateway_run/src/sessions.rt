@@ -2,13 +2,13 @@
 ghost use Rattle.std.specs.Prelude.{◌≡◌, ◌&&◌, ◌==◌, ℕ, ◌+◌, ◌<◌, ◌^◌, List, [], Option, OnOk, IfOk};
 ghost use Rattle.gateway_run.specs.Receive.{Kept};
 ghost use Rattle.gateway_run.specs.Views.{red_piece};
-ghost use Rattle.gateway_run.specs.Sessions.{Shows, LacksFirst, LacksOpen, Puts, Meets, key_cmp, is_handed_up};
+ghost use Rattle.gateway_run.specs.Sessions.{Shows, LacksFirst, LacksOpen, Puts, Meets, key_cmp, found_at};
 ghost use Rattle.std.specs.BTreeMap.{get};
 
 use crate::open_part::{empty_part, is_outside, take, whole};
 use crate::part::OpenPart;
 use crate::piece::Piece;
-use crate::table::{Reply, Sessions, Standing};
+use crate::table::{Found, Reply, Sessions, Standing};
 use ltp_segment::BLOCK_MAX;
 use std::alloc::{AllocError, Global};
 use std::collections::BTreeMap;
@@ -30,20 +30,25 @@ pub fn meet(alloc: Global, sessions: &mut Sessions, piece: &Piece<'_>) -> Result
         → IfOk result (λ reply. Meets kept (red_piece piece.now) reply sessions.new) }
 {
     let key = (piece.originator, piece.session);
-    if is_handed_up(sessions, key) {
-        return Ok(Reply::PassedOver);
-    }
-    match sessions.table.remove(&key) {
-        Some(Standing::Open(part)) => meet_open(alloc, sessions, part, piece),
-        _ => meet_first(alloc, sessions, piece),
+    match find(sessions, key) {
+        Found::HandedUp => Ok(Reply::PassedOver),
+        Found::Nothing => meet_first(alloc, sessions, piece),
+        Found::Open => match sessions.table.remove(&key) {
+            Some(Standing::Open(part)) => meet_open(alloc, sessions, part, piece),
+            _ => meet_first(alloc, sessions, piece),
+        },
     }
 }
 
-/// Whether the session's red part was handed up.
-fn is_handed_up(sessions: &Sessions, key: (u64, u64)) -> bool
-    ensures { result ≡ is_handed_up (get key_cmp sessions.now.table key) }
+/// How the session stands in the table.
+fn find(sessions: &Sessions, key: (u64, u64)) -> Found
+    ensures { result ≡ found_at (get key_cmp sessions.now.table key) }
 {
-    matches!(sessions.table.get(&key), Some(Standing::HandedUp))
+    match sessions.table.get(&key) {
+        Some(Standing::Open(_)) => Found::Open,
+        Some(Standing::HandedUp) => Found::HandedUp,
+        None => Found::Nothing,
+    }
 }
 
 /// The first piece of its session, which the table doesn't have.

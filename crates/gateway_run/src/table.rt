@@ -12,6 +12,17 @@ pub enum Standing {
     HandedUp,
 }
 
+/// How a session is found in the table.
+#[derive(Clone, Copy, Debug, PartialEq, Eq, Drop)]
+pub enum Found {
+    /// No piece of it came.
+    Nothing,
+    /// Its red part isn't whole.
+    Open,
+    /// Its red part was handed up.
+    HandedUp,
+}
+
 /// The sessions of which a piece came, by originator and number.
 #[derive(Drop)]
 pub struct Sessions {

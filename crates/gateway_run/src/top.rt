@@ -1,6 +1,8 @@
 //! The program's one call.
+ghost use Rattle.std.specs.Io.KnownBytes.{IsAtEnd};
 ghost use Rattle.std.specs.Prelude.{◌≡◌, ◌↔◌, ◌⊎◌, ◌-◌, ◌<◌, ◌^◌, None, IfSome, IfOk};
 ghost use Rattle.edge_traits.specs.AnswerView.{answered};
+ghost use Rattle.edge_traits.specs.Faults.{StopsAtFailure};
 ghost use Rattle.edge_traits.specs.Outcome.{Answers, IsAnswer, RoseByRead, RoseByWrite};
 ghost use Rattle.gateway_run.specs.Words.{command_of, answer_to, AnswersCommand, CompletesCommand, KeepsLaw};
 
@@ -39,9 +41,16 @@ pub fn run<S: Source, K: Sink, L: Link, C: Clock>(
     ensures read_fault { RoseByRead result (S.faults source.old) (S.faults source.new) }
     ensures write_fault { RoseByWrite result (K.faults sink.old) (K.faults sink.new) }
 
+    // No call follows one that failed.
+    ensures read_stops { result ≡ Status.ReadFault → StopsAtFailure (S.failing source.old) (S.failing source.new) }
+    ensures write_stops { result ≡ Status.WriteFault → StopsAtFailure (K.failing sink.old) (K.failing sink.new) }
+
     // Where no count rose, the run ends as the input has it, or for want of memory.
     ensures complete { S.faults source.new ≡ S.faults source.old → K.faults sink.new ≡ K.faults sink.old
         → IfSome (S.left source.old) (λ input. CompletesCommand (command_of words.now) input result) }
+
+    // A run that is done read the source to its end.
+    ensures read_whole { result ≡ Status.Done → IsAtEnd (S.left source.new) }
 
     // `receive` hands up exactly the red parts that become whole.
     ensures red_parts { IfSome (S.left source.old) (λ input.
@@ -71,6 +80,9 @@ fn run_command<S: Source, K: Sink>(
         Answers (answer_to command input) result (K.held sink.old) (K.held sink.new)) }
     ensures read_fault { RoseByRead result (S.faults source.old) (S.faults source.new) }
     ensures write_fault { RoseByWrite result (K.faults sink.old) (K.faults sink.new) }
+    ensures read_stops { result ≡ Status.ReadFault → StopsAtFailure (S.failing source.old) (S.failing source.new) }
+    ensures write_stops { result ≡ Status.WriteFault → StopsAtFailure (K.failing sink.old) (K.failing sink.new) }
+    ensures read_whole { result ≡ Status.Done → IsAtEnd (S.left source.new) }
 {
     let input = match read_all(alloc, source, MOST_INPUT) {
         Ok(input) => input,

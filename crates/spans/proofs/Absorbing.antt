@@ -1,7 +1,7 @@
 -- The loop of a run that grows over whole chunks, over plain variables.
 
 use Rattle.std.proofs.Common.{◌≡◌, ℕ, ◌+◌, ◌<◌, ◌≤◌, List, ◌++◌, length, take, drop, get_or, set, sym, ap, ◌∙◌, subst, arith}
-use Rattle.std.proofs.lemmas.List.{drop-set, drop_at, take-append-le, take-take, length-take-le}
+use Rattle.std.proofs.lemmas.List.{drop-set, take-append-le, take-take, length-take-le}
 use Rattle.spans.specs.declared.range.Run.{Run}
 use Rattle.spans.specs.declared.growth.Growth.{Growth}
 use Rattle.spans.specs.Chunks.{AreFilled, joined, MeetsWhole}
@@ -77,6 +77,3 @@ take-cut from whole old now le within same =
     take-append-le from (take from now) (drop whole now) (omega (arith, length-take-le from now))
     ∙ (take-take from from now (omega arith)
     ∙ (sym (take-take from whole now le) ∙ (ap (take from) same ∙ take-take from whole old le)))
-
-pub drop-cut : {X : Type 0} (from whole : ℕ) (now : List X) → from ≤ whole → whole ≤ length now → drop from (take from now ++ drop whole now) ≡ drop whole now
-drop-cut from whole now le within = drop_at (take from now) (drop whole now) from (length-take-le from now (omega arith))

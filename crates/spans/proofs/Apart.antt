@@ -35,12 +35,6 @@ AreApart-right low [] ys apart = apart
 AreApart-right low (x ∷ xs) ys apart =
     AreApart-lower (x.to + 1) low ys (omega (arith, apart.0, apart.1)) (AreApart-right (x.to + 1) xs ys apart.2)
 
-pub AreApart-drop : (low i : ℕ) (xs : List Run) → AreApart low xs → AreApart low (drop i xs)
-AreApart-drop low zero xs apart = apart
-AreApart-drop low (suc i) [] apart = tt
-AreApart-drop low (suc i) (x ∷ xs) apart =
-    AreApart-lower (x.to + 1) low (drop i xs) (omega (arith, apart.0, apart.1)) (AreApart-drop (x.to + 1) i xs apart.2)
-
 -- ---- a search for the first run that ends at or after a place
 
 pub le-to : (low : ℕ) (runs : List Run) (j : ℕ) (d : Run) → AreApart low runs → j < length runs → low ≤ (get_or runs j d).to

@@ -1,11 +1,11 @@
 -- Walks over the runs, over plain variables.
 
-use Rattle.std.proofs.Common.{◌≡◌, ℕ, zero, suc, ◌+◌, ◌<◌, ◌≤◌, List, [], ◌∷◌, ◌++◌, length, drop, get_or, Option, Some, None, refl, sym, ap, ◌∙◌, arith}
-use Rattle.std.proofs.lemmas.List.{drop_all, length-append}
+use Rattle.std.proofs.Common.{◌≡◌, ℕ, zero, suc, ◌+◌, ◌<◌, ◌≤◌, List, [], ◌∷◌, ◌++◌, length, drop, get_or, Option, Some, refl, sym, ap, ◌∙◌, arith}
+use Rattle.std.proofs.lemmas.List.{drop_all}
 use Rattle.std.proofs.lemmas.Option.{slice_get-get_or}
 use Rattle.std.specs.List.{slice_get}
 use Rattle.spans.specs.declared.range.Run.{Run}
-use Rattle.spans.specs.Chunks.{AreFilled, IsAhead, joined, from_there}
+use Rattle.spans.specs.Chunks.{joined, from_there}
 use Rattle.spans.proofs.Growing.{drop-read}
 
 pub from_there-first : (chunks : List (List Run)) → from_there chunks 0 0 ≡ joined chunks
@@ -14,22 +14,12 @@ from_there-first (k ∷ ks) = refl
 
 -- ---- one run after another
 
-pub from_there-step : (chunks ks : List (List Run)) (k : List Run) (at : ℕ) (r : Run) → chunks ≡ k ∷ ks → at < length k → r ≡ get_or k at r → from_there chunks 0 at ≡ r ∷ from_there chunks 0 (at + 1)
-from_there-step chunks ks k at r is below read =
-    ap (λ (xs : List (List Run)). from_there xs 0 at) is
-    ∙ (ap (λ xs. xs ++ joined ks) (drop-read k at r below read)
-    ∙ ap (λ (xs : List (List Run)). r ∷ from_there xs 0 (at + 1)) (sym is))
-
 pub from_there-next_chunk : (chunks ks : List (List Run)) (k : List Run) (at : ℕ) (r : Run) → chunks ≡ k ∷ ks → at < length k → length k ≤ at + 1 → r ≡ get_or k at r → from_there chunks 0 at ≡ r ∷ from_there ks 0 0
 from_there-next_chunk chunks ks k at r is below last read =
     ap (λ (xs : List (List Run)). from_there xs 0 at) is
     ∙ (ap (λ xs. xs ++ joined ks) (drop-read k at r below read)
     ∙ (ap (λ xs. r ∷ (xs ++ joined ks)) (drop_all (at + 1) k last)
     ∙ ap (λ xs. r ∷ xs) (sym (from_there-first ks))))
-
-pub IsAhead-next : (ks : List (List Run)) → AreFilled ks → IsAhead ks 0
-IsAhead-next [] filled = tt
-IsAhead-next (k ∷ ks) filled = filled
 
 -- ---- the run at an index
 
@@ -60,21 +50,7 @@ Walking-found chunks i n left k r h below read inside at =
     ∙ (slice_get-left k (joined (drop (n + 1) chunks)) left inside
     ∙ (slice_get-get_or k left r inside ∙ ap (λ x. let y : Option Run = Some x in y) (sym at)))))
 
-pub Walking-end : (chunks : List (List Run)) (i n left : ℕ) → Walking chunks i n left → length chunks ≤ n → slice_get (joined chunks) i ≡ None
-Walking-end chunks i n left h past = h.same ∙ ap (λ xs. slice_get (joined xs) left) (drop_all n chunks past)
-
 -- ---- how many runs there are
 
 pub record Totalling (chunks : List (List Run)) (n total : ℕ) : Type 0 where
   pub rest : total + length (joined (drop n chunks)) ≡ length (joined chunks)
-
-pub Totalling-ahead : (chunks : List (List Run)) (n total : ℕ) (k : List Run) → Totalling chunks n total → n < length chunks → k ≡ get_or chunks n k
-    → (total + length k) + length (joined (drop (n + 1) chunks)) ≡ length (joined chunks)
-Totalling-ahead chunks n total k h below read =
-    let e = ap (λ xs. length (joined xs)) (drop-read chunks n k below read) in
-    omega (arith, h.rest, e, length-append k (joined (drop (n + 1) chunks)))
-
-pub Totalling-end : (chunks : List (List Run)) (n total : ℕ) → Totalling chunks n total → length chunks ≤ n → total ≡ length (joined chunks)
-Totalling-end chunks n total h past =
-    let e = ap (λ xs. length (joined xs)) (drop_all n chunks past) in
-    omega (arith, h.rest, e)

@@ -73,19 +73,6 @@ joined-set (k ∷ ks) (suc c) i ys below =
     ap (λ zs. k ++ zs) (joined-set ks c i ys (omega arith))
     ∙ sym (append_assoc k (before ks c i) (ys ++ joined (drop (suc c) ks)))
 
--- the same where the chunks up to that one alone are as they were
-pub joined-set_like : (now chunks : List (List Run)) (c i : ℕ) (ys : List Run) (k : List Run) → c < length chunks
-    → take (suc c) now ≡ take (suc c) (set chunks c k)
-    → joined (set now c (take i (get_or chunks c []) ++ ys)) ≡ before chunks c i ++ (ys ++ joined (drop (suc c) now))
-joined-set_like now [] c i ys k below same = absurd (omega arith)
-joined-set_like [] (m ∷ ms) zero i ys k below same = absurd (cc)
-joined-set_like [] (m ∷ ms) (suc c) i ys k below same = absurd (cc)
-joined-set_like (n ∷ ns) (m ∷ ms) zero i ys k below same = append_assoc (take i m) ys (joined ns)
-joined-set_like (n ∷ ns) (m ∷ ms) (suc c) i ys k below same =
-    let rest = joined-set_like ns ms c i ys k (omega arith) (cc) in
-    let head : n ≡ m = cc in
-    ap (λ zs. n ++ zs) rest ∙ (ap (λ z. z ++ (before ms c i ++ (ys ++ joined (drop (suc c) ns)))) head ∙ sym (append_assoc m (before ms c i) (ys ++ joined (drop (suc c) ns))))
-
 -- ---- the search
 
 pub AreApart-at : (low : ℕ) (chunks : List (List Run)) (c : ℕ) → AreApart low (joined chunks) → c < length chunks → AreApart low (get_or chunks c [])

@@ -5,13 +5,22 @@ use Rattle.std.proofs.lemmas.Bool.{cases_lt, cases_eq, eq-eqb, ne_eqb, or_from, 
 use Rattle.spans.proofs.Covering.{or_assoc}
 use Rattle.std.specs.List.{slice_get}
 use Rattle.spans.specs.declared.range.Run.{Run}
-use Rattle.spans.specs.Laws.{CoversTheRange, CountsTheFresh, AllIsEach, IsMaximal, RunsAreMaximal, WholeIsOneRun, CountsThoseBelow}
+use Rattle.spans.specs.Laws.{NothingIsCovered, CoversTheRange, CountsTheFresh, AllIsEach, IsMaximal, RunsAreMaximal, WholeIsOneRun, CountsThoseBelow}
 use Rattle.spans.specs.Places.{is_covered, is_in, grown_by, runs_from, runs_of, runs_below}
 use Rattle.spans.specs.Runs.{AreApart, AreWithin, FirstReaches, has_place}
 use Rattle.spans.proofs.Apart.{AreApart-lower}
 use Rattle.spans.proofs.Counting.{below, below-far, below-yes}
 use Rattle.spans.proofs.Covering.{is_in-from, is_in-false, is_in-join, has_place-far, HasAll-first, FirstHasAll-all}
-use Rattle.spans.proofs.Places.{is_covered-with_covered, length-with_covered, uncovered_in-fresh, all_covered-true, all_covered-from}
+use Rattle.spans.proofs.Places.{places_from-none, is_covered-places, runs_from-places, length-uncovered, is_covered-with_covered, length-with_covered, uncovered_in-fresh, all_covered-true, all_covered-from}
+
+pub nothing_is_covered : NothingIsCovered
+unfolding runs_of
+nothing_is_covered limit = (
+  λ k.
+      ap (λ (places : List Bool). is_covered places k) (sym (places_from-none limit)) ∙ is_covered-places limit [] k tt,
+  ap (runs_from 0) (sym (places_from-none limit)) ∙ runs_from-places 0 limit 0 [] tt (omega arith),
+  length-uncovered limit,
+)
 
 pub covers_the_range : CoversTheRange
 covers_the_range from to places le within =

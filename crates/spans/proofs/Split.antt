@@ -4,13 +4,12 @@ use Rattle.std.proofs.Common.{◌≡◌, ℕ, zero, suc, ◌+◌, ◌<◌, ◌�
 use Rattle.std.proofs.lemmas.Bool.{cases_lt, le-leb, leb-true, ltb-true}
 use Rattle.spans.specs.declared.pieces.Place.{Place}
 use Rattle.std.proofs.lemmas.List.{take-append-drop, append-nil, take-take, take_all, drop-append-le, drop-drop, length-take-le, length-drop, drop_all, get_or_read}
-use Rattle.std.proofs.lemmas.List.Edits.{length-insert}
 use Rattle.std.specs.List.{insert}
 use Rattle.spans.specs.declared.range.Run.{Run}
 use Rattle.spans.specs.Chunks.{AreFilled, joined, before, from_there, split_at}
 use Rattle.spans.specs.Runs.{BeginsBy, FirstHasAll}
 use Rattle.spans.proofs.Growing.{drop-read}
-use Rattle.spans.proofs.Joined.{from_there-past, joined-append, joined-set, from_there-split}
+use Rattle.spans.proofs.Joined.{from_there-past, joined-set, from_there-split}
 
 -- ---- parts of a list
 
@@ -117,9 +116,6 @@ joined-insert chunks c i r k below is =
     ∙ (joined-set chunks c i (r ∷ drop i (get_or chunks c [])) below
     ∙ ap (λ xs. before chunks c i ++ (r ∷ xs)) (sym (from_there-split chunks c i below)))
 
-pub joined-push : (chunks : List (List Run)) (r : Run) → joined (chunks ++ ((r ∷ []) ∷ [])) ≡ joined chunks ++ (r ∷ [])
-joined-push chunks r = joined-append chunks ((r ∷ []) ∷ [])
-
 -- the place behind the last run
 pub before-last : (chunks : List (List Run)) (c i : ℕ) → c + 1 ≡ length chunks → i ≡ length (get_or chunks c []) → before chunks c i ≡ joined chunks
 before-last [] c i last is = refl
@@ -132,9 +128,6 @@ from_there-last [] c i last is = refl
 from_there-last (x ∷ []) zero i last is = append-nil (drop i x) ∙ drop_all i x (omega arith)
 from_there-last (x ∷ (y ∷ xs)) zero i last is = absurd (omega arith)
 from_there-last (x ∷ xs) (suc c) i last is = from_there-last xs c i (omega arith) is
-
-pub length-insert-some : (k : List Run) (i : ℕ) (r : Run) → i ≤ length k → 0 < length (insert k i r)
-length-insert-some k i r within = omega (arith, length-insert k i r within)
 
 -- a chunk read once the rest of it stands behind it
 pub get_or-behind : (chunks : List (List Run)) (c : ℕ) (rest d : List Run) → c < length chunks → get_or (insert chunks (suc c) rest) c d ≡ get_or chunks c d

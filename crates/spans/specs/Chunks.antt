@@ -1,6 +1,7 @@
 -- Chunks, and the list of their runs.
 
-use Rattle.std.specs.Prelude.{◌≡◌, ℕ, zero, suc, ◌+◌, ◌<◌, ◌≤◌, List, [], ◌∷◌, ◌++◌, length, take, drop}
+use Rattle.std.specs.Prelude.{◌≡◌, ℕ, zero, suc, ◌+◌, ◌<◌, ◌≤◌, List, [], ◌∷◌, ◌++◌, length, take}
+use Rattle.std.specs.Prelude.{drop}
 use Rattle.std.specs.List.{flat_map}
 use Rattle.spans.specs.declared.range.Run.{Run}
 use Rattle.spans.specs.declared.growth.Growth.{Growth}
@@ -40,10 +41,12 @@ split_at zero keep (k ∷ ks) = take keep k ∷ (drop keep k ∷ ks)
 split_at (suc c) keep (k ∷ ks) = k ∷ split_at c keep ks
 
 -- a growing run meets the chunks from `from` to before `whole`, each as a whole
-pub record MeetsWhole (to : ℕ) (first now : Growth) (chunks : List (List Run)) (from whole : ℕ) : Type 0 where
+pub record MeetsWhole (to : ℕ) (first now : Growth) (chunks : List (List Run)) (from whole : ℕ)
+    : Type 0 where
   pub low : from ≤ whole
   pub within : whole ≤ length chunks
   pub left : left_after to (joined (drop from chunks)) ≡ left_after to (joined (drop whole chunks))
-  pub grown : grown_over to first (joined (drop from chunks)) ≡ grown_over to now (joined (drop whole chunks))
+  pub grown :
+      grown_over to first (joined (drop from chunks)) ≡ grown_over to now (joined (drop whole chunks))
   pub apart : AreApart (now.end + 1) (joined (drop whole chunks))
   pub bound : now.fresh ≤ now.end

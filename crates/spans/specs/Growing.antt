@@ -25,9 +25,11 @@ grown_first from to r rs = grown_over to (record { end = r.to; fresh = r.from - 
 -- the runs once the first is widened to cover from `from` to before `to`, over those that it meets
 abbrev pub widened : ℕ → ℕ → List Run → List Run
 widened from to [] = []
-widened from to (r ∷ rs) = record { from = min from r.from; to = max to (grown_first from to r rs).end } ∷ left_after to rs
+widened from to (r ∷ rs) =
+    let grown = grown_first from to r rs in
+    record { from = min from r.from; to = max to grown.end } ∷ left_after to rs
 
 -- how many places that adds
 abbrev pub widening : ℕ → ℕ → List Run → ℕ
 widening from to [] = 0
-widening from to (r ∷ rs) = (grown_first from to r rs).fresh + (to - (grown_first from to r rs).end)
+widening from to (r ∷ rs) = let grown = grown_first from to r rs in grown.fresh + (to - grown.end)

@@ -1,22 +1,34 @@
 -- What the words of `Places` mean, place by place and range by range.
 
-use Rattle.std.specs.Prelude.{◌≡◌, ℕ, ◌+◌, ◌<◌, ◌≤◌, ◌↔◌, Bool, true, false, ◌||◌, List, length, Some, slice_get}
+use Rattle.std.specs.Prelude.{◌≡◌, ℕ, ◌+◌, ◌<◌, ◌≤◌, ◌↔◌, Bool, true, false, ◌||◌, List, [], length}
+use Rattle.std.specs.Prelude.{Some, slice_get}
 use Rattle.spans.specs.declared.range.Run.{Run}
-use Rattle.spans.specs.Places.{is_covered, is_in, with_covered, uncovered_in, covered_count, all_covered, AreCovered, runs_of, runs_below}
+use Rattle.spans.specs.Places.{uncovered, is_covered, is_in, with_covered, uncovered_in, covered_count}
+use Rattle.spans.specs.Places.{all_covered, AreCovered, runs_of, runs_below}
 use Rattle.spans.specs.Runs.{AreApart, FirstHasAll, has_place}
+
+-- where nothing was covered no place is covered, there is no run, and the limit is the length
+abbrev pub NothingIsCovered : Type 0
+NothingIsCovered =
+    (limit : ℕ)
+    → ((k : ℕ) → is_covered (uncovered limit) k ≡ false)
+    × (runs_of (uncovered limit) ≡ [])
+    × (length (uncovered limit) ≡ limit)
 
 -- covering a range covers its places and no others, and the limit stays
 abbrev pub CoversTheRange : Type 0
 CoversTheRange =
     (from to : ℕ) (places : List Bool) → from ≤ to → to ≤ length places
-    → ((k : ℕ) → is_covered (with_covered from to places) k ≡ (is_covered places k || is_in from to k))
+    → ((k : ℕ)
+    → is_covered (with_covered from to places) k ≡ (is_covered places k || is_in from to k))
     × (length (with_covered from to places) ≡ length places)
 
 -- as many places more are covered as were not covered in the range
 abbrev pub CountsTheFresh : Type 0
 CountsTheFresh =
     (from to : ℕ) (places : List Bool) → from ≤ to → to ≤ length places
-    → uncovered_in from to places + covered_count places ≡ covered_count (with_covered from to places)
+    → uncovered_in from to places + covered_count places
+    ≡ covered_count (with_covered from to places)
 
 -- all are covered exactly where each is
 abbrev pub AllIsEach : Type 0
@@ -24,7 +36,7 @@ AllIsEach =
     (from to : ℕ) (places : List Bool) → to ≤ length places
     → (all_covered from to places ≡ true) ↔ AreCovered from to places
 
--- a maximal covered range: it has a place, all of its places are covered, and those beside it are not
+-- a maximal covered range has a place, all its places are covered, and those beside it are not
 pub record IsMaximal (r : Run) (places : List Bool) : Type 0 where
   pub some : r.from < r.to
   pub within : r.to ≤ length places
@@ -32,7 +44,7 @@ pub record IsMaximal (r : Run) (places : List Bool) : Type 0 where
   pub before : (k : ℕ) → k + 1 ≡ r.from → is_covered places k ≡ false
   pub after : is_covered places r.to ≡ false
 
--- the runs are maximal covered ranges, they come in order, and each covered place is in one of them
+-- the runs are maximal covered ranges, come in order, and have each covered place
 abbrev pub RunsAreMaximal : Type 0
 RunsAreMaximal =
     (places : List Bool)

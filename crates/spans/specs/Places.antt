@@ -1,6 +1,8 @@
 -- The places below a limit, as the list of truth values that says which of them are covered.
 
-use Rattle.std.specs.Prelude.{◌≡◌, ℕ, ◌+◌, ◌-◌, ◌<◌, ◌≤◌, Bool, true, false, not, ◌&&◌, List, [], ◌∷◌, ◌++◌, take, drop, replicate, slice_index_or, slice_range, if◌then◌else◌, ◌==◌, nat_lt, nat_le}
+use Rattle.std.specs.Prelude.{◌≡◌, ℕ, ◌+◌, ◌-◌, ◌<◌, ◌≤◌, Bool, true, false, not, ◌&&◌, List, []}
+use Rattle.std.specs.Prelude.{◌∷◌, ◌++◌, take, drop, replicate, slice_index_or, slice_range}
+use Rattle.std.specs.Prelude.{if◌then◌else◌, ◌==◌, nat_lt, nat_le}
 use Rattle.std.specs.List.{list_all, count_by}
 use Rattle.spans.specs.declared.range.Run.{Run}
 
@@ -36,7 +38,7 @@ covered_count places = count_by (λ covered. covered) places
 unfoldable pub all_covered : ℕ → ℕ → List Bool → Bool
 all_covered from to places = list_all (λ covered. covered) (slice_range places from to)
 
--- to cover these places adds a run: there are some, and neither they nor their neighbours are covered
+-- to cover these places adds a run: there are some, and no place of them or beside them is covered
 pub record AddsRun (from to : ℕ) (places : List Bool) : Type 0 where
   pub some : from < to
   pub apart : (k : ℕ) → from ≤ k + 1 → k ≤ to → is_covered places k ≡ false

@@ -1,6 +1,8 @@
 //! A chunk: a bounded number of runs, in order.
 
-ghost use Rattle.std.specs.Prelude.{◌≡◌, ℕ, ◌+◌, ◌^◌, ◌<◌, ◌≤◌, ◌++◌, ◌∷◌, [], length, take, drop, slice_index_or, slice_set, IfOk, OnOk, OnErr, IsTrue, nat_lt, count_by};
+ghost use Rattle.std.specs.Prelude.{◌≡◌, ℕ, ◌+◌, ◌^◌, ◌<◌, ◌≤◌, ◌++◌, ◌∷◌, [], length, take};
+ghost use Rattle.std.specs.Prelude.{drop, slice_index_or, slice_set, IfOk, OnOk, OnErr, IsTrue};
+ghost use Rattle.std.specs.Prelude.{◌↔◌, nat_lt, count_by};
 ghost use Rattle.std.specs.List.{insert};
 ghost use Rattle.spans.specs.Growing.{grown_over, left_after};
 ghost use Rattle.spans.specs.Runs.{AreApart, EndBefore, FirstReaches, end_after, last_begin};
@@ -56,7 +58,7 @@ impl Chunk {
 
     /// Whether it holds as many runs as it may.
     pub fn is_full(&self) -> bool
-        ensures { IsTrue result → 1 < length self.now }
+        ensures { IsTrue result ↔ (MOST ≤ length self.now) }
     {
         self.runs.len() >= MOST
     }
@@ -133,7 +135,8 @@ impl Chunk {
         self.runs.truncate(len);
     }
 
-    /// How far a run before this chunk comes that grows over the runs of it which begin at or before `to`.
+    /// How far a run before this chunk comes that grows over the runs of it which begin at or
+    /// before `to`.
     pub fn swallowed(&self, to: u64, mut growth: Growth) -> Growth
         requires apart { AreApart (growth.end + 1) self.now }
         requires bound { growth.fresh ≤ growth.end }

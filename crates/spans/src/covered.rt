@@ -1,12 +1,14 @@
 //! The covered places below a limit.
 
-ghost use Rattle.std.specs.Prelude.{◌≡◌, ℕ, ◌+◌, ◌-◌, ◌<◌, ◌≤◌, List, [], length, IfOk, OnOk, OnErr, IsTrue, slice_get};
-ghost use Rattle.spans.specs.Places.{uncovered, with_covered, uncovered_in, all_covered, AddsRun, runs_of, runs_below};
+ghost use Rattle.std.specs.Prelude.{◌≡◌, ℕ, ◌+◌, ◌-◌, ◌<◌, ◌≤◌, List, [], length, IfOk, OnOk};
+ghost use Rattle.std.specs.Prelude.{OnErr, IsTrue, slice_get};
+ghost use Rattle.spans.specs.Places.{uncovered, with_covered, uncovered_in, all_covered, AddsRun};
+ghost use Rattle.spans.specs.Places.{runs_of, runs_below};
 
 use crate::chunk::Chunk;
-use crate::pieces;
 use crate::range::Run;
 use crate::runs::Runs;
+use crate::{pieces, reading};
 use std::alloc::{AllocError, Global};
 use std::marker::Model;
 
@@ -44,9 +46,11 @@ impl Spans {
         }
     }
 
-    /// Covers the places from `from` to before `to`, and tells how many of them were not covered before.
+    /// Covers the places from `from` to before `to`, and tells how many of them were not
+    /// covered before.
     ///
-    /// Only a range that has a place, and neither overlaps nor touches a covered one, needs memory. A refusal leaves all as before.
+    /// Only a range that has a place, and neither overlaps nor touches a covered one, needs
+    /// memory. A refusal leaves all as before.
     pub fn cover(&mut self, from: u64, to: u64) -> Result<u64, AllocError>
         requires order { from ≤ to }
         requires within { to ≤ length self.old }
@@ -68,7 +72,7 @@ impl Spans {
         requires within { to ≤ length self.now }
         ensures { result ≡ all_covered from to self.now }
     {
-        from == to || pieces::covers(&self.chunks, from, to)
+        from == to || reading::covers(&self.chunks, from, to)
     }
 
     /// Whether all places below `to` are covered.
@@ -79,11 +83,12 @@ impl Spans {
         self.covers(0, to)
     }
 
-    /// The maximal covered range at an index. It walks over the chunks before it; [`Spans::runs`] goes over all.
+    /// The maximal covered range at an index. It walks over the chunks before it;
+    /// [`Spans::runs`] goes over all.
     pub fn run(&self, i: usize) -> Option<Run>
         ensures { result ≡ slice_get (runs_of self.now) i }
     {
-        pieces::run(&self.chunks, i)
+        reading::run(&self.chunks, i)
     }
 
     /// How many maximal covered ranges begin below `to`.
@@ -91,7 +96,7 @@ impl Spans {
         requires { to ≤ length self.now }
         ensures { result ≡ runs_below to self.now }
     {
-        pieces::count(&self.chunks, to)
+        reading::count(&self.chunks, to)
     }
 
     /// The maximal covered ranges, in order.

@@ -1,6 +1,13 @@
-//! What the words of the contracts mean, place by place and range by range. Each law is the contract of a function that does nothing.
+//! What the words of the contracts mean, place by place and range by range. Each law is the
+//! contract of a function that does nothing.
 
-ghost use Rattle.spans.specs.Laws.{CoversTheRange, CountsTheFresh, AllIsEach, RunsAreMaximal, WholeIsOneRun, CountsThoseBelow};
+ghost use Rattle.spans.specs.Laws.{NothingIsCovered, CoversTheRange, CountsTheFresh, AllIsEach};
+ghost use Rattle.spans.specs.Laws.{RunsAreMaximal, WholeIsOneRun, CountsThoseBelow};
+
+/// Where nothing was covered no place is covered and there is no run.
+pub fn nothing_is_covered()
+    ensures { NothingIsCovered }
+{}
 
 /// Covering a range covers its places and no others, and the limit stays.
 pub fn covers_the_range()

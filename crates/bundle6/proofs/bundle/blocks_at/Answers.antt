@@ -1,5 +1,5 @@
 -- Each way out of the loop, by the step of reading blocks that it is.
-use Rattle.std.proofs.Common.{length-append, refl, ◌∙◌, arith, ◌≡◌, ◌+◌, length, ◌++◌, ◌∷◌, []}
+use Rattle.std.proofs.Common.{length-append, refl, ◌∙◌, arith, ◌+◌, ◌∷◌, []}
 use Rattle.wire_fields.specs.Reading.{read}
 use Rattle.wire_fields.specs.Words.{until}
 use Rattle.wire_fields.proofs.FrontLemmas.{gives-fault}

@@ -2,15 +2,19 @@ use Rattle.std.proofs.Common.{◌∙◌, refl, sym}
 use Rattle.gateway_run.specs.Session.{handed_up}
 use Rattle.gateway_run.specs.Receive.{session_in}
 use Rattle.gateway_run.specs.Views.{red_piece}
-use Rattle.gateway_run.proofs.SessionsLemmas.{found_handed_up, handed_up_of, found_entry, shows_same, others_of}
+use Rattle.gateway_run.proofs.SessionsLemmas.{found_handed_up, handed_up_of, found_entry, lacks_first, shows_same, others_of}
 use Rattle.gateway_run.proofs.sessions.meet.Goals as goal
 
-pub returns-then-is_handed_up : goal.returns-then-is_handed_up
-returns-then-is_handed_up c = λ kept shows.
-    let test = sym c.is_handed_up.ensures ∙ c.if-is_handed_up.true in
+pub returns-in-HandedUp : goal.returns-in-HandedUp
+returns-in-HandedUp c = λ kept shows.
+    let test = sym c.find.ensures ∙ c.in-HandedUp.is in
     let stands = shows.each c.args.piece.now.originator c.args.piece.now.session in
     rw (found_handed_up _ (session_in c.args.piece.now.originator c.args.piece.now.session kept) 4194304 (red_piece c.args.piece.now) stands test)
     (refl, shows_same c.args.sessions.now kept _ _ handed_up shows (handed_up_of _ _ stands test))
+
+pub returns-in-Nothing : goal.returns-in-Nothing
+returns-in-Nothing c = λ kept shows.
+    c.meet_first.ensures kept (lacks_first c.args.sessions.now kept _ _ shows (sym c.find.ensures ∙ c.in-Nothing.is))
 
 pub returns-in-Some-Open : goal.returns-in-Some-Open
 returns-in-Some-Open c = λ kept shows.

@@ -9,7 +9,8 @@ use Rattle.spans.proofs.pieces.make_room.Goals as goal
 long : (c : goal.After-moved) → 1 < length (get_or c.args.chunks.now.items c.args.place.chunk [])
 long c =
     let k = get_or_read c.args.chunks.now.items c.args.place.chunk c.index.result.now c.requires.within c.index.ensures [] in
-    subst (λ (xs : List Run). 1 < length xs) k (c.if-not-is_full.ensures refl)
+    let full = c.if-not-is_full.ensures.0 refl in
+    subst (λ (xs : List Run). 1 < length xs) k (omega (arith, full))
 
 half : (c : goal.After-moved) → c.len-keep.result ≡ length (get_or c.args.chunks.now.items c.args.place.chunk [])
 half c =

@@ -1,5 +1,7 @@
 //! Recorded datagrams and the lines that they give, and an outside that fails.
 
+ghost use Rattle.std.specs.Prelude.{◌≡◌};
+
 use super::*;
 use edge_traits::{
     MemClock, MemLink, MemSink, MemSource, Sink, Source, Status, SureSink, SureSource,

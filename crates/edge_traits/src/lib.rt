@@ -23,6 +23,8 @@ mod output;
 mod sink;
 mod source;
 mod status;
+#[cfg(test)]
+mod tests;
 
 pub use answer::Answer;
 pub use clock::{Clock, MemClock};

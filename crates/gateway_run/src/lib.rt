@@ -19,6 +19,8 @@ mod piece;
 mod receive;
 mod sessions;
 mod table;
+#[cfg(test)]
+mod tests;
 mod text;
 mod top;
 mod word;

@@ -1,0 +1,4 @@
+pub mod Front
+pub mod Show
+pub mod Answering
+pub mod Turns

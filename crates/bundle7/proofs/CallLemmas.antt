@@ -1,6 +1,5 @@
 -- The clauses of calls that answer a value without the place of its refusal.
 use Rattle.std.proofs.Common.{◌≡◌, ℕ, List, [], Option, Some, None, Result, Ok, Err, IfSome, IfOk, sym, ap, ◌∙◌, subst}
-use Rattle.std.specs.Prelude.{IsErr}
 use Rattle.std.specs.Result.{result_ok}
 use Rattle.std.proofs.lemmas.Bool.{false≢true}
 use Rattle.wire_fields.specs.Format.{Format, Spells}

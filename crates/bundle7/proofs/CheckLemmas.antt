@@ -1,5 +1,5 @@
 -- The check of a block is that of its octets and of zeros in place of the check's own.
-use Rattle.std.proofs.Common.{◌≡◌, ℕ, List, ◌++◌, bit_xor, refl, ap, sym, ◌∙◌}
+use Rattle.std.proofs.Common.{◌≡◌, ℕ, List, ◌++◌, bit_xor, ap, sym}
 use Rattle.crc_fields.specs.Crc.{take_text}
 use Rattle.crc_fields.proofs.Chain.{take_text-append}
 

@@ -3,3 +3,5 @@ pub mod BlocksLemmas
 pub mod CallLemmas
 pub mod WritingLemmas
 pub mod SpellingLaws
+pub mod PrimaryLaws
+pub mod BlockLaws

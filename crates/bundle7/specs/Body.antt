@@ -1,6 +1,5 @@
 -- The bodies of the extension blocks that are known here (RFC 9171, section 4.4): each is exactly one item.
 use Rattle.std.specs.Prelude.{ℕ, Bool, true, ◌==◌, ◌&&◌, nat_le, List, if◌then◌else◌, is_ok}
-use Rattle.endpoint.specs.declared.name.Endpoint.{Endpoint}
 use Rattle.wire_fields.specs.Format.{Format, give, such_that, ◌>>=◌}
 use Rattle.wire_fields.specs.Whole.{read_whole}
 use Rattle.wire_fields.specs.Words.{needs, any_unsigned, exact_array}

@@ -1,6 +1,5 @@
 -- What the calls on endpoints and bodies answer.
-use Rattle.std.specs.Prelude.{◌≡◌, ℕ, List, Result, Ok, Err, IsErr}
-use Rattle.endpoint.specs.declared.name.Endpoint.{Endpoint}
+use Rattle.std.specs.Prelude.{◌≡◌, ℕ, Result, Ok, Err, IsErr}
 use Rattle.wire_fields.specs.Refusal.{Stop}
 use Rattle.bundle7.specs.declared.fault.Cause7.{Cause7}
 use Rattle.bundle7.specs.declared.fault.EidFault.{EidFault}

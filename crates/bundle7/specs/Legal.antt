@@ -1,13 +1,13 @@
 -- Legal bundles: those that have a spelling.
-use Rattle.std.specs.Prelude.{◌≡◌, ℕ, ◌+◌, ◌^◌, ◌<◌, ◌≤◌, Bool, true, false, not, ◌&&◌, List, [], ◌∷◌, ◌++◌, length, Option, Some, None, is_some}
-use Rattle.endpoint.specs.declared.name.Endpoint.{Endpoint}
+use Rattle.std.specs.Prelude.{◌≡◌, ℕ, ◌^◌, ◌<◌, ◌≤◌, true, false, ◌&&◌, List, [], ◌∷◌, ◌++◌, length, Option, Some, None, is_some}
 use Rattle.endpoint.specs.declared.extent.Fragment.{Fragment}
 use Rattle.endpoint.specs.Endpoints.{IsEndpoint}
+use Rattle.wire_fields.specs.Format.{Spells}
 use Rattle.bundle7.specs.declared.primary.Primary7.{Primary7}
 use Rattle.bundle7.specs.declared.block.Block7.{Block7}
 use Rattle.bundle7.specs.declared.bundle.Bundle7.{Bundle7}
 use Rattle.bundle7.specs.Body.{is_body}
-use Rattle.bundle7.specs.Table.{is_fragment, is_single, has_kind, is_number, is_within}
+use Rattle.bundle7.specs.Table.{bundle, is_fragment, is_single, has_kind, is_number, is_within}
 
 -- the numbers of a fragment
 abbrev pub IsPart : Option Fragment → Type 0
@@ -54,3 +54,11 @@ pub record IsLegal (most : ℕ) (b : Bundle7) : Type 0 where
   pub exts : AreLegal b.primary.fragment [] b.exts
   pub payload : IsLegalBlock b.primary.fragment b.exts b.payload
   pub payload_kind : b.payload.kind ≡ 1
+
+-- A legal bundle has at most 64 extension blocks.
+abbrev pub IsLegal7 : Bundle7 → Type 0
+IsLegal7 b = IsLegal 64 b
+
+-- the octets w spell the bundle b
+abbrev pub Spells7 : List ℕ → Bundle7 → Type 0
+Spells7 w b = Spells (bundle 64) [] w b

@@ -3,7 +3,6 @@
 use Rattle.std.specs.Prelude.{ℕ, zero, suc, ◌+◌, ◌%◌, ◌==◌, nat_lt, nat_le, Bool, true, ◌&&◌, ◌||◌, not, if◌then◌else◌}
 use Rattle.std.specs.Prelude.{List, [], ◌∷◌, ◌++◌, Option, Some, None}
 use Rattle.std.specs.List.{list_any}
-use Rattle.endpoint.specs.declared.name.Endpoint.{Endpoint}
 use Rattle.endpoint.specs.declared.extent.Fragment.{Fragment}
 use Rattle.wire_fields.specs.Format.{Format, give, place, such_that, ◌>>=◌}
 use Rattle.wire_fields.specs.Words.{needs, ◌also◌, any_octets, any_unsigned, any_byte_string, any_array, exact_octet, exact_unsigned, exact_array, choice, optional}

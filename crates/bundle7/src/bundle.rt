@@ -8,6 +8,7 @@ ghost use Rattle.bundle7.specs.declared.fault.Cause7.{Cause7};
 ghost use Rattle.bundle7.specs.declared.bundle.Bundle7.{Bundle7};
 ghost use Rattle.bundle7.specs.Cause.{refusal};
 ghost use Rattle.bundle7.specs.Table.{bundle};
+ghost use Rattle.bundle7.specs.Legal.{IsLegal7};
 
 use crate::block::{Block7, Blocks7};
 use crate::blocks::blocks_at;
@@ -38,6 +39,8 @@ pub struct Bundle7 {
 pub fn decode7(alloc: Global, bytes: &[u8]) -> Result<(Bundle7, usize), Fail7>
     // What is read is spelled so.
     ensures found { IfOk result (λ x. Begins (bundle 64) bytes.now x.1 x.0) }
+    // What is read is legal.
+    ensures legal { IfOk result (λ x. IsLegal7 x.0) }
     // What is spelled so is read, unless memory runs out.
     ensures only { (b : Bundle7) (k : ℕ) → Begins (bundle 64) bytes.now k b
         → Gives (λ b. b) refusal result (Ok (b, k)) }

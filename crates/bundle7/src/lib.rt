@@ -22,6 +22,8 @@ mod fault;
 mod field;
 mod groups;
 mod primary;
+#[cfg(test)]
+mod tests;
 mod writing;
 
 pub use block::{Block7, Blocks7};
@@ -30,4 +32,4 @@ pub use bundle::{Bundle7, decode7};
 pub use eid::{previous_of, read_eid, write_eid};
 pub use fault::{Cause7, EidFault, Fail7};
 pub use primary::Primary7;
-pub use writing::encode7;
+pub use writing::{encode7, exactly_one, one_eid, one_spelling};

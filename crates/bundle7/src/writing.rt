@@ -2,9 +2,17 @@
 
 ghost use Rattle.std.specs.Prelude.{◌≡◌, ◌++◌, ◌≤◌, ◌∷◌, [], ℕ, List, length, drop, IfOk, OnOk};
 ghost use Rattle.endpoint.specs.declared.extent.Fragment.{Fragment};
+ghost use Rattle.endpoint.specs.declared.name.Endpoint.{Endpoint};
+ghost use Rattle.endpoint.specs.Endpoints.{IsEndpoint};
+ghost use Rattle.wire_fields.specs.Format.{Spells};
+ghost use Rattle.wire_fields.specs.Refusal.{ExactlyOne};
+ghost use Rattle.wire_fields.specs.Reading.{IsOctets};
+ghost use Rattle.bundle7.specs.declared.bundle.Bundle7.{Bundle7};
+ghost use Rattle.bundle7.specs.Eid.{eid};
+ghost use Rattle.bundle7.specs.Legal.{IsLegal7, Spells7};
 ghost use Rattle.bundle7.specs.Check.{check16, check32};
-ghost use Rattle.bundle7.specs.Table.{is_fragment, fragment_items, check_items};
-ghost use Rattle.bundle7.specs.Spelling.{crc_octets, with_check, part_octets, opening_octets, creation_octets, main_octets, bare_octets, primary_octets, block_octets, blocks_octets, octets7};
+ghost use Rattle.bundle7.specs.Table.{is_fragment, fragment_items, check_items, bundle};
+ghost use Rattle.bundle7.specs.Spelling.{eid_octets, crc_octets, with_check, part_octets, opening_octets, creation_octets, main_octets, bare_octets, primary_octets, block_octets, blocks_octets, octets7};
 
 use crate::block::Block7;
 use crate::bundle::{BREAK, Bundle7, OPEN};
@@ -17,9 +25,38 @@ use std::alloc::{AllocError, Global};
 use wire_fields::BYTE_STRING;
 
 /// Writes the one spelling of a legal bundle.
-#[tactic(auto, unfolding(crate::specs::Spelling::octets7))]
 pub fn encode7(alloc: Global, bundle: &Bundle7) -> Result<Octets, AllocError>
+    // What is legal is spelled.
+    ensures spelled { IsLegal7 bundle.now → IfOk result (λ o. Spells7 o bundle.now) }
+    // What was read is written in the octets that it was read from.
+    ensures same { (w : List ℕ) → Spells7 w bundle.now → IfOk result (λ o. o ≡ w) }
     ensures exact { IfOk result (λ o. o ≡ octets7 bundle.now) }
+{
+    spelling(alloc, bundle)
+}
+
+/// A bundle is legal exactly where it has a spelling, and it has one.
+pub fn one_spelling()
+    ensures legal { (w : List ℕ) (b : Bundle7) → Spells7 w b → IsLegal7 b × (w ≡ octets7 b) }
+    ensures spelled { (b : Bundle7) → IsLegal7 b → Spells7 (octets7 b) b }
+{}
+
+/// An endpoint is legal exactly where it has a spelling, and it has one.
+pub fn one_eid()
+    ensures legal { (w : List ℕ) (e : Endpoint) → Spells eid [] w e
+        → IsEndpoint e × (w ≡ eid_octets e) }
+    ensures spelled { (e : Endpoint) → IsEndpoint e → Spells eid [] (eid_octets e) e }
+{}
+
+/// Of each text a front is a bundle's spelling, or the text is refused at one place for one reason.
+pub fn exactly_one()
+    ensures { (text : List ℕ) → IsOctets text → ExactlyOne (bundle 64) text }
+{}
+
+/// The octets of a bundle.
+#[tactic(auto, unfolding(crate::specs::Spelling::octets7))]
+fn spelling(alloc: Global, bundle: &Bundle7) -> Result<Octets, AllocError>
+    ensures { IfOk result (λ o. o ≡ octets7 bundle.now) }
 {
     let room = bundle.payload.body.len().saturating_add(256);
     let mut out = Vec::with_capacity(alloc, room)?;

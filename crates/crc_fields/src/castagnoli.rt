@@ -1,4 +1,4 @@
-//! CRC-32C (Castagnoli), the check of CRC type 2 .
+//! CRC-32C (Castagnoli), the check of CRC type 2.
 ghost use Rattle.std.specs.Prelude.{◌≡◌, ◌<◌, ◌≤◌, ◌+◌, ◌*◌, ℕ, bit_xor, length};
 ghost use Rattle.crc_fields.specs.Crc.{take_text, crc32c_of, zeroed};
 ghost use Rattle.crc_fields.specs.Tables.{after_zeros};

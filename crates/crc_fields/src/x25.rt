@@ -1,4 +1,4 @@
-//! CRC-16 X-25, the check of CRC type 1 .
+//! CRC-16 X-25, the check of CRC type 1.
 ghost use Rattle.std.specs.Prelude.{◌≡◌, ◌<◌, ◌≤◌, ◌+◌, ◌*◌, ℕ, bit_xor, length};
 ghost use Rattle.crc_fields.specs.Crc.{take_text, crc16_of, zeroed};
 ghost use Rattle.crc_fields.specs.Tables.{after_zeros};

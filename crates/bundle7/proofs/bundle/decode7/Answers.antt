@@ -3,6 +3,7 @@ use Rattle.std.proofs.Common.{arith}
 use Rattle.wire_fields.proofs.FrontLemmas.{front-found, front-only, front-refused, front-refuses, front-stays}
 use Rattle.bundle7.specs.Cause.{refusal}
 use Rattle.bundle7.specs.Table.{bundle}
+use Rattle.bundle7.proofs.BlockLaws.{begins-legal}
 use Rattle.bundle7.proofs.bundle.decode7.Goals as goal
 
 pub returns-clause-found : goal.returns-clause-found
@@ -19,3 +20,7 @@ returns-clause-refuses c = front-refuses (bundle 64) (λ b. b) refusal c.bundle_
 
 pub returns-clause-stays : goal.returns-clause-stays
 returns-clause-stays c = front-stays (bundle 64) (λ b. b) refusal c.bundle_at.result c.args.bytes.now (λ i. omega (arith, c.type_inv.bytes i)) c.bundle_at.ensures.exact
+
+pub returns-clause-legal : goal.returns-clause-legal
+returns-clause-legal c = begins-legal 64 c.args.bytes.now c.bundle_at.result
+    (front-found (bundle 64) (λ b. b) refusal c.bundle_at.result c.args.bytes.now (λ i. omega (arith, c.type_inv.bytes i)) c.bundle_at.ensures.exact)

@@ -6,8 +6,6 @@ use Rattle.edge_traits.specs.declared.status.Status.{Status}
 use Rattle.edge_traits.specs.Content.{read_front}
 use Rattle.edge_traits.specs.Outcome.{Answered, Answers}
 use Rattle.bundle_runs.specs.declared.command.Command.{Command}
-use Rattle.bundle_runs.specs.declared.front.Front.{Front}
-use Rattle.bundle_runs.specs.declared.answering.Turn.{Turn}
 use Rattle.bundle_runs.specs.declared.answering.Turn.TheVariants.{GoesOn, Stops}
 use Rattle.bundle_runs.specs.Front.{front_of}
 use Rattle.bundle_runs.specs.Answering.{Due, due, ending, put_before, after, answers_from, answer_within, most_input, answer_to}

@@ -1,5 +1,5 @@
 -- What is shown has no float, and lists are built value by value.
-use Rattle.std.proofs.Common.{◌≡◌, ℕ, ◌+◌, ◌<◌, Bool, true, false, List, [], ◌∷◌, ◌++◌, map, length, take, Option, None, Some, refl, sym, ◌∙◌, ap, arith}
+use Rattle.std.proofs.Common.{◌≡◌, false, List, [], ◌∷◌, ◌++◌, map, Option, None, Some, refl, ◌∙◌, ap}
 use Rattle.std.proofs.lemmas.List.{map_push}
 use Rattle.std.specs.Prelude.{Vec, String, string_bytes, Result, Ok, Err, IfOk}
 use Rattle.std.specs.declared.alloc.Global.{Global}
@@ -8,7 +8,6 @@ use Rattle.serde_json.specs.declared.value.Value.{Value, Array}
 use Rattle.serde_json.proofs.Views.{view-Array}
 use Rattle.serde_json.specs.Written.{has_float, items_have_float, compact_text}
 use Rattle.serde_json.specs.View.{view, items_of}
-use Rattle.endpoint.specs.declared.name.Endpoint.{Endpoint}
 use Rattle.endpoint.specs.declared.extent.Fragment.{Fragment}
 use Rattle.bundle6.specs.declared.block.Block6.{Block6}
 use Rattle.bundle6.specs.declared.bundle.Bundle6.{Bundle6}

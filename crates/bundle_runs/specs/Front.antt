@@ -1,13 +1,9 @@
 -- What stands at the front of some octets: a bundle of either version, or the reason why none does.
-use Rattle.std.specs.Prelude.{◌≡◌, ℕ, ◌==◌, ◌<◌, ◌≤◌, List, codes, slice_index, Result, Ok, Err, if◌then◌else◌}
+use Rattle.std.specs.Prelude.{ℕ, ◌==◌, ◌<◌, ◌≤◌, List, codes, slice_index, Result, Ok, Err, if◌then◌else◌}
 use Rattle.wire_fields.specs.Refusal.{Stop, truncated, because}
 use Rattle.wire_fields.specs.Reading.{read}
-use Rattle.bundle6.specs.declared.fault.Cause6.{Cause6}
-use Rattle.bundle6.specs.declared.bundle.Bundle6.{Bundle6}
 use Rattle.bundle6.specs.Cause as cause6
 use Rattle.bundle6.specs.Table as table6
-use Rattle.bundle7.specs.declared.fault.Cause7.{Cause7}
-use Rattle.bundle7.specs.declared.bundle.Bundle7.{Bundle7}
 use Rattle.bundle7.specs.Cause as cause7
 use Rattle.bundle7.specs.Table as table7
 use Rattle.bundle_runs.specs.declared.front.Bundle.{Bundle}

@@ -3,6 +3,7 @@ ghost use Rattle.std.specs.Prelude.{◌≡◌, ◌<◌, ℕ, length, IfOk};
 ghost use Rattle.bundle6.specs.Cause.{why as why6};
 ghost use Rattle.bundle7.specs.Cause.{why as why7};
 ghost use Rattle.bundle_runs.specs.Front.{front_of, front6, front7, stopped, word_of, version_of, IsWithin};
+ghost use Rattle.bundle_runs.specs.Legal.{IsLegalFront};
 
 use bundle6::{Bundle6, Cause6, Fail6, decode6};
 use bundle7::{Bundle7, Cause7, Fail7, decode7};
@@ -76,6 +77,7 @@ pub fn read_bundle(alloc: Global, octets: &[u8]) -> Result<Front, AllocError>
     requires { 0 < length octets.now }
     ensures exact { IfOk result (λ front. front ≡ front_of octets.now) }
     ensures within { IfOk result (IsWithin (length octets.now)) }
+    ensures legal { IfOk result IsLegalFront }
 {
     match octets[0] {
         SIX => six(alloc, octets),
@@ -88,6 +90,7 @@ pub fn read_bundle(alloc: Global, octets: &[u8]) -> Result<Front, AllocError>
 fn six(alloc: Global, octets: &[u8]) -> Result<Front, AllocError>
     ensures exact { IfOk result (λ front. front ≡ front6 octets.now) }
     ensures within { IfOk result (IsWithin (length octets.now)) }
+    ensures legal { IfOk result IsLegalFront }
 {
     match decode6(alloc, octets) {
         Ok((bundle, size)) => Ok(Front::Whole(Bundle::Six(bundle), size)),
@@ -100,6 +103,7 @@ fn six(alloc: Global, octets: &[u8]) -> Result<Front, AllocError>
 fn seven(alloc: Global, octets: &[u8]) -> Result<Front, AllocError>
     ensures exact { IfOk result (λ front. front ≡ front7 octets.now) }
     ensures within { IfOk result (IsWithin (length octets.now)) }
+    ensures legal { IfOk result IsLegalFront }
 {
     match decode7(alloc, octets) {
         Ok((bundle, size)) => Ok(Front::Whole(Bundle::Seven(bundle), size)),

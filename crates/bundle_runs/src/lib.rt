@@ -15,6 +15,8 @@ mod command;
 mod front;
 mod lines;
 mod show;
+#[cfg(test)]
+mod tests;
 mod top;
 
 pub use command::Command;

@@ -1,6 +1,7 @@
 //! The lines that are written.
 ghost use Rattle.std.specs.Prelude.{◌≡◌, ◌++◌, OnOk};
 ghost use Rattle.std.specs.String.{string_bytes};
+ghost use Rattle.bundle_runs.specs.Legal.{IsLegal};
 ghost use Rattle.bundle_runs.specs.Answering.{check_line, show_line, line_of, refused_line};
 
 use crate::command::Command;
@@ -16,6 +17,7 @@ pub fn write_line(
     bundle: &Bundle,
     size: usize,
 ) -> Result<(), AllocError>
+    requires { IsLegal bundle.now }
     ensures { OnOk result (string_bytes text.new ≡ string_bytes text.old ++ line_of command bundle.now size) }
 {
     match command {
@@ -33,6 +35,7 @@ fn write_check(text: &mut String, version: u8, size: usize) -> Result<(), AllocE
 
 /// A bundle's values as JSON.
 fn write_show(alloc: Global, text: &mut String, bundle: &Bundle) -> Result<(), AllocError>
+    requires { IsLegal bundle.now }
     ensures { OnOk result (string_bytes text.new ≡ string_bytes text.old ++ show_line bundle.now) }
 {
     let json = shown(alloc, bundle)?;

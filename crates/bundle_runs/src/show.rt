@@ -3,6 +3,10 @@ ghost use Rattle.std.specs.Prelude.{◌≡◌, ◌++◌, ◌∷◌, [], IfOk, On
 ghost use Rattle.std.specs.String.{string_bytes};
 ghost use Rattle.serde_json.specs.View.{view};
 ghost use Rattle.serde_json.specs.Written.{compact_text};
+ghost use Rattle.std.specs.List.{All};
+ghost use Rattle.endpoint.specs.Endpoints.{IsEndpoint};
+ghost use Rattle.bundle6.specs.Legal.{IsLegal as IsLegalBundle6, IsLegalBlock as IsLegalBlock6};
+ghost use Rattle.bundle_runs.specs.Legal.{IsLegal, HasNames};
 ghost use Rattle.bundle_runs.specs.Show.{shown as data_of, bundle6, bundle7, block6, block7, list_of, name, body, part};
 
 use crate::front::Bundle;
@@ -14,6 +18,7 @@ use std::alloc::{AllocError, Global};
 
 /// The JSON text of a bundle.
 pub fn shown(alloc: Global, bundle: &Bundle) -> Result<String, AllocError>
+    requires { IsLegal bundle.now }
     ensures { IfOk result (λ text. string_bytes text ≡ compact_text (data_of bundle.now)) }
 {
     value_of(alloc, bundle)?.to_string(alloc)
@@ -21,6 +26,7 @@ pub fn shown(alloc: Global, bundle: &Bundle) -> Result<String, AllocError>
 
 /// The JSON value of a bundle.
 fn value_of(alloc: Global, bundle: &Bundle) -> Result<Value, AllocError>
+    requires { IsLegal bundle.now }
     ensures { IfOk result (λ value. view value ≡ data_of bundle.now) }
 {
     match bundle {
@@ -32,6 +38,7 @@ fn value_of(alloc: Global, bundle: &Bundle) -> Result<Value, AllocError>
 /// A bundle of version 6.
 #[tactic(auto, unfolding(crate::specs::Show::bundle6))]
 fn bundle6_value(alloc: Global, bundle: &Bundle6) -> Result<Value, AllocError>
+    requires { IsLegalBundle6 bundle.now }
     ensures { IfOk result (λ value. view value ≡ bundle6 bundle.now) }
 {
     let primary = &bundle.primary;
@@ -58,6 +65,7 @@ fn bundle6_value(alloc: Global, bundle: &Bundle6) -> Result<Value, AllocError>
 /// A bundle of version 7.
 #[tactic(auto, unfolding(crate::specs::Show::bundle7))]
 fn bundle7_value(alloc: Global, bundle: &Bundle7) -> Result<Value, AllocError>
+    requires { HasNames bundle.now.primary }
     ensures { IfOk result (λ value. view value ≡ bundle7 bundle.now) }
 {
     let primary = &bundle.primary;
@@ -82,6 +90,7 @@ fn bundle7_value(alloc: Global, bundle: &Bundle7) -> Result<Value, AllocError>
 
 /// The blocks of version 6, in their order.
 fn blocks6_value(alloc: Global, blocks: &[Block6]) -> Result<Value, AllocError>
+    requires { All IsLegalBlock6 blocks.now }
     ensures { IfOk result (λ value. view value ≡ list_of block6 blocks.now) }
 {
     let mut values = Vec::with_capacity(alloc, blocks.len())?;
@@ -106,6 +115,7 @@ fn blocks7_value(alloc: Global, exts: &[Block7], payload: &Block7) -> Result<Val
 /// A block of version 6.
 #[tactic(auto, unfolding(crate::specs::Show::block6))]
 fn block6_value(alloc: Global, block: &Block6) -> Result<Value, AllocError>
+    requires { IsLegalBlock6 block.now }
     ensures { IfOk result (λ value. view value ≡ block6 block.now) }
 {
     let body = body_value(alloc, block.body.as_slice())?;
@@ -135,6 +145,7 @@ fn block7_value(alloc: Global, block: &Block7) -> Result<Value, AllocError>
 
 /// The texts of endpoints, in their order.
 fn names_value(alloc: Global, endpoints: &[Endpoint]) -> Result<Value, AllocError>
+    requires { All IsEndpoint endpoints.now }
     ensures { IfOk result (λ value. view value ≡ list_of name endpoints.now) }
 {
     let mut values = Vec::with_capacity(alloc, endpoints.len())?;
@@ -144,15 +155,13 @@ fn names_value(alloc: Global, endpoints: &[Endpoint]) -> Result<Value, AllocErro
     Ok(Value::Array(values))
 }
 
-/// An endpoint is its text.
+/// An endpoint is its text, which is ASCII.
 fn name_value(alloc: Global, endpoint: &Endpoint) -> Result<Value, AllocError>
+    requires { IsEndpoint endpoint.now }
     ensures { IfOk result (λ value. view value ≡ name endpoint.now) }
 {
     let text = endpoint.to_text(alloc)?;
-    match String::from_utf8(text.into_vec()) {
-        Ok(text) => Ok(Value::String(text)),
-        Err(_) => Err(AllocError),
-    }
+    Ok(Value::String(String::from_utf8(text.into_vec()).unwrap()))
 }
 
 /// A fragment is its offset and the total.

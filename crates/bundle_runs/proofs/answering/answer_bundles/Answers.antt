@@ -1,4 +1,4 @@
-use Rattle.std.proofs.Common.{◌≤◌, ◌∙◌, arith, length, length-drop}
+use Rattle.std.proofs.Common.{◌≤◌, arith, length, length-drop}
 use Rattle.std.proofs.lemmas.List.{take_rest}
 use Rattle.bundle_runs.proofs.AnsweringLemmas.{loop-more, loop-stop, loop-end}
 use Rattle.bundle_runs.proofs.answering.answer_bundles.Goals as goal

@@ -1,0 +1,143 @@
+-- The answer to an input, bundle by bundle.
+use Rattle.std.proofs.Common.{◌≡◌, ℕ, zero, suc, ◌+◌, ◌-◌, ◌<◌, ◌≤◌, Bool, List, [], ◌∷◌, ◌++◌, length, take, drop, Option, None, Some, IfSome, refl, sym, ◌∙◌, ap, arith, append_assoc, length-drop, true, false, lt-ltb, le-ltb, ⊎_elim}
+use Rattle.std.proofs.lemmas.List.{append-nil, take-take, take_all, length-take-le, drop-drop}
+use Rattle.std.proofs.lemmas.Bool.{cases_lt}
+use Rattle.edge_traits.specs.declared.status.Status.{Status}
+use Rattle.edge_traits.specs.Content.{read_front}
+use Rattle.edge_traits.specs.Outcome.{Answered, Answers}
+use Rattle.bundle_runs.specs.declared.command.Command.{Command}
+use Rattle.bundle_runs.specs.declared.answering.Turn.TheVariants.{GoesOn, Stops}
+use Rattle.bundle_runs.specs.Front.{front_of}
+use Rattle.bundle_runs.specs.Answering.{Due, due, ending, put_before, after, answers_from, answer_within, most_input, answer_to}
+use Rattle.bundle_runs.specs.Turns.{Says}
+
+put_before-put_before : (first second : List ℕ) (answer : Answered)
+    → put_before first (put_before second answer) ≡ put_before (first ++ second) answer
+put_before-put_before first second answer = rw append_assoc refl
+
+module _ (command : Command) (longer : Bool) where
+  -- the octets of a bundle are passed one by one
+  passed : (left n at : ℕ) (octets : List ℕ)
+      → answers_from command longer left n at octets ≡ answers_from command longer 0 n (at + left) (drop left octets)
+  unfolding answers_from
+  passed zero n at octets =
+      let place : at ≡ at + 0 = omega arith in
+      ap (λ p. answers_from command longer 0 n p octets) place
+  passed (suc left) n at [] = refl
+  passed (suc left) n at (octet ∷ octets) =
+      let rest = passed left n (at + 1) octets in
+      let place : at + 1 + left ≡ at + suc left = omega arith in
+      rest ∙ ap (λ p. answers_from command longer 0 n p (drop left octets)) place
+
+  -- what follows the bundle at the front
+  behind : ℕ → ℕ → List ℕ → ℕ → Answered
+  behind n at octets size = answers_from command longer 0 (n + 1) (at + size) (drop size octets)
+
+  one_more : (n at : ℕ) (octet : ℕ) (octets : List ℕ) (size : ℕ) → 0 < size
+      → answers_from command longer (size - 1) (n + 1) (at + 1) octets ≡ behind n at (octet ∷ octets) size
+  unfolding behind
+  one_more n at octet octets zero some = absurd (omega arith)
+  one_more n at octet octets (suc size) some =
+      let less : suc size - 1 ≡ size = omega arith in
+      let place : at + 1 + size ≡ at + suc size = omega arith in
+      ap (λ k. answers_from command longer k (n + 1) (at + 1) octets) less
+      ∙ (passed size (n + 1) (at + 1) octets
+      ∙ ap (λ p. answers_from command longer 0 (n + 1) p (drop size octets)) place)
+
+  after-goes_on : (answer : Due) (size : ℕ) (n at octet : ℕ) (octets : List ℕ) → answer.turn ≡ GoesOn size → 0 < size
+      → after answer.text answer.turn (λ k. answers_from command longer (k - 1) (n + 1) (at + 1) octets)
+      ≡ put_before answer.text (behind n at (octet ∷ octets) size)
+  after-goes_on answer size n at octet octets is some =
+      rw is (ap (put_before answer.text) (one_more n at octet octets size some))
+
+  -- a bundle at the front has its line, and behind it comes the answer to the rest
+  pub answers-bundle : (n at size : ℕ) (octets : List ℕ) → 0 < length octets → 0 < size
+      → (due command longer n at (front_of octets)).turn ≡ GoesOn size
+      → answers_from command longer 0 n at octets
+      ≡ put_before (due command longer n at (front_of octets)).text (answers_from command longer 0 (n + 1) (at + size) (drop size octets))
+  unfolding answers_from behind
+  answers-bundle n at size [] here some goes_on = absurd (omega arith)
+  answers-bundle n at size (octet ∷ octets) here some goes_on =
+      after-goes_on (due command longer n at (front_of (octet ∷ octets))) size n at octet octets goes_on some
+
+  after-stops : (answer : Due) (status : Status) (later : ℕ → Answered) → answer.turn ≡ Stops status
+      → after answer.text answer.turn later ≡ record { text = answer.text; status = status }
+  after-stops answer status later is = rw is refl
+
+  -- where the run stops at the front, nothing comes behind it
+  pub answers-stop : (n at : ℕ) (status : Status) (octets : List ℕ) → 0 < length octets
+      → (due command longer n at (front_of octets)).turn ≡ Stops status
+      → answers_from command longer 0 n at octets ≡ record { text = (due command longer n at (front_of octets)).text; status = status }
+  unfolding answers_from
+  answers-stop n at status [] here stop = absurd (omega arith)
+  answers-stop n at status (octet ∷ octets) here stop =
+      after-stops (due command longer n at (front_of (octet ∷ octets))) status
+      (λ size. answers_from command longer (size - 1) (n + 1) (at + 1) octets) stop
+
+  -- ---- the loop: what was written, and the answer to the octets that are left, are the whole answer
+
+  pub loop-more : (n at size : ℕ) (text now octets : List ℕ) (whole : Answered) → at < length octets → 0 < size
+      → put_before text (answers_from command longer 0 n at (drop at octets)) ≡ whole
+      → Says (due command longer n at (front_of (drop at octets))) text now (GoesOn size)
+      → put_before now (answers_from command longer 0 (n + 1) (at + size) (drop (at + size) octets)) ≡ whole
+  loop-more n at size text now octets whole inside some so_far says =
+      let here : 0 < length (drop at octets) = omega (arith, length-drop at octets) in
+      let line = answers-bundle n at size (drop at octets) here some (sym says.1) in
+      rw (says.0, ← drop-drop size at octets)
+      (sym (put_before-put_before text (due command longer n at (front_of (drop at octets))).text (answers_from command longer 0 (n + 1) (at + size) (drop size (drop at octets))))
+      ∙ ap (put_before text) (sym line) ∙ so_far)
+
+  pub loop-stop : (n at : ℕ) (status : Status) (text now octets : List ℕ) (whole : Answered) → at < length octets
+      → put_before text (answers_from command longer 0 n at (drop at octets)) ≡ whole
+      → Says (due command longer n at (front_of (drop at octets))) text now (Stops status)
+      → record { text = now; status = status } ≡ whole
+  loop-stop n at status text now octets whole inside so_far says =
+      let here : 0 < length (drop at octets) = omega (arith, length-drop at octets) in
+      let line = answers-stop n at status (drop at octets) here (sym says.1) in
+      rw says.0 (ap (put_before text) (sym line) ∙ so_far)
+
+  none-left : (n at : ℕ) (octets : List ℕ) → length octets ≡ 0
+      → answers_from command longer 0 n at octets ≡ record { text = []; status = ending longer }
+  unfolding answers_from
+  none-left n at [] none = refl
+  none-left n at (octet ∷ octets) none = absurd (omega arith)
+
+  pub loop-end : (n at : ℕ) (text octets : List ℕ) (whole : Answered) → length octets ≤ at
+      → put_before text (answers_from command longer 0 n at (drop at octets)) ≡ whole
+      → record { text = text; status = ending longer } ≡ whole
+  loop-end n at text octets whole all so_far =
+      let none : length (drop at octets) ≡ 0 = omega (arith, length-drop at octets) in
+      rw (none-left n at (drop at octets) none, append-nil text) at so_far
+
+-- ---- a whole input
+
+pub within-long : (command : Command) (most : ℕ) (input : List ℕ) → most < length input
+    → answer_within most command input ≡ answers_from command true 0 1 0 (take most input)
+unfolding answer_within
+within-long command most input long = rw (lt-ltb most (length input) long) refl
+
+pub within-short : (command : Command) (most : ℕ) (input : List ℕ) → length input ≤ most
+    → answer_within most command input ≡ answers_from command false 0 1 0 input
+unfolding answer_within
+within-short command most input short = rw (le-ltb most (length input) short, take_all most input short) refl
+
+-- no more octets than one past the most are looked at
+pub within-front : (command : Command) (most : ℕ) (input : List ℕ)
+    → answer_within most command (read_front most input) ≡ answer_within most command input
+unfolding read_front
+within-front command most input = ⊎_elim
+    (λ long.
+    let size : length (take (most + 1) input) ≡ most + 1 = length-take-le (most + 1) input (omega arith) in
+    let front : take most (take (most + 1) input) ≡ take most input = take-take most (most + 1) input (omega arith) in
+    within-long command most (take (most + 1) input) (omega arith)
+    ∙ rw front (sym (within-long command most input long)))
+    (λ short. ap (answer_within most command) (take_all (most + 1) input (omega arith)))
+    (cases_lt most (length input))
+
+-- the answer to what was read is the answer to the input
+pub answers_input : (left : Option (List ℕ)) (command : Command) (input : List ℕ) (answer : Answered) (status : Status) (before now : Option (List ℕ))
+    → IfSome left (λ all. input ≡ read_front most_input all) → answer ≡ answer_to command input → Answers answer status before now
+    → IfSome left (λ all. Answers (answer_to command all) status before now)
+answers_input None command input answer status before now read is answers = tt
+answers_input (Some all) command input answer status before now read is answers =
+    rw (← within-front command most_input all, ← read, ← is) answers

@@ -1,0 +1,4 @@
+pub mod FrontLemmas
+pub mod ShowLemmas
+pub mod TextLemmas
+pub mod AnsweringLemmas

@@ -1,0 +1,5 @@
+pub mod Front
+pub mod Legal
+pub mod Show
+pub mod Answering
+pub mod Turns

@@ -1,0 +1,10 @@
+//! The commands.
+
+/// What is said of each bundle.
+#[derive(Clone, Copy, Debug, PartialEq, Eq, Drop)]
+pub enum Command {
+    /// Its version, and how many octets it has.
+    Check,
+    /// Its values, as one JSON text.
+    Show,
+}

@@ -1,0 +1,24 @@
+//! The commands on recorded bundles: octets of bundles of version 6 (RFC 5050) and version 7
+//! (RFC 9171), end to end, in any mixture.
+//!
+//! [`bundles`] reads a source, and writes to a sink what a [`Command`] says of each bundle in
+//! turn: `check` its version and how many octets it has, `show` its values as JSON. The first
+//! octet of a bundle names its version. The first bundle that doesn't decode ends the run, with a
+//! line that says which one it is, the place in the input and the cause.
+//!
+//! What a command answers is one definition from the input to the text and the status
+//! (`specs/Answering.antt`). For now the whole input is read before the first line is written.
+#![tactic(auto)]
+
+mod answering;
+mod command;
+mod front;
+mod lines;
+mod show;
+#[cfg(test)]
+mod tests;
+mod top;
+
+pub use command::Command;
+pub use front::{Bundle, Cause};
+pub use top::bundles;

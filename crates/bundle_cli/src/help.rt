@@ -5,6 +5,8 @@ pub const HELP: &str = "\
 fimdahol: a gateway between bundles of BPv6 and of BPv7, over LTP
 
 usage: fimdahol receive < DATAGRAMS      hands up the red parts of recorded LTP datagrams
+       fimdahol check < BUNDLES          says the version and the size of each recorded bundle
+       fimdahol show < BUNDLES           shows the values of each recorded bundle as JSON
        fimdahol --help | --version
 
 receive reads one datagram in hex a line and writes
@@ -14,6 +16,11 @@ receive reads one datagram in hex a line and writes
                                  its red part was handed up
   refused line LINE Hex          last, where a line is no hex
   refused line LINE AT CAUSE     last, where a datagram is no segment, and where
+
+check and show read the octets of bundles of both versions, end to end, and write
+  VERSION SIZE                   by check, of each bundle
+  {..}                           by show, of each bundle: its values
+  refused BUNDLE AT CAUSE        last, where a bundle isn't one, and where in the input
 
 status: 0 done, 1 the input was refused, 2 wrong usage, 3 a read failed, 4 a write failed,
         6 the input passes a limit, 7 memory ran out

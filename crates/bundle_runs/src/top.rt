@@ -1,5 +1,7 @@
 //! The crate's one call.
+ghost use Rattle.std.specs.Io.KnownBytes.{IsAtEnd};
 ghost use Rattle.std.specs.Prelude.{◌≡◌, ◌-◌, ◌<◌, ◌^◌, IfSome};
+ghost use Rattle.edge_traits.specs.Faults.{StopsAtFailure};
 ghost use Rattle.edge_traits.specs.Outcome.{Answers, RoseByRead, RoseByWrite};
 ghost use Rattle.bundle_runs.specs.Answering.{answer_to};
 
@@ -32,6 +34,11 @@ pub fn bundles<S: Source, K: Sink>(
     // A fault is answered exactly where a count rose.
     ensures read_fault { RoseByRead result (S.faults source.old) (S.faults source.new) }
     ensures write_fault { RoseByWrite result (K.faults sink.old) (K.faults sink.new) }
+
+    // No call follows one that failed, and a run that is done read the source to its end.
+    ensures read_stops { result ≡ Status.ReadFault → StopsAtFailure (S.failing source.old) (S.failing source.new) }
+    ensures write_stops { result ≡ Status.WriteFault → StopsAtFailure (K.failing sink.old) (K.failing sink.new) }
+    ensures read_whole { result ≡ Status.Done → IsAtEnd (S.left source.new) }
 
     // No input is a wrong call.
     ensures no_usage { result ≡ Status.Usage → ⊥ }

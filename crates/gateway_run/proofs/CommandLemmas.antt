@@ -16,16 +16,16 @@ use Rattle.gateway_run.proofs.ReceiveLemmas.{received-front}
 use Rattle.gateway_run.proofs.TranscriptLemmas.{received-law}
 use Rattle.gateway_run.proofs.EndLemmas.{received-done}
 
-answer_to-front : (command : Command) (input : List ℕ) → answer_to command (read_front most_input input) ≡ answer_to command input
-answer_to-front commands.Receive input = received-front most_input input
+answer_to-front : (input : List ℕ) → answer_to commands.Receive (read_front most_input input) ≡ answer_to commands.Receive input
+answer_to-front input = received-front most_input input
 
 -- the answer to what was read is the answer to the input
-pub answers_input : (left : Option (List ℕ)) (command : Command) (input : List ℕ) (due : Answered) (status : Status) (before now : Option (List ℕ))
-    → IfSome left (λ all. input ≡ read_front most_input all) → due ≡ answer_to command input → Answers due status before now
-    → IfSome left (λ all. Answers (answer_to command all) status before now)
-answers_input None command input due status before now read is answers = tt
-answers_input (Some all) command input due status before now read is answers =
-    rw (← answer_to-front command all, ← read, ← is) answers
+pub answers_input : (left : Option (List ℕ)) (input : List ℕ) (due : Answered) (status : Status) (before now : Option (List ℕ))
+    → IfSome left (λ all. input ≡ read_front most_input all) → due ≡ answer_to commands.Receive input → Answers due status before now
+    → IfSome left (λ all. Answers (answer_to commands.Receive all) status before now)
+answers_input None input due status before now read is answers = tt
+answers_input (Some all) input due status before now read is answers =
+    rw (← answer_to-front all, ← read, ← is) answers
 
 -- ---- the receiver's law
 
@@ -94,22 +94,20 @@ pub keeps_law : (left : Option (List ℕ)) (named : Option Command) (command : C
     → named ≡ Some command → IfSome left (λ input. Answers (answer_to command input) status before now)
     → IfSome left (λ input. KeepsLaw named input status before now)
 keeps_law None named command status before now is answers = tt
+keeps_law (Some input) named (commands.Bundles command) status before now is answers = rw is tt
 keeps_law (Some input) named commands.Receive status before now is answers =
     rw is (lawful input (answer_to commands.Receive input) (received-law the_limits most_input input) status before now answers)
 
 -- ---- a run that is done
 
-done_within : (command : Command) (input : List ℕ) → (answer_to command input).status ≡ statuses.Done → length input ≤ most_input
-done_within commands.Receive input is = received-done most_input input is
-
-pub read_to_end : (left : Option (List ℕ)) (command : Command) (input : List ℕ) (due : Answered) (status : Status) (before now : Option (List ℕ))
-    → due ≡ answer_to command input → Answers due status before now
+pub read_to_end : (left : Option (List ℕ)) (input : List ℕ) (due : Answered) (status : Status) (before now : Option (List ℕ))
+    → due ≡ answer_to commands.Receive input → Answers due status before now
     → (length input ≤ most_input → IsAtEnd left) → status ≡ statuses.Done → IsAtEnd left
-read_to_end left command input due statuses.Done before now is answers ended done =
-    ended (done_within command input (sym (ap (λ (a : Answered). a.status) is) ∙ answers.0))
-read_to_end left command input due statuses.Refused before now is answers ended done = absurd (cc)
-read_to_end left command input due statuses.Usage before now is answers ended done = absurd (cc)
-read_to_end left command input due statuses.ReadFault before now is answers ended done = absurd (cc)
-read_to_end left command input due statuses.WriteFault before now is answers ended done = absurd (cc)
-read_to_end left command input due statuses.Limit before now is answers ended done = absurd (cc)
-read_to_end left command input due statuses.Memory before now is answers ended done = absurd (cc)
+read_to_end left input due statuses.Done before now is answers ended done =
+    ended (received-done most_input input (sym (ap (λ (a : Answered). a.status) is) ∙ answers.0))
+read_to_end left input due statuses.Refused before now is answers ended done = absurd (cc)
+read_to_end left input due statuses.Usage before now is answers ended done = absurd (cc)
+read_to_end left input due statuses.ReadFault before now is answers ended done = absurd (cc)
+read_to_end left input due statuses.WriteFault before now is answers ended done = absurd (cc)
+read_to_end left input due statuses.Limit before now is answers ended done = absurd (cc)
+read_to_end left input due statuses.Memory before now is answers ended done = absurd (cc)

@@ -5,6 +5,8 @@ use Rattle.edge_traits.specs.declared.status.Status.{Status}
 use Rattle.edge_traits.specs.declared.status.Status.TheVariants as statuses
 use Rattle.edge_traits.specs.Content.{Gains}
 use Rattle.edge_traits.specs.Outcome.{Answered, Answers, IsAnswer}
+use Rattle.bundle_runs.specs.declared.command.Command.TheVariants.{Check, Show}
+use Rattle.bundle_runs.specs.Answering as bundles
 use Rattle.gateway_run.specs.declared.command.Command.{Command}
 use Rattle.gateway_run.specs.declared.command.Command.TheVariants as commands
 use Rattle.gateway_run.specs.Receive.{received, the_limits}
@@ -16,7 +18,11 @@ is_word word text = pointwise nat_eq word text
 
 -- the command of a single word
 abbrev pub one_word : List ℕ → Option Command
-one_word word = if is_word word (codes "receive") then Some commands.Receive else None
+one_word word =
+    if is_word word (codes "receive") then Some commands.Receive
+    else if is_word word (codes "check") then Some (commands.Bundles Check)
+    else if is_word word (codes "show") then Some (commands.Bundles Show)
+    else None
 
 -- the command that the words name
 abbrev pub command_of : List (List ℕ) → Option Command
@@ -33,6 +39,7 @@ most_input = 67108864
 -- what a command answers to an input
 abbrev pub answer_to : Command → List ℕ → Answered
 answer_to commands.Receive input = received the_limits most_input input
+answer_to (commands.Bundles command) input = bundles.answer_to command input
 
 -- a run ended so with this answer due for the command; words that name none get nothing written
 abbrev pub AnswersCommand : Option Command → List ℕ → Status → Option (List ℕ) → Option (List ℕ) → Type 0
@@ -63,5 +70,6 @@ pub record WritesLawfully (input : List ℕ) (status : Status) (held after : Lis
 -- such a text
 abbrev pub KeepsLaw : Option Command → List ℕ → Status → Option (List ℕ) → Option (List ℕ) → Type 0
 KeepsLaw None input status before now = Unit {0}
+KeepsLaw (Some (commands.Bundles command)) input status before now = Unit {0}
 KeepsLaw (Some commands.Receive) input status before now =
     IfSome now (λ after. IsSomeAnd before (λ held. WritesLawfully input status held after))

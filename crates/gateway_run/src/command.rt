@@ -9,6 +9,8 @@ use crate::word::Word;
 pub enum Command {
     /// `receive`: hands up the red parts of recorded datagrams.
     Receive,
+    /// `check` and `show`: what is said of recorded bundles.
+    Bundles(bundle_runs::Command),
 }
 
 /// The command that the words name.
@@ -17,6 +19,12 @@ pub fn command_named(words: &[Word]) -> Option<Command>
 {
     match words {
         [word] if word.octets() == b"receive".as_slice() => Some(Command::Receive),
+        [word] if word.octets() == b"check".as_slice() => {
+            Some(Command::Bundles(bundle_runs::Command::Check))
+        }
+        [word] if word.octets() == b"show".as_slice() => {
+            Some(Command::Bundles(bundle_runs::Command::Show))
+        }
         _ => None,
     }
 }

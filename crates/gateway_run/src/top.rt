@@ -1,15 +1,15 @@
 //! The program's one call.
 ghost use Rattle.std.specs.Io.KnownBytes.{IsAtEnd};
-ghost use Rattle.std.specs.Prelude.{◌≡◌, ◌↔◌, ◌⊎◌, ◌-◌, ◌<◌, ◌^◌, None, IfSome, IfOk};
-ghost use Rattle.edge_traits.specs.AnswerView.{answered};
+ghost use Rattle.std.specs.Prelude.{◌≡◌, ◌↔◌, ◌⊎◌, ◌-◌, ◌<◌, ◌^◌, None, IfSome};
 ghost use Rattle.edge_traits.specs.Faults.{StopsAtFailure};
-ghost use Rattle.edge_traits.specs.Outcome.{Answers, IsAnswer, RoseByRead, RoseByWrite};
+ghost use Rattle.edge_traits.specs.Outcome.{Answers, RoseByRead, RoseByWrite};
 ghost use Rattle.gateway_run.specs.Words.{command_of, answer_to, AnswersCommand, CompletesCommand, KeepsLaw};
 
 use crate::command::{Command, command_named};
 use crate::receive::receive;
 use crate::word::Word;
-use edge_traits::{Answer, Clock, Link, ReadRefused, Sink, Source, Status, read_all, write_answer};
+use bundle_runs::bundles;
+use edge_traits::{Clock, Link, ReadRefused, Sink, Source, Status, read_all, write_answer};
 use std::alloc::{AllocError, Global};
 
 /// The most octets of an input: 64 MiB.
@@ -84,23 +84,32 @@ fn run_command<S: Source, K: Sink>(
     ensures write_stops { result ≡ Status.WriteFault → StopsAtFailure (K.failing sink.old) (K.failing sink.new) }
     ensures read_whole { result ≡ Status.Done → IsAtEnd (S.left source.new) }
 {
+    match command {
+        Command::Receive => run_receive(alloc, source, sink),
+        Command::Bundles(command) => bundles(alloc, command, source, sink),
+    }
+}
+
+/// Runs `receive`.
+fn run_receive<S: Source, K: Sink>(alloc: Global, source: &mut S, sink: &mut K) -> Status
+    requires source { S.faults source.old < 2 ^ 64 - 1 }
+    requires sink { K.faults sink.old < 2 ^ 64 - 1 }
+    ensures no_usage { result ≡ Status.Usage → ⊥ }
+    ensures answers { IfSome (S.left source.old) (λ input.
+        Answers (answer_to Command.Receive input) result (K.held sink.old) (K.held sink.new)) }
+    ensures read_fault { RoseByRead result (S.faults source.old) (S.faults source.new) }
+    ensures write_fault { RoseByWrite result (K.faults sink.old) (K.faults sink.new) }
+    ensures read_stops { result ≡ Status.ReadFault → StopsAtFailure (S.failing source.old) (S.failing source.new) }
+    ensures write_stops { result ≡ Status.WriteFault → StopsAtFailure (K.failing sink.old) (K.failing sink.new) }
+    ensures read_whole { result ≡ Status.Done → IsAtEnd (S.left source.new) }
+{
     let input = match read_all(alloc, source, MOST_INPUT) {
         Ok(input) => input,
         Err(ReadRefused::Fault) => return Status::ReadFault,
         Err(ReadRefused::NoMemory) => return Status::Memory,
     };
-    match answer(alloc, command, &input) {
+    match receive(alloc, &input, MOST_INPUT) {
         Ok(answer) => write_answer(sink, &answer),
         Err(AllocError) => Status::Memory,
-    }
-}
-
-/// What the command answers to an input.
-fn answer(alloc: Global, command: Command, input: &[u8]) -> Result<Answer, AllocError>
-    ensures answer { IfOk result (λ a. answered a ≡ answer_to command input.now) }
-    ensures status { IfOk result (λ a. IsAnswer a.status) }
-{
-    match command {
-        Command::Receive => receive(alloc, input, MOST_INPUT),
     }
 }

@@ -1,0 +1,52 @@
+-- An answer that says Done is to an input within the limit.
+use Rattle.std.proofs.Common.{◌≡◌, ℕ, zero, suc, ◌+◌, ◌-◌, ◌≤◌, Bool, true, false, List, [], ◌∷◌, length, take, Option, refl, sym, ◌∙◌, ap, arith, nat_lt, ltb-false}
+use Rattle.std.specs.Io.KnownBytes.{IsAtEnd}
+use Rattle.edge_traits.specs.declared.status.Status.{Status}
+use Rattle.edge_traits.specs.declared.status.Status.TheVariants as statuses
+use Rattle.edge_traits.specs.Outcome.{Answered, Answers}
+use Rattle.bundle_runs.specs.declared.command.Command.{Command}
+use Rattle.bundle_runs.specs.declared.front.Front.{Front}
+use Rattle.bundle_runs.specs.declared.front.Front.TheVariants.{Whole, CutShort, Refused}
+use Rattle.bundle_runs.specs.Front.{front_of}
+use Rattle.bundle_runs.specs.Answering.{due, after, answers_from, answer_within, most_input, answer_to}
+
+due-not_done : (command : Command) (n at : ℕ) (front : Front) (later : ℕ → Answered)
+    → ((size : ℕ) → (later size).status ≡ statuses.Done → ⊥)
+    → (after (due command true n at front).text (due command true n at front).turn later).status ≡ statuses.Done → ⊥
+due-not_done command n at (Whole bundle size) later more is = more size is
+due-not_done command n at (CutShort place) later more is = absurd (cc)
+due-not_done command n at (Refused place cause) later more is = absurd (cc)
+
+answers-not_done : (command : Command) (left n at : ℕ) (octets : List ℕ)
+    → (answers_from command true left n at octets).status ≡ statuses.Done → ⊥
+unfolding answers_from
+answers-not_done command left n at [] is = absurd (cc)
+answers-not_done command (suc left) n at (octet ∷ octets) is = answers-not_done command left n (at + 1) octets is
+answers-not_done command zero n at (octet ∷ octets) is =
+    due-not_done command n at (front_of (octet ∷ octets)) (λ size. answers_from command true (size - 1) (n + 1) (at + 1) octets)
+    (λ size. answers-not_done command (size - 1) (n + 1) (at + 1) octets) is
+
+-- where the answer is Done, the input is within the limit
+pub answer-done : (most : ℕ) (command : Command) (input : List ℕ)
+    → (answer_within most command input).status ≡ statuses.Done → length input ≤ most
+unfolding answer_within
+answer-done most command input is = by_test (nat_lt most (length input)) refl is
+  where
+    by_test : (t : Bool) → nat_lt most (length input) ≡ t
+        → (answers_from command t 0 1 0 (take most input)).status ≡ statuses.Done → length input ≤ most
+    by_test true test is = absurd (answers-not_done command 0 1 0 (take most input) is)
+    by_test false test is = omega (arith, ltb-false most (length input) test)
+
+-- ---- a run that is done
+
+pub read_to_end : (left : Option (List ℕ)) (command : Command) (input : List ℕ) (answer : Answered) (status : Status) (before now : Option (List ℕ))
+    → answer ≡ answer_to command input → Answers answer status before now
+    → (length input ≤ most_input → IsAtEnd left) → status ≡ statuses.Done → IsAtEnd left
+read_to_end left command input answer statuses.Done before now is answers ended done =
+    ended (answer-done most_input command input (sym (ap (λ (a : Answered). a.status) is) ∙ answers.0))
+read_to_end left command input answer statuses.Refused before now is answers ended done = absurd (cc)
+read_to_end left command input answer statuses.Usage before now is answers ended done = absurd (cc)
+read_to_end left command input answer statuses.ReadFault before now is answers ended done = absurd (cc)
+read_to_end left command input answer statuses.WriteFault before now is answers ended done = absurd (cc)
+read_to_end left command input answer statuses.Limit before now is answers ended done = absurd (cc)
+read_to_end left command input answer statuses.Memory before now is answers ended done = absurd (cc)

@@ -2,3 +2,4 @@ pub mod FrontLemmas
 pub mod ShowLemmas
 pub mod TextLemmas
 pub mod AnsweringLemmas
+pub mod LawLemmas

@@ -4,7 +4,6 @@ use Rattle.wire_fields.specs.Format.{Spells}
 use Rattle.wire_fields.specs.Refusal.{Stop, truncated, because, Begins}
 use Rattle.bundle6.specs.declared.bundle.Bundle6.{Bundle6}
 use Rattle.bundle6.specs.Table as table6
-use Rattle.bundle6.specs.Legal.{Spells6}
 use Rattle.bundle7.specs.declared.bundle.Bundle7.{Bundle7}
 use Rattle.bundle7.specs.Table as table7
 use Rattle.bundle7.specs.declared.primary.Primary7.{Primary7}
@@ -32,10 +31,10 @@ unfolding table7.bundle
 seven-some most b (u, v, start, parts, (one, mark), rest) =
     one-octet u start (front-empty u v parts) one
 
-pub six-within : (text : List ℕ) (b : Bundle6) (k : ℕ) → k ≤ length text → Spells6 b (take k text)
+pub six-within : (text : List ℕ) (b : Bundle6) (k : ℕ) → Begins (table6.bundle 64) text k b
     → (0 < k) × (k ≤ length text)
-six-within text b zero within spells = absurd (six-some 64 b spells.spelled)
-six-within text b (suc k) within spells = (omega arith, within)
+six-within text b zero begins = absurd (six-some 64 b begins.spells)
+six-within text b (suc k) begins = (omega arith, begins.within)
 
 pub seven-within : (text : List ℕ) (b : Bundle7) (k : ℕ) → Begins (table7.bundle 64) text k b
     → (0 < k) × (k ≤ length text)

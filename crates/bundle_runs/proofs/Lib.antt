@@ -2,4 +2,5 @@ pub mod FrontLemmas
 pub mod ShowLemmas
 pub mod TextLemmas
 pub mod AnsweringLemmas
+pub mod LawLemmas
 pub mod EndLemmas

@@ -3,3 +3,4 @@ pub mod Legal
 pub mod Show
 pub mod Answering
 pub mod Turns
+pub mod Laws

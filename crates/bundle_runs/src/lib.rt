@@ -13,6 +13,7 @@
 mod answering;
 mod command;
 mod front;
+mod laws;
 mod lines;
 mod show;
 #[cfg(test)]
@@ -21,4 +22,5 @@ mod top;
 
 pub use command::Command;
 pub use front::{Bundle, Cause};
+pub use laws::answers_bundle_by_bundle;
 pub use top::bundles;

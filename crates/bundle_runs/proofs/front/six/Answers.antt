@@ -8,7 +8,8 @@ use Rattle.bundle_runs.proofs.front.six.Goals as goal
 
 pub returns-in-Ok-clause-within : goal.returns-in-Ok-clause-within
 returns-in-Ok-clause-within c =
-    six-within c.args.octets.now c.in-Ok.bundle c.in-Ok.size c.in-Ok.ensures.found.0 c.in-Ok.ensures.found.1
+    six-within c.args.octets.now c.in-Ok.bundle c.in-Ok.size
+    (record { within = c.in-Ok.ensures.found.0; spells = c.in-Ok.ensures.found.1.spelled })
 
 pub returns-in-Err-Refused-clause-within : goal.returns-in-Err-Refused-clause-within
 returns-in-Err-Refused-clause-within c =

@@ -1,0 +1,14 @@
+use Rattle.bundle_runs.proofs.LawLemmas.{takes_bundle6, takes_bundle7, stops_at6, stops_at7}
+use Rattle.bundle_runs.proofs.laws.answers_bundle_by_bundle.Goals as goal
+
+pub returns-clause-six : goal.returns-clause-six
+returns-clause-six c = takes_bundle6
+
+pub returns-clause-seven : goal.returns-clause-seven
+returns-clause-seven c = takes_bundle7
+
+pub returns-clause-refused6 : goal.returns-clause-refused6
+returns-clause-refused6 c = stops_at6
+
+pub returns-clause-refused7 : goal.returns-clause-refused7
+returns-clause-refused7 c = stops_at7

@@ -6,6 +6,7 @@ use Rattle.edge_traits.specs.declared.status.Status.{Status}
 use Rattle.edge_traits.specs.declared.status.Status.TheVariants as statuses
 use Rattle.edge_traits.specs.Content.{Gains, GainsFront, read_front}
 use Rattle.edge_traits.specs.Outcome.{Answered, Answers, IsAnswer}
+use Rattle.ltp_segment.specs.declared.session.TheConstants.{BLOCK_MAX}
 use Rattle.gateway_run.specs.declared.command.Command.{Command}
 use Rattle.gateway_run.specs.declared.command.Command.TheVariants as commands
 use Rattle.gateway_run.specs.Lines.{lines_within}
@@ -29,7 +30,7 @@ answers_input (Some all) input due status before now read is answers =
 
 -- ---- the receiver's law
 
-module _ (input : List ℕ) (due : Answered) (law : KeepsReceiverLaw 4194304 (lines_within most_input input) due.text due.status) where
+module _ (input : List ℕ) (due : Answered) (law : KeepsReceiverLaw BLOCK_MAX (lines_within most_input input) due.text due.status) where
   whole_text : (status : Status) (held after : List ℕ) → due.status ≡ status → after ≡ held ++ due.text → WritesLawfully input status held after
   whole_text status held after is gained = record {
     text = due.text;

@@ -7,6 +7,7 @@ use Rattle.std.specs.declared.cmp.Ordering.{Ordering}
 use Rattle.std.specs.declared.cmp.Ordering.TheVariants as orderings
 use Rattle.std.specs.Ordering.{nat_cmp, ordering_then, is_eq}
 use Rattle.std.specs.BTreeMap.{get}
+use Rattle.ltp_segment.specs.declared.session.TheConstants.{BLOCK_MAX}
 use Rattle.gateway_run.specs.declared.table.Standing.{Standing}
 use Rattle.gateway_run.specs.declared.table.Standing.TheVariants as standings
 use Rattle.gateway_run.specs.declared.table.Found.TheVariants as founds
@@ -78,7 +79,7 @@ shows_absent sessions kept o s lacks = record {
 -- ---- how a piece is met
 
 pub first-outside : (session : Session) (p : RedPiece) → session ≡ fresh → is_outside_of 0 None p ≡ true
-    → meets 4194304 session p ≡ (out_of_bounds, fresh)
+    → meets BLOCK_MAX session p ≡ (out_of_bounds, fresh)
 unfolding meets
 first-outside session p is outside = rw (is, outside) refl
 
@@ -93,7 +94,7 @@ alone_whole body =
     rw (eq-eqb (0 + length body) (length (laid_over [] body)) size) (all_octets-laid body)
 
 pub first-alone : (session : Session) (p : RedPiece) → session ≡ fresh → is_outside_of 0 None p ≡ false
-    → (p.ends && (p.offset == 0)) ≡ true → meets 4194304 session p ≡ (up p.body, handed_up)
+    → (p.ends && (p.offset == 0)) ≡ true → meets BLOCK_MAX session p ≡ (up p.body, handed_up)
 unfolding meets filled
 first-alone session p is inside alone =
     let parts = both p.ends (p.offset == 0) alone in
@@ -113,18 +114,18 @@ gap (suc offset) true body several = either _
 
 pub first-open : (session : Session) (p : RedPiece) → session ≡ fresh → is_outside_of 0 None p ≡ false
     → (p.ends && (p.offset == 0)) ≡ false
-    → meets 4194304 session p ≡ (nothing, open_part (filled [] p.offset p.body) (known_after None p))
+    → meets BLOCK_MAX session p ≡ (nothing, open_part (filled [] p.offset p.body) (known_after None p))
 unfolding meets filled all_octets
 first-open session p is inside several = rw (is, inside, gap p.offset p.ends p.body several) refl
 
 pub open-outside : (session : Session) (p : RedPiece) (cells : List (Option ℕ)) (known : Option ℕ) → session ≡ open_part cells known
-    → is_outside_of (length cells) known p ≡ true → meets 4194304 session p ≡ (out_of_bounds, open_part cells known)
+    → is_outside_of (length cells) known p ≡ true → meets BLOCK_MAX session p ≡ (out_of_bounds, open_part cells known)
 unfolding meets
 open-outside session p cells known is outside = rw (is, outside) refl
 
 pub open-inside : (session : Session) (p : RedPiece) (cells : List (Option ℕ)) (known : Option ℕ) (w : Option (List ℕ)) → session ≡ open_part cells known
     → is_outside_of (length cells) known p ≡ false → w ≡ whole_part (filled cells p.offset p.body) (known_after known p)
-    → meets 4194304 session p ≡ handing_up w (filled cells p.offset p.body) (known_after known p)
+    → meets BLOCK_MAX session p ≡ handing_up w (filled cells p.offset p.body) (known_after known p)
 unfolding meets
 open-inside session p cells known w is inside whole = rw (is, inside, whole) refl
 

@@ -1,6 +1,7 @@
 -- The cells that an open red part of the code stands for.
 use Rattle.std.specs.Prelude.{◌≡◌, ℕ, List, [], ◌∷◌, length, Option, None, Some, is_some, slice_index, slice_index_or, ◌<◌, Bool, ◌||◌, ◌&&◌, ◌==◌, nat_lt, if◌then◌else◌}
 use Rattle.spans.specs.Places.{is_covered}
+use Rattle.ltp_segment.specs.declared.session.TheConstants.{BLOCK_MAX}
 use Rattle.gateway_run.specs.declared.part.Held.{Held}
 use Rattle.gateway_run.specs.declared.part.OpenPart.{OpenPart}
 use Rattle.gateway_run.specs.RedPart.{or_else}
@@ -9,7 +10,7 @@ use Rattle.gateway_run.specs.Session.{RedPiece, stop_of, is_past, is_another, fi
 -- the bounds of a piece, by the place behind the last octet that came
 abbrev pub is_outside_of : ℕ → Option ℕ → RedPiece → Bool
 is_outside_of reach known p =
-    length p.body == 0 || nat_lt 4194304 (stop_of p) || is_past known (stop_of p)
+    length p.body == 0 || nat_lt BLOCK_MAX (stop_of p) || is_past known (stop_of p)
     || (p.ends && (is_another known (stop_of p) || nat_lt (stop_of p) reach))
 
 -- the length, once a piece that ends here came

@@ -12,6 +12,7 @@ use Rattle.ltp_segment.specs.Reading.{segment_of}
 use Rattle.ltp_segment.specs.Values.{SegmentValue, ContentValue, a_piece, a_report, a_report_ack, a_sender_cancel, a_sender_cancel_ack, a_receiver_cancel, a_receiver_cancel_ack, PieceValue}
 use Rattle.ltp_segment.specs.Kinds.{is_red, ends_red_part}
 use Rattle.ltp_segment.specs.Word.{word_of}
+use Rattle.ltp_segment.specs.declared.session.TheConstants.{BLOCK_MAX}
 use Rattle.gateway_run.specs.Lines.{lines_within}
 use Rattle.gateway_run.specs.Session.{RedPiece, Session, fresh, open_part, handed_up, Said, nothing, up, out_of_bounds, passed_over, meets}
 
@@ -146,7 +147,7 @@ pub record Limits : Type 0 where
 -- the limits of the program: a block of 4 MiB, a million lines, 9,000,000 octets a line, and 64
 -- unfinished sessions
 abbrev pub the_limits : Limits
-the_limits = record { block = 4194304; lines = 1000000; octets = 9000000; sessions = 64 }
+the_limits = record { block = BLOCK_MAX; lines = 1000000; octets = 9000000; sessions = 64 }
 
 -- a line's answer: its text and the sessions after it; or the run's end
 pub data Turn : Type 0 where

@@ -3,6 +3,7 @@ use Rattle.std.specs.Prelude.{◌≡◌, ℕ, List, Option, None, Some, true, fa
 use Rattle.std.specs.Ordering.{nat_cmp, ordering_then}
 use Rattle.std.specs.declared.cmp.Ordering.{Ordering}
 use Rattle.std.specs.BTreeMap.{get}
+use Rattle.ltp_segment.specs.declared.session.TheConstants.{BLOCK_MAX}
 use Rattle.gateway_run.specs.declared.part.OpenPart.{OpenPart}
 use Rattle.gateway_run.specs.declared.table.Standing.{Standing}
 use Rattle.gateway_run.specs.declared.table.Standing.TheVariants as standings
@@ -79,4 +80,4 @@ MeetsAs kept p reply now met =
 
 abbrev pub Meets : List Kept → RedPiece → Reply → Sessions → Type 0
 Meets kept p reply now =
-    MeetsAs kept p reply now (meets 4194304 (session_in p.originator p.session kept) p)
+    MeetsAs kept p reply now (meets BLOCK_MAX (session_in p.originator p.session kept) p)

@@ -7,6 +7,7 @@ use Rattle.edge_traits.specs.Content.{Gains}
 use Rattle.edge_traits.specs.Outcome.{Answered, Answers, IsAnswer}
 use Rattle.bundle_runs.specs.declared.command.Command.TheVariants.{Check, Show}
 use Rattle.bundle_runs.specs.Answering as bundles
+use Rattle.ltp_segment.specs.declared.session.TheConstants.{BLOCK_MAX}
 use Rattle.gateway_run.specs.declared.command.Command.{Command}
 use Rattle.gateway_run.specs.declared.command.Command.TheVariants as commands
 use Rattle.gateway_run.specs.Receive.{received, the_limits}
@@ -59,7 +60,7 @@ CompletesCommand (Some command) input status =
 pub record WritesLawfully (input : List ℕ) (status : Status) (held after : List ℕ) : Type 0 where
   pub text : List ℕ
   pub ending : Status
-  pub law : KeepsReceiverLaw 4194304 (lines_within most_input input) text ending
+  pub law : KeepsReceiverLaw BLOCK_MAX (lines_within most_input input) text ending
   pub written : List ℕ
   pub rest : List ℕ
   pub front : text ≡ written ++ rest

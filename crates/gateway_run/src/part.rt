@@ -1,5 +1,6 @@
 //! What is kept of a red part that isn't whole.
 ghost use Rattle.std.specs.Prelude.{◌≡◌, ◌+◌, ◌≤◌, length, All};
+ghost use Rattle.ltp_segment.specs.declared.session.TheConstants.{BLOCK_MAX};
 
 use spans::Spans;
 
@@ -23,7 +24,7 @@ pub struct OpenPart {
     pub reach: u64,
     /// The length of the red part, once an end of it came.
     pub end: Option<u64>,
-    ghost limit: { length covered ≡ 4194304 },
-    ghost near: { reach ≤ 4194304 },
+    ghost limit: { length covered ≡ BLOCK_MAX },
+    ghost near: { reach ≤ BLOCK_MAX },
     ghost within: { All (λ held. held.offset + length held.body.items ≤ reach) pieces.items },
 }

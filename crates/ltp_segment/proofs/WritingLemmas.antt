@@ -291,7 +291,11 @@ segment-again s is = rw (whole-only segment causes.Trailing (segment_octets s) s
 -- ---- the writers
 
 pub written : (s : SegmentValue) (octets : List ℕ) → IsSegment s → octets ≡ segment_octets s → IsWritten s octets
-written s octets is made = record { made = made; again = rw made (segment-again s is) }
+written s octets is made = record {
+  made = made;
+  spells = rw made (segment-spells s is);
+  again = rw made (segment-again s is);
+}
 
 pub written-cancel : (by_sender : Bool) (originator session reason : ℕ) (octets : List ℕ) → originator < 2 ^ 64 → session < 2 ^ 64 → reason < 256
     → octets ≡ header_octets (cancel_type by_sender) originator session ++ reason ∷ []

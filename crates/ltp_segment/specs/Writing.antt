@@ -8,7 +8,7 @@ use Rattle.ltp_segment.specs.declared.segment.PieceKind.TheVariants as kinds
 use Rattle.ltp_segment.specs.declared.segment.Claim.{Claim}
 use Rattle.ltp_segment.specs.Kinds.{is_checkpoint}
 use Rattle.ltp_segment.specs.Values.{PieceValue, ReportValue, ContentValue, a_piece, a_report, a_report_ack, a_sender_cancel, a_sender_cancel_ack, a_receiver_cancel, a_receiver_cancel_ack, SegmentValue}
-use Rattle.ltp_segment.specs.Reading.{segment_of}
+use Rattle.ltp_segment.specs.Reading.{SpellsSegment, segment_of}
 
 -- ---- their octets
 
@@ -80,9 +80,11 @@ abbrev pub by_side : Bool → ContentValue → ContentValue → ContentValue
 by_side true sender receiver = sender
 by_side false sender receiver = receiver
 
--- ---- what a writer promises: these octets, and that they are read back as the segment
+-- ---- what a writer promises: these octets, that they spell the segment by the table of its
+-- fields, and that they are read back as it
 pub record IsWritten (s : SegmentValue) (octets : List ℕ) : Type 0 where
   pub made : octets ≡ segment_octets s
+  pub spells : SpellsSegment s octets
   pub again : segment_of octets ≡ Ok s
 
 -- the octets are those of this content in this session

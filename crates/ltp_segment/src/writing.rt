@@ -3,9 +3,8 @@
 ghost use Rattle.std.specs.Prelude.{◌≡◌, ◌<◌, ◌^◌, ◌++◌, IfOk, OnOk};
 ghost use Rattle.std.specs.List.{flat_map};
 ghost use Rattle.ltp_segment.specs.Values.{a_piece, a_report, a_report_ack, a_sender_cancel, a_sender_cancel_ack, a_receiver_cancel, a_receiver_cancel_ack, SegmentValue};
-ghost use Rattle.ltp_segment.specs.Reading.{segment_of};
 ghost use Rattle.ltp_segment.specs.Legal.{IsPiece, IsReport, IsSegment};
-ghost use Rattle.ltp_segment.specs.Writing.{Writes, piece_type, serial_octets, claim_octets, header_octets, segment_octets, by_side, cancel_type, cancel_ack_type};
+ghost use Rattle.ltp_segment.specs.Writing.{IsWritten, Writes, piece_type, serial_octets, claim_octets, header_octets, segment_octets, by_side, cancel_type, cancel_ack_type};
 
 use crate::segment::{Claim, PieceKind};
 use endpoint::Octets;
@@ -146,9 +145,9 @@ pub fn write_cancel_ack(
     Ok(Octets::from_vec(out))
 }
 
-/// A segment that is written is read back as the same segment.
+/// What is written of a segment spells it, and is read back as the same segment.
 pub fn is_read_back()
-    ensures { (s : SegmentValue) → IsSegment s → segment_of (segment_octets s) ≡ Ok s }
+    ensures { (s : SegmentValue) → IsSegment s → IsWritten s (segment_octets s) }
 {}
 
 /// The segment type of a cancel by the sender or by the receiver.

@@ -1,4 +1,5 @@
 use Rattle.std.proofs.Common.{refl, length, arith, ap}
+use Rattle.ltp_segment.specs.declared.session.TheConstants.{BLOCK_MAX}
 use Rattle.gateway_run.specs.OpenPart.{laid}
 use Rattle.gateway_run.proofs.OpenPartLemmas.{is_covered-uncovered}
 use Rattle.gateway_run.proofs.open_part.empty_part.Goals as goal
@@ -16,5 +17,5 @@ returns c = record {
   came = rw c.new.ensures.items refl;
   reach = refl;
   known_is = refl;
-  covered = λ k. rw c.new-2.ensures.uncovered (is_covered-uncovered 4194304 k);
+  covered = λ k. rw c.new-2.ensures.uncovered (is_covered-uncovered BLOCK_MAX k);
 }

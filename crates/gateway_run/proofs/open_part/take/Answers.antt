@@ -1,4 +1,5 @@
 use Rattle.std.proofs.Common.{◌≤◌, ◌<◌, ◌+◌, ◌∙◌, get_or, ℕ, refl, length, arith, ap}
+use Rattle.ltp_segment.specs.declared.session.TheConstants.{BLOCK_MAX}
 use Rattle.gateway_run.specs.declared.part.Held.{Held}
 use Rattle.gateway_run.specs.Views.{red_piece}
 use Rattle.gateway_run.proofs.OpenPartLemmas.{laid-push, covered-more, reach-more, known-more, within-more, within-push}
@@ -6,7 +7,7 @@ use Rattle.gateway_run.proofs.open_part.take.Goals as goal
 
 pub invariant_of-part-in-Break-branch-3 : goal.invariant_of-part-in-Break-branch-3
 invariant_of-part-in-Break-branch-3 c =
-    let near : c.max-part.result ≤ 4194304 = omega (arith, c.max-part.ensures, c.requires, c.args.part.now.near) in
+    let near : c.max-part.result ≤ BLOCK_MAX = omega (arith, c.max-part.ensures, c.requires, c.args.part.now.near) in
     let within : (k : ℕ) (d : Held) → k < length c.push.new.self.items
     → (get_or c.push.new.self.items k d).offset + length (get_or c.push.new.self.items k d).body.items ≤ c.max-part.result =
     rw (c.in_err-push.ensures.items, c.max-part.ensures) (within-more c.args.part.now.pieces.items c.args.part.now.reach _ c.args.part.now.within) in
@@ -18,7 +19,7 @@ invariant_of-part-in-Break-branch-3 c =
 
 pub invariant_of-part-2 : goal.invariant_of-part-2
 invariant_of-part-2 c =
-    let near : c.max-part.result ≤ 4194304 = omega (arith, c.max-part.ensures, c.requires, c.args.part.now.near) in
+    let near : c.max-part.result ≤ BLOCK_MAX = omega (arith, c.max-part.ensures, c.requires, c.args.part.now.near) in
     let fits : c.args.piece.now.offset + length c.in_ok-body.body.items ≤ c.max-part.result =
     omega (arith, c.max-part.ensures, ap length c.in_ok-body.ensures.items) in
     let before : (k : ℕ) (d : Held) → k < length c.args.part.now.pieces.items

@@ -1,4 +1,5 @@
 use Rattle.std.proofs.Common.{◌∙◌, refl, sym}
+use Rattle.ltp_segment.specs.declared.session.TheConstants.{BLOCK_MAX}
 use Rattle.gateway_run.specs.Session.{handed_up}
 use Rattle.gateway_run.specs.Receive.{session_in}
 use Rattle.gateway_run.specs.Views.{red_piece}
@@ -9,7 +10,7 @@ pub returns-in-HandedUp : goal.returns-in-HandedUp
 returns-in-HandedUp c = λ kept shows.
     let test = sym c.find.ensures ∙ c.in-HandedUp.is in
     let stands = shows.each c.args.piece.now.originator c.args.piece.now.session in
-    rw (found_handed_up _ (session_in c.args.piece.now.originator c.args.piece.now.session kept) 4194304 (red_piece c.args.piece.now) stands test)
+    rw (found_handed_up _ (session_in c.args.piece.now.originator c.args.piece.now.session kept) BLOCK_MAX (red_piece c.args.piece.now) stands test)
     (refl, shows_same c.args.sessions.now kept _ _ handed_up shows (handed_up_of _ _ stands test))
 
 pub returns-in-Nothing : goal.returns-in-Nothing

@@ -1,19 +1,16 @@
 -- The answer to an input, bundle by bundle.
-use Rattle.std.proofs.Common.{◌≡◌, ℕ, zero, suc, ◌+◌, ◌-◌, ◌<◌, ◌≤◌, Bool, List, [], ◌∷◌, ◌++◌, length, take, drop, Option, None, Some, IfSome, refl, sym, ◌∙◌, ap, arith, append_assoc, length-drop, true, false, lt-ltb, le-ltb, ⊎_elim}
+use Rattle.std.proofs.Common.{◌≡◌, ℕ, zero, suc, ◌+◌, ◌-◌, ◌<◌, ◌≤◌, Bool, List, [], ◌∷◌, length, take, drop, refl, sym, ◌∙◌, ap, arith, length-drop, true, false, lt-ltb, le-ltb, ⊎_elim}
 use Rattle.std.proofs.lemmas.List.{append-nil, take-take, take_all, length-take-le, drop-drop}
 use Rattle.std.proofs.lemmas.Bool.{cases_lt}
 use Rattle.edge_traits.specs.declared.status.Status.{Status}
 use Rattle.edge_traits.specs.Content.{read_front}
-use Rattle.edge_traits.specs.Outcome.{Answered, Answers}
+use Rattle.edge_traits.specs.Outcome.{Answered, put_before}
+use Rattle.edge_traits.proofs.AnswerLemmas.{put_before-put_before}
 use Rattle.bundle_runs.specs.declared.command.Command.{Command}
 use Rattle.bundle_runs.specs.declared.answering.Turn.TheVariants.{GoesOn, Stops}
 use Rattle.bundle_runs.specs.Front.{front_of}
-use Rattle.bundle_runs.specs.Answering.{Due, due, ending, put_before, after, answers_from, answer_within, most_input, answer_to}
+use Rattle.bundle_runs.specs.Answering.{Due, due, ending, after, answers_from, answer_within}
 use Rattle.bundle_runs.specs.Turns.{Says}
-
-put_before-put_before : (first second : List ℕ) (answer : Answered)
-    → put_before first (put_before second answer) ≡ put_before (first ++ second) answer
-put_before-put_before first second answer = rw append_assoc refl
 
 module _ (command : Command) (longer : Bool) where
   -- the octets of a bundle are passed one by one
@@ -133,11 +130,3 @@ within-front command most input = ⊎_elim
     ∙ rw front (sym (within-long command most input long)))
     (λ short. ap (answer_within most command) (take_all (most + 1) input (omega arith)))
     (cases_lt most (length input))
-
--- the answer to what was read is the answer to the input
-pub answers_input : (left : Option (List ℕ)) (command : Command) (input : List ℕ) (answer : Answered) (status : Status) (before now : Option (List ℕ))
-    → IfSome left (λ all. input ≡ read_front most_input all) → answer ≡ answer_to command input → Answers answer status before now
-    → IfSome left (λ all. Answers (answer_to command all) status before now)
-answers_input None command input answer status before now read is answers = tt
-answers_input (Some all) command input answer status before now read is answers =
-    rw (← within-front command most_input all, ← read, ← is) answers

@@ -1,14 +1,12 @@
 -- An answer that says Done is to an input within the limit.
-use Rattle.std.proofs.Common.{◌≡◌, ℕ, zero, suc, ◌+◌, ◌-◌, ◌≤◌, Bool, true, false, List, [], ◌∷◌, length, take, Option, refl, sym, ◌∙◌, ap, arith, nat_lt, ltb-false}
-use Rattle.std.specs.Io.KnownBytes.{IsAtEnd}
-use Rattle.edge_traits.specs.declared.status.Status.{Status}
+use Rattle.std.proofs.Common.{◌≡◌, ℕ, zero, suc, ◌+◌, ◌-◌, ◌≤◌, Bool, true, false, List, [], ◌∷◌, length, take, refl, arith, nat_lt, ltb-false}
 use Rattle.edge_traits.specs.declared.status.Status.TheVariants as statuses
-use Rattle.edge_traits.specs.Outcome.{Answered, Answers}
+use Rattle.edge_traits.specs.Outcome.{Answered}
 use Rattle.bundle_runs.specs.declared.command.Command.{Command}
 use Rattle.bundle_runs.specs.declared.front.Front.{Front}
 use Rattle.bundle_runs.specs.declared.front.Front.TheVariants.{Whole, CutShort, Refused}
 use Rattle.bundle_runs.specs.Front.{front_of}
-use Rattle.bundle_runs.specs.Answering.{due, after, answers_from, answer_within, most_input, answer_to}
+use Rattle.bundle_runs.specs.Answering.{due, after, answers_from, answer_within}
 
 due-not_done : (command : Command) (n at : ℕ) (front : Front) (later : ℕ → Answered)
     → ((size : ℕ) → (later size).status ≡ statuses.Done → ⊥)
@@ -36,17 +34,3 @@ answer-done most command input is = by_test (nat_lt most (length input)) refl is
         → (answers_from command t 0 1 0 (take most input)).status ≡ statuses.Done → length input ≤ most
     by_test true test is = absurd (answers-not_done command 0 1 0 (take most input) is)
     by_test false test is = omega (arith, ltb-false most (length input) test)
-
--- ---- a run that is done
-
-pub read_to_end : (left : Option (List ℕ)) (command : Command) (input : List ℕ) (answer : Answered) (status : Status) (before now : Option (List ℕ))
-    → answer ≡ answer_to command input → Answers answer status before now
-    → (length input ≤ most_input → IsAtEnd left) → status ≡ statuses.Done → IsAtEnd left
-read_to_end left command input answer statuses.Done before now is answers ended done =
-    ended (answer-done most_input command input (sym (ap (λ (a : Answered). a.status) is) ∙ answers.0))
-read_to_end left command input answer statuses.Refused before now is answers ended done = absurd (cc)
-read_to_end left command input answer statuses.Usage before now is answers ended done = absurd (cc)
-read_to_end left command input answer statuses.ReadFault before now is answers ended done = absurd (cc)
-read_to_end left command input answer statuses.WriteFault before now is answers ended done = absurd (cc)
-read_to_end left command input answer statuses.Limit before now is answers ended done = absurd (cc)
-read_to_end left command input answer statuses.Memory before now is answers ended done = absurd (cc)

@@ -23,7 +23,8 @@ use Rattle.bundle_runs.specs.declared.front.Cause.{Cause}
 use Rattle.bundle_runs.specs.declared.front.Cause.TheVariants as causes
 use Rattle.bundle_runs.specs.declared.front.Front.TheVariants.{Whole, Refused}
 use Rattle.bundle_runs.specs.Front.{front_of, word_of}
-use Rattle.bundle_runs.specs.Answering.{answers_from, put_before, due, line_of, refused_line}
+use Rattle.bundle_runs.specs.Answering.{answers_from, due, line_of, refused_line}
+use Rattle.edge_traits.specs.Outcome.{put_before}
 use Rattle.bundle_runs.specs.Laws.{TakesBundle6, TakesBundle7, StopsAt6, StopsAt7}
 use Rattle.bundle_runs.proofs.FrontLemmas.{six-within, seven-within}
 use Rattle.bundle_runs.proofs.AnsweringLemmas.{answers-bundle, answers-stop}

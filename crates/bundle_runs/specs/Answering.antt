@@ -4,7 +4,8 @@ use Rattle.std.specs.Fmt.{decimal}
 use Rattle.serde_json.specs.Written.{compact_text}
 use Rattle.edge_traits.specs.declared.status.Status.{Status}
 use Rattle.edge_traits.specs.declared.status.Status.TheVariants as statuses
-use Rattle.edge_traits.specs.Outcome.{Answered}
+use Rattle.edge_traits.specs.Content.{most_input}
+use Rattle.edge_traits.specs.Outcome.{Answered, put_before}
 use Rattle.bundle_runs.specs.declared.command.Command.{Command}
 use Rattle.bundle_runs.specs.declared.command.Command.TheVariants.{Check, Show}
 use Rattle.bundle_runs.specs.declared.front.Bundle.{Bundle}
@@ -70,10 +71,6 @@ due command longer n at (CutShort place) = due_cut longer n (at + place)
 due command longer n at (Refused place cause) =
     stops (refused_line n (at + place) (word_of cause)) statuses.Refused
 
--- a text before an answer's
-abbrev pub put_before : List ℕ → Answered → Answered
-put_before text answer = record { text = text ++ answer.text; status = answer.status }
-
 abbrev pub after : List ℕ → Turn → (ℕ → Answered) → Answered
 after text (GoesOn size) later = put_before text (later size)
 after text (Stops status) later = record { text = text; status = status }
@@ -92,10 +89,6 @@ answers_from command longer zero n at (octet ∷ octets) =
 unfoldable pub answer_within : ℕ → Command → List ℕ → Answered
 answer_within most command input =
     answers_from command (nat_lt most (length input)) 0 1 0 (take most input)
-
--- the most octets of an input that are looked at: 64 MiB
-abbrev pub most_input : ℕ
-most_input = 67108864
 
 -- what a command answers to an input
 abbrev pub answer_to : Command → List ℕ → Answered

@@ -14,7 +14,8 @@ use Rattle.bundle7.specs.Cause as cause7
 use Rattle.bundle7.specs.Table as table7
 use Rattle.bundle_runs.specs.declared.command.Command.{Command}
 use Rattle.bundle_runs.specs.declared.front.Bundle.TheVariants as bundles
-use Rattle.bundle_runs.specs.Answering.{answers_from, put_before, line_of, refused_line}
+use Rattle.bundle_runs.specs.Answering.{answers_from, line_of, refused_line}
+use Rattle.edge_traits.specs.Outcome.{put_before}
 
 -- bundle n of version 6 stands at the front, with k octets
 abbrev pub TakesBundle6 : Type 0

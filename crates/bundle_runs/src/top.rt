@@ -7,11 +7,8 @@ ghost use Rattle.bundle_runs.specs.Answering.{answer_to};
 
 use crate::answering::answer;
 use crate::command::Command;
-use edge_traits::{ReadRefused, Sink, Source, Status, read_all, write_answer};
+use edge_traits::{MOST_INPUT, ReadRefused, Sink, Source, Status, read_all, write_answer};
 use std::alloc::{AllocError, Global};
-
-/// The most octets of an input: 64 MiB.
-const MOST_INPUT: usize = 67_108_864;
 
 /// Reads the source to its end, and writes to the sink what the command says of each bundle.
 ///

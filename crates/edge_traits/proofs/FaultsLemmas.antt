@@ -1,9 +1,9 @@
 -- Which calls were made, up to the first that failed.
-use Rattle.std.proofs.Common.{◌≡◌, Bool, true, false, List, [], ◌∷◌, Option, None, Some, Result, Ok, Err, refl, sym, ◌∙◌}
+use Rattle.std.proofs.Common.{Bool, true, false, List, [], ◌∷◌, Option, None, Some, Ok, Err, refl, ◌∙◌}
 use Rattle.edge_traits.specs.declared.input.ReadRefused.{ReadRefused}
 use Rattle.edge_traits.specs.declared.input.ReadRefused.TheVariants as refused
 use Rattle.edge_traits.specs.Outcome.{ReadStops}
-use Rattle.edge_traits.specs.Faults.{FailsAsTold, behind_failure, StopsAtFailure, NoneFailed}
+use Rattle.edge_traits.specs.Faults.{FailsAsTold, StopsAtFailure, NoneFailed}
 
 pub NoneFailed-none : (calls : Option (List Bool)) → NoneFailed calls calls
 NoneFailed-none None = tt

@@ -1,3 +1,4 @@
+pub mod AnswerLemmas
 pub mod ContentLemmas
 pub mod DatagramsLemmas
 pub mod FaultsLemmas

@@ -1,7 +1,11 @@
 -- What a sink holds, or a link sent, where it tells it. A version in memory stops telling once
 -- it is full, so each word here goes backwards: what is told now was told before.
 use Rattle.std.specs.Io.KnownBytes.{Consumes, IsAtEnd}
-use Rattle.std.specs.Prelude.{◌≡◌, ℕ, ◌+◌, ◌<◌, List, [], ◌++◌, take, length, Option, Result, IfSome, IsSomeAnd, MatchResult}
+use Rattle.std.specs.Prelude.{◌≡◌, ℕ, ◌+◌, ◌<◌, List, ◌++◌, take, length, Option, Result, IfSome, IsSomeAnd, MatchResult}
+
+-- the most octets of an input that a command looks at: 64 MiB
+abbrev pub most_input : ℕ
+most_input = 67108864
 
 -- the octets that are read of an input: one more than the most, where there are so many
 unfoldable pub read_front : ℕ → List ℕ → List ℕ

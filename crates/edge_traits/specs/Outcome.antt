@@ -1,6 +1,6 @@
 -- What a run answers, and what each answer means for the octets written and for the counts of
 -- faults.
-use Rattle.std.specs.Prelude.{◌≡◌, ℕ, ◌<◌, List, [], Bool, Option, Result, Ok, Err}
+use Rattle.std.specs.Prelude.{◌≡◌, ℕ, ◌<◌, List, [], ◌++◌, Bool, Option, Result, Ok, Err}
 use Rattle.edge_traits.specs.declared.status.Status.{Status}
 use Rattle.edge_traits.specs.declared.status.Status.TheVariants.{Done, Refused, Usage, ReadFault, WriteFault, Limit, Memory}
 use Rattle.edge_traits.specs.declared.input.ReadRefused.{ReadRefused}
@@ -22,6 +22,10 @@ code_of Memory = 7
 pub record Answered : Type 0 where
   pub text : List ℕ
   pub status : Status
+
+-- a text before an answer's
+abbrev pub put_before : List ℕ → Answered → Answered
+put_before text answer = record { text = text ++ answer.text; status = answer.status }
 
 -- an answer ends a run so: by itself no answer is a fault, a wrong call or want of memory
 abbrev pub IsAnswer : Status → Type 0

@@ -41,6 +41,9 @@ impl From<Failed> for ReadRefused {
     }
 }
 
+/// The most octets of an input that a command looks at: 64 MiB.
+pub const MOST_INPUT: usize = 67_108_864;
+
 /// How many octets a read asks for.
 const BUFFER: usize = 65536;
 

@@ -29,7 +29,7 @@ mod tests;
 pub use answer::Answer;
 pub use clock::{Clock, MemClock};
 pub use failing::Failed;
-pub use input::{ReadRefused, read_all};
+pub use input::{MOST_INPUT, ReadRefused, read_all};
 pub use link::{LONGEST_DATAGRAM, Link, MemLink};
 pub use output::{write_all, write_answer};
 pub use sink::{MemSink, Sink, SureSink, Writing};

@@ -1,10 +1,9 @@
 -- What a run wrote, by its command.
-use Rattle.std.proofs.Common.{◌≡◌, ℕ, ◌≤◌, List, [], ◌++◌, length, Option, None, Some, IfSome, IsSomeAnd, refl, sym, ◌∙◌, ap}
-use Rattle.std.specs.Io.KnownBytes.{IsAtEnd}
+use Rattle.std.proofs.Common.{◌≡◌, ℕ, List, [], ◌++◌, Option, None, Some, IfSome, IsSomeAnd, refl, sym}
 use Rattle.std.proofs.lemmas.List.{append-nil}
 use Rattle.edge_traits.specs.declared.status.Status.{Status}
 use Rattle.edge_traits.specs.declared.status.Status.TheVariants as statuses
-use Rattle.edge_traits.specs.Content.{Gains, GainsFront, read_front}
+use Rattle.edge_traits.specs.Content.{Gains, GainsFront, most_input}
 use Rattle.edge_traits.specs.Outcome.{Answered, Answers, IsAnswer}
 use Rattle.ltp_segment.specs.declared.session.TheConstants.{BLOCK_MAX}
 use Rattle.gateway_run.specs.declared.command.Command.{Command}
@@ -12,21 +11,8 @@ use Rattle.gateway_run.specs.declared.command.Command.TheVariants as commands
 use Rattle.gateway_run.specs.Lines.{lines_within}
 use Rattle.gateway_run.specs.Receive.{the_limits}
 use Rattle.gateway_run.specs.RedPart.{KeepsReceiverLaw}
-use Rattle.gateway_run.specs.Words.{most_input, answer_to, KeepsLaw, WritesLawfully}
-use Rattle.gateway_run.proofs.ReceiveLemmas.{received-front}
+use Rattle.gateway_run.specs.Words.{answer_to, KeepsLaw, WritesLawfully}
 use Rattle.gateway_run.proofs.TranscriptLemmas.{received-law}
-use Rattle.gateway_run.proofs.EndLemmas.{received-done}
-
-answer_to-front : (input : List ℕ) → answer_to commands.Receive (read_front most_input input) ≡ answer_to commands.Receive input
-answer_to-front input = received-front most_input input
-
--- the answer to what was read is the answer to the input
-pub answers_input : (left : Option (List ℕ)) (input : List ℕ) (due : Answered) (status : Status) (before now : Option (List ℕ))
-    → IfSome left (λ all. input ≡ read_front most_input all) → due ≡ answer_to commands.Receive input → Answers due status before now
-    → IfSome left (λ all. Answers (answer_to commands.Receive all) status before now)
-answers_input None input due status before now read is answers = tt
-answers_input (Some all) input due status before now read is answers =
-    rw (← answer_to-front all, ← read, ← is) answers
 
 -- ---- the receiver's law
 
@@ -98,17 +84,3 @@ keeps_law None named command status before now is answers = tt
 keeps_law (Some input) named (commands.Bundles command) status before now is answers = rw is tt
 keeps_law (Some input) named commands.Receive status before now is answers =
     rw is (lawful input (answer_to commands.Receive input) (received-law the_limits most_input input) status before now answers)
-
--- ---- a run that is done
-
-pub read_to_end : (left : Option (List ℕ)) (input : List ℕ) (due : Answered) (status : Status) (before now : Option (List ℕ))
-    → due ≡ answer_to commands.Receive input → Answers due status before now
-    → (length input ≤ most_input → IsAtEnd left) → status ≡ statuses.Done → IsAtEnd left
-read_to_end left input due statuses.Done before now is answers ended done =
-    ended (received-done most_input input (sym (ap (λ (a : Answered). a.status) is) ∙ answers.0))
-read_to_end left input due statuses.Refused before now is answers ended done = absurd (cc)
-read_to_end left input due statuses.Usage before now is answers ended done = absurd (cc)
-read_to_end left input due statuses.ReadFault before now is answers ended done = absurd (cc)
-read_to_end left input due statuses.WriteFault before now is answers ended done = absurd (cc)
-read_to_end left input due statuses.Limit before now is answers ended done = absurd (cc)
-read_to_end left input due statuses.Memory before now is answers ended done = absurd (cc)

@@ -1,14 +1,15 @@
 -- The lines of an input, one after the other.
-use Rattle.std.proofs.Common.{◌≡◌, ℕ, ◌+◌, ◌<◌, ◌≤◌, List, [], ◌∷◌, ◌++◌, length, None, Some, refl, sym, ◌∙◌, ap, arith, append_assoc, take, lt-ltb, le-ltb, ⊎_elim}
+use Rattle.std.proofs.Common.{◌≡◌, ℕ, ◌+◌, ◌<◌, ◌≤◌, List, [], ◌∷◌, length, None, Some, refl, sym, ◌∙◌, ap, arith, take, lt-ltb, le-ltb, ⊎_elim}
 use Rattle.std.proofs.lemmas.List.{append-nil, take-take, take_all, length-take-le}
 use Rattle.std.proofs.lemmas.Bool.{cases_lt}
 use Rattle.edge_traits.specs.declared.status.Status.{Status}
 use Rattle.edge_traits.specs.declared.status.Status.TheVariants as statuses
 use Rattle.edge_traits.specs.Content.{read_front}
 use Rattle.gateway_run.specs.Lines.{lines_of, ended_part, lines_within}
-use Rattle.edge_traits.specs.Outcome.{Answered}
+use Rattle.edge_traits.specs.Outcome.{Answered, put_before}
+use Rattle.edge_traits.proofs.AnswerLemmas.{put_before-put_before}
 use Rattle.gateway_run.specs.declared.table.Sessions.{Sessions}
-use Rattle.gateway_run.specs.Receive.{Kept, Turn, goes_on, stops, put_before, after_turn, answers_from, the_limits, turn_of, received}
+use Rattle.gateway_run.specs.Receive.{Kept, Turn, goes_on, stops, after_turn, answers_from, the_limits, turn_of, received}
 use Rattle.gateway_run.specs.Sessions.{Shows}
 use Rattle.gateway_run.specs.Turns.{TurnsAs}
 
@@ -17,9 +18,6 @@ pub record SoFar (n : ℕ) (text : List ℕ) (sessions : Sessions) (lines : List
   pub kept : List Kept
   pub shows : Shows sessions kept
   pub whole : put_before text (answers_from the_limits n kept lines ending) ≡ answer
-
-put_before-put_before : (first second : List ℕ) (answer : Answered) → put_before first (put_before second answer) ≡ put_before (first ++ second) answer
-put_before-put_before first second answer = rw append_assoc refl
 
 pub SoFar-start : (sessions : Sessions) (text : List ℕ) (lines : List (List ℕ)) (ending : Status) → Shows sessions [] → text ≡ []
     → SoFar 1 text sessions lines ending (answers_from the_limits 1 [] lines ending)

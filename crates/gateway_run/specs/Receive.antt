@@ -6,7 +6,7 @@ use Rattle.hex.specs.Hex.{decode_of, encode_lower}
 use Rattle.hex.specs.declared.FromHexError.{FromHexError}
 use Rattle.edge_traits.specs.declared.status.Status.{Status}
 use Rattle.edge_traits.specs.declared.status.Status.TheVariants as statuses
-use Rattle.edge_traits.specs.Outcome.{Answered}
+use Rattle.edge_traits.specs.Outcome.{Answered, put_before}
 use Rattle.ltp_segment.specs.declared.cause.SegmentCause.{SegmentCause}
 use Rattle.ltp_segment.specs.Reading.{segment_of}
 use Rattle.ltp_segment.specs.Values.{SegmentValue, ContentValue, a_piece, a_report, a_report_ack, a_sender_cancel, a_sender_cancel_ack, a_receiver_cancel, a_receiver_cancel_ack, PieceValue}
@@ -176,10 +176,6 @@ unfoldable pub turn_of : Limits → ℕ → List Kept → List ℕ → Turn
 turn_of limits n kept line =
     if nat_lt limits.lines n || nat_lt limits.octets (length line) then stops [] statuses.Limit
     else turn_heard limits n kept (heard_of line)
-
--- a text before an answer's
-abbrev pub put_before : List ℕ → Answered → Answered
-put_before text answer = record { text = text ++ answer.text; status = answer.status }
 
 abbrev pub after_turn : Turn → (List Kept → Answered) → Answered
 after_turn (goes_on text kept) later = put_before text (later kept)

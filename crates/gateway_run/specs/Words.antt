@@ -3,7 +3,7 @@ use Rattle.std.specs.Prelude.{ℕ, Bool, List, [], ◌∷◌, codes, Option, Non
 use Rattle.std.specs.Cmp.Lexicographic.{pointwise}
 use Rattle.edge_traits.specs.declared.status.Status.{Status}
 use Rattle.edge_traits.specs.declared.status.Status.TheVariants as statuses
-use Rattle.edge_traits.specs.Content.{Gains}
+use Rattle.edge_traits.specs.Content.{Gains, most_input}
 use Rattle.edge_traits.specs.Outcome.{Answered, Answers, IsAnswer}
 use Rattle.bundle_runs.specs.declared.command.Command.TheVariants.{Check, Show}
 use Rattle.bundle_runs.specs.Answering as bundles
@@ -32,10 +32,6 @@ command_of (word ∷ []) = one_word word
 command_of (word ∷ second ∷ words) = None
 
 -- ---- what a command answers
-
--- the most octets of an input that are looked at: 64 MiB
-abbrev pub most_input : ℕ
-most_input = 67108864
 
 -- what a command answers to an input
 abbrev pub answer_to : Command → List ℕ → Answered

@@ -9,11 +9,8 @@ use crate::command::{Command, command_named};
 use crate::receive::receive;
 use crate::word::Word;
 use bundle_runs::bundles;
-use edge_traits::{Clock, Link, ReadRefused, Sink, Source, Status, read_all, write_answer};
+use edge_traits::{Clock, Link, MOST_INPUT, ReadRefused, Sink, Source, Status, read_all, write_answer};
 use std::alloc::{AllocError, Global};
-
-/// The most octets of an input: 64 MiB.
-const MOST_INPUT: usize = 67_108_864;
 
 /// Answers the command that the words name: reads the source to its end, and writes the answer
 /// to the sink. The links and the clock are for commands to come.

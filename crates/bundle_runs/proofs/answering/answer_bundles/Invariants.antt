@@ -1,6 +1,7 @@
 use Rattle.std.proofs.Common.{◌≡◌, ◌+◌, ◌-◌, ◌≤◌, length, drop}
 use Rattle.std.specs.String.{string_bytes}
-use Rattle.bundle_runs.specs.Answering.{put_before, answers_from}
+use Rattle.edge_traits.specs.Outcome.{put_before}
+use Rattle.bundle_runs.specs.Answering.{answers_from}
 use Rattle.bundle_runs.proofs.answering.answer_bundles.Given as goal
 
 abbrev pub invariant-bundles : goal.invariant-bundles

@@ -2,7 +2,7 @@
 use Rattle.std.proofs.Common.{rules, subst, sym, ℕ, List}
 use Rattle.std.proofs.lemmas.List.{take_rest}
 use Rattle.edge_traits.proofs.ContentLemmas.{Written, Written-more}
-use Rattle.edge_traits.proofs.FaultsLemmas.{NoneFailed-more, NoneFailed-stops, told_ok, told_err}
+use Rattle.edge_traits.proofs.FaultsLemmas.{NoneFailed-more, told_ok}
 use Rattle.edge_traits.proofs.output.write_all.Goals as goal
 
 pub writing-preserved : goal.writing-preserved

@@ -1,4 +1,7 @@
 //! The real outside.
+ghost use Rattle.std.specs.Prelude.{◌≡◌, ◌↔◌, ◌⊎◌, None, IfOk, IfErr};
+ghost use Rattle.gateway_run.specs.Words.{command_of};
+
 use crate::help::USAGE;
 use edge_traits::{MemClock, MemLink, Reading, Status, Writing};
 use gateway_run::{Word, run};
@@ -9,7 +12,9 @@ use std::rt::Env;
 
 /// The words of the program's call, without its name. An argument that isn't UTF-8 is wrong
 /// usage.
-pub fn words_of<R: Env + AllocGlobal>(rt: &R) -> Result<Vec<Word>, Status> {
+pub fn words_of<R: Env + AllocGlobal>(rt: &R) -> Result<Vec<Word>, Status>
+    ensures refused { IfErr result (λ status. (status ≡ Status.Usage) ⊎ (status ≡ Status.Memory)) }
+{
     let arguments = match env::args(rt) {
         Ok(arguments) => arguments,
         Err(e) if e.kind() == ErrorKind::OutOfMemory => return Err(Status::Memory),
@@ -26,7 +31,10 @@ pub fn words_of<R: Env + AllocGlobal>(rt: &R) -> Result<Vec<Word>, Status> {
 
 /// Runs a command over standard input and standard output. Where the words name none, a line on
 /// standard error says so.
-pub fn call<R: Input + Print + Eprint + AllocGlobal>(rt: &R, words: &[Word]) -> Status {
+pub fn call<R: Input + Print + Eprint + AllocGlobal>(rt: &R, words: &[Word]) -> Status
+    ensures usage { result ≡ Status.Usage → command_of words.now ≡ None }
+    ensures named { command_of words.now ≡ None → (result ≡ Status.Usage) ⊎ (result ≡ Status.Memory) }
+{
     match run_over(rt, words) {
         Ok(Status::Usage) => {
             let _ = rt.eprint(USAGE);
@@ -38,7 +46,9 @@ pub fn call<R: Input + Print + Eprint + AllocGlobal>(rt: &R, words: &[Word]) -> 
 }
 
 /// The same, without the line.
-fn run_over<R: Input + Print + AllocGlobal>(rt: &R, words: &[Word]) -> Result<Status, AllocError> {
+fn run_over<R: Input + Print + AllocGlobal>(rt: &R, words: &[Word]) -> Result<Status, AllocError>
+    ensures usage { IfOk result (λ status. (status ≡ Status.Usage) ↔ (command_of words.now ≡ None)) }
+{
     let alloc = rt.alloc();
     let mut old_link = MemLink::new(alloc, 0, &[])?;
     let mut new_link = MemLink::new(alloc, 0, &[])?;

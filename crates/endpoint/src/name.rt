@@ -20,7 +20,8 @@ pub enum Endpoint {
         /// The service's number.
         service: u64,
     },
-    /// A dtn name, by its scheme-specific part: 1 to 1,023 octets from `!` to `~`, other than `none`.
+    /// A dtn name, by its scheme-specific part: 1 to 1,023 octets from `!` to `~`, other than
+    /// `none`. The type holds any octets; a contract that wants a legal name says `IsEndpoint`.
     Dtn(Octets),
 }
 

@@ -51,7 +51,8 @@ receiver_cancel_fields = do
   reason ← any_octet Number
   give (a_receiver_cancel reason)
 
--- what follows the header of a segment of a type
+-- what follows the header of a segment of a type; the last is of type 15, as `control` lets no
+-- other by
 unfoldable pub content_of : ℕ → Format SegmentCause ContentValue
 content_of kind =
     choice (kind == 0) (piece_of kinds.Red)

@@ -42,22 +42,16 @@ fn bundle6_value(alloc: Global, bundle: &Bundle6) -> Result<Value, AllocError>
     ensures { IfOk result (λ value. view value ≡ bundle6 bundle.now) }
 {
     let primary = &bundle.primary;
-    let blocks = blocks6_value(alloc, bundle.blocks.as_slice())?;
-    let custodian = name_value(alloc, &primary.custodian)?;
-    let destination = name_value(alloc, &primary.destination)?;
-    let fragment = part_value(alloc, primary.fragment)?;
-    let report_to = name_value(alloc, &primary.report_to)?;
-    let source = name_value(alloc, &primary.source)?;
     json!(in alloc; {
-        "blocks": blocks,
+        "blocks": blocks6_value(alloc, bundle.blocks.as_slice())?,
         "creation": [primary.seconds, primary.sequence],
-        "custodian": custodian,
-        "destination": destination,
+        "custodian": name_value(alloc, &primary.custodian)?,
+        "destination": name_value(alloc, &primary.destination)?,
         "flags": primary.flags,
-        "fragment": fragment,
+        "fragment": part_value(alloc, primary.fragment)?,
         "lifetime": primary.lifetime,
-        "report_to": report_to,
-        "source": source,
+        "report_to": name_value(alloc, &primary.report_to)?,
+        "source": name_value(alloc, &primary.source)?,
         "version": 6u8
     })
 }
@@ -69,21 +63,16 @@ fn bundle7_value(alloc: Global, bundle: &Bundle7) -> Result<Value, AllocError>
     ensures { IfOk result (λ value. view value ≡ bundle7 bundle.now) }
 {
     let primary = &bundle.primary;
-    let blocks = blocks7_value(alloc, bundle.exts.as_slice(), &bundle.payload)?;
-    let destination = name_value(alloc, &primary.destination)?;
-    let fragment = part_value(alloc, primary.fragment)?;
-    let report_to = name_value(alloc, &primary.report_to)?;
-    let source = name_value(alloc, &primary.source)?;
     json!(in alloc; {
-        "blocks": blocks,
+        "blocks": blocks7_value(alloc, bundle.exts.as_slice(), &bundle.payload)?,
         "crc": primary.crc,
         "creation": [primary.millis, primary.sequence],
-        "destination": destination,
+        "destination": name_value(alloc, &primary.destination)?,
         "flags": primary.flags,
-        "fragment": fragment,
+        "fragment": part_value(alloc, primary.fragment)?,
         "lifetime": primary.lifetime,
-        "report_to": report_to,
-        "source": source,
+        "report_to": name_value(alloc, &primary.report_to)?,
+        "source": name_value(alloc, &primary.source)?,
         "version": 7u8
     })
 }
@@ -118,13 +107,11 @@ fn block6_value(alloc: Global, block: &Block6) -> Result<Value, AllocError>
     requires { IsLegalBlock6 block.now }
     ensures { IfOk result (λ value. view value ≡ block6 block.now) }
 {
-    let body = body_value(alloc, block.body.as_slice())?;
-    let refs = names_value(alloc, block.refs.as_slice())?;
     json!(in alloc; {
-        "body": body,
+        "body": body_value(alloc, block.body.as_slice())?,
         "flags": block.flags,
         "kind": block.kind,
-        "refs": refs
+        "refs": names_value(alloc, block.refs.as_slice())?
     })
 }
 
@@ -133,9 +120,8 @@ fn block6_value(alloc: Global, block: &Block6) -> Result<Value, AllocError>
 fn block7_value(alloc: Global, block: &Block7) -> Result<Value, AllocError>
     ensures { IfOk result (λ value. view value ≡ block7 block.now) }
 {
-    let body = body_value(alloc, block.body.as_slice())?;
     json!(in alloc; {
-        "body": body,
+        "body": body_value(alloc, block.body.as_slice())?,
         "crc": block.crc,
         "flags": block.flags,
         "kind": block.kind,

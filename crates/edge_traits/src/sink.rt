@@ -1,6 +1,8 @@
 //! Where octets go.
 ghost use Rattle.std.specs.Prelude.{◌≡◌, ℕ, ◌+◌, ◌-◌, ◌<◌, ◌≤◌, ◌^◌, List, [], Bool, Option, None, Some, Ok, length, min, is_err, IfOk, IfSome};
 ghost use Rattle.std.specs.Io.{WritesAtMost};
+ghost use Rattle.std.specs.Io.KnownBytes.{WriteAppends};
+ghost use Rattle.edge_traits.specs.Adapters.{writer_holds};
 ghost use Rattle.edge_traits.specs.Faults.{HasCause, FailsAsTold, fails_next};
 ghost use Rattle.edge_traits.specs.Content.{WriteGains, TakesSome};
 ghost use Rattle.edge_traits.specs.InMemory.{Keeping, MemSinkNow, after_write, kept_within};
@@ -150,7 +152,7 @@ impl Sink for SureSink {
 }
 
 /// A sink over std's writer. It counts a fault at each error, and at each write that takes
-/// nothing of a piece that has an octet; it can't tell what it holds.
+/// nothing of a piece that has an octet. What it takes goes to the writer.
 #[derive(Drop)]
 pub struct Writing<W: Drop> {
     writer: W,
@@ -160,20 +162,30 @@ pub struct Writing<W: Drop> {
 impl<W: Write + Drop> Writing<W> {
     /// A sink over this writer, with no fault yet.
     pub fn new(writer: W) -> Writing<W>
-        ensures { ⟦<Writing<W> as Sink>⟧.faults result ≡ 0 }
+        ensures holds { writer_holds W.contents result ≡ W.contents writer }
+        ensures faults { ⟦<Writing<W> as Sink>⟧.faults result ≡ 0 }
     {
         Writing { writer, faults: 0 }
     }
 }
 
 impl<W: Write + Drop> Sink for Writing<W> {
+    // It isn't told: a writer of std may begin to tell what it holds later, and a sink may not.
     ghost held = { λ _. None };
 
     ghost faults = { λ s. s.faults };
 
     ghost failing = { λ _. None };
 
-    fn write(&mut self, piece: &[u8]) -> Result<usize, Failed> {
+    /// Writes to the writer, once.
+    fn write(&mut self, piece: &[u8]) -> Result<usize, Failed>
+        ensures bound { WritesAtMost result piece.now }
+        ensures some { TakesSome result piece.now }
+        ensures cause { HasCause (⟦<Writing<W> as Sink>⟧.faults self.old)
+            (⟦<Writing<W> as Sink>⟧.faults self.new) result }
+        ensures writer { WriteAppends (writer_holds W.contents self.old)
+            (writer_holds W.contents self.new) result piece.now }
+    {
         match self.writer.write(piece) {
             Ok(n) if n > 0 || piece.is_empty() => Ok(n),
             _ => {

@@ -1,7 +1,7 @@
 //! Datagrams that are kept in memory as far as there is room.
-ghost use Rattle.std.specs.Prelude.{◌≡◌, ℕ, List, [], ◌∷◌, ◌++◌, Option, None, Some, length, sum_by, IfOk, if◌then◌else◌};
-ghost use Rattle.edge_traits.specs.Content.{Gains};
+ghost use Rattle.std.specs.Prelude.{◌≡◌, ◌≤◌, [], Some, length, sum_by, vec_len, vec_capacity, IfOk};
 ghost use Rattle.edge_traits.specs.Datagrams.{texts_of};
+ghost use Rattle.edge_traits.specs.InMemory.{KeepingGone, unless_lost, gone_within};
 
 use std::alloc::{AllocError, Global};
 use std::marker::Model;
@@ -11,57 +11,52 @@ use std::marker::Model;
 pub struct Gone {
     octets: Vec<u8>,
     lengths: Vec<usize>,
+    room: usize,
     lost: bool,
 }
 
 impl Model for Gone {
-    ghost Value = { Option (List (List ℕ)) };
+    ghost Value = { KeepingGone };
 
-    ghost view = { λ g. if g.lost then None else Some (texts_of g.lengths.items g.octets.items) };
+    ghost view = { λ g. record {
+      room = g.room;
+      gone = unless_lost g.lost (texts_of g.lengths.items g.octets.items);
+    } };
 
-    ghost invariant = { λ g. sum_by (λ n. n) g.lengths.items ≡ length g.octets.items };
+    ghost invariant = { λ g. (sum_by (λ n. n) g.lengths.items ≡ length g.octets.items)
+        × (vec_len g.octets ≤ g.room) × (g.room ≤ vec_capacity g.octets)
+        × (vec_len g.lengths ≤ g.room) × (g.room ≤ vec_capacity g.lengths) };
 }
 
 impl Gone {
     /// None yet, with room for so many octets in so many datagrams.
     pub fn new(alloc: Global, room: usize) -> Result<Gone, AllocError>
-        ensures { IfOk result (λ g. g ≡ Some []) }
+        ensures room { IfOk result (λ g. g.room ≡ room) }
+        ensures gone { IfOk result (λ g. g.gone ≡ Some []) }
     {
         let octets = Vec::with_capacity(alloc, room)?;
         let lengths = Vec::with_capacity(alloc, room)?;
         Ok(Gone {
             octets,
             lengths,
+            room,
             lost: false,
         })
     }
 
     /// Keeps the datagram where there is room for it, and takes no memory.
     pub fn keep(&mut self, datagram: &[u8])
-        ensures { Gains self.old self.new (datagram.now ∷ []) }
+        ensures room { self.new.room ≡ self.old.room }
+        ensures gone { self.new.gone ≡ gone_within self.old.room self.old.gone datagram.now }
     {
-        if self.lost || !append(&mut self.octets, &mut self.lengths, datagram) {
+        let room = self.room - self.octets.len();
+        if self.lost
+            || self.lengths.len() == self.room
+            || room < datagram.len()
+            || self.octets.extend_from_slice(datagram).is_err()
+            || self.lengths.push(datagram.len()).is_err()
+        {
             self.lost = true;
         }
     }
-}
-
-/// Appends a datagram and its length where both have room; else it leaves all as it was.
-fn append(octets: &mut Vec<u8>, lengths: &mut Vec<usize>, datagram: &[u8]) -> bool
-    ensures octets { octets.new.items ≡ (if result then octets.old.items ++ datagram.now else octets.old.items) }
-    ensures lengths { lengths.new.items ≡ (if result then lengths.old.items ++ length datagram.now ∷ [] else lengths.old.items) }
-{
-    let before = octets.len();
-    let room = octets.capacity() - before;
-    if lengths.len() == lengths.capacity() || room < datagram.len() {
-        return false;
-    }
-    if octets.extend_from_slice(datagram).is_err() {
-        return false;
-    }
-    if lengths.push(datagram.len()).is_err() {
-        octets.truncate(before);
-        return false;
-    }
-    true
 }

@@ -4,8 +4,9 @@
 //! Each of `Source`, `Sink` and `Link` counts its faults, and a call may answer `Failed` only
 //! where that count rose. So a caller's contract can say "this run ended because a read failed"
 //! of every outside, also of one whose octets no contract can see. What an outside holds is told
-//! where it can be told: the versions in memory tell it, the adapters over std's reader and
-//! writer don't.
+//! where it can be told: the versions in memory tell it as long as it has room, and `Reading`
+//! tells what std's reader below it tells. `Writing` tells nothing as a sink, but says of each
+//! write what it adds to std's writer below it.
 //!
 //! Beside the traits stands what every command shares: `read_all`, `write_all`, the `Status`
 //! that a run ends with, and the words for what an answer means for the octets written

@@ -1,11 +1,13 @@
 //! A link of datagrams, such as a UDP socket with one peer.
-ghost use Rattle.std.specs.Prelude.{◌≡◌, ℕ, ◌+◌, ◌-◌, ◌≤◌, ◌<◌, ◌^◌, List, [], ◌∷◌, ◌++◌, Bool, Option, None, Some, map, drop, take, length, min, All, IfOk, OnOk, OnErr, option_map};
-ghost use Rattle.edge_traits.specs.Faults.{HasCause, FailsAsTold};
+ghost use Rattle.std.specs.Prelude.{◌≡◌, ℕ, ◌+◌, ◌-◌, ◌≤◌, ◌<◌, ◌^◌, List, [], ◌∷◌, ◌++◌, Bool, Option, None, Some, map, drop, take, length, min, All, is_err, IfOk, OnOk, OnErr};
+ghost use Rattle.edge_traits.specs.Faults.{HasCause, FailsAsTold, fails_next};
 ghost use Rattle.edge_traits.specs.Datagrams.{Polls, PollsAtMost, SendGains};
+ghost use Rattle.edge_traits.specs.InMemory.{MemLinkNow, with_coming, after_poll, after_send};
 
 use crate::failing::{Failed, Failing};
 use crate::gone::Gone;
 use std::alloc::{AllocError, Global};
+use std::marker::Model;
 
 /// The most octets that a UDP datagram carries.
 pub const LONGEST_DATAGRAM: usize = 65507;
@@ -52,8 +54,21 @@ pub struct MemLink {
     failing: Failing,
     faults: u64,
     alloc: Global,
-    ghost stands: { at ≤ length coming.items },
-    ghost short: { All (λ d. length d.items ≤ 65507) coming.items },
+}
+
+impl Model for MemLink {
+    ghost Value = { MemLinkNow };
+
+    ghost view = { λ l. record {
+      coming = map (λ d. d.items) (drop l.at l.coming.items);
+      room = l.gone.room;
+      gone = l.gone.gone;
+      failing = l.failing;
+      faults = l.faults;
+    } };
+
+    ghost invariant = { λ l. (l.at ≤ length l.coming.items)
+        × All (λ d. length d.items ≤ 65507) l.coming.items };
 }
 
 impl MemLink {
@@ -61,6 +76,7 @@ impl MemLink {
     /// datagrams, whose call i fails exactly where place i of `failing` is true.
     pub fn new(alloc: Global, room: usize, failing: &[bool]) -> Result<MemLink, AllocError>
         ensures coming { IfOk result (λ l. ⟦<MemLink as Link>⟧.coming l ≡ Some []) }
+        ensures room { IfOk result (λ l. l.room ≡ room) }
         ensures gone { IfOk result (λ l. ⟦<MemLink as Link>⟧.gone l ≡ Some []) }
         ensures failing { IfOk result (λ l. ⟦<MemLink as Link>⟧.failing l ≡ Some failing.now) }
         ensures faults { IfOk result (λ l. ⟦<MemLink as Link>⟧.faults l ≡ 0) }
@@ -80,12 +96,8 @@ impl MemLink {
     /// Puts a datagram behind those that are to come.
     pub fn put(&mut self, datagram: &[u8]) -> Result<(), AllocError>
         requires { length datagram.now ≤ LONGEST_DATAGRAM }
-        ensures ok { OnOk result (⟦<MemLink as Link>⟧.coming self.new
-            ≡ option_map (λ ds. ds ++ datagram.now ∷ []) (⟦<MemLink as Link>⟧.coming self.old)) }
-        ensures err { OnErr result (⟦<MemLink as Link>⟧.coming self.new ≡ ⟦<MemLink as Link>⟧.coming self.old) }
-        ensures gone { ⟦<MemLink as Link>⟧.gone self.new ≡ ⟦<MemLink as Link>⟧.gone self.old }
-        ensures failing { ⟦<MemLink as Link>⟧.failing self.new ≡ ⟦<MemLink as Link>⟧.failing self.old }
-        ensures faults { ⟦<MemLink as Link>⟧.faults self.new ≡ ⟦<MemLink as Link>⟧.faults self.old }
+        ensures ok { OnOk result (self.new ≡ with_coming self.old datagram.now) }
+        ensures err { OnErr result (self.new ≡ self.old) }
     {
         let datagram = Vec::from_slice(self.alloc, datagram)?;
         self.coming.push(datagram)?;
@@ -94,7 +106,7 @@ impl MemLink {
 }
 
 impl Link for MemLink {
-    ghost coming = { λ l. Some (map (λ d. d.items) (drop l.at l.coming.items)) };
+    ghost coming = { λ l. Some l.coming };
 
     ghost gone = { λ l. l.gone };
 
@@ -102,7 +114,15 @@ impl Link for MemLink {
 
     ghost faults = { λ l. l.faults };
 
-    fn poll(&mut self, buf: &mut [u8]) -> Result<Option<usize>, Failed> {
+    /// Takes the first datagram to come, or none where this call is to fail.
+    fn poll(&mut self, buf: &mut [u8]) -> Result<Option<usize>, Failed>
+        requires { LONGEST_DATAGRAM ≤ length buf.old }
+        ensures answer { is_err result ≡ fails_next self.old.failing }
+        ensures bound { PollsAtMost result buf.new }
+        ensures datagram { Polls (Some self.old.coming) (Some self.new.coming) result buf.new }
+        ensures cause { HasCause self.old.faults self.new.faults result }
+        ensures now { self.new ≡ after_poll self.old }
+    {
         if self.failing.fails() {
             self.faults = self.faults.saturating_add(1);
             return Err(Failed);
@@ -115,7 +135,12 @@ impl Link for MemLink {
         Ok(Some(n))
     }
 
-    fn send(&mut self, datagram: &[u8]) -> Result<(), Failed> {
+    /// Keeps the datagram as far as there is room, or nothing where this call is to fail.
+    fn send(&mut self, datagram: &[u8]) -> Result<(), Failed>
+        ensures answer { is_err result ≡ fails_next self.old.failing }
+        ensures cause { HasCause self.old.faults self.new.faults result }
+        ensures now { self.new ≡ after_send self.old datagram.now }
+    {
         if self.failing.fails() {
             self.faults = self.faults.saturating_add(1);
             return Err(Failed);

@@ -1,13 +1,17 @@
 //! Where octets go.
-ghost use Rattle.std.specs.Prelude.{◌≡◌, ℕ, ◌+◌, ◌-◌, ◌<◌, ◌≤◌, ◌^◌, List, [], Bool, Option, None, Some, length, min, IfOk, IfSome};
+ghost use Rattle.std.specs.Prelude.{◌≡◌, ℕ, ◌+◌, ◌-◌, ◌<◌, ◌≤◌, ◌^◌, List, [], Bool, Option, None, Some, Ok, length, min, is_err, IfOk, IfSome};
 ghost use Rattle.std.specs.Io.{WritesAtMost};
-ghost use Rattle.edge_traits.specs.Faults.{HasCause, FailsAsTold};
+ghost use Rattle.std.specs.Io.KnownBytes.{WriteAppends};
+ghost use Rattle.edge_traits.specs.Adapters.{writer_holds};
+ghost use Rattle.edge_traits.specs.Faults.{HasCause, FailsAsTold, fails_next};
 ghost use Rattle.edge_traits.specs.Content.{WriteGains, TakesSome};
+ghost use Rattle.edge_traits.specs.InMemory.{Keeping, MemSinkNow, after_write, kept_within};
 
 use crate::failing::{Failed, Failing};
 use crate::kept::Kept;
 use std::alloc::{AllocError, Global};
 use std::io::Write;
+use std::marker::Model;
 
 /// Where octets go: a file, a pipe, or memory.
 pub trait Sink {
@@ -39,10 +43,22 @@ pub struct MemSink {
     faults: u64,
 }
 
+impl Model for MemSink {
+    ghost Value = { MemSinkNow };
+
+    ghost view = { λ s. record {
+      room = s.kept.room;
+      held = s.kept.held;
+      failing = s.failing;
+      faults = s.faults;
+    } };
+}
+
 impl MemSink {
     /// An empty sink with room for so many octets, whose write i fails exactly where place i of
     /// `failing` is true.
     pub fn new(alloc: Global, room: usize, failing: &[bool]) -> Result<MemSink, AllocError>
+        ensures room { IfOk result (λ s. s.room ≡ room) }
         ensures held { IfOk result (λ s. ⟦<MemSink as Sink>⟧.held s ≡ Some []) }
         ensures failing { IfOk result (λ s. ⟦<MemSink as Sink>⟧.failing s ≡ Some failing.now) }
         ensures faults { IfOk result (λ s. ⟦<MemSink as Sink>⟧.faults s ≡ 0) }
@@ -65,13 +81,19 @@ impl MemSink {
 }
 
 impl Sink for MemSink {
-    ghost held = { λ s. s.kept };
+    ghost held = { λ s. s.held };
 
     ghost faults = { λ s. s.faults };
 
     ghost failing = { λ s. Some s.failing };
 
-    fn write(&mut self, piece: &[u8]) -> Result<usize, Failed> {
+    /// Takes the whole piece, or none of it where this write is to fail.
+    fn write(&mut self, piece: &[u8]) -> Result<usize, Failed>
+        ensures answer { is_err result ≡ fails_next self.old.failing }
+        ensures whole { IfOk result (λ n. n ≡ length piece.now) }
+        ensures cause { HasCause self.old.faults self.new.faults result }
+        ensures now { self.new ≡ after_write self.old piece.now }
+    {
         if self.failing.fails() {
             self.faults = self.faults.saturating_add(1);
             return Err(Failed);
@@ -87,10 +109,17 @@ pub struct SureSink {
     kept: Kept,
 }
 
+impl Model for SureSink {
+    ghost Value = { Keeping };
+
+    ghost view = { λ s. s.kept };
+}
+
 impl SureSink {
     /// An empty sink with room for so many octets.
     pub fn new(alloc: Global, room: usize) -> Result<SureSink, AllocError>
-        ensures { IfOk result (λ s. ⟦<SureSink as Sink>⟧.held s ≡ Some []) }
+        ensures room { IfOk result (λ s. s.room ≡ room) }
+        ensures held { IfOk result (λ s. ⟦<SureSink as Sink>⟧.held s ≡ Some []) }
     {
         let kept = Kept::new(alloc, room)?;
         Ok(SureSink { kept })
@@ -105,20 +134,25 @@ impl SureSink {
 }
 
 impl Sink for SureSink {
-    ghost held = { λ s. s.kept };
+    ghost held = { λ s. s.held };
 
     ghost faults = { λ _. 0 };
 
     ghost failing = { λ _. Some [] };
 
-    fn write(&mut self, piece: &[u8]) -> Result<usize, Failed> {
+    /// Takes the whole piece.
+    fn write(&mut self, piece: &[u8]) -> Result<usize, Failed>
+        ensures whole { result ≡ Ok (length piece.now) }
+        ensures room { self.new.room ≡ self.old.room }
+        ensures held { self.new.held ≡ kept_within self.old.room self.old.held piece.now }
+    {
         self.kept.keep(piece);
         Ok(piece.len())
     }
 }
 
 /// A sink over std's writer. It counts a fault at each error, and at each write that takes
-/// nothing of a piece that has an octet; it can't tell what it holds.
+/// nothing of a piece that has an octet. What it takes goes to the writer.
 #[derive(Drop)]
 pub struct Writing<W: Drop> {
     writer: W,
@@ -128,20 +162,30 @@ pub struct Writing<W: Drop> {
 impl<W: Write + Drop> Writing<W> {
     /// A sink over this writer, with no fault yet.
     pub fn new(writer: W) -> Writing<W>
-        ensures { ⟦<Writing<W> as Sink>⟧.faults result ≡ 0 }
+        ensures holds { writer_holds W.contents result ≡ W.contents writer }
+        ensures faults { ⟦<Writing<W> as Sink>⟧.faults result ≡ 0 }
     {
         Writing { writer, faults: 0 }
     }
 }
 
 impl<W: Write + Drop> Sink for Writing<W> {
+    // It isn't told: a writer of std may begin to tell what it holds later, and a sink may not.
     ghost held = { λ _. None };
 
     ghost faults = { λ s. s.faults };
 
     ghost failing = { λ _. None };
 
-    fn write(&mut self, piece: &[u8]) -> Result<usize, Failed> {
+    /// Writes to the writer, once.
+    fn write(&mut self, piece: &[u8]) -> Result<usize, Failed>
+        ensures bound { WritesAtMost result piece.now }
+        ensures some { TakesSome result piece.now }
+        ensures cause { HasCause (⟦<Writing<W> as Sink>⟧.faults self.old)
+            (⟦<Writing<W> as Sink>⟧.faults self.new) result }
+        ensures writer { WriteAppends (writer_holds W.contents self.old)
+            (writer_holds W.contents self.new) result piece.now }
+    {
         match self.writer.write(piece) {
             Ok(n) if n > 0 || piece.is_empty() => Ok(n),
             _ => {

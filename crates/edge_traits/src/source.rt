@@ -105,7 +105,8 @@ impl Source for SureSource {
     }
 }
 
-/// A source over std's reader. It counts a fault at each error, and can't tell its octets.
+/// A source over std's reader. It counts a fault at each error, and tells the octets that its
+/// reader tells.
 #[derive(Drop)]
 pub struct Reading<R: Drop> {
     reader: R,
@@ -115,14 +116,15 @@ pub struct Reading<R: Drop> {
 impl<R: Read + Drop> Reading<R> {
     /// A source over this reader, with no fault yet.
     pub fn new(reader: R) -> Reading<R>
-        ensures { ⟦<Reading<R> as Source>⟧.faults result ≡ 0 }
+        ensures left { ⟦<Reading<R> as Source>⟧.left result ≡ R.remaining reader }
+        ensures faults { ⟦<Reading<R> as Source>⟧.faults result ≡ 0 }
     {
         Reading { reader, faults: 0 }
     }
 }
 
 impl<R: Read + Drop> Source for Reading<R> {
-    ghost left = { λ _. None };
+    ghost left = { λ s. R.remaining s.reader };
 
     ghost faults = { λ s. s.faults };
 

@@ -26,5 +26,3 @@ pub use fault::{Cause6, Fail6};
 pub use primary::Primary6;
 pub use writing::encode6;
 
-#[cfg(test)]
-mod tests;

@@ -22,8 +22,6 @@ mod fault;
 mod field;
 mod groups;
 mod primary;
-#[cfg(test)]
-mod tests;
 mod writing;
 
 pub use block::{Block7, Blocks7};

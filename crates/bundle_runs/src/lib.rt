@@ -16,8 +16,6 @@ mod front;
 mod laws;
 mod lines;
 mod show;
-#[cfg(test)]
-mod tests;
 mod top;
 
 pub use command::Command;

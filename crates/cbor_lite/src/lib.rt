@@ -13,8 +13,6 @@
 mod fault;
 mod head;
 mod reading;
-#[cfg(test)]
-mod tests;
 mod writing;
 
 pub use fault::CborFault;

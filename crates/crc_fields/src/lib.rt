@@ -7,8 +7,6 @@
 
 mod castagnoli;
 mod tables;
-#[cfg(test)]
-mod tests;
 mod x25;
 
 pub use castagnoli::{Register32, crc32c, crc32c_zeroed};

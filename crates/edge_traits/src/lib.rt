@@ -24,8 +24,6 @@ mod output;
 mod sink;
 mod source;
 mod status;
-#[cfg(test)]
-mod tests;
 
 pub use answer::Answer;
 pub use clock::{Clock, MemClock};

@@ -24,5 +24,3 @@ pub use lists::{Octets, Refs};
 pub use name::Endpoint;
 pub use text::{ipn_named, is_ssp, named};
 
-#[cfg(test)]
-mod tests;

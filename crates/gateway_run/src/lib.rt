@@ -19,8 +19,6 @@ mod piece;
 mod receive;
 mod sessions;
 mod table;
-#[cfg(test)]
-mod tests;
 mod text;
 mod top;
 mod word;

@@ -22,8 +22,6 @@ mod policy;
 mod reports;
 mod segment;
 mod session;
-#[cfg(test)]
-mod tests;
 mod writing;
 
 pub use cause::{SegmentCause, SegmentFault};

@@ -10,8 +10,6 @@
 
 mod fault;
 mod reading;
-#[cfg(test)]
-mod tests;
 mod writing;
 
 pub use fault::SdnvFault;

@@ -21,8 +21,6 @@ mod pieces;
 mod range;
 mod reading;
 mod runs;
-#[cfg(test)]
-mod tests;
 
 pub use covered::Spans;
 pub use range::Run;

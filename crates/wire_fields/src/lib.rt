@@ -18,8 +18,6 @@ mod field;
 mod lead;
 mod miss;
 pub mod sample;
-#[cfg(test)]
-mod tests;
 
 pub use field::{
     ARRAY, BYTE_STRING, TEXT_STRING, UNSIGNED, head_at, number_at, octet_at, octets_at,

@@ -10,4 +10,26 @@
 #![tactic(auto)]
 
 #[cfg(test)]
+mod checks;
+#[cfg(test)]
+mod commands;
+#[cfg(test)]
+mod fields;
+#[cfg(test)]
+mod items;
+#[cfg(test)]
+mod names;
+#[cfg(test)]
+mod new_bundles;
+#[cfg(test)]
 mod numbers;
+#[cfg(test)]
+mod old_bundles;
+#[cfg(test)]
+mod outside;
+#[cfg(test)]
+mod ranges;
+#[cfg(test)]
+mod recorded;
+#[cfg(test)]
+mod segments;

@@ -32,4 +32,8 @@ mod ranges;
 #[cfg(test)]
 mod recorded;
 #[cfg(test)]
+mod rows;
+#[cfg(test)]
 mod segments;
+#[cfg(test)]
+mod words;

@@ -1,114 +1,112 @@
-//! Texts from outside, read and written again, and the calls that no text reaches.
+//! Endpoints and their texts.
 
-use endpoint::*;
+use endpoint::{Endpoint, EndpointFault, Octets, Refs, ipn_named, is_ssp, named};
 use std::alloc::Global;
 use std::test::Fail;
 
-/// The text that is written of what a text reads as.
-fn written_again(alloc: Global, text: &[u8]) -> Result<Octets, EndpointFault> {
-    let endpoint = Endpoint::from_text(alloc, text)?;
-    Ok(endpoint.copy(alloc)?.to_text(alloc)?)
+/// Texts that are read, and whether they name one endpoint.
+const TEXTS: [(&str, bool); 11] = [
+    ("dtn:none", false),
+    ("dtn://a/x", true),
+    ("dtn://a/~all", false),
+    ("dtn://a/x/~", false),
+    ("dtn://a~b/x", true),
+    ("dtn:!~", true),
+    ("dtn:nonE", true),
+    ("ipn:0.0", true),
+    ("ipn:1.1", true),
+    ("ipn:10.20", true),
+    ("ipn:18446744073709551615.1", true),
+];
+
+/// Whether a text is read, written again from a copy, and names one endpoint or more.
+fn is_text_of_one(alloc: Global, text: &str, single: bool) -> Result<bool, Fail> {
+    let endpoint = Endpoint::from_text(alloc, text.as_bytes())?;
+    let again = endpoint.copy(alloc)?.to_text(alloc)?;
+    Ok(again.as_slice() == text.as_bytes() && endpoint.is_singleton() == single)
 }
 
 #[test]
-fn texts_read_both_ways(rt: HostRuntime) -> Result<(), Fail> {
-    let alloc = rt.alloc();
-    for text in [
-        "dtn:none",
-        "dtn://a/x",
-        "dtn://a/~all",
-        "dtn:!~",
-        "ipn:0.0",
-        "ipn:10.20",
-        "ipn:18446744073709551615.1",
-    ] {
-        let again = written_again(alloc, text.as_bytes())?;
-        assert_eq!(rt; again.as_slice(), text.as_bytes(), "{text}");
+fn texts_are_read_both_ways(rt: HostRuntime) -> Result<(), Fail> {
+    for (text, single) in TEXTS {
+        assert!(rt; is_text_of_one(rt.alloc(), text, single)?, "{text}");
     }
     Ok(())
 }
 
+/// Texts that are none.
+const REFUSED: [(&str, EndpointFault); 20] = [
+    ("", EndpointFault::Scheme),
+    ("dtn", EndpointFault::Scheme),
+    ("ipn", EndpointFault::Scheme),
+    ("DTN://a/x", EndpointFault::Scheme),
+    ("http://a/x", EndpointFault::Scheme),
+    (" dtn:none", EndpointFault::Scheme),
+    ("dtn:", EndpointFault::Ssp),
+    ("dtn:a b", EndpointFault::Ssp),
+    ("dtn:a\u{7f}", EndpointFault::Ssp),
+    ("dtn:\u{e9}", EndpointFault::Ssp),
+    ("ipn:", EndpointFault::Number),
+    ("ipn:1", EndpointFault::Number),
+    ("ipn:1.", EndpointFault::Number),
+    ("ipn:.1", EndpointFault::Number),
+    ("ipn:01.1", EndpointFault::Number),
+    ("ipn:1.00", EndpointFault::Number),
+    ("ipn:1.+1", EndpointFault::Number),
+    ("ipn:1.2.3", EndpointFault::Number),
+    ("ipn:18446744073709551616.1", EndpointFault::Number),
+    ("ipn:1.18446744073709551616", EndpointFault::Number),
+];
+
+/// Whether a text is refused for this.
+fn is_refused(alloc: Global, text: &[u8], fault: EndpointFault) -> bool {
+    Endpoint::from_text(alloc, text).err() == Some(fault)
+}
+
 #[test]
 fn other_texts_are_refused(rt: HostRuntime) {
-    for (text, fault) in [
-        ("", EndpointFault::Scheme),
-        ("dtn", EndpointFault::Scheme),
-        ("DTN://a/x", EndpointFault::Scheme),
-        ("http://a/x", EndpointFault::Scheme),
-        ("dtn:", EndpointFault::Ssp),
-        ("dtn:a b", EndpointFault::Ssp),
-        ("dtn:a\u{7f}", EndpointFault::Ssp),
-        ("ipn:", EndpointFault::Number),
-        ("ipn:1", EndpointFault::Number),
-        ("ipn:1.", EndpointFault::Number),
-        ("ipn:01.1", EndpointFault::Number),
-        ("ipn:1.+1", EndpointFault::Number),
-        ("ipn:1.2.3", EndpointFault::Number),
-        ("ipn:18446744073709551616.1", EndpointFault::Number),
-    ] {
-        let got = written_again(rt.alloc(), text.as_bytes()).err();
-        assert_eq!(rt; got, Some(fault), "{text}");
+    for (text, fault) in REFUSED {
+        assert!(rt; is_refused(rt.alloc(), text.as_bytes(), fault), "{text}");
     }
 }
 
 #[test]
 fn an_ssp_has_1023_octets_at_most(rt: HostRuntime) -> Result<(), Fail> {
-    let mut text = b"dtn:".as_slice().to_vec(rt.alloc())?;
-    text.extend_from_slice([b'a'; 1023].as_slice())?;
-    assert_eq!(rt;
-        written_again(rt.alloc(), text.as_slice())?.as_slice(),
-        text.as_slice()
-    );
+    let alloc = rt.alloc();
+    let ssp = vec![in alloc; b'a'; 1023]?;
+    let mut text = b"dtn:".as_slice().to_vec(alloc)?;
+    text.extend_from_slice(&ssp)?;
+    assert!(rt; is_ssp(&ssp) && Endpoint::from_text(alloc, &text)?.ssp(alloc)?.len() == 1023);
     text.push(b'a')?;
-    let longer = written_again(rt.alloc(), text.as_slice()).err();
-    assert_eq!(rt; longer, Some(EndpointFault::Ssp));
+    assert!(rt; is_refused(alloc, &text, EndpointFault::Ssp));
     Ok(())
 }
 
-#[test]
-fn groups_are_no_singletons(rt: HostRuntime) -> Result<(), Fail> {
-    for (text, single) in [
-        ("dtn:none", false),
-        ("ipn:1.1", true),
-        ("dtn://a/x", true),
-        ("dtn://a~b/x", true),
-        ("dtn://a/~x", false),
-        ("dtn://a/x/~", false),
-    ] {
-        let endpoint = Endpoint::from_text(rt.alloc(), text.as_bytes())?;
-        assert_eq!(rt; endpoint.is_singleton(), single, "{text}");
-    }
-    Ok(())
+/// Whether an endpoint's two parts name it again.
+fn parts_name_it(alloc: Global, text: &str) -> Result<bool, Fail> {
+    let endpoint = Endpoint::from_text(alloc, text.as_bytes())?;
+    let ssp = endpoint.ssp(alloc)?;
+    let again = named(alloc, endpoint.scheme(), ssp.as_slice())?;
+    let ipn = ipn_named(ssp.as_slice());
+    Ok(again == Some(endpoint) && ipn.is_some() == text.starts_with("ipn"))
 }
 
 #[test]
 fn parts_name_what_the_text_names(rt: HostRuntime) -> Result<(), Fail> {
-    let alloc = rt.alloc();
-    let mut refs = Refs::new(alloc);
     for text in ["dtn:none", "dtn://b/y", "ipn:3.4"] {
-        let endpoint = Endpoint::from_text(alloc, text.as_bytes())?;
-        let ssp = endpoint.ssp(alloc)?;
-        assert_eq!(rt;
-            named(alloc, endpoint.scheme(), ssp.as_slice())?,
-            Some(endpoint),
-            "{text}"
-        );
-        refs.push(Endpoint::from_text(alloc, text.as_bytes())?)?;
+        assert!(rt; parts_name_it(rt.alloc(), text)?, "{text}");
     }
-    assert_eq!(rt; refs.copy(alloc)?.as_slice(), refs.as_slice());
     Ok(())
 }
 
 #[test]
-fn messages_are_the_names(rt: HostRuntime) -> Result<(), Fail> {
-    for fault in [
-        EndpointFault::Scheme,
-        EndpointFault::Ssp,
-        EndpointFault::Number,
-        EndpointFault::Memory,
-    ] {
-        let message = fault.to_string(rt.alloc())?;
-        assert_eq!(rt; message.as_str(), fault.word());
-    }
+fn lists_are_made_and_copied(rt: HostRuntime) -> Result<(), Fail> {
+    let alloc = rt.alloc();
+    let octets = Octets::from_slice(alloc, b"abc")?.copy(alloc)?;
+    assert!(rt; Octets::from_vec(octets.into_vec()).as_slice() == b"abc".as_slice());
+    let mut refs = Refs::new(alloc);
+    refs.push(Endpoint::from_text(alloc, b"dtn://b/y")?)?;
+    refs.push(Endpoint::Null)?;
+    assert!(rt; refs.copy(alloc)?.as_slice() == refs.as_slice() && refs.len() == 2);
     Ok(())
 }

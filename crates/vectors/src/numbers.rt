@@ -1,77 +1,58 @@
-//! Numbers with their spellings, and the faults, written out by hand.
+//! Numbers of RFC 5050 and their spellings.
 
+use crate::rows::octets;
 use sdnv::{SdnvFault, len, read, write};
+use std::alloc::Global;
 use std::test::Fail;
 
+/// Numbers and their shortest spellings. The first two are the examples of RFC 5050, section 4.1.
+const SHORTEST: [(u64, &str); 7] = [
+    (0xABC, "953C"),
+    (0x1234, "A434"),
+    (0, "00"),
+    (127, "7F"),
+    (128, "8100"),
+    (16383, "FF7F"),
+    (18446744073709551615, "81FFFFFFFFFFFFFFFF7F"),
+];
+
+/// Whether a number is written so, and read again with more behind it.
+fn is_spelled(alloc: Global, value: u64, text: &str) -> Result<bool, Fail> {
+    let spelling = octets(alloc, text)?;
+    let mut out = Vec::new(alloc);
+    write(value, &mut out)?;
+    let written = out.as_slice() == spelling.as_slice() && len(value) == spelling.len();
+    write(1, &mut out)?;
+    Ok(written && read(&out) == Ok((value, spelling.len())))
+}
+
 #[test]
-fn numbers_and_their_spellings(rt: HostRuntime) -> Result<(), Fail> {
-    // The first two are the examples of RFC 5050, section 4.1.
-    let shortest = [
-        (0xABC, b"\x95\x3C".as_slice()),
-        (0x1234, b"\xA4\x34".as_slice()),
-        (0, b"\x00".as_slice()),
-        (127, b"\x7F".as_slice()),
-        (128, b"\x81\x00".as_slice()),
-        (
-            18446744073709551615,
-            b"\x81\xFF\xFF\xFF\xFF\xFF\xFF\xFF\xFF\x7F".as_slice(),
-        ),
-    ];
-    for (value, octets) in shortest {
-        let mut out = Vec::new(rt.alloc());
-        write(value, &mut out)?;
-        assert_eq!(rt; out.as_slice(), octets, "write {value}");
-        assert_eq!(rt; len(value), octets.len(), "len {value}");
-        write(1, &mut out)?;
-        assert_eq!(rt; read(&out), Ok((value, octets.len())), "read {value}");
+fn numbers_have_a_shortest_spelling(rt: HostRuntime) -> Result<(), Fail> {
+    for (value, text) in SHORTEST {
+        assert!(rt; is_spelled(rt.alloc(), value, text)?, "{value}");
     }
     Ok(())
 }
 
+/// Octets, and the number and the length of its text, or the fault.
+const READ: [(&str, Result<(u64, usize), SdnvFault>); 11] = [
+    ("80807F", Ok((127, 3))),
+    ("80808080808080808001", Ok((1, 10))),
+    ("80FFFFFFFFFFFFFFFF7F", Ok((9223372036854775807, 10))),
+    ("FFFFFFFFFFFFFFFFFF7F", Err(SdnvFault::TooLarge)),
+    ("82808080808080808000", Err(SdnvFault::TooLarge)),
+    ("80808080808080808080", Err(SdnvFault::TooLong)),
+    ("8080808080808080808000", Err(SdnvFault::TooLong)),
+    ("FFFFFFFFFFFFFFFFFFFF7F", Err(SdnvFault::TooLong)),
+    ("808080808080808080", Err(SdnvFault::Short)),
+    ("81", Err(SdnvFault::Short)),
+    ("", Err(SdnvFault::Short)),
+];
+
 #[test]
-fn texts_that_are_read_or_refused(rt: HostRuntime) -> Result<(), Fail> {
-    let rows = [
-        (b"\x80\x80\x7F".as_slice(), Ok((127, 3)), ""),
-        (
-            b"\x80\x80\x80\x80\x80\x80\x80\x80\x80\x01".as_slice(),
-            Ok((1, 10)),
-            "",
-        ),
-        (
-            b"\xFF\xFF\xFF\xFF\xFF\xFF\xFF\xFF\xFF\x7F".as_slice(),
-            Err(SdnvFault::TooLarge),
-            "TooLarge",
-        ),
-        (
-            b"\x82\x80\x80\x80\x80\x80\x80\x80\x80\x00".as_slice(),
-            Err(SdnvFault::TooLarge),
-            "TooLarge",
-        ),
-        (
-            b"\x80\x80\x80\x80\x80\x80\x80\x80\x80\x80".as_slice(),
-            Err(SdnvFault::TooLong),
-            "TooLong",
-        ),
-        (
-            b"\x80\x80\x80\x80\x80\x80\x80\x80\x80\x80\x00".as_slice(),
-            Err(SdnvFault::TooLong),
-            "TooLong",
-        ),
-        (
-            b"\x80\x80\x80\x80\x80\x80\x80\x80\x80".as_slice(),
-            Err(SdnvFault::Short),
-            "Short",
-        ),
-        (b"\x81".as_slice(), Err(SdnvFault::Short), "Short"),
-        (b"".as_slice(), Err(SdnvFault::Short), "Short"),
-    ];
-    for (octets, wanted, word) in rows {
-        let got = read(octets);
-        assert_eq!(rt; got, wanted, "{word}");
-        if let Err(fault) = got {
-            assert_eq!(rt; fault.word(), word);
-            assert_eq!(rt; format!(in rt.alloc(); "{fault}")?.as_str(), word);
-        }
+fn texts_are_read_or_refused(rt: HostRuntime) -> Result<(), Fail> {
+    for (text, wanted) in READ {
+        assert!(rt; read(&octets(rt.alloc(), text)?) == wanted, "{text}");
     }
     Ok(())
 }

@@ -1,7 +1,11 @@
 //! The versions in memory with calls that fail or find no room, the adapters over std's reader
 //! and writer, and the loops over them.
 
-use edge_traits::*;
+use edge_traits::{
+    Answer, Clock, Failed, LONGEST_DATAGRAM, Link, MemClock, MemLink, MemSink, MemSource,
+    ReadRefused, Reading, Sink, Source, Status, SureSink, SureSource, Writing, read_all,
+    write_answer,
+};
 use std::alloc::{AllocError, Global};
 use std::io::{self, ErrorKind, Read, Write};
 use std::test::Fail;
@@ -26,47 +30,25 @@ impl Write for Broken {
     }
 }
 
-/// What four reads into three octets answer.
-fn four_reads<S: Source>(source: &mut S) -> [Result<usize, Failed>; 4] {
+/// Whether four reads into three octets answer so.
+fn four_reads<S: Source>(source: &mut S, wanted: [Result<usize, Failed>; 4]) -> bool {
     let mut buffer = [0; 3];
-    let first = source.read(&mut buffer);
-    let second = source.read(&mut buffer);
-    let third = source.read(&mut buffer);
-    [first, second, third, source.read(&mut buffer)]
-}
-
-/// What the writes of `abc`, of `de` and of nothing answer.
-fn three_writes<K: Sink>(sink: &mut K) -> [Result<usize, Failed>; 3] {
-    let first = sink.write(b"abc");
-    let second = sink.write(b"de");
-    [first, second, sink.write(b"")]
+    for answer in wanted {
+        if source.read(&mut buffer) != answer {
+            return false;
+        }
+    }
+    true
 }
 
 #[test]
 fn reads_give_the_octets_in_order(rt: HostRuntime) -> Result<(), Fail> {
-    let alloc = rt.alloc();
     let whole = [Ok(3), Ok(2), Ok(0), Ok(0)];
-    let failing = four_reads(&mut MemSource::new(alloc, b"abcde", &[false, true])?);
-    for (source, got, wanted) in [
-        ("memory", failing, [Ok(3), Err(Failed), Ok(2), Ok(0)]),
-        (
-            "sure memory",
-            four_reads(&mut SureSource::new(alloc, b"abcde")?),
-            whole,
-        ),
-        (
-            "a reader",
-            four_reads(&mut Reading::new(b"abcde".as_slice())),
-            whole,
-        ),
-        (
-            "a broken reader",
-            four_reads(&mut Reading::new(Broken)),
-            [Err(Failed); 4],
-        ),
-    ] {
-        assert_eq!(rt; got, wanted, "{source}");
-    }
+    let mut failing = MemSource::new(rt.alloc(), b"abcde", &[false, true])?;
+    assert!(rt; four_reads(&mut failing, [Ok(3), Err(Failed), Ok(2), Ok(0)]));
+    assert!(rt; four_reads(&mut SureSource::new(rt.alloc(), b"abcde")?, whole));
+    assert!(rt; four_reads(&mut Reading::new(b"abcde".as_slice()), whole));
+    assert!(rt; four_reads(&mut Reading::new(Broken), [Err(Failed); 4]));
     Ok(())
 }
 
@@ -78,55 +60,55 @@ fn read_of(alloc: Global, failing: &[bool], most: u8) -> Result<Vec<u8>, ReadRef
 
 #[test]
 fn an_input_is_read_whole_or_to_one_past_the_most(rt: HostRuntime) -> Result<(), Fail> {
-    let alloc = rt.alloc();
     for (most, wanted) in [(6, "abcdef"), (5, "abcdef"), (4, "abcde"), (0, "a")] {
-        assert_eq!(rt; read_of(alloc, &[], most)?.as_slice(), wanted.as_bytes());
+        assert!(rt;
+            read_of(rt.alloc(), &[], most)?.as_slice() == wanted.as_bytes(),
+            "{most}"
+        );
     }
     for failing in [[true].as_slice(), &[false, true]] {
-        assert_eq!(rt; read_of(alloc, failing, 6).err(), Some(ReadRefused::Fault));
+        assert!(rt; read_of(rt.alloc(), failing, 6).err() == Some(ReadRefused::Fault));
     }
     Ok(())
+}
+
+/// Whether the writes of `abc`, of `de` and of nothing answer so.
+fn three_writes<K: Sink>(sink: &mut K, wanted: [Result<usize, Failed>; 3]) -> bool {
+    let first = sink.write(b"abc") == wanted[0];
+    let second = sink.write(b"de") == wanted[1];
+    first && second && sink.write(b"") == wanted[2]
 }
 
 #[test]
 fn writes_take_what_they_answer(rt: HostRuntime) -> Result<(), Fail> {
-    let alloc = rt.alloc();
     let whole = [Ok(3), Ok(2), Ok(0)];
-    let mut sink = MemSink::new(alloc, 5, &[false, true])?;
-    let mut sure = SureSink::new(alloc, 5)?;
-    let narrow = three_writes(&mut MemSink::new(alloc, 4, &[])?);
-    for (kind, got, wanted) in [
-        (
-            "memory",
-            three_writes(&mut sink),
-            [Ok(3), Err(Failed), Ok(0)],
-        ),
-        ("sure memory", three_writes(&mut sure), whole),
-        ("memory with too little room", narrow, whole),
-        (
-            "a broken writer",
-            three_writes(&mut Writing::new(Broken)),
-            [Err(Failed); 3],
-        ),
-    ] {
-        assert_eq!(rt; got, wanted, "{kind}");
-    }
-    for (held, wanted) in [(sink.octets(), "abc"), (sure.octets(), "abcde")] {
-        assert_eq!(rt; held, wanted.as_bytes());
-    }
+    let mut sink = MemSink::new(rt.alloc(), 5, &[false, true])?;
+    assert!(rt; three_writes(&mut sink, [Ok(3), Err(Failed), Ok(0)]));
+    assert!(rt; sink.octets() == b"abc".as_slice());
+    let mut sure = SureSink::new(rt.alloc(), 5)?;
+    assert!(rt; three_writes(&mut sure, whole) && sure.octets() == b"abcde".as_slice());
+    assert!(rt; three_writes(&mut MemSink::new(rt.alloc(), 4, &[])?, whole));
+    assert!(rt; three_writes(&mut Writing::new(Broken), [Err(Failed); 3]));
     Ok(())
 }
 
+/// How much room a buffer has, what it holds after the writes, and what they answer.
+const ROOMS: [(usize, [u8; 5], [Result<usize, Failed>; 3]); 3] = [
+    (5, *b"abcde", [Ok(3), Ok(2), Ok(0)]),
+    (4, *b"abcd.", [Ok(3), Ok(1), Ok(0)]),
+    (3, *b"abc..", [Ok(3), Err(Failed), Ok(0)]),
+];
+
 #[test]
 fn a_writer_that_takes_nothing_fails(rt: HostRuntime) {
-    for (room, octets, wanted) in [
-        (5, b"abcde", [Ok(3), Ok(2), Ok(0)]),
-        (4, b"abcd.", [Ok(3), Ok(1), Ok(0)]),
-        (3, b"abc..", [Ok(3), Err(Failed), Ok(0)]),
-    ] {
+    for (room, octets, wanted) in ROOMS {
         let mut buffer = *b".....";
-        let got = three_writes(&mut Writing::new(&mut buffer[..room]));
-        assert_eq!(rt; (got, &buffer), (wanted, octets), "room {room}");
+        let front = room.min(buffer.len());
+        assert!(rt;
+            three_writes(&mut Writing::new(&mut buffer[..front]), wanted),
+            "{room}"
+        );
+        assert!(rt; buffer == octets, "{room}");
     }
 }
 
@@ -143,10 +125,21 @@ fn writes_so(alloc: Global, failing: bool, ends: Status, held: &str) -> Result<b
 
 #[test]
 fn an_answer_is_written_whole_or_ends_with_the_fault(rt: HostRuntime) -> Result<(), Fail> {
-    let alloc = rt.alloc();
-    assert!(rt; writes_so(alloc, false, Status::Refused, "abcde")?);
-    assert!(rt; writes_so(alloc, true, Status::WriteFault, "")?);
+    assert!(rt; writes_so(rt.alloc(), false, Status::Refused, "abcde")?);
+    assert!(rt; writes_so(rt.alloc(), true, Status::WriteFault, "")?);
     Ok(())
+}
+
+/// Whether a poll answers so, with this datagram in front.
+fn polls(
+    alloc: Global,
+    link: &mut MemLink,
+    wanted: Result<Option<usize>, Failed>,
+    datagram: &[u8],
+) -> Result<bool, AllocError> {
+    let mut buffer = vec![in alloc; 0u8; LONGEST_DATAGRAM]?;
+    let answer = link.poll(&mut buffer);
+    Ok(answer == wanted && buffer.starts_with(datagram))
 }
 
 #[test]
@@ -155,16 +148,11 @@ fn a_link_answers_in_order(rt: HostRuntime) -> Result<(), Fail> {
     let mut link = MemLink::new(alloc, 3, &[false, true, true])?;
     link.put(b"ab")?;
     link.put(b"c")?;
-    let mut buffer = vec![in alloc; 0u8; LONGEST_DATAGRAM]?;
-    let first = link.poll(&mut buffer);
-    assert!(rt; buffer.starts_with(b"ab"));
-    let failed = link.poll(&mut buffer);
-    let sent = [link.send(b"de"), link.send(b"de"), link.send(b"fg")];
-    assert_eq!(rt; sent, [Err(Failed), Ok(()), Ok(())]);
-    let second = link.poll(&mut buffer);
-    assert!(rt; buffer.starts_with(b"c"));
-    let polled = [first, failed, second, link.poll(&mut buffer)];
-    assert_eq!(rt; polled, [Ok(Some(2)), Err(Failed), Ok(Some(1)), Ok(None)]);
+    assert!(rt; polls(alloc, &mut link, Ok(Some(2)), b"ab")?);
+    assert!(rt; polls(alloc, &mut link, Err(Failed), b"")?);
+    assert!(rt; link.send(b"de") == Err(Failed) && link.send(b"de").is_ok());
+    assert!(rt; polls(alloc, &mut link, Ok(Some(1)), b"c")?);
+    assert!(rt; polls(alloc, &mut link, Ok(None), b"")? && link.send(b"fg").is_ok());
     Ok(())
 }
 
@@ -172,7 +160,7 @@ fn a_link_answers_in_order(rt: HostRuntime) -> Result<(), Fail> {
 fn a_clock_repeats_its_last_reading(rt: HostRuntime) -> Result<(), Fail> {
     let mut clock = MemClock::new(rt.alloc(), &[5, 9])?;
     for wanted in [5, 9, 9] {
-        assert_eq!(rt; clock.now(), wanted);
+        assert!(rt; clock.now() == wanted, "{wanted}");
     }
     Ok(())
 }
@@ -188,6 +176,6 @@ fn each_status_has_its_code(rt: HostRuntime) {
         (Status::Limit, 6),
         (Status::Memory, 7),
     ] {
-        assert_eq!(rt; status.code(), code, "{status:?}");
+        assert!(rt; status.code() == code, "{code}");
     }
 }

@@ -9,21 +9,17 @@ use std::test::Fail;
 #[test]
 fn the_greatest_limit(rt: HostRuntime) -> Result<(), Fail> {
     let mut spans = Spans::new(rt.alloc(), 18446744073709551615);
-    assert_eq!(rt; spans.cover(5, 6)?, 1);
-    assert_eq!(rt; spans.cover(6, 9223372036854775808)?, 9223372036854775802);
-    assert_eq!(rt; spans.cover(0, 5)?, 5);
+    assert!(rt; spans.cover(5, 6)? == 1);
+    assert!(rt; spans.cover(6, 9223372036854775808)? == 9223372036854775802);
+    assert!(rt; spans.cover(0, 5)? == 5);
     let whole = Run {
         from: 0,
         to: 9223372036854775808,
     };
-    assert_eq!(rt; spans.run(0), Some(whole));
-    assert_eq!(rt; spans.run(1), None);
-    assert_eq!(rt; spans.count(18446744073709551615), 1);
-    assert!(rt; spans.is_whole(9223372036854775808), "below 2^63");
-    assert!(rt;
-        !spans.covers(9223372036854775807, 9223372036854775809),
-        "past 2^63"
-    );
+    assert!(rt; spans.run(0) == Some(whole) && spans.run(1).is_none());
+    assert!(rt; spans.count(18446744073709551615) == 1);
+    assert!(rt; spans.is_whole(9223372036854775808));
+    assert!(rt; !spans.covers(9223372036854775807, 9223372036854775809));
     Ok(())
 }
 
@@ -73,14 +69,49 @@ fn runs_slowly(alloc: Global, places: &[bool]) -> Result<Vec<Run>, AllocError> {
 }
 
 /// How long the range is that a draw asks for: mostly one place, at times some, seldom many.
-fn length_of(draw: u64) -> usize
-    ensures { result < 1000 }
-{
+fn length_of(draw: u64) -> usize {
     match draw / 64 % 40 {
         0 => (draw / 4096 % 900) as usize,
         1..=4 => (draw / 4096 % 12) as usize,
         _ => 1,
     }
+}
+
+/// Whether a cover tells the same of a range as the slow twin, before and in covering it.
+fn covers_alike(
+    spans: &mut Spans,
+    places: &mut [bool],
+    from: usize,
+    to: usize,
+) -> Result<bool, AllocError>
+    requires order { from ≤ to }
+    requires within { to ≤ length places.old }
+    requires below { to ≤ length spans.old }
+    ensures { length spans.new ≡ length spans.old }
+{
+    let held = spans.covers(from as u64, to as u64);
+    let fresh = cover_slowly(places, from, to);
+    Ok(held == (fresh == 0) && spans.cover(from as u64, to as u64)? == fresh)
+}
+
+/// How many ranges begin below a place.
+fn begun_below(runs: &[Run], to: u64) -> usize {
+    let mut count = 0usize;
+    for run in runs {
+        if run.from < to {
+            count = count.saturating_add(1);
+        }
+    }
+    count
+}
+
+/// Whether a cover has the ranges of the slow twin, and as many of them begin below a place.
+fn runs_alike(alloc: Global, spans: &Spans, places: &[bool], to: u64) -> Result<bool, AllocError>
+    requires { to ≤ length spans.now }
+{
+    let runs = runs_slowly(alloc, places)?;
+    let kept: Vec<Run> = spans.runs().collect(alloc)?;
+    Ok(kept.as_slice() == runs.as_slice() && spans.count(to) == begun_below(&runs, to))
 }
 
 #[test]
@@ -92,22 +123,15 @@ fn as_a_list_of_truth_values(rt: HostRuntime) -> Result<(), Fail> {
         seed = draw(seed);
         let from = (seed / 65536) as usize % PLACES;
         seed = draw(seed);
-        let to = (from + length_of(seed)).min(PLACES);
-        let held = spans.covers(from as u64, to as u64);
-        let fresh = cover_slowly(&mut places, from, to);
-        assert_eq!(rt; held, fresh == 0, "{from} to {to}");
-        assert_eq!(rt;
-            spans.cover(from as u64, to as u64)?,
-            fresh,
-            "{from} to {to}"
+        let to = from.saturating_add(length_of(seed)).min(PLACES);
+        assert!(rt;
+            covers_alike(&mut spans, &mut places, from, to)?,
+            "round {round}"
         );
         if round % 100 == 0 {
-            let runs = runs_slowly(rt.alloc(), &places)?;
-            let kept: Vec<Run> = spans.runs().collect(rt.alloc())?;
-            assert_eq!(rt; kept.as_slice(), runs.as_slice(), "round {round}");
-            assert_eq!(rt;
-                spans.count(from as u64),
-                runs.iter().filter(|r| r.from < from as u64).count()
+            assert!(rt;
+                runs_alike(rt.alloc(), &spans, &places, from as u64)?,
+                "round {round}"
             );
         }
     }

@@ -1,0 +1,178 @@
+//! Each cause's word, and that its message is the same.
+
+use bundle6::Cause6;
+use bundle7::{Cause7, EidFault};
+use cbor_lite::CborFault;
+use endpoint::EndpointFault;
+use ltp_segment::{PolicyFault, SegmentCause};
+use sdnv::SdnvFault;
+use std::alloc::{AllocError, Global};
+use std::fmt::Display;
+use std::test::Fail;
+use wire_fields::{Miss, sample};
+
+/// Whether a cause's word and its message are this name.
+fn is_named<C: Display + Drop>(
+    alloc: Global,
+    cause: C,
+    word: &str,
+    name: &str,
+) -> Result<bool, AllocError> {
+    let message = format!(in alloc; "{cause}")?;
+    Ok(word == name && message.as_str() == name)
+}
+
+#[test]
+fn words_of_numbers(rt: HostRuntime) -> Result<(), Fail> {
+    for (cause, name) in [
+        (SdnvFault::Short, "Short"),
+        (SdnvFault::TooLong, "TooLong"),
+        (SdnvFault::TooLarge, "TooLarge"),
+    ] {
+        assert!(rt; is_named(rt.alloc(), cause, cause.word(), name)?, "{name}");
+    }
+    Ok(())
+}
+
+#[test]
+fn words_of_items(rt: HostRuntime) -> Result<(), Fail> {
+    for (cause, name) in [
+        (CborFault::Kind, "Kind"),
+        (CborFault::Short, "Short"),
+        (CborFault::NotShortest, "NotShortest"),
+    ] {
+        assert!(rt; is_named(rt.alloc(), cause, cause.word(), name)?, "{name}");
+    }
+    Ok(())
+}
+
+#[test]
+fn words_of_endpoints(rt: HostRuntime) -> Result<(), Fail> {
+    for (cause, name) in [
+        (EndpointFault::Scheme, "Scheme"),
+        (EndpointFault::Ssp, "Ssp"),
+        (EndpointFault::Number, "Number"),
+        (EndpointFault::Memory, "Memory"),
+    ] {
+        assert!(rt; is_named(rt.alloc(), cause, cause.word(), name)?, "{name}");
+    }
+    Ok(())
+}
+
+#[test]
+fn words_of_fields(rt: HostRuntime) -> Result<(), Fail> {
+    for (cause, name) in [(Miss::Truncated, "Truncated"), (Miss::Absent, "Absent")] {
+        assert!(rt; is_named(rt.alloc(), cause, cause.word(), name)?, "{name}");
+    }
+    Ok(())
+}
+
+#[test]
+fn words_of_waybills(rt: HostRuntime) -> Result<(), Fail> {
+    for (cause, name) in [
+        (sample::Cause::Truncated, "Truncated"),
+        (sample::Cause::Mark, "Mark"),
+        (sample::Cause::Count, "Count"),
+        (sample::Cause::Number, "Number"),
+        (sample::Cause::Sender, "Sender"),
+        (sample::Cause::Range, "Range"),
+        (sample::Cause::FrontEnd, "FrontEnd"),
+        (sample::Cause::Kind, "Kind"),
+        (sample::Cause::SecondGoods, "SecondGoods"),
+        (sample::Cause::TooManyItems, "TooManyItems"),
+        (sample::Cause::Repeated, "Repeated"),
+        (sample::Cause::Check, "Check"),
+        (sample::Cause::Order, "Order"),
+        (sample::Cause::Trailing, "Trailing"),
+    ] {
+        assert!(rt; is_named(rt.alloc(), cause, cause.word(), name)?, "{name}");
+    }
+    Ok(())
+}
+
+#[test]
+fn words_of_old_bundles(rt: HostRuntime) -> Result<(), Fail> {
+    for (cause, name) in [
+        (Cause6::Version, "Version"),
+        (Cause6::Number, "Number"),
+        (Cause6::Names, "Names"),
+        (Cause6::PrimaryEnd, "PrimaryEnd"),
+        (Cause6::SecondPayload, "SecondPayload"),
+        (Cause6::TooManyBlocks, "TooManyBlocks"),
+        (Cause6::NoPayload, "NoPayload"),
+        (Cause6::BlockRefs, "BlockRefs"),
+        (Cause6::FragmentRange, "FragmentRange"),
+        (Cause6::Truncated, "Truncated"),
+        (Cause6::TooLong, "TooLong"),
+    ] {
+        assert!(rt; is_named(rt.alloc(), cause, cause.word(), name)?, "{name}");
+    }
+    Ok(())
+}
+
+#[test]
+fn words_of_new_bundles(rt: HostRuntime) -> Result<(), Fail> {
+    for (cause, name) in [
+        (Cause7::Start, "Start"),
+        (Cause7::Head, "Head"),
+        (Cause7::Version, "Version"),
+        (Cause7::Number, "Number"),
+        (Cause7::CrcType, "CrcType"),
+        (Cause7::ItemCount, "ItemCount"),
+        (Cause7::Eid, "Eid"),
+        (Cause7::Timestamp, "Timestamp"),
+        (Cause7::Crc, "Crc"),
+        (Cause7::BlockHead, "BlockHead"),
+        (Cause7::TooManyBlocks, "TooManyBlocks"),
+        (Cause7::Repeated, "Repeated"),
+        (Cause7::BlockNumber, "BlockNumber"),
+        (Cause7::Body, "Body"),
+        (Cause7::FragmentRange, "FragmentRange"),
+        (Cause7::ExtensionBody, "ExtensionBody"),
+        (Cause7::Break, "Break"),
+        (Cause7::Truncated, "Truncated"),
+        (Cause7::TooLong, "TooLong"),
+    ] {
+        assert!(rt; is_named(rt.alloc(), cause, cause.word(), name)?, "{name}");
+    }
+    Ok(())
+}
+
+#[test]
+fn words_of_eids(rt: HostRuntime) -> Result<(), Fail> {
+    for (cause, name) in [(EidFault::Eid, "Eid"), (EidFault::Memory, "Memory")] {
+        assert!(rt; is_named(rt.alloc(), cause, cause.word(), name)?, "{name}");
+    }
+    Ok(())
+}
+
+#[test]
+fn words_of_segments(rt: HostRuntime) -> Result<(), Fail> {
+    for (cause, name) in [
+        (SegmentCause::Version, "Version"),
+        (SegmentCause::Kind, "Kind"),
+        (SegmentCause::Number, "Number"),
+        (SegmentCause::Range, "Range"),
+        (SegmentCause::Serial, "Serial"),
+        (SegmentCause::Bounds, "Bounds"),
+        (SegmentCause::Claim, "Claim"),
+        (SegmentCause::Trailing, "Trailing"),
+        (SegmentCause::Truncated, "Truncated"),
+    ] {
+        assert!(rt; is_named(rt.alloc(), cause, cause.word(), name)?, "{name}");
+    }
+    Ok(())
+}
+
+#[test]
+fn words_of_policies(rt: HostRuntime) -> Result<(), Fail> {
+    for (cause, name) in [
+        (PolicyFault::Segment, "Segment"),
+        (PolicyFault::Timeout, "Timeout"),
+        (PolicyFault::Limit, "Limit"),
+        (PolicyFault::Cap, "Cap"),
+    ] {
+        assert!(rt; is_named(rt.alloc(), cause, cause.word(), name)?, "{name}");
+    }
+    Ok(())
+}

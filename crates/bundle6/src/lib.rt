@@ -25,4 +25,3 @@ pub use bundle::{Bundle6, decode6, exactly_one, only_legal};
 pub use fault::{Cause6, Fail6};
 pub use primary::Primary6;
 pub use writing::encode6;
-

@@ -23,4 +23,3 @@ pub use fault::EndpointFault;
 pub use lists::{Octets, Refs};
 pub use name::Endpoint;
 pub use text::{ipn_named, is_ssp, named};
-

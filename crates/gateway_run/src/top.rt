@@ -9,7 +9,9 @@ use crate::command::{Command, command_named};
 use crate::receive::receive;
 use crate::word::Word;
 use bundle_runs::bundles;
-use edge_traits::{Clock, Link, MOST_INPUT, ReadRefused, Sink, Source, Status, read_all, write_answer};
+use edge_traits::{
+    Clock, Link, MOST_INPUT, ReadRefused, Sink, Source, Status, read_all, write_answer,
+};
 use std::alloc::{AllocError, Global};
 
 /// Answers the command that the words name: reads the source to its end, and writes the answer

@@ -471,7 +471,12 @@ const UNCHECKED: [(&str, &str); 23] = [
 ];
 
 /// Octets that are bundles end to end, and what `show` writes.
-const SHOWN: [(&str, &str); 17] = [
+const SHOWN: [(&str, &str); 18] = [
+    // A fragment with four extension blocks.
+    (
+        "9f8b071a000400010282016f2f2f6e6f64652f67726f75702f7e788202821b0000000100000000008201656e6f6e6532821b80000000000000001a000111701a05265c00051903e844d83a1a49860a0210024582181e181d44fb77970e860619012c0001458202820101428f748507040100451a000100008618c805000240449689a2668601010101581e000102030405060708090a0b0c0d0e0f101112131415161718191a1b1c1d42da12ff",
+        "{\"blocks\":[{\"body\":\"82181e181d\",\"crc\":2,\"flags\":16,\"kind\":10,\"number\":2},{\"body\":\"8202820101\",\"crc\":1,\"flags\":0,\"kind\":6,\"number\":300},{\"body\":\"1a00010000\",\"crc\":0,\"flags\":1,\"kind\":7,\"number\":4},{\"body\":\"\",\"crc\":2,\"flags\":0,\"kind\":200,\"number\":5},{\"body\":\"000102030405060708090a0b0c0d0e0f101112131415161718191a1b1c1d\",\"crc\":1,\"flags\":1,\"kind\":1,\"number\":1}],\"crc\":2,\"creation\":[9223372036854775808,70000],\"destination\":\"dtn://node/group/~x\",\"flags\":262145,\"fragment\":[5,1000],\"lifetime\":86400000,\"report_to\":\"dtn:none2\",\"source\":\"ipn:4294967296.0\",\"version\":7}\n",
+    ),
     (
         "0681100d02010101000000008768053c00010803616263",
         "{\"blocks\":[{\"body\":\"616263\",\"flags\":0,\"kind\":1,\"refs\":[]}],\"creation\":[1000,5],\"custodian\":\"dtn:none\",\"destination\":\"ipn:2.1\",\"flags\":144,\"fragment\":null,\"lifetime\":60,\"report_to\":\"dtn:none\",\"source\":\"ipn:1.1\",\"version\":6}\n",

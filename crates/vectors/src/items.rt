@@ -67,13 +67,17 @@ fn longer_are_refused(alloc: Global, value: u64, width: usize) -> Result<bool, F
     Ok(true)
 }
 
+/// Whether a number has this head and no other.
+fn has_one_head(alloc: Global, value: u64, width: usize, text: &str) -> Result<bool, Fail> {
+    let head = octets(alloc, text)?;
+    let spelled = is_spelled(alloc, value, &head)? && cuts_are_short(&head);
+    Ok(spelled && longer_are_refused(alloc, value, width)?)
+}
+
 #[test]
 fn numbers_have_one_head(rt: HostRuntime) -> Result<(), Fail> {
     for (value, width, text) in NUMBERS {
-        let head = octets(rt.alloc(), text)?;
-        assert!(rt; is_spelled(rt.alloc(), value, &head)?, "{text}");
-        assert!(rt; cuts_are_short(&head), "{text}");
-        assert!(rt; longer_are_refused(rt.alloc(), value, width)?, "{text}");
+        assert!(rt; has_one_head(rt.alloc(), value, width, text)?, "{text}");
     }
     Ok(())
 }
@@ -89,35 +93,23 @@ const STRINGS: [(&str, &str, &str); 7] = [
     ("f0908591", "44f0908591", "64f0908591"),
 ];
 
-/// Whether octets and a text are written and read so.
-fn string_is_spelled(
-    body: &[u8],
-    bytes: &[u8],
-    text: &[u8],
-    out: &mut Vec<u8>,
-) -> Result<bool, Fail> {
-    write_bytes(body, out)?;
-    write_text(body, out)?;
-    let size = bytes.len();
-    let written = out.as_slice().strip_prefix(bytes) == Some(text);
-    let read = read_bytes(out) == Ok((body, size)) && read_text(text) == Ok((body, size));
-    Ok(written && read)
+/// Whether a string is written and read so, as octets and as text.
+fn string_is_spelled(alloc: Global, row: (&str, &str, &str)) -> Result<bool, Fail> {
+    let body = octets(alloc, row.0)?;
+    let bytes = octets(alloc, row.1)?;
+    let text = octets(alloc, row.2)?;
+    let mut out = Vec::new(alloc);
+    write_bytes(&body, &mut out)?;
+    write_text(&body, &mut out)?;
+    let written = out.as_slice().strip_prefix(bytes.as_slice()) == Some(text.as_slice());
+    let wanted = Ok((body.as_slice(), bytes.len()));
+    Ok(written && read_bytes(&out) == wanted && read_text(&text) == wanted)
 }
 
 #[test]
 fn strings_have_one_spelling(rt: HostRuntime) -> Result<(), Fail> {
-    let alloc = rt.alloc();
-    for (body, bytes, text) in STRINGS {
-        let row = (
-            octets(alloc, body)?,
-            octets(alloc, bytes)?,
-            octets(alloc, text)?,
-        );
-        let mut out = Vec::new(alloc);
-        assert!(rt;
-            string_is_spelled(&row.0, &row.1, &row.2, &mut out)?,
-            "{text}"
-        );
+    for row in STRINGS {
+        assert!(rt; string_is_spelled(rt.alloc(), row)?, "{}", row.2);
     }
     Ok(())
 }

@@ -211,25 +211,27 @@ fn numbers_are_refused(
     Ok(true)
 }
 
+/// Whether a datagram says what it is to say, and its cuts and its numbers are refused, and an
+/// octet behind it.
+fn type_holds(alloc: Global, row: (&str, &[usize], &[usize], &str)) -> Result<bool, Fail> {
+    let datagram = octets(alloc, row.0)?;
+    let said = says(alloc, &datagram, row.3)?;
+    let cut = cuts_are_refused(alloc, &datagram, row.1)?;
+    let numbers = numbers_are_refused(alloc, &datagram, row.2)?;
+    let more = is_refused(
+        alloc,
+        &datagram,
+        &[0],
+        datagram.len(),
+        SegmentCause::Trailing,
+    )?;
+    Ok(said && cut && numbers && more)
+}
+
 #[test]
 fn each_type_is_read_and_each_cut_is_refused(rt: HostRuntime) -> Result<(), Fail> {
-    for (text, places, numbers, content) in EACH_TYPE {
-        let datagram = octets(rt.alloc(), text)?;
-        let size = datagram.len();
-        let trailing = SegmentCause::Trailing;
-        assert!(rt; says(rt.alloc(), &datagram, content)?, "{content}");
-        assert!(rt;
-            cuts_are_refused(rt.alloc(), &datagram, places)?,
-            "{content}"
-        );
-        assert!(rt;
-            numbers_are_refused(rt.alloc(), &datagram, numbers)?,
-            "{content}"
-        );
-        assert!(rt;
-            is_refused(rt.alloc(), &datagram, &[0], size, trailing)?,
-            "{content}"
-        );
+    for row in EACH_TYPE {
+        assert!(rt; type_holds(rt.alloc(), row)?, "{}", row.3);
     }
     Ok(())
 }

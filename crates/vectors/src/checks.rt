@@ -6,7 +6,7 @@ use crc_fields::{Register16, Register32, crc16, crc16_zeroed, crc32c, crc32c_zer
 use std::test::Fail;
 
 /// Octets, their CRC-16 X-25 and their CRC-32C.
-const CHECKED: [(&str, u16, u32); 6] = [
+const CHECKED: &[(&str, u16, u32)] = &[
     ("", 0x0000, 0x0000_0000),
     ("313233343536373839", 0x906e, 0xe306_9283),
     (
@@ -51,7 +51,7 @@ fn has_checks(text: &[u8], sixteen: u16, thirty_two: u32) -> bool {
 
 #[test]
 fn texts_have_their_checks(rt: HostRuntime) -> Result<(), Fail> {
-    for (text, sixteen, thirty_two) in CHECKED {
+    for &(text, sixteen, thirty_two) in CHECKED {
         let bytes = octets(rt.alloc(), text)?;
         assert!(rt; has_checks(&bytes, sixteen, thirty_two), "{text}");
     }

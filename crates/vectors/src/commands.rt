@@ -82,7 +82,7 @@ fn with_faults(
 }
 
 /// Lines of `receive` that are taken to their end, and what is written.
-const RECEIVED: [(&str, &str); 27] = [
+const RECEIVED: &[(&str, &str)] = &[
     // One red part, alone, twice, and in pieces that come in any order and overlap.
     ("", ""),
     (WHOLE, "up 1 7 616263\n"),
@@ -169,7 +169,7 @@ const RECEIVED: [(&str, &str); 27] = [
 ];
 
 /// Lines of which the last is refused; what was handed up before stays.
-const STOPPED: [(&str, &str); 14] = [
+const STOPPED: &[(&str, &str)] = &[
     ("zz\n", "refused line 1 Hex\n"),
     ("0\n", "refused line 1 Hex\n"),
     ("\n", "refused line 1 0 Truncated\n"),
@@ -210,7 +210,7 @@ fn receives(alloc: Global, input: &str, status: Status, output: &str) -> Result<
 
 #[test]
 fn lines_are_received_to_the_end(rt: HostRuntime) -> Result<(), Fail> {
-    for (input, output) in RECEIVED {
+    for &(input, output) in RECEIVED {
         assert!(rt;
             receives(rt.alloc(), input, Status::Done, output)?,
             "{input}"
@@ -221,7 +221,7 @@ fn lines_are_received_to_the_end(rt: HostRuntime) -> Result<(), Fail> {
 
 #[test]
 fn a_refused_line_ends_the_run(rt: HostRuntime) -> Result<(), Fail> {
-    for (input, output) in STOPPED {
+    for &(input, output) in STOPPED {
         assert!(rt;
             receives(rt.alloc(), input, Status::Refused, output)?,
             "{input}"
@@ -231,7 +231,7 @@ fn a_refused_line_ends_the_run(rt: HostRuntime) -> Result<(), Fail> {
 }
 
 /// How many sessions are unfinished, the last lines, what is written, and how it ends.
-const SESSIONS: [(u8, &str, &str, Status); 4] = [
+const SESSIONS: &[(u8, &str, &str, Status)] = &[
     (64, "", "skip 1\n", Status::Done),
     (65, WHOLE, "skip 1\n", Status::Limit),
     (
@@ -260,7 +260,7 @@ fn unfinished(alloc: Global, sessions: u8) -> Result<String, AllocError> {
 
 #[test]
 fn a_sixty_fifth_unfinished_session_ends_the_run(rt: HostRuntime) -> Result<(), Fail> {
-    for (sessions, last, output, status) in SESSIONS {
+    for &(sessions, last, output, status) in SESSIONS {
         let mut input = unfinished(rt.alloc(), sessions)?;
         input.push_str(last)?;
         assert!(rt;
@@ -272,7 +272,7 @@ fn a_sixty_fifth_unfinished_session_ends_the_run(rt: HostRuntime) -> Result<(), 
 }
 
 /// Reads and writes that fail, and how the run ends.
-const FAULTS: [(&[bool], &[bool], Status); 3] = [
+const FAULTS: &[(&[bool], &[bool], Status)] = &[
     (&[true], &[], Status::ReadFault),
     (&[false, true], &[], Status::ReadFault),
     (&[], &[true], Status::WriteFault),
@@ -280,7 +280,7 @@ const FAULTS: [(&[bool], &[bool], Status); 3] = [
 
 #[test]
 fn a_fault_writes_nothing(rt: HostRuntime) -> Result<(), Fail> {
-    for (reads, writes, status) in FAULTS {
+    for &(reads, writes, status) in FAULTS {
         assert!(rt;
             with_faults(rt.alloc(), reads, writes, WHOLE, status, "")?,
             "{status:?}"
@@ -290,7 +290,7 @@ fn a_fault_writes_nothing(rt: HostRuntime) -> Result<(), Fail> {
 }
 
 /// Words that name no command.
-const OTHER_WORDS: [&[&str]; 7] = [
+const OTHER_WORDS: &[&[&str]] = &[
     &["cut", "0"],
     &[],
     &["receive", "receive"],
@@ -302,7 +302,7 @@ const OTHER_WORDS: [&[&str]; 7] = [
 
 #[test]
 fn other_words_write_nothing(rt: HostRuntime) -> Result<(), Fail> {
-    for texts in OTHER_WORDS {
+    for &texts in OTHER_WORDS {
         let input = WHOLE.as_bytes();
         assert!(rt;
             surely(rt.alloc(), texts, input, Status::Usage, "")?,
@@ -313,7 +313,7 @@ fn other_words_write_nothing(rt: HostRuntime) -> Result<(), Fail> {
 }
 
 /// Octets that are bundles end to end, and what `check` writes.
-const CHECKED: [(&str, &str); 19] = [
+const CHECKED: &[(&str, &str)] = &[
     ("", ""),
     ("0681100d02010101000000008768053c00010803616263", "6 23\n"),
     (
@@ -387,7 +387,7 @@ const CHECKED: [(&str, &str); 19] = [
 ];
 
 /// Octets at some of which there is no bundle, and what `check` writes.
-const UNCHECKED: [(&str, &str); 23] = [
+const UNCHECKED: &[(&str, &str)] = &[
     (
         "0681100d02010101000000008768053c000108036162",
         "refused 1 20 Truncated\n",
@@ -471,7 +471,7 @@ const UNCHECKED: [(&str, &str); 23] = [
 ];
 
 /// Octets that are bundles end to end, and what `show` writes.
-const SHOWN: [(&str, &str); 18] = [
+const SHOWN: &[(&str, &str)] = &[
     // A fragment with four extension blocks.
     (
         "9f8b071a000400010282016f2f2f6e6f64652f67726f75702f7e788202821b0000000100000000008201656e6f6e6532821b80000000000000001a000111701a05265c00051903e844d83a1a49860a0210024582181e181d44fb77970e860619012c0001458202820101428f748507040100451a000100008618c805000240449689a2668601010101581e000102030405060708090a0b0c0d0e0f101112131415161718191a1b1c1d42da12ff",
@@ -545,7 +545,7 @@ const SHOWN: [(&str, &str); 18] = [
 ];
 
 /// Octets at some of which there is no bundle, and what `show` writes.
-const UNSHOWN: [(&str, &str); 5] = [
+const UNSHOWN: &[(&str, &str)] = &[
     (
         "0681100d02010101000000008768053c0001080361626307",
         "{\"blocks\":[{\"body\":\"616263\",\"flags\":0,\"kind\":1,\"refs\":[]}],\"creation\":[1000,5],\"custodian\":\"dtn:none\",\"destination\":\"ipn:2.1\",\"flags\":144,\"fragment\":null,\"lifetime\":60,\"report_to\":\"dtn:none\",\"source\":\"ipn:1.1\",\"version\":6}\nrefused 2 23 Version\n",
@@ -573,10 +573,10 @@ fn says(alloc: Global, word: &str, row: (&str, &str), status: Status) -> Result<
 
 #[test]
 fn bundles_are_checked(rt: HostRuntime) -> Result<(), Fail> {
-    for row in CHECKED {
+    for &row in CHECKED {
         assert!(rt; says(rt.alloc(), "check", row, Status::Done)?, "{}", row.0);
     }
-    for row in UNCHECKED {
+    for &row in UNCHECKED {
         assert!(rt;
             says(rt.alloc(), "check", row, Status::Refused)?,
             "{}",
@@ -588,10 +588,10 @@ fn bundles_are_checked(rt: HostRuntime) -> Result<(), Fail> {
 
 #[test]
 fn bundles_are_shown(rt: HostRuntime) -> Result<(), Fail> {
-    for row in SHOWN {
+    for &row in SHOWN {
         assert!(rt; says(rt.alloc(), "show", row, Status::Done)?, "{}", row.0);
     }
-    for row in UNSHOWN {
+    for &row in UNSHOWN {
         assert!(rt;
             says(rt.alloc(), "show", row, Status::Refused)?,
             "{}",

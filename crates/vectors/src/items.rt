@@ -9,7 +9,7 @@ use std::alloc::Global;
 use std::test::Fail;
 
 /// A number, the octets behind the first one of its shortest head, and the head.
-const NUMBERS: [(u64, usize, &str); 17] = [
+const NUMBERS: &[(u64, usize, &str)] = &[
     (0, 0, "00"),
     (1, 0, "01"),
     (10, 0, "0a"),
@@ -76,14 +76,14 @@ fn has_one_head(alloc: Global, value: u64, width: usize, text: &str) -> Result<b
 
 #[test]
 fn numbers_have_one_head(rt: HostRuntime) -> Result<(), Fail> {
-    for (value, width, text) in NUMBERS {
+    for &(value, width, text) in NUMBERS {
         assert!(rt; has_one_head(rt.alloc(), value, width, text)?, "{text}");
     }
     Ok(())
 }
 
 /// Strings, and what spells them as octets and as text.
-const STRINGS: [(&str, &str, &str); 7] = [
+const STRINGS: &[(&str, &str, &str)] = &[
     ("", "40", "60"),
     ("01020304", "4401020304", "6401020304"),
     ("61", "4161", "6161"),
@@ -108,7 +108,7 @@ fn string_is_spelled(alloc: Global, row: (&str, &str, &str)) -> Result<bool, Fai
 
 #[test]
 fn strings_have_one_spelling(rt: HostRuntime) -> Result<(), Fail> {
-    for row in STRINGS {
+    for &row in STRINGS {
         assert!(rt; string_is_spelled(rt.alloc(), row)?, "{}", row.2);
     }
     Ok(())

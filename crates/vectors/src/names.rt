@@ -5,7 +5,7 @@ use std::alloc::Global;
 use std::test::Fail;
 
 /// Texts that are read, and whether they name one endpoint.
-const TEXTS: [(&str, bool); 11] = [
+const TEXTS: &[(&str, bool)] = &[
     ("dtn:none", false),
     ("dtn://a/x", true),
     ("dtn://a/~all", false),
@@ -28,14 +28,14 @@ fn is_text_of_one(alloc: Global, text: &str, single: bool) -> Result<bool, Fail>
 
 #[test]
 fn texts_are_read_both_ways(rt: HostRuntime) -> Result<(), Fail> {
-    for (text, single) in TEXTS {
+    for &(text, single) in TEXTS {
         assert!(rt; is_text_of_one(rt.alloc(), text, single)?, "{text}");
     }
     Ok(())
 }
 
 /// Texts that are none.
-const REFUSED: [(&str, EndpointFault); 20] = [
+const REFUSED: &[(&str, EndpointFault)] = &[
     ("", EndpointFault::Scheme),
     ("dtn", EndpointFault::Scheme),
     ("ipn", EndpointFault::Scheme),
@@ -65,7 +65,7 @@ fn is_refused(alloc: Global, text: &[u8], fault: EndpointFault) -> bool {
 
 #[test]
 fn other_texts_are_refused(rt: HostRuntime) {
-    for (text, fault) in REFUSED {
+    for &(text, fault) in REFUSED {
         assert!(rt; is_refused(rt.alloc(), text.as_bytes(), fault), "{text}");
     }
 }

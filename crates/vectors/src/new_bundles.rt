@@ -34,7 +34,7 @@ fn is_written_again(alloc: Global, text: &str) -> Result<bool, Fail> {
 
 /// Bundles: the two above, one with an extension block and its CRC-16, and one with no check at
 /// all.
-const WRITTEN: [&str; 4] = [
+const WRITTEN: &[&str] = &[
     PLAIN,
     RICH,
     "9f8907000182028202018202820101820100821a000f42450019ea5b425a46860b0200014042efc5850101000043616263ff",
@@ -43,7 +43,7 @@ const WRITTEN: [&str; 4] = [
 
 #[test]
 fn bundles_are_written_in_their_octets(rt: HostRuntime) -> Result<(), Fail> {
-    for text in WRITTEN {
+    for &text in WRITTEN {
         assert!(rt; is_written_again(rt.alloc(), text)?, "{text}");
     }
     Ok(())
@@ -86,7 +86,7 @@ fn each_cut_stands_at_its_field(rt: HostRuntime) -> Result<(), Fail> {
 }
 
 /// How many octets of `PLAIN` stand in front, what stands behind them, and the refusal.
-const PRIMARY: [(usize, &str, usize, &str); 34] = [
+const PRIMARY: &[(usize, &str, usize, &str)] = &[
     (0, "06", 0, "Start"),
     (0, "80", 0, "Start"),
     (1, "87", 1, "Head"),
@@ -134,7 +134,7 @@ const PRIMARY: [(usize, &str, usize, &str); 34] = [
 ];
 
 /// The same of the blocks and the end.
-const BLOCKS: [(usize, &str, usize, &str); 30] = [
+const BLOCKS: &[(usize, &str, usize, &str)] = &[
     (31, "84", 31, "BlockHead"),
     (31, "87", 31, "BlockHead"),
     (32, "1801", 32, "Number"),
@@ -178,7 +178,7 @@ fn row_holds(alloc: Global, row: (usize, &str, usize, &str)) -> Result<bool, Fai
 
 #[test]
 fn refusals_of_the_primary_block_stand_at_their_fields(rt: HostRuntime) -> Result<(), Fail> {
-    for row in PRIMARY {
+    for &row in PRIMARY {
         assert!(rt; row_holds(rt.alloc(), row)?, "{} {}", row.0, row.1);
     }
     Ok(())
@@ -186,7 +186,7 @@ fn refusals_of_the_primary_block_stand_at_their_fields(rt: HostRuntime) -> Resul
 
 #[test]
 fn refusals_of_blocks_stand_at_their_fields(rt: HostRuntime) -> Result<(), Fail> {
-    for row in BLOCKS {
+    for &row in BLOCKS {
         assert!(rt; row_holds(rt.alloc(), row)?, "{} {}", row.0, row.1);
     }
     Ok(())
@@ -252,7 +252,7 @@ fn blocks_are_a_list(rt: HostRuntime) -> Result<(), Fail> {
 }
 
 /// Octets of an endpoint, and its text.
-const EIDS: [(&str, &str); 6] = [
+const EIDS: &[(&str, &str)] = &[
     ("820100", "dtn:none"),
     ("82016121", "dtn:!"),
     ("8201652f2f622f79", "dtn://b/y"),
@@ -276,14 +276,14 @@ fn is_eid(alloc: Global, text: &str, name: &str) -> Result<bool, Fail> {
 
 #[test]
 fn endpoints_are_read_and_written(rt: HostRuntime) -> Result<(), Fail> {
-    for (text, name) in EIDS {
+    for &(text, name) in EIDS {
         assert!(rt; is_eid(rt.alloc(), text, name)?, "{name}");
     }
     Ok(())
 }
 
 /// Octets that are no endpoint, or more than one.
-const NO_EIDS: [(&str, bool); 8] = [
+const NO_EIDS: &[(&str, bool)] = &[
     ("", false),
     ("8201", false),
     ("820160", false),
@@ -303,14 +303,14 @@ fn is_no_eid(alloc: Global, text: &str, fronts: bool) -> Result<bool, Fail> {
 
 #[test]
 fn other_octets_are_no_endpoint(rt: HostRuntime) -> Result<(), Fail> {
-    for (text, fronts) in NO_EIDS {
+    for &(text, fronts) in NO_EIDS {
         assert!(rt; is_no_eid(rt.alloc(), text, fronts)?, "{text}");
     }
     Ok(())
 }
 
 /// Bodies, with limit and count of a hop count, or the age.
-const HOPS: [(&str, Option<Hop>); 10] = [
+const HOPS: &[(&str, Option<Hop>)] = &[
     (
         "82181e181d",
         Some(Hop {
@@ -336,7 +336,7 @@ const HOPS: [(&str, Option<Hop>); 10] = [
 ];
 
 /// Bodies, with the age of a bundle.
-const AGES: [(&str, Option<u64>); 6] = [
+const AGES: &[(&str, Option<u64>)] = &[
     ("00", Some(0)),
     ("1a00010000", Some(65536)),
     ("1bffffffffffffffff", Some(18446744073709551615)),
@@ -347,10 +347,10 @@ const AGES: [(&str, Option<u64>); 6] = [
 
 #[test]
 fn bodies_are_read_exactly(rt: HostRuntime) -> Result<(), Fail> {
-    for (text, hop) in HOPS {
+    for &(text, hop) in HOPS {
         assert!(rt; hop_of(&octets(rt.alloc(), text)?) == hop, "{text}");
     }
-    for (text, age) in AGES {
+    for &(text, age) in AGES {
         assert!(rt; age_of(&octets(rt.alloc(), text)?) == age, "{text}");
     }
     Ok(())

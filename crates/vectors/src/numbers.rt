@@ -6,7 +6,7 @@ use std::alloc::Global;
 use std::test::Fail;
 
 /// Numbers and their shortest spellings. The first two are the examples of RFC 5050, section 4.1.
-const SHORTEST: [(u64, &str); 7] = [
+const SHORTEST: &[(u64, &str)] = &[
     (0xABC, "953C"),
     (0x1234, "A434"),
     (0, "00"),
@@ -28,14 +28,14 @@ fn is_spelled(alloc: Global, value: u64, text: &str) -> Result<bool, Fail> {
 
 #[test]
 fn numbers_have_a_shortest_spelling(rt: HostRuntime) -> Result<(), Fail> {
-    for (value, text) in SHORTEST {
+    for &(value, text) in SHORTEST {
         assert!(rt; is_spelled(rt.alloc(), value, text)?, "{value}");
     }
     Ok(())
 }
 
 /// Octets, and the number and the length of its text, or the fault.
-const READ: [(&str, Result<(u64, usize), SdnvFault>); 11] = [
+const READ: &[(&str, Result<(u64, usize), SdnvFault>)] = &[
     ("80807F", Ok((127, 3))),
     ("80808080808080808001", Ok((1, 10))),
     ("80FFFFFFFFFFFFFFFF7F", Ok((9223372036854775807, 10))),
@@ -51,7 +51,7 @@ const READ: [(&str, Result<(u64, usize), SdnvFault>); 11] = [
 
 #[test]
 fn texts_are_read_or_refused(rt: HostRuntime) -> Result<(), Fail> {
-    for (text, wanted) in READ {
+    for &(text, wanted) in READ {
         assert!(rt; read(&octets(rt.alloc(), text)?) == wanted, "{text}");
     }
     Ok(())

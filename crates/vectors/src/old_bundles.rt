@@ -17,7 +17,7 @@ const REFERRING: &str =
     "069c81014500040004080c0012028952043669706e00312e300064746e0059444c7e2b00312e3200322e3200302e3138343436373434303733373039353531363135006e6f6e6500262701010146135f030016001a083104fbe1d287";
 
 /// Octets of a bundle, and what is written of it.
-const WRITTEN: [(&str, &str); 7] = [
+const WRITTEN: &[(&str, &str)] = &[
     (NUMBERED, NUMBERED),
     (NAMED, NAMED),
     (REFERRING, REFERRING),
@@ -53,7 +53,7 @@ fn is_written(alloc: Global, text: &str, wanted: &str) -> Result<bool, Fail> {
 
 #[test]
 fn bundles_are_written_in_their_canonical_octets(rt: HostRuntime) -> Result<(), Fail> {
-    for (text, wanted) in WRITTEN {
+    for &(text, wanted) in WRITTEN {
         assert!(rt; is_written(rt.alloc(), text, wanted)?, "{text}");
     }
     Ok(())
@@ -76,7 +76,7 @@ fn is_refused(alloc: Global, bytes: &[u8], place: usize, word: &str) -> bool {
 }
 
 /// Bundles, and the places of their fields.
-const PLACES: [(&str, &[usize]); 2] = [
+const PLACES: &[(&str, &[usize])] = &[
     (
         NUMBERED,
         &[
@@ -107,7 +107,7 @@ fn cuts_are_refused(alloc: Global, bytes: &[u8], places: &[usize]) -> bool {
 
 #[test]
 fn each_cut_stands_at_its_field(rt: HostRuntime) -> Result<(), Fail> {
-    for (text, places) in PLACES {
+    for &(text, places) in PLACES {
         let bytes = octets(rt.alloc(), text)?;
         assert!(rt; cuts_are_refused(rt.alloc(), &bytes, places), "{text}");
     }
@@ -115,7 +115,7 @@ fn each_cut_stands_at_its_field(rt: HostRuntime) -> Result<(), Fail> {
 }
 
 /// Octets, the place where they are no bundle, and the cause.
-const REFUSED: [(&str, usize, &str); 30] = [
+const REFUSED: &[(&str, usize, &str)] = &[
     ("07", 0, "Version"),
     ("06808080808080808080", 1, "Truncated"),
     ("0680808080808080808080", 1, "Number"),
@@ -214,7 +214,7 @@ const REFUSED: [(&str, usize, &str); 30] = [
 
 #[test]
 fn each_cause_stands_at_its_field(rt: HostRuntime) -> Result<(), Fail> {
-    for (text, at, word) in REFUSED {
+    for &(text, at, word) in REFUSED {
         let bytes = octets(rt.alloc(), text)?;
         assert!(rt; is_refused(rt.alloc(), &bytes, at, word), "{text}");
     }

@@ -12,7 +12,7 @@ use std::test::Fail;
 
 /// A datagram of each type: its octets, the places of its fields, and those of its numbers. The
 /// first has a header extension of one octet and an empty trailer extension.
-const EACH_TYPE: [(&str, &[usize], &[usize], &str); 13] = [
+const EACH_TYPE: &[(&str, &[usize], &[usize], &str)] = &[
     (
         "0301071102016101000308006162630300",
         &[0, 1, 2, 3, 4, 5, 6, 7, 8, 9, 10, 11, 12, 15, 16],
@@ -230,14 +230,14 @@ fn type_holds(alloc: Global, row: (&str, &[usize], &[usize], &str)) -> Result<bo
 
 #[test]
 fn each_type_is_read_and_each_cut_is_refused(rt: HostRuntime) -> Result<(), Fail> {
-    for row in EACH_TYPE {
+    for &row in EACH_TYPE {
         assert!(rt; type_holds(rt.alloc(), row)?, "{}", row.3);
     }
     Ok(())
 }
 
 /// Datagrams, and what they say or where they are refused.
-const TOLD: [(&str, &str); 35] = [
+const TOLD: &[(&str, &str)] = &[
     ("13", "0 Version"),
     ("f5", "0 Version"),
     ("05", "0 Kind"),
@@ -286,7 +286,7 @@ const TOLD: [(&str, &str); 35] = [
 
 #[test]
 fn conditions_are_tested_at_their_fields(rt: HostRuntime) -> Result<(), Fail> {
-    for (text, wanted) in TOLD {
+    for &(text, wanted) in TOLD {
         let datagram = octets(rt.alloc(), text)?;
         assert!(rt; says(rt.alloc(), &datagram, wanted)?, "{text}");
     }
@@ -351,7 +351,7 @@ fn datagrams_are_a_list(rt: HostRuntime) -> Result<(), Fail> {
 }
 
 /// Sendings, and the waits after them under the default policy.
-const WAITS: [(u32, u64); 6] = [
+const WAITS: &[(u32, u64)] = &[
     (1, 10_000),
     (2, 20_000),
     (4, 80_000),
@@ -363,14 +363,14 @@ const WAITS: [(u32, u64); 6] = [
 #[test]
 fn waits_double_up_to_the_cap(rt: HostRuntime) {
     let policy = Policy::default();
-    for (sending, wait) in WAITS {
+    for &(sending, wait) in WAITS {
         assert!(rt; policy.wait(sending.max(1)) == wait, "{sending}");
     }
     assert!(rt; policy.segment == 1024 && policy.limit == 10 && BLOCK_MAX == 4_194_304);
 }
 
 /// Segment size, timeout, limit and cap, and why they are no policy.
-const POLICIES: [((u32, u64, u32, u64), Option<PolicyFault>); 10] = [
+const POLICIES: &[((u32, u64, u32, u64), Option<PolicyFault>)] = &[
     ((512, 1, 1, 1), None),
     ((8192, 3_600_000, 100, 3_600_000), None),
     ((511, 0, 0, 0), Some(PolicyFault::Segment)),
@@ -385,14 +385,14 @@ const POLICIES: [((u32, u64, u32, u64), Option<PolicyFault>); 10] = [
 
 #[test]
 fn the_first_value_out_of_its_range_is_named(rt: HostRuntime) {
-    for ((segment, timeout, limit, cap), fault) in POLICIES {
+    for &((segment, timeout, limit, cap), fault) in POLICIES {
         let made = Policy::new(segment, timeout, limit, cap);
         assert!(rt; made.err() == fault, "{segment} {timeout} {limit} {cap}");
     }
 }
 
 /// Kinds of pieces: whether they are red, ask for a report, and end the red part.
-const KINDS: [(PieceKind, bool, bool, bool); 6] = [
+const KINDS: &[(PieceKind, bool, bool, bool)] = &[
     (PieceKind::Red, true, false, false),
     (PieceKind::RedCheckpoint, true, true, false),
     (PieceKind::RedEnd, true, true, true),
@@ -403,14 +403,14 @@ const KINDS: [(PieceKind, bool, bool, bool); 6] = [
 
 #[test]
 fn kinds_of_pieces(rt: HostRuntime) {
-    for (kind, red, checkpoint, ends) in KINDS {
+    for &(kind, red, checkpoint, ends) in KINDS {
         assert!(rt; kind.is_red() == red && kind.is_checkpoint() == checkpoint);
         assert!(rt; kind.ends_red_part() == ends);
     }
 }
 
 /// Notes and their names.
-const NOTES: [(Note, &str); 10] = [
+const NOTES: &[(Note, &str)] = &[
     (Note::Sent { session: 1 }, "Sent"),
     (
         Note::Failed {
@@ -449,7 +449,7 @@ const NOTES: [(Note, &str); 10] = [
 
 #[test]
 fn each_note_has_its_name(rt: HostRuntime) {
-    for (note, name) in NOTES {
+    for &(note, name) in NOTES {
         assert!(rt; note.name() == name, "{name}");
     }
 }

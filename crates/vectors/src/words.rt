@@ -22,38 +22,47 @@ fn is_named<C: Display + Drop>(
     Ok(word == name && message.as_str() == name)
 }
 
+/// Why a text is no number.
+const NUMBERS: &[(SdnvFault, &str)] = &[
+    (SdnvFault::Short, "Short"),
+    (SdnvFault::TooLong, "TooLong"),
+    (SdnvFault::TooLarge, "TooLarge"),
+];
+
 #[test]
 fn words_of_numbers(rt: HostRuntime) -> Result<(), Fail> {
-    for (cause, name) in [
-        (SdnvFault::Short, "Short"),
-        (SdnvFault::TooLong, "TooLong"),
-        (SdnvFault::TooLarge, "TooLarge"),
-    ] {
+    for &(cause, name) in NUMBERS {
         assert!(rt; is_named(rt.alloc(), cause, cause.word(), name)?, "{name}");
     }
     Ok(())
 }
+
+/// Why octets are no CBOR item.
+const ITEMS: &[(CborFault, &str)] = &[
+    (CborFault::Kind, "Kind"),
+    (CborFault::Short, "Short"),
+    (CborFault::NotShortest, "NotShortest"),
+];
 
 #[test]
 fn words_of_items(rt: HostRuntime) -> Result<(), Fail> {
-    for (cause, name) in [
-        (CborFault::Kind, "Kind"),
-        (CborFault::Short, "Short"),
-        (CborFault::NotShortest, "NotShortest"),
-    ] {
+    for &(cause, name) in ITEMS {
         assert!(rt; is_named(rt.alloc(), cause, cause.word(), name)?, "{name}");
     }
     Ok(())
 }
 
+/// Why a text is no endpoint.
+const ENDPOINTS: &[(EndpointFault, &str)] = &[
+    (EndpointFault::Scheme, "Scheme"),
+    (EndpointFault::Ssp, "Ssp"),
+    (EndpointFault::Number, "Number"),
+    (EndpointFault::Memory, "Memory"),
+];
+
 #[test]
 fn words_of_endpoints(rt: HostRuntime) -> Result<(), Fail> {
-    for (cause, name) in [
-        (EndpointFault::Scheme, "Scheme"),
-        (EndpointFault::Ssp, "Ssp"),
-        (EndpointFault::Number, "Number"),
-        (EndpointFault::Memory, "Memory"),
-    ] {
+    for &(cause, name) in ENDPOINTS {
         assert!(rt; is_named(rt.alloc(), cause, cause.word(), name)?, "{name}");
     }
     Ok(())
@@ -67,72 +76,81 @@ fn words_of_fields(rt: HostRuntime) -> Result<(), Fail> {
     Ok(())
 }
 
+/// Why octets are no waybill.
+const WAYBILLS: &[(sample::Cause, &str)] = &[
+    (sample::Cause::Truncated, "Truncated"),
+    (sample::Cause::Mark, "Mark"),
+    (sample::Cause::Count, "Count"),
+    (sample::Cause::Number, "Number"),
+    (sample::Cause::Sender, "Sender"),
+    (sample::Cause::Range, "Range"),
+    (sample::Cause::FrontEnd, "FrontEnd"),
+    (sample::Cause::Kind, "Kind"),
+    (sample::Cause::SecondGoods, "SecondGoods"),
+    (sample::Cause::TooManyItems, "TooManyItems"),
+    (sample::Cause::Repeated, "Repeated"),
+    (sample::Cause::Check, "Check"),
+    (sample::Cause::Order, "Order"),
+    (sample::Cause::Trailing, "Trailing"),
+];
+
 #[test]
 fn words_of_waybills(rt: HostRuntime) -> Result<(), Fail> {
-    for (cause, name) in [
-        (sample::Cause::Truncated, "Truncated"),
-        (sample::Cause::Mark, "Mark"),
-        (sample::Cause::Count, "Count"),
-        (sample::Cause::Number, "Number"),
-        (sample::Cause::Sender, "Sender"),
-        (sample::Cause::Range, "Range"),
-        (sample::Cause::FrontEnd, "FrontEnd"),
-        (sample::Cause::Kind, "Kind"),
-        (sample::Cause::SecondGoods, "SecondGoods"),
-        (sample::Cause::TooManyItems, "TooManyItems"),
-        (sample::Cause::Repeated, "Repeated"),
-        (sample::Cause::Check, "Check"),
-        (sample::Cause::Order, "Order"),
-        (sample::Cause::Trailing, "Trailing"),
-    ] {
+    for &(cause, name) in WAYBILLS {
         assert!(rt; is_named(rt.alloc(), cause, cause.word(), name)?, "{name}");
     }
     Ok(())
 }
+
+/// Why octets are no bundle of version 6.
+const OLD_BUNDLES: &[(Cause6, &str)] = &[
+    (Cause6::Version, "Version"),
+    (Cause6::Number, "Number"),
+    (Cause6::Names, "Names"),
+    (Cause6::PrimaryEnd, "PrimaryEnd"),
+    (Cause6::SecondPayload, "SecondPayload"),
+    (Cause6::TooManyBlocks, "TooManyBlocks"),
+    (Cause6::NoPayload, "NoPayload"),
+    (Cause6::BlockRefs, "BlockRefs"),
+    (Cause6::FragmentRange, "FragmentRange"),
+    (Cause6::Truncated, "Truncated"),
+    (Cause6::TooLong, "TooLong"),
+];
 
 #[test]
 fn words_of_old_bundles(rt: HostRuntime) -> Result<(), Fail> {
-    for (cause, name) in [
-        (Cause6::Version, "Version"),
-        (Cause6::Number, "Number"),
-        (Cause6::Names, "Names"),
-        (Cause6::PrimaryEnd, "PrimaryEnd"),
-        (Cause6::SecondPayload, "SecondPayload"),
-        (Cause6::TooManyBlocks, "TooManyBlocks"),
-        (Cause6::NoPayload, "NoPayload"),
-        (Cause6::BlockRefs, "BlockRefs"),
-        (Cause6::FragmentRange, "FragmentRange"),
-        (Cause6::Truncated, "Truncated"),
-        (Cause6::TooLong, "TooLong"),
-    ] {
+    for &(cause, name) in OLD_BUNDLES {
         assert!(rt; is_named(rt.alloc(), cause, cause.word(), name)?, "{name}");
     }
     Ok(())
 }
 
+/// Why octets are no bundle of version 7.
+const NEW_BUNDLES: &[(Cause7, &str)] = &[
+    (Cause7::Start, "Start"),
+    (Cause7::Head, "Head"),
+    (Cause7::Version, "Version"),
+    (Cause7::Number, "Number"),
+    (Cause7::CrcType, "CrcType"),
+    (Cause7::ItemCount, "ItemCount"),
+    (Cause7::Eid, "Eid"),
+    (Cause7::Timestamp, "Timestamp"),
+    (Cause7::Crc, "Crc"),
+    (Cause7::BlockHead, "BlockHead"),
+    (Cause7::TooManyBlocks, "TooManyBlocks"),
+    (Cause7::Repeated, "Repeated"),
+    (Cause7::BlockNumber, "BlockNumber"),
+    (Cause7::Body, "Body"),
+    (Cause7::FragmentRange, "FragmentRange"),
+    (Cause7::ExtensionBody, "ExtensionBody"),
+    (Cause7::Break, "Break"),
+    (Cause7::Truncated, "Truncated"),
+    (Cause7::TooLong, "TooLong"),
+];
+
 #[test]
 fn words_of_new_bundles(rt: HostRuntime) -> Result<(), Fail> {
-    for (cause, name) in [
-        (Cause7::Start, "Start"),
-        (Cause7::Head, "Head"),
-        (Cause7::Version, "Version"),
-        (Cause7::Number, "Number"),
-        (Cause7::CrcType, "CrcType"),
-        (Cause7::ItemCount, "ItemCount"),
-        (Cause7::Eid, "Eid"),
-        (Cause7::Timestamp, "Timestamp"),
-        (Cause7::Crc, "Crc"),
-        (Cause7::BlockHead, "BlockHead"),
-        (Cause7::TooManyBlocks, "TooManyBlocks"),
-        (Cause7::Repeated, "Repeated"),
-        (Cause7::BlockNumber, "BlockNumber"),
-        (Cause7::Body, "Body"),
-        (Cause7::FragmentRange, "FragmentRange"),
-        (Cause7::ExtensionBody, "ExtensionBody"),
-        (Cause7::Break, "Break"),
-        (Cause7::Truncated, "Truncated"),
-        (Cause7::TooLong, "TooLong"),
-    ] {
+    for &(cause, name) in NEW_BUNDLES {
         assert!(rt; is_named(rt.alloc(), cause, cause.word(), name)?, "{name}");
     }
     Ok(())
@@ -146,32 +164,38 @@ fn words_of_eids(rt: HostRuntime) -> Result<(), Fail> {
     Ok(())
 }
 
+/// Why a datagram is no segment.
+const SEGMENTS: &[(SegmentCause, &str)] = &[
+    (SegmentCause::Version, "Version"),
+    (SegmentCause::Kind, "Kind"),
+    (SegmentCause::Number, "Number"),
+    (SegmentCause::Range, "Range"),
+    (SegmentCause::Serial, "Serial"),
+    (SegmentCause::Bounds, "Bounds"),
+    (SegmentCause::Claim, "Claim"),
+    (SegmentCause::Trailing, "Trailing"),
+    (SegmentCause::Truncated, "Truncated"),
+];
+
 #[test]
 fn words_of_segments(rt: HostRuntime) -> Result<(), Fail> {
-    for (cause, name) in [
-        (SegmentCause::Version, "Version"),
-        (SegmentCause::Kind, "Kind"),
-        (SegmentCause::Number, "Number"),
-        (SegmentCause::Range, "Range"),
-        (SegmentCause::Serial, "Serial"),
-        (SegmentCause::Bounds, "Bounds"),
-        (SegmentCause::Claim, "Claim"),
-        (SegmentCause::Trailing, "Trailing"),
-        (SegmentCause::Truncated, "Truncated"),
-    ] {
+    for &(cause, name) in SEGMENTS {
         assert!(rt; is_named(rt.alloc(), cause, cause.word(), name)?, "{name}");
     }
     Ok(())
 }
 
+/// Why values are no policy.
+const POLICIES: &[(PolicyFault, &str)] = &[
+    (PolicyFault::Segment, "Segment"),
+    (PolicyFault::Timeout, "Timeout"),
+    (PolicyFault::Limit, "Limit"),
+    (PolicyFault::Cap, "Cap"),
+];
+
 #[test]
 fn words_of_policies(rt: HostRuntime) -> Result<(), Fail> {
-    for (cause, name) in [
-        (PolicyFault::Segment, "Segment"),
-        (PolicyFault::Timeout, "Timeout"),
-        (PolicyFault::Limit, "Limit"),
-        (PolicyFault::Cap, "Cap"),
-    ] {
+    for &(cause, name) in POLICIES {
         assert!(rt; is_named(rt.alloc(), cause, cause.word(), name)?, "{name}");
     }
     Ok(())

@@ -1,20 +1,23 @@
 //! A datagram taken apart.
 
-ghost use Rattle.std.specs.Prelude.{◌≡◌, ℕ, ◌≤◌, List, length, IfOk, IfErr};
-ghost use Rattle.wire_fields.specs.Reading.{read, IsOctets};
-ghost use Rattle.wire_fields.specs.Whole.{read_whole, ExactlyOneWhole};
+ghost use Rattle.std.specs.Prelude.{◌≡◌, ℕ, ◌≤◌, length, Some, IfOk, IfErr};
+ghost use Rattle.wire_fields.specs.Reading.{read};
+ghost use Rattle.wire_fields.specs.Whole.{read_whole};
 ghost use Rattle.wire_fields.specs.Gives.{Gives, GivesWhole, IsOn};
-ghost use Rattle.ltp_segment.specs.declared.cause.SegmentCause.{SegmentCause as Causes};
+ghost use Rattle.ltp_segment.specs.declared.fault.SegmentCause.{SegmentCause as Causes};
 ghost use Rattle.ltp_segment.specs.Values.{SegmentValue};
-ghost use Rattle.ltp_segment.specs.Reading.{SpellsSegment, RefusesSegment, refusal, seen, segment_of};
+ghost use Rattle.ltp_segment.specs.Ties.{refusal};
+ghost use Rattle.ltp_segment.specs.Reading.{SpellsSegment, RefusesSegment, seen, segment_of};
 ghost use Rattle.ltp_segment.specs.Views.{content_value, segment_value};
-ghost use Rattle.ltp_segment.specs.Table.{is_type, control, extension, extensions, report_ack_fields, sender_cancel_fields, receiver_cancel_fields, content_of, segment};
+ghost use Rattle.ltp_segment.specs.Table.{control, extension, extensions, report_ack_fields};
+ghost use Rattle.ltp_segment.specs.Table.{sender_cancel_fields, receiver_cancel_fields, content_of};
+ghost use Rattle.ltp_segment.specs.Table.{segment};
 
-use crate::cause::{SegmentCause, SegmentFault};
+use crate::fault::{SegmentCause, SegmentFault};
 use crate::fields::{number, octet, octets};
 use crate::pieces::piece_at;
 use crate::reports::report_at;
-use crate::segment::{Content, PieceKind, Segment};
+use crate::segment::{Content, Segment, SegmentType};
 
 /// Reads a datagram, which is one segment (RFC 5326, section 3). No memory is taken.
 pub fn decode(datagram: &[u8]) -> Result<Segment<'_>, SegmentFault>
@@ -33,23 +36,14 @@ pub fn decode(datagram: &[u8]) -> Result<Segment<'_>, SegmentFault>
     whole_segment(datagram)
 }
 
-/// A datagram is a segment, and only one, or it has a refusal, and only one; never both.
-pub fn is_segment_or_refused()
-    ensures { (datagram : List ℕ) → IsOctets datagram
-        → ExactlyOneWhole segment SegmentCause.Trailing datagram }
-{}
-
-/// A segment behind which nothing stands.
+/// A segment after which nothing stands.
 fn whole_segment(text: &[u8]) -> Result<Segment<'_>, SegmentFault>
     ensures { GivesWhole segment_value refusal result
         (read_whole segment SegmentCause.Trailing text.now) }
 {
     let (segment, end) = segment_at(text)?;
     if end < text.len() {
-        return Err(SegmentFault {
-            at: end,
-            cause: SegmentCause::Trailing,
-        });
+        return Err(SegmentCause::Trailing.at(end));
     }
     Ok(segment)
 }
@@ -60,50 +54,37 @@ fn segment_at(text: &[u8]) -> Result<(Segment<'_>, usize), SegmentFault>
     ensures within { IfOk result (λ x. IsOn 0 text.now x.1) }
     ensures exact { Gives segment_value refusal result (read segment text.now 0) }
 {
-    let (mark, behind_control) = control_at(text)?;
-    let (originator, behind_originator) = number(text, behind_control)?;
-    let (session, behind_session) = number(text, behind_originator)?;
-    let (counts, behind_counts) = octet(text, behind_session, SegmentCause::Number)?;
-    let (_, behind_headers) = extensions_at(text, behind_counts, counts / 16)?;
-    let (content, behind_content) = content_at(text, behind_headers, mark % 16)?;
-    let (_, end) = extensions_at(text, behind_content, counts % 16)?;
+    let (kind, at) = control_at(text)?;
+    let (originator, at) = number(text, at)?;
+    let (session, at) = number(text, at)?;
+    let (counts, at) = octet(text, at, SegmentCause::Number)?;
+    let (_, at) = extensions_at(text, at, counts / 16)?;
+    let (content, at) = content_at(text, at, kind)?;
+    let (_, at) = extensions_at(text, at, counts % 16)?;
     Ok((
         Segment {
             originator,
             session,
             content,
         },
-        end,
+        at,
     ))
 }
 
 /// The control octet: version 0 and a type that is in use.
 #[tactic(auto, unfolding(crate::specs::Table::control))]
-fn control_at(text: &[u8]) -> Result<(u8, usize), SegmentFault>
+fn control_at(text: &[u8]) -> Result<(SegmentType, usize), SegmentFault>
     ensures within { IfOk result (λ x. IsOn 0 text.now x.1) }
-    ensures exact { Gives (λ n. n) refusal result (read control text.now 0) }
+    ensures exact { Gives Some refusal result (read control text.now 0) }
 {
-    let (mark, behind) = octet(text, 0, SegmentCause::Version)?;
-    if mark / 16 != 0 {
-        return Err(SegmentFault {
-            at: 0,
-            cause: SegmentCause::Version,
-        });
+    let (control, after) = octet(text, 0, SegmentCause::Version)?;
+    if control / 16 != 0 {
+        return Err(SegmentCause::Version.at(0));
     }
-    if !is_type(mark % 16) {
-        return Err(SegmentFault {
-            at: 0,
-            cause: SegmentCause::Kind,
-        });
+    match SegmentType::said_by(control) {
+        Some(kind) => Ok((kind, after)),
+        None => Err(SegmentCause::Kind.at(0)),
     }
-    Ok((mark, behind))
-}
-
-/// Whether the segment type is in use.
-fn is_type(kind: u8) -> bool
-    ensures { result ≡ is_type kind }
-{
-    !matches!(kind, 5 | 6 | 10 | 11)
 }
 
 /// So many extensions, which are passed over.
@@ -113,12 +94,12 @@ fn extensions_at(text: &[u8], at: usize, count: u8) -> Result<((), usize), Segme
     ensures exact { Gives (λ nothing. nothing) refusal result
         (read (extensions count) text.now at) }
 {
-    let mut behind = at;
+    let mut after = at;
     'passing: for _ in 0..count {
-        let (_, next) = extension_at(text, behind)?;
-        behind = next;
+        let (_, next) = extension_at(text, after)?;
+        after = next;
     }
-    Ok(((), behind))
+    Ok(((), after))
 }
 
 /// An extension: a tag, a length and octets.
@@ -128,32 +109,30 @@ fn extension_at(text: &[u8], at: usize) -> Result<((), usize), SegmentFault>
     ensures within { IfOk result (λ x. IsOn at text.now x.1) }
     ensures exact { Gives (λ nothing. nothing) refusal result (read extension text.now at) }
 {
-    let (_, behind_tag) = octet(text, at, SegmentCause::Number)?;
-    let (size, behind_size) = number(text, behind_tag)?;
-    let (_, end) = octets(text, behind_size, size)?;
-    Ok(((), end))
+    let (_, at) = octet(text, at, SegmentCause::Number)?;
+    let (size, at) = number(text, at)?;
+    let (_, at) = octets(text, at, size)?;
+    Ok(((), at))
 }
 
 /// What follows the header of a segment of this type.
-#[tactic(auto, unfolding(crate::specs::Table::content_of))]
-fn content_at(text: &[u8], at: usize, kind: u8) -> Result<(Content<'_>, usize), SegmentFault>
+fn content_at(
+    text: &[u8],
+    at: usize,
+    kind: SegmentType,
+) -> Result<(Content<'_>, usize), SegmentFault>
     requires { at ≤ length text.now }
     ensures within { IfOk result (λ x. IsOn at text.now x.1) }
-    ensures exact { Gives content_value refusal result (read (content_of kind) text.now at) }
+    ensures exact { Gives content_value refusal result (read (content_of (Some kind)) text.now at) }
 {
     match kind {
-        0 => piece_at(text, at, PieceKind::Red),
-        1 => piece_at(text, at, PieceKind::RedCheckpoint),
-        2 => piece_at(text, at, PieceKind::RedEnd),
-        3 => piece_at(text, at, PieceKind::RedEndBlock),
-        4 => piece_at(text, at, PieceKind::Green),
-        7 => piece_at(text, at, PieceKind::GreenEndBlock),
-        8 => report_at(text, at),
-        9 => report_ack_at(text, at),
-        12 => sender_cancel_at(text, at),
-        13 => Ok((Content::SenderCancelAck, at)),
-        14 => receiver_cancel_at(text, at),
-        _ => Ok((Content::ReceiverCancelAck, at)),
+        SegmentType::Piece(kind) => piece_at(text, at, kind),
+        SegmentType::Report => report_at(text, at),
+        SegmentType::ReportAck => report_ack_at(text, at),
+        SegmentType::SenderCancel => sender_cancel_at(text, at),
+        SegmentType::SenderCancelAck => Ok((Content::SenderCancelAck, at)),
+        SegmentType::ReceiverCancel => receiver_cancel_at(text, at),
+        SegmentType::ReceiverCancelAck => Ok((Content::ReceiverCancelAck, at)),
     }
 }
 
@@ -164,8 +143,8 @@ fn report_ack_at(text: &[u8], at: usize) -> Result<(Content<'_>, usize), Segment
     ensures within { IfOk result (λ x. IsOn at text.now x.1) }
     ensures exact { Gives content_value refusal result (read report_ack_fields text.now at) }
 {
-    let (serial, end) = number(text, at)?;
-    Ok((Content::ReportAck { serial }, end))
+    let (serial, at) = number(text, at)?;
+    Ok((Content::ReportAck { serial }, at))
 }
 
 /// The sender's cancel: its reason.
@@ -175,8 +154,8 @@ fn sender_cancel_at(text: &[u8], at: usize) -> Result<(Content<'_>, usize), Segm
     ensures within { IfOk result (λ x. IsOn at text.now x.1) }
     ensures exact { Gives content_value refusal result (read sender_cancel_fields text.now at) }
 {
-    let (reason, end) = octet(text, at, SegmentCause::Number)?;
-    Ok((Content::SenderCancel { reason }, end))
+    let (reason, at) = octet(text, at, SegmentCause::Number)?;
+    Ok((Content::SenderCancel { reason }, at))
 }
 
 /// The receiver's cancel: its reason.
@@ -186,6 +165,6 @@ fn receiver_cancel_at(text: &[u8], at: usize) -> Result<(Content<'_>, usize), Se
     ensures within { IfOk result (λ x. IsOn at text.now x.1) }
     ensures exact { Gives content_value refusal result (read receiver_cancel_fields text.now at) }
 {
-    let (reason, end) = octet(text, at, SegmentCause::Number)?;
-    Ok((Content::ReceiverCancel { reason }, end))
+    let (reason, at) = octet(text, at, SegmentCause::Number)?;
+    Ok((Content::ReceiverCancel { reason }, at))
 }

@@ -1,11 +1,11 @@
 use Rattle.std.proofs.Common.{arith}
 use Rattle.wire_fields.proofs.FrontLemmas.{whole_text-found, whole_text-refused}
-use Rattle.ltp_segment.specs.declared.cause.SegmentCause.TheVariants as causes
+use Rattle.ltp_segment.specs.declared.fault.SegmentCause.TheVariants as causes
 use Rattle.ltp_segment.specs.Views.{segment_value}
 use Rattle.ltp_segment.specs.Table.{segment}
-use Rattle.ltp_segment.specs.Reading.{refusal}
+use Rattle.ltp_segment.specs.Ties.{refusal}
 use Rattle.ltp_segment.proofs.SegmentLemmas.{seen-exact, seen-only, seen-refuses}
-use Rattle.ltp_segment.proofs.decoding.decode.Goals as goal
+use Rattle.ltp_segment.proofs.reading.decode.Goals as goal
 
 pub returns-clause-found : goal.returns-clause-found
 returns-clause-found c = whole_text-found segment causes.Trailing segment_value refusal c.whole_segment.result c.args.datagram.now

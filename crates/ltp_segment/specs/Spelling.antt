@@ -7,10 +7,10 @@ use Rattle.ltp_segment.specs.declared.segment.PieceKind.{PieceKind}
 use Rattle.ltp_segment.specs.declared.segment.PieceKind.TheVariants as kinds
 use Rattle.ltp_segment.specs.declared.segment.Claim.{Claim}
 use Rattle.ltp_segment.specs.Kinds.{is_checkpoint}
-use Rattle.ltp_segment.specs.Values.{PieceValue, ReportValue, ContentValue, a_piece, a_report, a_report_ack, a_sender_cancel, a_sender_cancel_ack, a_receiver_cancel, a_receiver_cancel_ack, SegmentValue}
+use Rattle.ltp_segment.specs.Values.{PieceValue, ReportValue, ContentValue, a_piece, a_report}
+use Rattle.ltp_segment.specs.Values.{a_report_ack, a_sender_cancel, a_sender_cancel_ack}
+use Rattle.ltp_segment.specs.Values.{a_receiver_cancel, a_receiver_cancel_ack, SegmentValue}
 use Rattle.ltp_segment.specs.Reading.{SpellsSegment, segment_of}
-
--- ---- their octets
 
 abbrev pub piece_type : PieceKind → ℕ
 piece_type kinds.Red = 0
@@ -19,15 +19,6 @@ piece_type kinds.RedEnd = 2
 piece_type kinds.RedEndBlock = 3
 piece_type kinds.Green = 4
 piece_type kinds.GreenEndBlock = 7
-
--- the types of a cancel and of its acknowledgement, where the sender's side is true
-abbrev pub cancel_type : Bool → ℕ
-cancel_type true = 12
-cancel_type false = 14
-
-abbrev pub cancel_ack_type : Bool → ℕ
-cancel_ack_type true = 13
-cancel_ack_type false = 15
 
 -- the control octet: version 0 and the segment type
 abbrev pub type_of : ContentValue → ℕ

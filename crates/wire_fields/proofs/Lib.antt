@@ -6,4 +6,3 @@ pub mod StayLemmas
 pub mod WholeLemmas
 pub mod FrontLemmas
 pub mod GroupLemmas
-pub mod WaybillLemmas

@@ -3,7 +3,7 @@ use Rattle.std.specs.Prelude.{◌≡◌, ℕ, ◌≤◌, List, length, Option, S
 use Rattle.wire_fields.specs.Refusal.{Stop}
 use Rattle.wire_fields.specs.declared.miss.Miss.{Miss}
 
--- a place in a text, at or behind an earlier one
+-- a place in a text, no earlier than another one
 pub record IsOn (before : ℕ) (text : List ℕ) (at : ℕ) : Type 0 where
   pub behind : before ≤ at
   pub within : at ≤ length text

@@ -6,3 +6,5 @@ pub mod StayLemmas
 pub mod WholeLemmas
 pub mod FrontLemmas
 pub mod GroupLemmas
+pub mod KeepsLemmas
+pub mod JudgeLemmas

@@ -9,7 +9,7 @@ use Rattle.ltp_segment.specs.declared.session.Green.{Green}
 use Rattle.ltp_segment.specs.declared.session.Step.{Step}
 use Rattle.ltp_segment.specs.Policy.{PolicyValue}
 use Rattle.ltp_segment.specs.Values.{ContentValue, SegmentValue}
-use Rattle.ltp_segment.specs.Writing.{segment_octets}
+use Rattle.ltp_segment.specs.Spelling.{segment_octets}
 use Rattle.ltp_session.specs.declared.name.SessionName.{SessionName}
 use Rattle.ltp_session.specs.Step.{Change, after, NoteValue, note_sent, note_failed, note_refused, note_cancelled, note_bad_bounds, note_closed, note_history_full, GreenValue, StepValue}
 

@@ -1,10 +1,12 @@
-pub mod Cause
+-- Bundles: flags, names, the table, the canonical spelling, legal bundles, and a fault as a refusal.
 pub mod Bits
 pub mod Names
 pub mod Table
-pub mod Seen
+pub mod Spelling
 pub mod Legal
-pub mod Canon
+pub mod Cause
+-- What ties code to them.
+pub mod Seen
 pub mod Gathering
 pub mod Numbering
 pub mod Writing

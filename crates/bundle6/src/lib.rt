@@ -12,8 +12,10 @@
 mod block;
 mod bundle;
 mod fault;
+mod fields;
 mod flags;
 mod gathering;
+mod laws;
 mod names;
 mod numbering;
 mod primary;
@@ -21,7 +23,9 @@ mod reading;
 mod writing;
 
 pub use block::{Block6, Blocks6};
-pub use bundle::{Bundle6, decode6, exactly_one, only_legal};
-pub use fault::{Cause6, Fail6};
+pub use bundle::Bundle6;
+pub use fault::{Cause6, Fail6, Refused6};
+pub use laws::{canonical_spells, exactly_one, only_legal};
 pub use primary::Primary6;
+pub use reading::decode6;
 pub use writing::encode6;

@@ -5,16 +5,16 @@ use Rattle.wire_fields.specs.Words.{until}
 use Rattle.wire_fields.specs.Gives.{IsOn}
 use Rattle.bundle6.specs.Table.{next_block, has_payload, others}
 use Rattle.bundle6.specs.Seen.{how_many}
-use Rattle.bundle6.proofs.bundle.blocks_at.Given as goal
+use Rattle.bundle6.proofs.reading.blocks_at.Given as goal
 
 abbrev pub invariant-reading : goal.invariant-reading
 invariant-reading l = record {
-  place : IsOn l.at l.text l.behind;
+  place : IsOn l.at l.text l.after;
   paid : l.seen.paid ≡ has_payload l.found;
   others : l.seen.others ≡ others l.found;
   few : l.seen.others ≤ l.most;
   count : length l.found ≡ how_many l.seen;
-  rest : read (until (l.most + 1 - length l.found) (next_block l.most l.part l.dictionary) l.found) l.text l.behind
+  rest : read (until (l.most + 1 - length l.found) (next_block l.most l.part l.dictionary) l.found) l.text l.after
       ≡ read (until (l.most + 1) (next_block l.most l.part l.dictionary) []) l.text l.at;
 }
 

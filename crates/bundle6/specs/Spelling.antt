@@ -1,6 +1,6 @@
 -- The canonical spelling of a bundle: numbers as short as can be, and the dictionary as small as can be.
 
-use Rattle.std.specs.Prelude.{ℕ, ◌+◌, ◌==◌, Bool, true, false, ◌&&◌, not, if◌then◌else◌}
+use Rattle.std.specs.Prelude.{ℕ, ◌+◌, ◌^◌, ◌<◌, ◌==◌, Bool, true, false, ◌&&◌, not, if◌then◌else◌}
 use Rattle.std.specs.Prelude.{List, [], ◌∷◌, ◌++◌, length, Option, Some, None}
 use Rattle.std.specs.List.{flat_map, list_all, list_any}
 use Rattle.std.specs.Str.{bytes_eq}
@@ -32,15 +32,15 @@ is_numbered (Dtn ssp) = false
 abbrev pub has_text : List (List ℕ) → List ℕ → Bool
 has_text texts text = list_any (bytes_eq text) texts
 
--- the text behind the others, unless it is among them
+-- the text after the others, unless it is among them
 abbrev pub with_text : List (List ℕ) → List ℕ → List (List ℕ)
 with_text texts text = if has_text texts text then texts else texts ++ text ∷ []
 
--- an endpoint's scheme and scheme-specific part behind the others, each unless it is among them
+-- an endpoint's scheme and scheme-specific part after the others, each unless it is among them
 abbrev pub with_name : List (List ℕ) → Endpoint → List (List ℕ)
 with_name texts endpoint = with_text (with_text texts (scheme_of endpoint)) (ssp_of endpoint)
 
--- the texts of these endpoints behind the others: each once, in the order of first use
+-- the texts of these endpoints after the others: each once, in the order of first use
 unfoldable pub with_names : List (List ℕ) → List Endpoint → List (List ℕ)
 with_names texts [] = texts
 with_names texts (endpoint ∷ more) = with_names (with_name texts endpoint) more
@@ -94,7 +94,7 @@ names_octets texts primary =
 abbrev pub dictionary_octets : List (List ℕ) → List ℕ
 dictionary_octets texts = spelling (length (dictionary_of texts)) ++ dictionary_of texts
 
--- what stands behind the primary block's length field
+-- what stands after the primary block's length field
 unfoldable pub rest_octets : List (List ℕ) → Primary6 → List ℕ
 rest_octets texts primary =
     names_octets texts primary
@@ -105,7 +105,7 @@ unfoldable pub primary_octets : List (List ℕ) → Primary6 → List ℕ
 primary_octets texts primary =
     6 ∷ (spelling primary.flags ++ (spelling (length (rest_octets texts primary)) ++ rest_octets texts primary))
 
--- the flags with bit 3 on the last block, and bit 6 exactly where there are references
+-- the flags with bit 3 on the last block, and bit 6 if and only if there are references
 abbrev pub marked : Bool → Block6 → ℕ
 marked last block =
     block.flags + (if last then 8 else 0) + (if length block.refs == 0 then 0 else 64)
@@ -128,3 +128,7 @@ blocks_octets texts (block ∷ more) =
 -- the canonical spelling
 unfoldable pub canon6 : Bundle6 → List ℕ
 canon6 b = primary_octets (texts_of b) b.primary ++ blocks_octets (texts_of b) b.blocks
+
+-- a number says how long the primary block is
+abbrev pub IsCounted : Bundle6 → Type 0
+IsCounted b = length (rest_octets (texts_of b) b.primary) < 2 ^ 64

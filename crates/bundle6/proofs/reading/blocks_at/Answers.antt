@@ -6,13 +6,13 @@ use Rattle.wire_fields.proofs.FrontLemmas.{gives-fault}
 use Rattle.bundle6.specs.Cause.{refusal}
 use Rattle.bundle6.specs.Table.{next_block}
 use Rattle.bundle6.proofs.BlocksLemmas.{blocks-step, blocks-last, blocks-fails, seen-more}
-use Rattle.bundle6.proofs.bundle.blocks_at.Goals as goal
+use Rattle.bundle6.proofs.reading.blocks_at.Goals as goal
 
 pub returns-in_err-block-clause-exact : goal.returns-in_err-block-clause-exact
 returns-in_err-block-clause-exact c =
     let all = read (until (c.args.most + 1) (next_block c.args.most c.args.part c.args.dictionary.now) []) c.args.text.now c.args.at in
     gives-fault (λ blocks. blocks) refusal c.from_residual.result c.in_err-block.field-0.0 all c.from_residual.ensures.1
-    (blocks-fails c.args.most c.args.part c.args.dictionary.now c.args.text.now c.reading.found c.reading.seen c.reading.behind
+    (blocks-fails c.args.most c.args.part c.args.dictionary.now c.args.text.now c.reading.found c.reading.seen c.reading.after
     (refusal c.in_err-block.field-0.0) all c.reading.invariant.paid c.reading.invariant.others
     c.in_err-block.ensures.exact c.reading.invariant.rest)
 
@@ -21,7 +21,7 @@ returns-then-last-clause-exact c =
     let all = read (until (c.args.most + 1) (next_block c.args.most c.args.part c.args.dictionary.now) []) c.args.text.now c.args.at in
     rw c.in_ok-push.ensures.ok
     (blocks-last c.args.most c.args.part c.args.dictionary.now c.args.text.now c.reading.found c.reading.seen c.in_ok-block.block
-    c.reading.behind c.in_ok-block.after all c.reading.invariant.paid c.reading.invariant.others c.reading.invariant.count
+    c.reading.after c.in_ok-block.next all c.reading.invariant.paid c.reading.invariant.others c.reading.invariant.count
     c.in_ok-block.ensures.follows (rw c.if-last.true at c.in_ok-block.ensures.exact) c.reading.invariant.rest)
 
 pub reading-preserved : goal.reading-preserved
@@ -42,6 +42,6 @@ reading-preserved c =
           ∙ rw (follows.counted, c.reading.invariant.count) refl);
       rest = rw c.in_ok-push.ensures.ok
           (blocks-step c.args.most c.args.part c.args.dictionary.now c.args.text.now c.reading.found c.reading.seen c.in_ok-block.block
-          c.reading.behind c.in_ok-block.after all c.reading.invariant.paid c.reading.invariant.others c.reading.invariant.count
+          c.reading.after c.in_ok-block.next all c.reading.invariant.paid c.reading.invariant.others c.reading.invariant.count
           follows (rw c.if-last.false at c.in_ok-block.ensures.exact) c.reading.invariant.rest);
     }

@@ -4,11 +4,11 @@ use Rattle.wire_fields.proofs.FrontLemmas.{front-found, front-only, front-refuse
 use Rattle.bundle6.specs.Cause.{refusal}
 use Rattle.bundle6.specs.Table.{bundle}
 use Rattle.bundle6.proofs.LegalLemmas.{found-legal}
-use Rattle.bundle6.proofs.bundle.decode6.Goals as goal
+use Rattle.bundle6.proofs.reading.decode6.Goals as goal
 
 pub returns-clause-found : goal.returns-clause-found
 returns-clause-found c =
-    found-legal c.bundle_at.result c.args.bytes.now
+    found-legal c.bundle_at.result c.args.bytes.now (λ i. omega (arith, c.type_inv.bytes i))
     (front-found (bundle 64) (λ b. b) refusal c.bundle_at.result c.args.bytes.now
     (λ i. omega (arith, c.type_inv.bytes i)) c.bundle_at.ensures.exact)
 

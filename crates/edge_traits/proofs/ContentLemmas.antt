@@ -1,12 +1,16 @@
 -- What a sink gains, piece by piece.
-use Rattle.std.proofs.Common.{◌≡◌, ℕ, ◌≤◌, List, [], ◌∷◌, ◌++◌, length, take, drop, Option, None, Some, refl, sym, ◌∙◌, ap, append_assoc, arith, IfSome}
-use Rattle.std.specs.Io.KnownBytes.{Consumes, IsAtEnd}
+use Rattle.std.proofs.Common.{◌≡◌, ℕ, ◌≤◌, List, [], ◌∷◌, ◌++◌, length, take, drop, Option, None, Some, refl, sym, ◌∙◌, ap, append_assoc, arith, IfSome, ◌<◌, length-append}
+use Rattle.std.specs.Io.KnownBytes.{Consumes, Keeps, IsAtEnd}
 use Rattle.std.proofs.lemmas.List.{append-nil, take-append-drop, take_at, take_all}
-use Rattle.edge_traits.specs.Content.{Gains, GainsFront, ReadsOn}
+use Rattle.edge_traits.specs.Content.{Gains, GainsFront, Took}
 
 pub Gains-none : {X : Type 0} (held : Option (List X)) → Gains held held []
 Gains-none None = tt
 Gains-none (Some xs) = sym (append-nil xs)
+
+pub GainsFront-none : {X : Type 0} (held : Option (List X)) (xs : List X) → GainsFront held held xs
+GainsFront-none None xs = tt
+GainsFront-none (Some held) xs = ([], xs, refl, sym (append-nil held))
 
 pub Gains-more : {X : Type 0} (a b c : Option (List X)) (xs ys : List X) → Gains a b xs → Gains b c ys → Gains a c (xs ++ ys)
 Gains-more a b None xs ys first second = tt
@@ -54,10 +58,27 @@ Consumes-more (Some before) (Some mid) None xs ys first second = absurd second
 Consumes-more (Some before) (Some mid) (Some now) xs ys first second =
     first ∙ ap (λ v. xs ++ v) second ∙ sym (append_assoc xs ys now)
 
-pub reads_on : (a b c : Option (List ℕ)) (input longer : List ℕ) (n : ℕ)
-    → Consumes a b input → ReadsOn b c input longer n → Consumes a c longer
-reads_on a b c input longer n so_far more =
-    rw more.kept (Consumes-more a b c input more.came so_far more.read)
+-- one read more
+pub Consumes-took : (a b c : Option (List ℕ)) (input longer came : List ℕ)
+    → Consumes a b input → Took b c came → longer ≡ input ++ came → Consumes a c longer
+Consumes-took a b c input longer came so_far took is = rw is (Consumes-more a b c input came so_far took.read)
+
+pub Consumes-none : (left : Option (List ℕ)) → Consumes left left []
+Consumes-none None = tt
+Consumes-none (Some left) = refl
+
+-- what is kept is what is left, with none taken
+pub Consumes-kept : (a b c : Option (List ℕ)) (taken : List ℕ) → Consumes a b taken → Keeps b c → Consumes a c taken
+Consumes-kept None b c taken first kept = tt
+Consumes-kept (Some before) None c taken first kept = absurd first
+Consumes-kept (Some before) (Some mid) None taken first kept = absurd kept
+Consumes-kept (Some before) (Some mid) (Some now) taken first kept = rw kept first
+
+-- octets came, so there were some
+pub came-some : (a b : Option (List ℕ)) (taken : List ℕ) → Consumes a b taken → 0 < length taken → IfSome a (λ left. 0 < length left)
+came-some None b taken read some = tt
+came-some (Some left) None taken read some = absurd read
+came-some (Some left) (Some rest) taken read some = omega (arith, ap length read, length-append taken rest)
 
 -- what was read, where it is one octet past the most, or where the end was reached
 pub read_past : (a b : Option (List ℕ)) (input : List ℕ) (n : ℕ)

@@ -1,6 +1,6 @@
 //! A link of datagrams, such as a UDP socket with one peer.
 ghost use Rattle.std.specs.Prelude.{◌≡◌, ℕ, ◌+◌, ◌-◌, ◌≤◌, ◌<◌, ◌^◌, List, [], ◌∷◌, ◌++◌, Bool, Option, None, Some, map, drop, take, length, min, All, is_err, IfOk, OnOk, OnErr};
-ghost use Rattle.edge_traits.specs.Faults.{HasCause, FailsAsTold, fails_next};
+ghost use Rattle.edge_traits.specs.Faults.{count_after, FailsAsTold, fails_next};
 ghost use Rattle.edge_traits.specs.Datagrams.{Polls, PollsAtMost, SendGains};
 ghost use Rattle.edge_traits.specs.InMemory.{MemLinkNow, with_coming, after_poll, after_send};
 
@@ -33,14 +33,14 @@ pub trait Link {
         ensures bound { PollsAtMost result buf.new }
         ensures datagram { Polls (coming self.old) (coming self.new) result buf.new }
         ensures gone { gone self.new ≡ gone self.old }
-        ensures cause { HasCause (faults self.old) (faults self.new) result }
+        ensures count { faults self.new ≡ count_after (faults self.old) result }
         ensures told { FailsAsTold (failing self.old) (failing self.new) result };
 
     /// Sends a datagram. `Failed` sends nothing.
     fn send(&mut self, datagram: &[u8]) -> Result<(), Failed>
         ensures datagram { SendGains (gone self.old) (gone self.new) result datagram.now }
         ensures coming { coming self.new ≡ coming self.old }
-        ensures cause { HasCause (faults self.old) (faults self.new) result }
+        ensures count { faults self.new ≡ count_after (faults self.old) result }
         ensures told { FailsAsTold (failing self.old) (failing self.new) result };
 }
 
@@ -73,7 +73,7 @@ impl Model for MemLink {
 
 impl MemLink {
     /// A link to which no datagram comes yet, with room for so many octets sent in so many
-    /// datagrams, whose call i fails exactly where place i of `failing` is true.
+    /// datagrams, whose call i fails if and only if place i of `failing` is true.
     pub fn new(alloc: Global, room: usize, failing: &[bool]) -> Result<MemLink, AllocError>
         ensures coming { IfOk result (λ l. ⟦<MemLink as Link>⟧.coming l ≡ Some []) }
         ensures room { IfOk result (λ l. l.room ≡ room) }
@@ -93,7 +93,7 @@ impl MemLink {
         })
     }
 
-    /// Puts a datagram behind those that are to come.
+    /// Puts a datagram after those that are to come.
     pub fn put(&mut self, datagram: &[u8]) -> Result<(), AllocError>
         requires { length datagram.now ≤ LONGEST_DATAGRAM }
         ensures ok { OnOk result (self.new ≡ with_coming self.old datagram.now) }
@@ -120,7 +120,6 @@ impl Link for MemLink {
         ensures answer { is_err result ≡ fails_next self.old.failing }
         ensures bound { PollsAtMost result buf.new }
         ensures datagram { Polls (Some self.old.coming) (Some self.new.coming) result buf.new }
-        ensures cause { HasCause self.old.faults self.new.faults result }
         ensures now { self.new ≡ after_poll self.old }
     {
         if self.failing.fails() {
@@ -138,7 +137,6 @@ impl Link for MemLink {
     /// Keeps the datagram as far as there is room, or nothing where this call is to fail.
     fn send(&mut self, datagram: &[u8]) -> Result<(), Failed>
         ensures answer { is_err result ≡ fails_next self.old.failing }
-        ensures cause { HasCause self.old.faults self.new.faults result }
         ensures now { self.new ≡ after_send self.old datagram.now }
     {
         if self.failing.fails() {

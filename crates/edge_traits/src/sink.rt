@@ -1,11 +1,11 @@
 //! Where octets go.
-ghost use Rattle.std.specs.Prelude.{◌≡◌, ℕ, ◌+◌, ◌-◌, ◌<◌, ◌≤◌, ◌^◌, List, [], Bool, Option, None, Some, Ok, length, min, is_err, IfOk, IfSome};
+ghost use Rattle.std.specs.Prelude.{◌≡◌, ℕ, List, [], Bool, false, Option, None, Some, Ok, length, is_err, IfOk};
 ghost use Rattle.std.specs.Io.{WritesAtMost};
 ghost use Rattle.std.specs.Io.KnownBytes.{WriteAppends};
 ghost use Rattle.edge_traits.specs.Adapters.{writer_holds};
-ghost use Rattle.edge_traits.specs.Faults.{HasCause, FailsAsTold, fails_next};
+ghost use Rattle.edge_traits.specs.Faults.{count_after, FailsAsTold, fails_next};
 ghost use Rattle.edge_traits.specs.Content.{WriteGains, TakesSome};
-ghost use Rattle.edge_traits.specs.InMemory.{Keeping, MemSinkNow, after_write, kept_within};
+ghost use Rattle.edge_traits.specs.InMemory.{Keeping, MemSinkNow, unless_lost, after_write, kept_after};
 
 use crate::failing::{Failed, Failing};
 use crate::kept::Kept;
@@ -30,7 +30,7 @@ pub trait Sink {
         ensures bound { WritesAtMost result piece.now }
         ensures some { TakesSome result piece.now }
         ensures octets { WriteGains (held self.old) (held self.new) result piece.now }
-        ensures cause { HasCause (faults self.old) (faults self.new) result }
+        ensures count { faults self.new ≡ count_after (faults self.old) result }
         ensures told { FailsAsTold (failing self.old) (failing self.new) result };
 }
 
@@ -47,18 +47,17 @@ impl Model for MemSink {
     ghost Value = { MemSinkNow };
 
     ghost view = { λ s. record {
-      room = s.kept.room;
-      held = s.kept.held;
+      kept = s.kept;
       failing = s.failing;
       faults = s.faults;
     } };
 }
 
 impl MemSink {
-    /// An empty sink with room for so many octets, whose write i fails exactly where place i of
-    /// `failing` is true.
+    /// An empty sink with room for so many octets, whose write i fails if and only if
+    /// place i of `failing` is true.
     pub fn new(alloc: Global, room: usize, failing: &[bool]) -> Result<MemSink, AllocError>
-        ensures room { IfOk result (λ s. s.room ≡ room) }
+        ensures kept { IfOk result (λ s. s.kept ≡ record { room = room; octets = []; lost = false }) }
         ensures held { IfOk result (λ s. ⟦<MemSink as Sink>⟧.held s ≡ Some []) }
         ensures failing { IfOk result (λ s. ⟦<MemSink as Sink>⟧.failing s ≡ Some failing.now) }
         ensures faults { IfOk result (λ s. ⟦<MemSink as Sink>⟧.faults s ≡ 0) }
@@ -72,16 +71,17 @@ impl MemSink {
         })
     }
 
-    /// The octets written so far, as far as they were kept.
+    /// The octets that were kept: a front of those written, and all of them where it tells what it
+    /// holds.
     pub fn octets(&self) -> &[u8]
-        ensures { IfSome (⟦<MemSink as Sink>⟧.held self.now) (λ held. result.now ≡ held) }
+        ensures { result.now ≡ self.now.kept.octets }
     {
         self.kept.octets()
     }
 }
 
 impl Sink for MemSink {
-    ghost held = { λ s. s.held };
+    ghost held = { λ s. unless_lost s.kept.lost s.kept.octets };
 
     ghost faults = { λ s. s.faults };
 
@@ -91,7 +91,6 @@ impl Sink for MemSink {
     fn write(&mut self, piece: &[u8]) -> Result<usize, Failed>
         ensures answer { is_err result ≡ fails_next self.old.failing }
         ensures whole { IfOk result (λ n. n ≡ length piece.now) }
-        ensures cause { HasCause self.old.faults self.new.faults result }
         ensures now { self.new ≡ after_write self.old piece.now }
     {
         if self.failing.fails() {
@@ -118,23 +117,24 @@ impl Model for SureSink {
 impl SureSink {
     /// An empty sink with room for so many octets.
     pub fn new(alloc: Global, room: usize) -> Result<SureSink, AllocError>
-        ensures room { IfOk result (λ s. s.room ≡ room) }
+        ensures kept { IfOk result (λ s. s ≡ record { room = room; octets = []; lost = false }) }
         ensures held { IfOk result (λ s. ⟦<SureSink as Sink>⟧.held s ≡ Some []) }
     {
         let kept = Kept::new(alloc, room)?;
         Ok(SureSink { kept })
     }
 
-    /// The octets written so far, as far as they were kept.
+    /// The octets that were kept: a front of those written, and all of them where it tells what it
+    /// holds.
     pub fn octets(&self) -> &[u8]
-        ensures { IfSome (⟦<SureSink as Sink>⟧.held self.now) (λ held. result.now ≡ held) }
+        ensures { result.now ≡ self.now.octets }
     {
         self.kept.octets()
     }
 }
 
 impl Sink for SureSink {
-    ghost held = { λ s. s.held };
+    ghost held = { λ s. unless_lost s.lost s.octets };
 
     ghost faults = { λ _. 0 };
 
@@ -143,8 +143,7 @@ impl Sink for SureSink {
     /// Takes the whole piece.
     fn write(&mut self, piece: &[u8]) -> Result<usize, Failed>
         ensures whole { result ≡ Ok (length piece.now) }
-        ensures room { self.new.room ≡ self.old.room }
-        ensures held { self.new.held ≡ kept_within self.old.room self.old.held piece.now }
+        ensures now { self.new ≡ kept_after self.old piece.now }
     {
         self.kept.keep(piece);
         Ok(piece.len())
@@ -181,8 +180,8 @@ impl<W: Write + Drop> Sink for Writing<W> {
     fn write(&mut self, piece: &[u8]) -> Result<usize, Failed>
         ensures bound { WritesAtMost result piece.now }
         ensures some { TakesSome result piece.now }
-        ensures cause { HasCause (⟦<Writing<W> as Sink>⟧.faults self.old)
-            (⟦<Writing<W> as Sink>⟧.faults self.new) result }
+        ensures count { ⟦<Writing<W> as Sink>⟧.faults self.new
+            ≡ count_after (⟦<Writing<W> as Sink>⟧.faults self.old) result }
         ensures writer { WriteAppends (writer_holds W.contents self.old)
             (writer_holds W.contents self.new) result piece.now }
     {

@@ -1,12 +1,14 @@
 //! Where octets come from.
-ghost use Rattle.std.specs.Prelude.{◌≡◌, ℕ, ◌+◌, ◌-◌, ◌<◌, ◌^◌, List, [], Bool, Option, None, Some, drop, take, length, min, IfOk};
+ghost use Rattle.std.specs.Prelude.{◌≡◌, ℕ, ◌-◌, ◌^◌, List, [], Bool, Option, None, Some, Ok, drop, take, length, min, is_err, IfOk};
 ghost use Rattle.std.specs.Io.{ReadsAtMost};
 ghost use Rattle.std.specs.Io.KnownBytes.{ReadConsumes};
-ghost use Rattle.edge_traits.specs.Faults.{HasCause, FailsAsTold};
+ghost use Rattle.edge_traits.specs.Faults.{count_after, FailsAsTold, fails_next};
+ghost use Rattle.edge_traits.specs.InMemory.{MemSourceNow, after_read};
 
 use crate::failing::{Failed, Failing};
 use std::alloc::{AllocError, Global};
 use std::io::Read;
+use std::marker::Model;
 
 /// Where octets come from: a file, a pipe, or memory.
 pub trait Source {
@@ -24,7 +26,7 @@ pub trait Source {
     fn read(&mut self, buf: &mut [u8]) -> Result<usize, Failed>
         ensures bound { ReadsAtMost result buf.new }
         ensures octets { ReadConsumes (left self.old) (left self.new) result buf.new }
-        ensures cause { HasCause (faults self.old) (faults self.new) result }
+        ensures count { faults self.new ≡ count_after (faults self.old) result }
         ensures told { FailsAsTold (failing self.old) (failing self.new) result };
 }
 
@@ -37,8 +39,18 @@ pub struct MemSource {
     faults: u64,
 }
 
+impl Model for MemSource {
+    ghost Value = { MemSourceNow };
+
+    ghost view = { λ s. record {
+      left = drop s.at s.octets.items;
+      failing = s.failing;
+      faults = s.faults;
+    } };
+}
+
 impl MemSource {
-    /// A source of these octets, whose read i fails exactly where place i of `failing` is true.
+    /// A source of these octets, whose read i fails if and only if place i of `failing` is true.
     pub fn new(alloc: Global, octets: &[u8], failing: &[bool]) -> Result<MemSource, AllocError>
         ensures left { IfOk result (λ s. ⟦<MemSource as Source>⟧.left s ≡ Some octets.now) }
         ensures failing { IfOk result (λ s. ⟦<MemSource as Source>⟧.failing s ≡ Some failing.now) }
@@ -56,14 +68,19 @@ impl MemSource {
 }
 
 impl Source for MemSource {
-    ghost left = { λ s. Some (drop s.at s.octets.items) };
+    ghost left = { λ s. Some s.left };
 
     ghost faults = { λ s. s.faults };
 
     ghost failing = { λ s. Some s.failing };
 
-    /// A read that doesn't fail fills the buffer as far as its octets reach.
-    fn read(&mut self, buf: &mut [u8]) -> Result<usize, Failed> {
+    /// Fills the buffer as far as its octets reach, or takes none where this read is to fail.
+    fn read(&mut self, buf: &mut [u8]) -> Result<usize, Failed>
+        ensures answer { is_err result ≡ fails_next self.old.failing }
+        ensures fills { IfOk result (λ n. n ≡ min (length buf.new) (length self.old.left)) }
+        ensures octets { IfOk result (λ n. take n buf.new ≡ take n self.old.left) }
+        ensures now { self.new ≡ after_read self.old (length buf.new) }
+    {
         if self.failing.fails() {
             self.faults = self.faults.saturating_add(1);
             return Err(Failed);
@@ -74,11 +91,17 @@ impl Source for MemSource {
     }
 }
 
-/// Octets in memory whose reads never fail.
+/// Octets in memory whose reads never fail, seen as those that are left.
 #[derive(Drop)]
 pub struct SureSource {
     octets: Vec<u8>,
     at: usize,
+}
+
+impl Model for SureSource {
+    ghost Value = { List ℕ };
+
+    ghost view = { λ s. drop s.at s.octets.items };
 }
 
 impl SureSource {
@@ -92,21 +115,27 @@ impl SureSource {
 }
 
 impl Source for SureSource {
-    ghost left = { λ s. Some (drop s.at s.octets.items) };
+    ghost left = { λ s. Some s };
 
     ghost faults = { λ _. 0 };
 
     ghost failing = { λ _. Some [] };
 
-    fn read(&mut self, buf: &mut [u8]) -> Result<usize, Failed> {
+    /// Fills the buffer as far as its octets reach.
+    fn read(&mut self, buf: &mut [u8]) -> Result<usize, Failed>
+        ensures fills { result ≡ Ok (min (length buf.new) (length self.old)) }
+        ensures octets { IfOk result (λ n. take n buf.new ≡ take n self.old) }
+        ensures now { self.new ≡ drop (length buf.new) self.old }
+    {
         let n = copy_front(&self.octets, self.at, buf);
         self.at += n;
         Ok(n)
     }
 }
 
-/// A source over std's reader. It counts a fault at each error, and tells the octets that its
-/// reader tells.
+/// A source over std's reader. It tells the octets that its reader tells. Each read calls the
+/// reader once and counts a fault where that is an error: no clause can see how often the reader is
+/// called, so that is only tested.
 #[derive(Drop)]
 pub struct Reading<R: Drop> {
     reader: R,

@@ -7,11 +7,11 @@ use Rattle.hex.specs.declared.FromHexError.{FromHexError}
 use Rattle.edge_traits.specs.declared.status.Status.{Status}
 use Rattle.edge_traits.specs.declared.status.Status.TheVariants as statuses
 use Rattle.edge_traits.specs.Outcome.{Answered, put_before}
-use Rattle.ltp_segment.specs.declared.cause.SegmentCause.{SegmentCause}
+use Rattle.ltp_segment.specs.declared.fault.SegmentCause.{SegmentCause}
 use Rattle.ltp_segment.specs.Reading.{segment_of}
 use Rattle.ltp_segment.specs.Values.{SegmentValue, ContentValue, a_piece, a_report, a_report_ack, a_sender_cancel, a_sender_cancel_ack, a_receiver_cancel, a_receiver_cancel_ack, PieceValue}
 use Rattle.ltp_segment.specs.Kinds.{is_red, ends_red_part}
-use Rattle.ltp_segment.specs.Word.{word_of}
+use Rattle.ltp_segment.specs.Cause.{word_of}
 use Rattle.ltp_segment.specs.declared.session.TheConstants.{BLOCK_MAX}
 use Rattle.gateway_run.specs.Lines.{lines_within}
 use Rattle.gateway_run.specs.Session.{RedPiece, Session, fresh, open_part, handed_up, Said, nothing, up, out_of_bounds, passed_over, meets}

@@ -4,7 +4,7 @@
 use Rattle.std.specs.Prelude.{◌≡◌, ℕ, zero, suc, ◌+◌, ◌-◌, ◌<◌, ◌≤◌, Bool, true, false, not, ◌==◌, ◌&&◌, ◌||◌, nat_lt, nat_le, max, All, List, [], ◌∷◌, ◌++◌, length, take, slice_index, slice_index_or, Option, None, Some, is_some, ◌↔◌, ◌⊎◌, if◌then◌else◌}
 use Rattle.edge_traits.specs.declared.status.Status.{Status}
 use Rattle.edge_traits.specs.declared.status.Status.TheVariants as statuses
-use Rattle.ltp_segment.specs.declared.cause.SegmentCause.{SegmentCause}
+use Rattle.ltp_segment.specs.declared.fault.SegmentCause.{SegmentCause}
 use Rattle.gateway_run.specs.Session.{RedPiece, stop_of, is_past, is_another}
 use Rattle.gateway_run.specs.Receive.{Heard, not_hex, malformed, other, red, heard_of, up_line, note_line, skip_line, hex_line, cause_line}
 

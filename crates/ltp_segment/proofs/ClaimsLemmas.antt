@@ -16,7 +16,7 @@ unfolding claims_in
 claims_in-end zero text end = refl
 claims_in-end (suc count) text end = rw end refl
 
--- one, and those behind it
+-- one, and those after it
 pub claims_in-next : (count : ℕ) (text : List ℕ) (claim : Claim) (rest : List ℕ) → (count ≡ 0 → ⊥)
     → front_claim text ≡ Some (claim, rest) → claims_in count text ≡ claim ∷ claims_in (count - 1) rest
 unfolding claims_in

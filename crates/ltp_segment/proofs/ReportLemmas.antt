@@ -12,11 +12,11 @@ use Rattle.wire_fields.specs.Words.{needs, any_number, repeated}
 use Rattle.wire_fields.specs.Gives.{Fails}
 use Rattle.wire_fields.proofs.ResultLemmas.{found_is, found}
 use Rattle.wire_fields.proofs.GroupLemmas.{fails-on, repeated-step, repeated-fails, repeated-end}
-use Rattle.ltp_segment.specs.declared.cause.SegmentCause.{SegmentCause}
-use Rattle.ltp_segment.specs.declared.cause.SegmentCause.TheVariants as causes
+use Rattle.ltp_segment.specs.declared.fault.SegmentCause.{SegmentCause}
+use Rattle.ltp_segment.specs.declared.fault.SegmentCause.TheVariants as causes
 use Rattle.ltp_segment.specs.declared.segment.Claim.{Claim}
 use Rattle.ltp_segment.specs.Claims.{parted, front_number, front_claim, claims_in}
-use Rattle.ltp_segment.specs.Reports.{end_from, is_claim, claim_size, claim_behind, next_claim, claims_of}
+use Rattle.ltp_segment.specs.Reports.{end_from, is_claim, claim_size, claim_after, next_claim, claims_of}
 
 -- ---- what the iterator finds is what was read
 
@@ -66,7 +66,7 @@ two_numbers : (r : Result (ℕ × ℕ) (ℕ × Stop SegmentCause)) (second : ℕ
 two_numbers (Ok o) second claim to is = with_offset o (second o) second claim to refl is
 two_numbers (Err e) second claim to is = absurd (cc)
 
--- two numbers one behind the other stand at the front as a claim
+-- two numbers one after the other stand at the front as a claim
 front_claim-numbers : (text : List ℕ) (at offset between size to : ℕ) → read (any_number causes.Number) text at ≡ found offset between
     → read (any_number causes.Number) text between ≡ found size to
     → front_claim (drop at text) ≡ Some (record { offset = offset; length = size }, drop to text)
@@ -75,8 +75,8 @@ front_claim-numbers text at offset between size to first second =
     rw (front_number-read text at offset between first) (rw (front_number-read text between size to second) refl)
 
 front_claim-read : (most end : ℕ) (text : List ℕ) (at : ℕ) (claim : Claim) (to : ℕ)
-    → read (claim_behind most end) text at ≡ found claim to → front_claim (drop at text) ≡ Some (claim, drop to text)
-unfolding claim_behind
+    → read (claim_after most end) text at ≡ found claim to → front_claim (drop at text) ≡ Some (claim, drop to text)
+unfolding claim_after
 front_claim-read most end text at claim to is =
     let parts = two_numbers (read (any_number causes.Number) text at) (λ o. read (claim_size most end o.0) text o.1) claim to is in
     let second = under_conditions parts.between (λ n. needs (is_claim most end parts.offset n) causes.Claim)
@@ -114,7 +114,7 @@ unfolding claims_in next_claim
 claims_in-read zero most earlier all text at to is = append-nil earlier ∙ (found_is earlier all at to is).0
 claims_in-read (suc count) most earlier all text at to is =
     let step = stepped (read (next_claim most earlier) text at) (λ x. read (repeated count (next_claim most) x.0) text x.1) (all, to) is in
-    let more = one_more (read (claim_behind most (end_from 0 earlier)) text at) earlier step.value step.to step.first in
+    let more = one_more (read (claim_after most (end_from 0 earlier)) text at) earlier step.value step.to step.first in
     let front = front_claim-read most (end_from 0 earlier) text at more.claim step.to more.one in
     let rest = claims_in-read count most step.value all text step.to to step.second in
     rw front (sym (append_assoc earlier (more.claim ∷ []) (claims_in count (drop step.to text))) ∙ rw more.made rest)
@@ -122,10 +122,10 @@ claims_in-read (suc count) most earlier all text at to is =
 -- ---- the loop
 
 -- after so many claims, the last of which ends there, what is left to read gives what all of it gives
-pub record SoFar (count passed most end : ℕ) (text : List ℕ) (behind at : ℕ) : Type 0 where
+pub record SoFar (count passed most end : ℕ) (text : List ℕ) (after at : ℕ) : Type 0 where
   pub earlier : List Claim
   pub ends : end_from 0 earlier ≡ end
-  pub left : read (repeated (count - passed) (next_claim most) earlier) text behind ≡ read (claims_of count most) text at
+  pub left : read (repeated (count - passed) (next_claim most) earlier) text after ≡ read (claims_of count most) text at
 
 pub so_far-start : (count most : ℕ) (text : List ℕ) (at : ℕ) → SoFar count 0 most 0 text at at
 unfolding claims_of
@@ -136,37 +136,37 @@ end_from-push end [] claim = refl
 end_from-push end (first ∷ earlier) claim = end_from-push (first.offset + first.length) earlier claim
 
 -- one more was read
-pub so_far-more : (count passed most end : ℕ) (text : List ℕ) (behind at : ℕ) (claim : Claim) (next : ℕ) → passed < count
-    → SoFar count passed most end text behind at → read (claim_behind most end) text behind ≡ found claim next
+pub so_far-more : (count passed most end : ℕ) (text : List ℕ) (after at : ℕ) (claim : Claim) (next : ℕ) → passed < count
+    → SoFar count passed most end text after at → read (claim_after most end) text after ≡ found claim next
     → SoFar count (passed + 1) most (claim.offset + claim.length) text next at
 unfolding next_claim
-so_far-more count passed most end text behind at claim next more so_far is =
-    let one : read (claim_behind most (end_from 0 so_far.earlier)) text behind ≡ found claim next = rw so_far.ends is in
-    let read_on : read (next_claim most so_far.earlier) text behind ≡ Ok (so_far.earlier ++ claim ∷ [], next) = rw one refl in
+so_far-more count passed most end text after at claim next more so_far is =
+    let one : read (claim_after most (end_from 0 so_far.earlier)) text after ≡ found claim next = rw so_far.ends is in
+    let read_on : read (next_claim most so_far.earlier) text after ≡ Ok (so_far.earlier ++ claim ∷ [], next) = rw one refl in
     record {
       earlier = so_far.earlier ++ claim ∷ [];
       ends = end_from-push 0 so_far.earlier claim;
-      left = repeated-step (next_claim most) text count passed so_far.earlier (so_far.earlier ++ claim ∷ []) behind next
+      left = repeated-step (next_claim most) text count passed so_far.earlier (so_far.earlier ++ claim ∷ []) after next
           (read (claims_of count most) text at) more read_on so_far.left;
     }
 
 -- the next one was refused
-pub so_far-fails : (count passed most end : ℕ) (text : List ℕ) (behind at : ℕ) (o : Option (ℕ × Stop SegmentCause)) → passed < count
-    → SoFar count passed most end text behind at → Fails o (read (claim_behind most end) text behind)
+pub so_far-fails : (count passed most end : ℕ) (text : List ℕ) (after at : ℕ) (o : Option (ℕ × Stop SegmentCause)) → passed < count
+    → SoFar count passed most end text after at → Fails o (read (claim_after most end) text after)
     → Fails o (read (claims_of count most) text at)
 unfolding next_claim
-so_far-fails count passed most end text behind at o more so_far fails =
-    let one : Fails o (read (claim_behind most (end_from 0 so_far.earlier)) text behind) = rw so_far.ends fails in
-    repeated-fails (next_claim most) text count passed so_far.earlier behind o (read (claims_of count most) text at) more
-    (fails-on o (read (claim_behind most (end_from 0 so_far.earlier)) text behind) (read (next_claim most so_far.earlier) text behind)
+so_far-fails count passed most end text after at o more so_far fails =
+    let one : Fails o (read (claim_after most (end_from 0 so_far.earlier)) text after) = rw so_far.ends fails in
+    repeated-fails (next_claim most) text count passed so_far.earlier after o (read (claims_of count most) text at) more
+    (fails-on o (read (claim_after most (end_from 0 so_far.earlier)) text after) (read (next_claim most so_far.earlier) text after)
     (λ s is. rw is refl) one)
     so_far.left
 
 -- all were read, and are those that stand there
-pub so_far-end : (count passed most end : ℕ) (text : List ℕ) (behind at : ℕ) → count ≤ passed
-    → SoFar count passed most end text behind at → read (claims_of count most) text at ≡ Ok (claims_in count (drop at text), behind)
+pub so_far-end : (count passed most end : ℕ) (text : List ℕ) (after at : ℕ) → count ≤ passed
+    → SoFar count passed most end text after at → read (claims_of count most) text at ≡ Ok (claims_in count (drop at text), after)
 unfolding claims_of
-so_far-end count passed most end text behind at all so_far =
-    let is = repeated-end (next_claim most) text count passed so_far.earlier behind (read (claims_of count most) text at) all so_far.left in
-    let claims = claims_in-read count most [] so_far.earlier text at behind is in
+so_far-end count passed most end text after at all so_far =
+    let is = repeated-end (next_claim most) text count passed so_far.earlier after (read (claims_of count most) text at) all so_far.left in
+    let claims = claims_in-read count most [] so_far.earlier text at after is in
     rw claims is

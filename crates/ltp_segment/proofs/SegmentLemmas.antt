@@ -6,14 +6,16 @@ use Rattle.wire_fields.specs.Reading.{IsOctets}
 use Rattle.wire_fields.specs.Whole.{read_whole}
 use Rattle.wire_fields.specs.Gives.{GivesWhole}
 use Rattle.wire_fields.proofs.FrontLemmas.{whole_text-only, whole_text-refuses}
-use Rattle.ltp_segment.specs.declared.cause.SegmentCause.{SegmentCause}
-use Rattle.ltp_segment.specs.declared.cause.SegmentCause.TheVariants as causes
-use Rattle.ltp_segment.specs.declared.cause.SegmentFault.{SegmentFault}
+use Rattle.ltp_segment.specs.declared.fault.SegmentCause.{SegmentCause}
+use Rattle.ltp_segment.specs.declared.fault.SegmentCause.TheVariants as causes
+use Rattle.ltp_segment.specs.declared.fault.SegmentFault.{SegmentFault}
 use Rattle.ltp_segment.specs.declared.segment.Segment.{Segment}
 use Rattle.ltp_segment.specs.Values.{SegmentValue}
 use Rattle.ltp_segment.specs.Views.{segment_value}
 use Rattle.ltp_segment.specs.Table.{segment}
-use Rattle.ltp_segment.specs.Reading.{SpellsSegment, RefusesSegment, why, cause_of, told, segment_of, seen, refusal}
+use Rattle.ltp_segment.specs.Cause.{why, cause_of}
+use Rattle.ltp_segment.specs.Ties.{refusal}
+use Rattle.ltp_segment.specs.Reading.{SpellsSegment, RefusesSegment, told, segment_of, seen}
 
 pub cause_of-why : (cause : SegmentCause) → cause_of (why cause) ≡ cause
 cause_of-why causes.Version = refl

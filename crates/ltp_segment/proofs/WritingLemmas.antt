@@ -1,6 +1,6 @@
 -- What is written spells the segment.
 
-use Rattle.std.proofs.Common.{◌≡◌, ℕ, ◌+◌, ◌-◌, ◌%◌, ◌/◌, ◌^◌, ◌<◌, ◌≤◌, Bool, true, false, List, [], ◌∷◌, ◌++◌, length, Option, None, Ok, refl, sym, ap, ◌∙◌, arith, append_assoc, not, ◌==◌, ltb}
+use Rattle.std.proofs.Common.{◌≡◌, ℕ, ◌+◌, ◌-◌, ◌%◌, ◌/◌, ◌^◌, ◌<◌, ◌≤◌, Bool, true, false, List, [], ◌∷◌, ◌++◌, length, Option, None, Ok, refl, sym, ap, ◌∙◌, arith, append_assoc, not, ◌==◌, ltb, is_some}
 use Rattle.std.proofs.lemmas.List.{append-nil}
 use Rattle.std.proofs.lemmas.Bool.{lt-ltb, le-leb, ne_eqb}
 use Rattle.std.specs.List.{flat_map}
@@ -9,19 +9,21 @@ use Rattle.sdnv.proofs.ShortestLemmas.{spelling-spells}
 use Rattle.wire_fields.specs.Format.{Spells}
 use Rattle.wire_fields.specs.Words.{needs, ◌also◌, repeated}
 use Rattle.wire_fields.proofs.WholeLemmas.{whole-only}
-use Rattle.ltp_segment.specs.declared.cause.SegmentCause.{SegmentCause}
-use Rattle.ltp_segment.specs.declared.cause.SegmentCause.TheVariants as causes
+use Rattle.ltp_segment.specs.declared.fault.SegmentCause.{SegmentCause}
+use Rattle.ltp_segment.specs.declared.fault.SegmentCause.TheVariants as causes
 use Rattle.ltp_segment.specs.declared.segment.PieceKind.{PieceKind}
 use Rattle.ltp_segment.specs.declared.segment.PieceKind.TheVariants as kinds
 use Rattle.ltp_segment.specs.declared.segment.Claim.{Claim}
 use Rattle.ltp_segment.specs.Kinds.{is_checkpoint}
 use Rattle.ltp_segment.specs.Values.{PieceValue, ReportValue, ContentValue, a_piece, a_report, a_report_ack, a_sender_cancel, a_sender_cancel_ack, a_receiver_cancel, a_receiver_cancel_ack, SegmentValue}
 use Rattle.ltp_segment.specs.Pieces.{serial, serials, piece_of}
-use Rattle.ltp_segment.specs.Reports.{is_claim, end_from, claim_behind, next_claim, claims_of, report_fields}
-use Rattle.ltp_segment.specs.Table.{is_type, control, report_ack_fields, sender_cancel_fields, receiver_cancel_fields, extensions, content_of, segment}
+use Rattle.ltp_segment.specs.Reports.{is_claim, end_from, claim_after, next_claim, claims_of, report_fields}
+use Rattle.ltp_segment.specs.Types.{type_at}
+use Rattle.ltp_segment.specs.Table.{control, report_ack_fields, sender_cancel_fields, receiver_cancel_fields, extensions, content_of, segment}
 use Rattle.ltp_segment.specs.Reading.{SpellsSegment, segment_of}
 use Rattle.ltp_segment.specs.Legal.{AreSerials, IsPiece, IsClaim, AreClaims, IsReport, IsContent, IsSegment}
-use Rattle.ltp_segment.specs.Writing.{piece_type, type_of, serial_octets, piece_octets, claim_octets, report_octets, content_octets, header_octets, segment_octets, by_side, cancel_type, cancel_ack_type, IsWritten}
+use Rattle.ltp_segment.specs.Spelling.{piece_type, type_of, serial_octets, piece_octets, claim_octets, report_octets, content_octets, header_octets, segment_octets, by_side, IsWritten}
+use Rattle.ltp_segment.specs.Ties.{cancel_type, cancel_ack_type}
 use Rattle.ltp_segment.proofs.ReportLemmas.{end_from-push}
 
 -- ---- conditions that hold
@@ -83,8 +85,8 @@ piece-spells front piece is =
 -- ---- reports
 
 claim-spells : (front : List ℕ) (most end : ℕ) (claim : Claim) → most < 2 ^ 64 → IsClaim most end claim
-    → Spells (claim_behind most end) front (claim_octets claim) claim
-unfolding claim_behind
+    → Spells (claim_after most end) front (claim_octets claim) claim
+unfolding claim_after
 claim-spells front most end claim small is =
     let some = ne_eqb claim.length 0 (λ none. omega (arith, is.some)) in
     let begins = le-leb end claim.offset is.begins in
@@ -187,8 +189,8 @@ report-spells front report is =
 -- ---- segments
 
 piece-content : (kind : PieceKind) (front octets : List ℕ) (content : ContentValue) → Spells (piece_of kind) front octets content
-    → Spells (content_of (piece_type kind % 16)) front octets content
-unfolding content_of
+    → Spells (content_of (type_at (piece_type kind % 16))) front octets content
+unfolding type_at
 piece-content kinds.Red front octets content spells = spells
 piece-content kinds.RedCheckpoint front octets content spells = spells
 piece-content kinds.RedEnd front octets content spells = spells
@@ -197,8 +199,8 @@ piece-content kinds.Green front octets content spells = spells
 piece-content kinds.GreenEndBlock front octets content spells = spells
 
 content-spells : (front : List ℕ) (content : ContentValue) → IsContent content
-    → Spells (content_of (type_of content % 16)) front (content_octets content) content
-unfolding content_of report_ack_fields sender_cancel_fields receiver_cancel_fields
+    → Spells (content_of (type_at (type_of content % 16))) front (content_octets content) content
+unfolding type_at report_ack_fields sender_cancel_fields receiver_cancel_fields
 content-spells front (a_piece piece) is =
     piece-content piece.kind front (piece_octets piece) (a_piece piece) (piece-spells front piece is)
 content-spells front (a_report report) is = report-spells front report is
@@ -210,9 +212,10 @@ content-spells front a_receiver_cancel_ack is = (refl, refl)
 
 -- the control octet of each type is one
 abbrev control_fault : ℕ → Option SegmentCause
-control_fault octet = needs (octet / 16 == 0) causes.Version also needs (is_type (octet % 16)) causes.Kind
+control_fault octet = needs (octet / 16 == 0) causes.Version also needs (is_some (type_at (octet % 16))) causes.Kind
 
 piece-control : (kind : PieceKind) → control_fault (piece_type kind) ≡ None
+unfolding type_at
 piece-control kinds.Red = refl
 piece-control kinds.RedCheckpoint = refl
 piece-control kinds.RedEnd = refl
@@ -221,6 +224,7 @@ piece-control kinds.Green = refl
 piece-control kinds.GreenEndBlock = refl
 
 content-control : (content : ContentValue) → control_fault (type_of content) ≡ None
+unfolding type_at
 content-control (a_piece piece) = piece-control piece.kind
 content-control (a_report report) = refl
 content-control (a_report_ack number) = refl
@@ -243,9 +247,9 @@ segment-spells s is =
     rw (in_fields kind (spelling s.originator) (spelling s.session) (content_octets s.content)) (
       kind ∷ [],
       _,
-      kind,
+      type_at (kind % 16),
       refl,
-      (refl, content-control s.content),
+      (kind ∷ [], [], kind, refl, (refl, content-control s.content), (refl, refl)),
       (
         spelling s.originator,
         _,

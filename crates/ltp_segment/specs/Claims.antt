@@ -1,22 +1,22 @@
 -- The claims that an iterator has left.
 
-use Rattle.std.specs.Prelude.{ℕ, zero, suc, List, [], ◌∷◌, drop, Option, Some, None, Result, Ok, Err, option_and_then, option_map}
-use Rattle.std.specs.Borrow.{Bor}
+use Rattle.std.specs.Prelude.{ℕ, zero, suc, List, [], ◌∷◌, drop, Option, Some, None, Result, Ok}
+use Rattle.std.specs.Prelude.{Err, option_and_then, option_map}
 use Rattle.sdnv.specs.declared.fault.SdnvFault.{SdnvFault}
 use Rattle.sdnv.specs.Reading.{read_of}
 use Rattle.ltp_segment.specs.declared.segment.Claim.{Claim}
 use Rattle.ltp_segment.specs.declared.claims.Claims.{Claims}
 
--- what was read of a text, and the octets behind it
+-- what was read of a text, and the octets after it
 abbrev pub parted : List ℕ → Result (ℕ × ℕ) SdnvFault → Option (ℕ × List ℕ)
 parted text (Ok x) = Some (x.0, drop x.1 text)
 parted text (Err fault) = None
 
--- a number at the front of a text, and the octets behind it
+-- a number at the front of a text, and the octets after it
 unfoldable pub front_number : List ℕ → Option (ℕ × List ℕ)
 front_number text = parted text (read_of text)
 
--- a claim at the front of a text, an offset and a length, and the octets behind it
+-- a claim at the front of a text, an offset and a length, and the octets after it
 unfoldable pub front_claim : List ℕ → Option (Claim × List ℕ)
 front_claim text = option_and_then
     (λ offset. option_map
@@ -35,8 +35,3 @@ claims_in (suc count) text = then_others (claims_in count) (front_claim text)
 
 abbrev pub claims_left : Claims → List Claim
 claims_left claims = claims_in claims.count claims.rest.now
-
--- what code lends, as a list
-abbrev pub lent : {A : Type 0} → Option (A × Bor (List ℕ)) → Option (A × List ℕ)
-lent (Some x) = Some (x.0, x.1.now)
-lent None = None

@@ -1,9 +1,12 @@
 -- The segments that can be written: those that the table of segments spells.
 
-use Rattle.std.specs.Prelude.{◌≡◌, ℕ, ◌+◌, ◌-◌, ◌^◌, ◌<◌, ◌≤◌, Bool, true, false, List, [], ◌∷◌, length}
+use Rattle.std.specs.Prelude.{◌≡◌, ℕ, ◌+◌, ◌-◌, ◌^◌, ◌<◌, ◌≤◌, Bool, true, false, List, [], ◌∷◌}
+use Rattle.std.specs.Prelude.{length}
 use Rattle.ltp_segment.specs.declared.segment.Claim.{Claim}
 use Rattle.ltp_segment.specs.Kinds.{is_checkpoint}
-use Rattle.ltp_segment.specs.Values.{PieceValue, ReportValue, ContentValue, a_piece, a_report, a_report_ack, a_sender_cancel, a_sender_cancel_ack, a_receiver_cancel, a_receiver_cancel_ack, SegmentValue}
+use Rattle.ltp_segment.specs.Values.{PieceValue, ReportValue, ContentValue, a_piece, a_report}
+use Rattle.ltp_segment.specs.Values.{a_report_ack, a_sender_cancel, a_sender_cancel_ack}
+use Rattle.ltp_segment.specs.Values.{a_receiver_cancel, a_receiver_cancel_ack, SegmentValue}
 
 -- the serial numbers of a piece: that of a checkpoint isn't 0, and other pieces have none
 abbrev pub AreSerials : Bool → ℕ → ℕ → Type 0
@@ -15,7 +18,7 @@ pub record IsPiece (piece : PieceValue) : Type 0 where
   pub range : piece.offset + length piece.body < 2 ^ 64
   pub serials : AreSerials (is_checkpoint piece.kind) piece.checkpoint piece.report
 
--- a claim within so many octets, behind others that end there
+-- a claim within so many octets, after others that end there
 pub record IsClaim (most end : ℕ) (claim : Claim) : Type 0 where
   pub some : 0 < claim.length
   pub begins : end ≤ claim.offset

@@ -3,8 +3,8 @@
 use Rattle.std.specs.Prelude.{ℕ, ◌+◌, ◌^◌, ◌==◌, not, nat_lt, Bool, true, false}
 use Rattle.wire_fields.specs.Format.{Format, give, such_that, ◌>>=◌}
 use Rattle.wire_fields.specs.Words.{needs, any_octets, any_number}
-use Rattle.ltp_segment.specs.declared.cause.SegmentCause.{SegmentCause}
-use Rattle.ltp_segment.specs.declared.cause.SegmentCause.TheVariants.{Number, Range, Serial}
+use Rattle.ltp_segment.specs.declared.fault.SegmentCause.{SegmentCause}
+use Rattle.ltp_segment.specs.declared.fault.SegmentCause.TheVariants.{Number, Range, Serial}
 use Rattle.ltp_segment.specs.declared.segment.PieceKind.{PieceKind}
 use Rattle.ltp_segment.specs.Kinds.{is_checkpoint}
 use Rattle.ltp_segment.specs.Values.{ContentValue, a_piece}

@@ -1,8 +1,9 @@
 -- How segments are cut, and how long answers to them are waited for.
 
-use Rattle.std.specs.Prelude.{ℕ, ◌-◌, ◌*◌, ◌^◌, Bool, ◌&&◌, not, nat_le, min, if◌then◌else◌, Result, Ok, Err}
-use Rattle.ltp_segment.specs.declared.fault.PolicyFault.{PolicyFault}
-use Rattle.ltp_segment.specs.declared.fault.PolicyFault.TheVariants as faults
+use Rattle.std.specs.Prelude.{ℕ, ◌-◌, ◌*◌, ◌^◌, Bool, ◌&&◌, not, nat_le, min, if◌then◌else◌, Result}
+use Rattle.std.specs.Prelude.{Ok, Err, List, codes}
+use Rattle.ltp_segment.specs.declared.policy.PolicyFault.{PolicyFault}
+use Rattle.ltp_segment.specs.declared.policy.PolicyFault.TheVariants as faults
 
 -- octets of data in a segment, the first wait, how often one segment is sent, and the longest wait
 pub record PolicyValue : Type 0 where
@@ -29,3 +30,9 @@ default_policy = record { segment = 1024; timeout = 10000; limit = 10; cap = 160
 -- how long an answer is waited for after the n-th sending: twice as long each time, up to the cap
 abbrev pub wait_after : PolicyValue → ℕ → ℕ
 wait_after policy n = min (policy.timeout * 2 ^ (n - 1)) policy.cap
+
+abbrev pub policy_word : PolicyFault → List ℕ
+policy_word faults.Segment = codes "Segment"
+policy_word faults.Timeout = codes "Timeout"
+policy_word faults.Limit = codes "Limit"
+policy_word faults.Cap = codes "Cap"

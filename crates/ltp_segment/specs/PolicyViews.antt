@@ -2,7 +2,7 @@
 
 use Rattle.std.specs.Prelude.{Result, Ok, Err}
 use Rattle.ltp_segment.specs.declared.policy.Policy.{Policy}
-use Rattle.ltp_segment.specs.declared.fault.PolicyFault.{PolicyFault}
+use Rattle.ltp_segment.specs.declared.policy.PolicyFault.{PolicyFault}
 use Rattle.ltp_segment.specs.Policy.{PolicyValue}
 
 abbrev pub policy_value : Policy → PolicyValue

@@ -6,7 +6,9 @@ use Rattle.ltp_segment.specs.declared.segment.Content.TheVariants as contents
 use Rattle.ltp_segment.specs.declared.session.PieceView.{PieceView}
 use Rattle.ltp_segment.specs.declared.session.ReportView.{ReportView}
 use Rattle.ltp_segment.specs.Claims.{claims_left}
-use Rattle.ltp_segment.specs.Values.{PieceValue, ReportValue, ContentValue, a_piece, a_report, a_report_ack, a_sender_cancel, a_sender_cancel_ack, a_receiver_cancel, a_receiver_cancel_ack, SegmentValue}
+use Rattle.ltp_segment.specs.Values.{PieceValue, ReportValue, ContentValue, a_piece, a_report}
+use Rattle.ltp_segment.specs.Values.{a_report_ack, a_sender_cancel, a_sender_cancel_ack}
+use Rattle.ltp_segment.specs.Values.{a_receiver_cancel, a_receiver_cancel_ack, SegmentValue}
 
 abbrev pub piece_value : PieceView → PieceValue
 piece_value p = record {

@@ -2,7 +2,8 @@
 
 ghost use Rattle.std.specs.Prelude.{◌≡◌};
 ghost use Rattle.std.specs.Iterator.{YieldsFirst, item_count};
-ghost use Rattle.ltp_segment.specs.Claims.{claims_left, front_number, front_claim, lent};
+ghost use Rattle.ltp_segment.specs.Claims.{claims_left, front_number, front_claim};
+ghost use Rattle.ltp_segment.specs.Ties.{lent};
 
 use crate::segment::Claim;
 
@@ -43,17 +44,17 @@ impl<'a> Iterator for Claims<'a> {
     }
 }
 
-/// The claim at the front, and the octets behind it.
+/// The claim at the front, and the octets after it.
 #[tactic(auto, unfolding(crate::specs::Claims::front_claim))]
 fn first_claim(text: &[u8]) -> Option<(Claim, &[u8])>
     ensures { lent result ≡ front_claim text.now }
 {
-    let (offset, behind) = first_number(text)?;
-    let (length, rest) = first_number(behind)?;
+    let (offset, after) = first_number(text)?;
+    let (length, rest) = first_number(after)?;
     Some((Claim { offset, length }, rest))
 }
 
-/// The number at the front, and the octets behind it.
+/// The number at the front, and the octets after it.
 #[tactic(auto, unfolding(crate::specs::Claims::front_number))]
 fn first_number(text: &[u8]) -> Option<(u64, &[u8])>
     ensures { lent result ≡ front_number text.now }

@@ -1,15 +1,16 @@
-//! Single fields at a place in a datagram: the value and the place behind it, or the refusal.
+//! Single fields at a place in a datagram: the value and the place after it, or the refusal.
 
 ghost use Rattle.std.specs.Prelude.{◌≡◌, ◌≤◌, length, IfOk};
 ghost use Rattle.wire_fields.specs.Refusal.{because};
 ghost use Rattle.wire_fields.specs.Reading.{read};
 ghost use Rattle.wire_fields.specs.Words.{any_octet, any_octets, any_number};
 ghost use Rattle.wire_fields.specs.Gives.{Gives, IsOn};
-ghost use Rattle.ltp_segment.specs.Reading.{why, refusal};
+ghost use Rattle.ltp_segment.specs.Cause.{why};
+ghost use Rattle.ltp_segment.specs.Ties.{refusal};
 ghost use Rattle.ltp_segment.specs.Pieces.{serial, size_from};
 
-use crate::cause::{SegmentCause, SegmentFault};
-use wire_fields::{Miss, number_at, octet_at, octets_at};
+use crate::fault::{SegmentCause, SegmentFault};
+use wire_fields::{number_at, octet_at, octets_at};
 
 /// An octet. It is there, or the datagram ends; the cause is only named.
 pub(crate) fn octet(
@@ -24,11 +25,7 @@ pub(crate) fn octet(
 {
     match octet_at(text, at) {
         Ok(found) => Ok(found),
-        Err(Miss::Truncated) => Err(SegmentFault {
-            at,
-            cause: SegmentCause::Truncated,
-        }),
-        Err(Miss::Absent) => Err(SegmentFault { at, cause }),
+        Err(miss) => Err(cause.missed(at, miss)),
     }
 }
 
@@ -41,14 +38,7 @@ pub(crate) fn octets(text: &[u8], at: usize, count: u64) -> Result<(&[u8], usize
 {
     match octets_at(text, at, count) {
         Ok(found) => Ok(found),
-        Err(Miss::Truncated) => Err(SegmentFault {
-            at,
-            cause: SegmentCause::Truncated,
-        }),
-        Err(Miss::Absent) => Err(SegmentFault {
-            at,
-            cause: SegmentCause::Number,
-        }),
+        Err(miss) => Err(SegmentCause::Number.missed(at, miss)),
     }
 }
 
@@ -61,14 +51,7 @@ pub(crate) fn number(text: &[u8], at: usize) -> Result<(u64, usize), SegmentFaul
 {
     match number_at(text, at) {
         Ok(found) => Ok(found),
-        Err(Miss::Truncated) => Err(SegmentFault {
-            at,
-            cause: SegmentCause::Truncated,
-        }),
-        Err(Miss::Absent) => Err(SegmentFault {
-            at,
-            cause: SegmentCause::Number,
-        }),
+        Err(miss) => Err(SegmentCause::Number.missed(at, miss)),
     }
 }
 
@@ -78,14 +61,11 @@ pub(crate) fn serial_at(text: &[u8], at: usize) -> Result<(u64, usize), SegmentF
     ensures within { IfOk result (λ x. IsOn at text.now x.1) }
     ensures exact { Gives (λ n. n) refusal result (read serial text.now at) }
 {
-    let (value, behind) = number(text, at)?;
+    let (value, after) = number(text, at)?;
     if value == 0 {
-        return Err(SegmentFault {
-            at,
-            cause: SegmentCause::Serial,
-        });
+        return Err(SegmentCause::Serial.at(at));
     }
-    Ok((value, behind))
+    Ok((value, after))
 }
 
 /// The length of a piece that begins at this offset.
@@ -94,12 +74,9 @@ pub(crate) fn size_at(text: &[u8], at: usize, offset: u64) -> Result<(u64, usize
     ensures within { IfOk result (λ x. IsOn at text.now x.1) }
     ensures exact { Gives (λ n. n) refusal result (read (size_from offset) text.now at) }
 {
-    let (size, behind) = number(text, at)?;
+    let (size, after) = number(text, at)?;
     if offset.checked_add(size).is_none() {
-        return Err(SegmentFault {
-            at,
-            cause: SegmentCause::Range,
-        });
+        return Err(SegmentCause::Range.at(at));
     }
-    Ok((size, behind))
+    Ok((size, after))
 }

@@ -1,7 +1,7 @@
 //! Segments of the Licklider Transmission Protocol (RFC 5326), and what its machines share.
 //!
 //! A datagram is one segment. `decode` takes it apart without taking memory, and lends data and
-//! claims out of it; what is no segment is refused at one place for one cause. Five writers make
+//! claims out of it; what isn't one is refused at one place for one cause. Five writers make
 //! the octets of a segment, with shortest numbers and no extensions, and `decode` reads them back.
 //! The table of the fields is in docs/formats-ltp.md.
 //!
@@ -11,27 +11,25 @@
 //! Extensions are passed over unread. Which segment may come when is not known here.
 #![tactic(auto)]
 
-mod cause;
 mod claims;
-mod decoding;
 mod fault;
 mod fields;
+mod laws;
 mod outs;
 mod pieces;
 mod policy;
+mod reading;
 mod reports;
 mod segment;
 mod session;
 mod writing;
 
-pub use cause::{SegmentCause, SegmentFault};
 pub use claims::Claims;
-pub use decoding::{decode, is_segment_or_refused};
-pub use fault::PolicyFault;
+pub use fault::{SegmentCause, SegmentFault};
+pub use laws::{is_read_back, is_segment_or_refused};
 pub use outs::Outs;
-pub use policy::Policy;
+pub use policy::{Policy, PolicyFault};
+pub use reading::decode;
 pub use segment::{Claim, Content, PieceKind, Segment};
-pub use session::{BLOCK_MAX, Green, Note, PieceView, ReportView, Step};
-pub use writing::{
-    is_read_back, write_ack, write_cancel, write_cancel_ack, write_piece, write_report,
-};
+pub use session::{BLOCK_MAX, Green, Note, PieceView, ReportView, Step, greatest_block};
+pub use writing::{write_ack, write_cancel, write_cancel_ack, write_piece, write_report};

@@ -3,11 +3,11 @@
 ghost use Rattle.std.specs.Prelude.{◌≡◌, ◌≤◌, length, IfOk};
 ghost use Rattle.wire_fields.specs.Reading.{read};
 ghost use Rattle.wire_fields.specs.Gives.{Gives, IsOn};
-ghost use Rattle.ltp_segment.specs.Reading.{refusal};
+ghost use Rattle.ltp_segment.specs.Ties.{refusal};
 ghost use Rattle.ltp_segment.specs.Views.{content_value};
 ghost use Rattle.ltp_segment.specs.Pieces.{serials, piece_of};
 
-use crate::cause::SegmentFault;
+use crate::fault::SegmentFault;
 use crate::fields::{number, octets, serial_at, size_at};
 use crate::segment::{Content, PieceKind};
 
@@ -22,15 +22,11 @@ pub(crate) fn piece_at(
     ensures within { IfOk result (λ x. IsOn at text.now x.1) }
     ensures exact { Gives content_value refusal result (read (piece_of kind) text.now at) }
 {
-    let (service, behind_service) = number(text, at)?;
-    let (offset, behind_offset) = number(text, behind_service)?;
-    let (size, behind_size) = size_at(text, behind_offset, offset)?;
-    let ((checkpoint, report), behind_serials) = serials_at(
-        text,
-        behind_size,
-        kind.is_checkpoint(),
-    )?;
-    let (body, end) = octets(text, behind_serials, size)?;
+    let (service, at) = number(text, at)?;
+    let (offset, at) = number(text, at)?;
+    let (size, at) = size_at(text, at, offset)?;
+    let ((checkpoint, report), at) = serials_at(text, at, kind.is_checkpoint())?;
+    let (body, at) = octets(text, at, size)?;
     Ok((
         Content::Piece {
             kind,
@@ -40,7 +36,7 @@ pub(crate) fn piece_at(
             report,
             body,
         },
-        end,
+        at,
     ))
 }
 
@@ -54,7 +50,7 @@ fn serials_at(text: &[u8], at: usize, stand_here: bool) -> Result<((u64, u64), u
     if !stand_here {
         return Ok(((0, 0), at));
     }
-    let (checkpoint, behind) = serial_at(text, at)?;
-    let (report, end) = number(text, behind)?;
-    Ok(((checkpoint, report), end))
+    let (checkpoint, at) = serial_at(text, at)?;
+    let (report, at) = number(text, at)?;
+    Ok(((checkpoint, report), at))
 }

@@ -1,9 +1,9 @@
 //! How segments are cut, and how long answers to them are waited for.
 
 ghost use Rattle.std.specs.Prelude.{◌≡◌, ◌≤◌};
-ghost use Rattle.ltp_segment.specs.Policy.{policy_of, default_policy, wait_after};
+ghost use Rattle.ltp_segment.specs.Policy.{policy_of, default_policy, wait_after, policy_word};
 
-use crate::fault::PolicyFault;
+use thiserror::Error;
 
 /// How segments are cut, and how long answers to them are waited for. Times are milliseconds.
 ///
@@ -83,6 +83,37 @@ impl Default for Policy {
             timeout: 10_000,
             limit: 10,
             cap: 160_000,
+        }
+    }
+}
+
+/// The first of a policy's values that is out of its range.
+#[derive(Clone, Copy, Debug, PartialEq, Eq, Error)]
+pub enum PolicyFault {
+    /// The data of a segment isn't 512 to 8,192 octets.
+    #[error("Segment")]
+    Segment,
+    /// The first wait isn't 1 to 3,600,000 ms.
+    #[error("Timeout")]
+    Timeout,
+    /// Nothing is sent 1 to 100 times.
+    #[error("Limit")]
+    Limit,
+    /// The longest wait is shorter than the first, or longer than 3,600,000 ms.
+    #[error("Cap")]
+    Cap,
+}
+
+impl PolicyFault {
+    /// The fault's name.
+    pub fn word(&self) -> &'static str
+        ensures { result.now ≡ policy_word self.now }
+    {
+        match self {
+            PolicyFault::Segment => "Segment",
+            PolicyFault::Timeout => "Timeout",
+            PolicyFault::Limit => "Limit",
+            PolicyFault::Cap => "Cap",
         }
     }
 }

@@ -3,13 +3,14 @@
 ghost use Rattle.std.specs.Prelude.{◌≡◌, ◌+◌, ◌≤◌, length, IfOk};
 ghost use Rattle.wire_fields.specs.Reading.{read};
 ghost use Rattle.wire_fields.specs.Gives.{Gives, IsOn};
-ghost use Rattle.ltp_segment.specs.Reading.{refusal};
+ghost use Rattle.ltp_segment.specs.Ties.{refusal};
 ghost use Rattle.ltp_segment.specs.Claims.{claims_left};
 ghost use Rattle.ltp_segment.specs.Views.{content_value};
-ghost use Rattle.ltp_segment.specs.Reports.{lower_below, is_claim, claim_size, claim_behind, claims_of, report_fields};
+ghost use Rattle.ltp_segment.specs.Reports.{lower_below, is_claim, claim_size, claim_after};
+ghost use Rattle.ltp_segment.specs.Reports.{claims_of, report_fields};
 
-use crate::cause::{SegmentCause, SegmentFault};
 use crate::claims::Claims;
+use crate::fault::{SegmentCause, SegmentFault};
 use crate::fields::{number, serial_at};
 use crate::segment::{Claim, Content};
 
@@ -20,12 +21,12 @@ pub(crate) fn report_at(text: &[u8], at: usize) -> Result<(Content<'_>, usize), 
     ensures within { IfOk result (λ x. IsOn at text.now x.1) }
     ensures exact { Gives content_value refusal result (read report_fields text.now at) }
 {
-    let (serial, behind_serial) = serial_at(text, at)?;
-    let (checkpoint, behind_checkpoint) = number(text, behind_serial)?;
-    let (upper, behind_upper) = number(text, behind_checkpoint)?;
-    let (lower, behind_lower) = lower_at(text, behind_upper, upper)?;
-    let (count, behind_count) = number(text, behind_lower)?;
-    let (claims, end) = claims_at(text, behind_count, count, upper - lower)?;
+    let (serial, at) = serial_at(text, at)?;
+    let (checkpoint, at) = number(text, at)?;
+    let (upper, at) = number(text, at)?;
+    let (lower, at) = lower_at(text, at, upper)?;
+    let (count, at) = number(text, at)?;
+    let (claims, at) = claims_at(text, at, count, upper - lower)?;
     Ok((
         Content::Report {
             serial,
@@ -34,7 +35,7 @@ pub(crate) fn report_at(text: &[u8], at: usize) -> Result<(Content<'_>, usize), 
             lower,
             claims,
         },
-        end,
+        at,
     ))
 }
 
@@ -45,14 +46,11 @@ fn lower_at(text: &[u8], at: usize, upper: u64) -> Result<(u64, usize), SegmentF
     ensures below { IfOk result (λ x. x.0 ≤ upper) }
     ensures exact { Gives (λ n. n) refusal result (read (lower_below upper) text.now at) }
 {
-    let (lower, behind) = number(text, at)?;
+    let (lower, after) = number(text, at)?;
     if lower >= upper {
-        return Err(SegmentFault {
-            at,
-            cause: SegmentCause::Bounds,
-        });
+        return Err(SegmentCause::Bounds.at(at));
     }
-    Ok((lower, behind))
+    Ok((lower, after))
 }
 
 /// So many claims within so many octets. Each is looked at, and none is kept.
@@ -66,29 +64,29 @@ fn claims_at(
     ensures within { IfOk result (λ x. IsOn at text.now x.1) }
     ensures exact { Gives claims_left refusal result (read (claims_of count most) text.now at) }
 {
-    let mut behind = at;
+    let mut after = at;
     let mut end = 0;
     'passing: for _ in 0..count {
-        let (claim, next) = claim_at(text, behind, most, end)?;
-        behind = next;
+        let (claim, next) = claim_at(text, after, most, end)?;
+        after = next;
         end = claim.offset + claim.length;
     }
     let (_, first) = text.split_at(at);
-    Ok((Claims::new(first, count), behind))
+    Ok((Claims::new(first, count), after))
 }
 
-/// A claim behind others that end there.
-#[tactic(auto, unfolding(crate::specs::Reports::claim_behind))]
+/// A claim after others that end there.
+#[tactic(auto, unfolding(crate::specs::Reports::claim_after))]
 fn claim_at(text: &[u8], at: usize, most: u64, end: u64) -> Result<(Claim, usize), SegmentFault>
     requires { at ≤ length text.now }
     ensures within { IfOk result (λ x. IsOn at text.now x.1) }
     ensures most { IfOk result (λ x. x.0.offset + x.0.length ≤ most) }
     ensures exact { Gives (λ claim. claim) refusal result
-        (read (claim_behind most end) text.now at) }
+        (read (claim_after most end) text.now at) }
 {
-    let (offset, behind_offset) = number(text, at)?;
-    let (length, behind) = claim_size_at(text, behind_offset, most, end, offset)?;
-    Ok((Claim { offset, length }, behind))
+    let (offset, at) = number(text, at)?;
+    let (length, at) = claim_size_at(text, at, most, end, offset)?;
+    Ok((Claim { offset, length }, at))
 }
 
 /// The length of a claim: it isn't empty, begins at the end of those before it or later, and ends
@@ -105,14 +103,11 @@ fn claim_size_at(
     ensures most { IfOk result (λ x. offset + x.0 ≤ most) }
     ensures exact { Gives (λ n. n) refusal result (read (claim_size most end offset) text.now at) }
 {
-    let (size, behind) = number(text, at)?;
+    let (size, after) = number(text, at)?;
     if !is_claim(most, end, offset, size) {
-        return Err(SegmentFault {
-            at,
-            cause: SegmentCause::Claim,
-        });
+        return Err(SegmentCause::Claim.at(at));
     }
-    Ok((size, behind))
+    Ok((size, after))
 }
 
 fn is_claim(most: u64, end: u64, offset: u64, size: u64) -> bool

@@ -1,8 +1,9 @@
 //! A segment as its datagram lends it.
 
-ghost use Rattle.std.specs.Prelude.{◌≡◌};
+ghost use Rattle.std.specs.Prelude.{◌≡◌, ◌%◌};
 ghost use Rattle.ltp_segment.specs.Kinds.{is_red, is_checkpoint, ends_red_part};
-ghost use Rattle.ltp_segment.specs.Writing.{piece_type};
+ghost use Rattle.ltp_segment.specs.Types.{type_at};
+ghost use Rattle.ltp_segment.specs.Spelling.{piece_type};
 
 use crate::claims::Claims;
 
@@ -41,7 +42,7 @@ pub enum Content<'a> {
         serial: u64,
         /// The serial number of the checkpoint that it answers; 0 where there is none.
         checkpoint: u64,
-        /// The place behind the last octet that it speaks of.
+        /// The place after the last octet that it speaks of.
         upper: u64,
         /// The place of the first octet that it speaks of.
         lower: u64,
@@ -129,6 +130,47 @@ impl PieceKind {
             PieceKind::RedEnd | PieceKind::RedEndBlock => true,
             _ => false,
         }
+    }
+}
+
+/// What a segment is, by the low half of its control octet (RFC 5326, section 3.1).
+#[derive(Clone, Copy)]
+pub(crate) enum SegmentType {
+    Piece(PieceKind),
+    Report,
+    ReportAck,
+    SenderCancel,
+    SenderCancelAck,
+    ReceiverCancel,
+    ReceiverCancelAck,
+}
+
+/// The segment types by their numbers; four are not in use.
+const SEGMENT_TYPES: [Option<SegmentType>; 16] = [
+    Some(SegmentType::Piece(PieceKind::Red)),
+    Some(SegmentType::Piece(PieceKind::RedCheckpoint)),
+    Some(SegmentType::Piece(PieceKind::RedEnd)),
+    Some(SegmentType::Piece(PieceKind::RedEndBlock)),
+    Some(SegmentType::Piece(PieceKind::Green)),
+    None,
+    None,
+    Some(SegmentType::Piece(PieceKind::GreenEndBlock)),
+    Some(SegmentType::Report),
+    Some(SegmentType::ReportAck),
+    None,
+    None,
+    Some(SegmentType::SenderCancel),
+    Some(SegmentType::SenderCancelAck),
+    Some(SegmentType::ReceiverCancel),
+    Some(SegmentType::ReceiverCancelAck),
+];
+
+impl SegmentType {
+    /// The type that a control octet says, where it is in use.
+    pub(crate) fn said_by(control: u8) -> Option<SegmentType>
+        ensures { result ≡ type_at (control % 16) }
+    {
+        SEGMENT_TYPES[usize::from(control % 16)]
     }
 }
 

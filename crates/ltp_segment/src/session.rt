@@ -1,16 +1,21 @@
 //! What a session is told, and what it answers.
 
 ghost use Rattle.std.specs.Prelude.{◌≡◌};
-ghost use Rattle.ltp_segment.specs.Word.{note_name};
+ghost use Rattle.ltp_segment.specs.Notes.{note_name};
 
-use crate::cause::SegmentCause;
 use crate::claims::Claims;
+use crate::fault::SegmentCause;
 use crate::outs::Outs;
 use crate::segment::PieceKind;
 use endpoint::Octets;
 
 /// The greatest length of a block in octets, and of its red part.
 pub const BLOCK_MAX: u64 = 4_194_304;
+
+/// The number that `BLOCK_MAX` names.
+pub fn greatest_block()
+    ensures { BLOCK_MAX ≡ 4194304 }
+{}
 
 /// A piece as its datagram lends it.
 #[derive(Clone, Copy, Debug)]
@@ -36,7 +41,7 @@ pub struct ReportView<'a> {
     pub serial: u64,
     /// The serial number of the checkpoint that it answers; 0 where there is none.
     pub checkpoint: u64,
-    /// The place behind the last octet that it speaks of.
+    /// The place after the last octet that it speaks of.
     pub upper: u64,
     /// The place of the first octet that it speaks of.
     pub lower: u64,
@@ -106,11 +111,11 @@ pub enum Note {
     },
     /// A segment that isn't for this engine, or not from its peer.
     Stranger,
-    /// A datagram that is no segment.
+    /// A datagram that isn't a segment.
     BadSegment {
         /// How many octets are as they should be.
         at: usize,
-        /// What is wrong with the field behind them.
+        /// What is wrong with the field after them.
         cause: SegmentCause,
     },
     /// A piece or a report that doesn't fit what is known of its block.

@@ -1,10 +1,15 @@
 //! The octets of a segment.
 
-ghost use Rattle.std.specs.Prelude.{◌≡◌, ◌<◌, ◌^◌, ◌++◌, IfOk, OnOk};
+ghost use Rattle.std.specs.Prelude.{◌≡◌, ◌+◌, ◌*◌, ◌<◌, ◌≤◌, ◌^◌, ◌++◌, [], length, IfOk, OnOk};
+ghost use Rattle.std.specs.Prelude.{vec_capacity};
 ghost use Rattle.std.specs.List.{flat_map};
-ghost use Rattle.ltp_segment.specs.Values.{a_piece, a_report, a_report_ack, a_sender_cancel, a_sender_cancel_ack, a_receiver_cancel, a_receiver_cancel_ack, SegmentValue};
-ghost use Rattle.ltp_segment.specs.Legal.{IsPiece, IsReport, IsSegment};
-ghost use Rattle.ltp_segment.specs.Writing.{IsWritten, Writes, piece_type, serial_octets, claim_octets, header_octets, segment_octets, by_side, cancel_type, cancel_ack_type};
+ghost use Rattle.ltp_segment.specs.Values.{a_piece, a_report, a_report_ack};
+ghost use Rattle.ltp_segment.specs.Values.{a_sender_cancel, a_sender_cancel_ack};
+ghost use Rattle.ltp_segment.specs.Values.{a_receiver_cancel, a_receiver_cancel_ack};
+ghost use Rattle.ltp_segment.specs.Legal.{IsPiece, IsReport};
+ghost use Rattle.ltp_segment.specs.Spelling.{Writes, piece_type, serial_octets, claim_octets};
+ghost use Rattle.ltp_segment.specs.Spelling.{header_octets, by_side};
+ghost use Rattle.ltp_segment.specs.Ties.{cancel_type, cancel_ack_type};
 
 use crate::segment::{Claim, PieceKind};
 use endpoint::Octets;
@@ -12,8 +17,10 @@ use std::alloc::{AllocError, Global};
 
 /// The most octets that a number has.
 const NUMBER: usize = 10;
-/// The most octets before the content of a segment.
-const HEADER: usize = 2 + 2 * NUMBER;
+/// The most octets of a segment without its data or its claims: two octets and seven numbers.
+const FIELDS: usize = 2 + 7 * NUMBER;
+/// The most octets that a claim has.
+const CLAIM: usize = 2 * NUMBER;
 
 /// Writes a piece. Both serials are 0 where it is no checkpoint.
 pub fn write_piece(
@@ -44,13 +51,8 @@ pub fn write_piece(
       body = body.now;
     }))) }
 {
-    let mut out = header(
-        alloc,
-        kind.segment_type(),
-        originator,
-        session,
-        body.len().saturating_add(5 * NUMBER),
-    )?;
+    let room = room_for(alloc, body, &[])?;
+    let mut out = header(room, kind.segment_type(), originator, session)?;
     sdnv::write(service, &mut out)?;
     sdnv::write(offset, &mut out)?;
     sdnv::write(body.len() as u64, &mut out)?;
@@ -85,13 +87,8 @@ pub fn write_report(
       claims = claims.now;
     }))) }
 {
-    // No number of a claim is longer than that of the octets that the report speaks of.
-    let claim = sdnv::len(upper - lower).saturating_mul(2);
-    let room = claims
-        .len()
-        .saturating_mul(claim)
-        .saturating_add(5 * NUMBER);
-    let mut out = header(alloc, 8, originator, session, room)?;
+    let room = room_for(alloc, &[], claims)?;
+    let mut out = header(room, 8, originator, session)?;
     sdnv::write(serial, &mut out)?;
     sdnv::write(checkpoint, &mut out)?;
     sdnv::write(upper, &mut out)?;
@@ -110,7 +107,8 @@ pub fn write_ack(
 ) -> Result<Octets, AllocError>
     ensures { IfOk result (Writes originator session (a_report_ack serial)) }
 {
-    let mut out = header(alloc, 9, originator, session, NUMBER)?;
+    let room = room_for(alloc, &[], &[])?;
+    let mut out = header(room, 9, originator, session)?;
     sdnv::write(serial, &mut out)?;
     Ok(Octets::from_vec(out))
 }
@@ -126,7 +124,8 @@ pub fn write_cancel(
     ensures { IfOk result (Writes originator session
         (by_side by_sender (a_sender_cancel reason) (a_receiver_cancel reason))) }
 {
-    let mut out = header(alloc, cancel_type(by_sender), originator, session, 1)?;
+    let room = room_for(alloc, &[], &[])?;
+    let mut out = header(room, cancel_type(by_sender), originator, session)?;
     out.push(reason)?;
     Ok(Octets::from_vec(out))
 }
@@ -141,14 +140,10 @@ pub fn write_cancel_ack(
     ensures { IfOk result (Writes originator session
         (by_side to_sender a_sender_cancel_ack a_receiver_cancel_ack)) }
 {
-    let out = header(alloc, cancel_ack_type(to_sender), originator, session, 0)?;
+    let room = room_for(alloc, &[], &[])?;
+    let out = header(room, cancel_ack_type(to_sender), originator, session)?;
     Ok(Octets::from_vec(out))
 }
-
-/// What is written of a segment spells it, and is read back as the same segment.
-pub fn is_read_back()
-    ensures { (s : SegmentValue) → IsSegment s → IsWritten s (segment_octets s) }
-{}
 
 /// The segment type of a cancel by the sender or by the receiver.
 fn cancel_type(by_sender: bool) -> u8
@@ -164,17 +159,24 @@ fn cancel_ack_type(to_sender: bool) -> u8
     if to_sender { 13 } else { 15 }
 }
 
-/// The fields before the content, with room for so many octets behind them.
-fn header(
-    alloc: Global,
-    kind: u8,
-    originator: u64,
-    session: u64,
-    room: usize,
-) -> Result<Vec<u8>, AllocError>
+/// Room for a segment with this body or these claims. It goes by what is there, and by no number in
+/// a field.
+fn room_for(alloc: Global, body: &[u8], claims: &[Claim]) -> Result<Vec<u8>, AllocError>
+    ensures empty { IfOk result (λ out. out.items ≡ []) }
+    ensures room { IfOk result (λ out.
+        vec_capacity out ≤ FIELDS + length body.now + CLAIM * length claims.now) }
+{
+    let octets = claims.len().saturating_mul(CLAIM);
+    let room = octets.saturating_add(body.len()).saturating_add(FIELDS);
+    Vec::with_capacity(alloc, room)
+}
+
+/// The fields before the content, written into this room.
+fn header(room: Vec<u8>, kind: u8, originator: u64, session: u64) -> Result<Vec<u8>, AllocError>
+    requires { room.items ≡ [] }
     ensures { IfOk result (λ out. out.items ≡ header_octets kind originator session) }
 {
-    let mut out = Vec::with_capacity(alloc, room.saturating_add(HEADER))?;
+    let mut out = room;
     out.push(kind)?;
     sdnv::write(originator, &mut out)?;
     sdnv::write(session, &mut out)?;

@@ -3,7 +3,7 @@
 use crate::rows::octets;
 use std::alloc::Global;
 use std::test::Fail;
-use wire_fields::sample::{Cause, Fail as Refusal, Item, Part, decode, decode_whole};
+use waybill::{Cause, Fail as Refusal, Item, Part, decode, decode_whole};
 use wire_fields::{
     ARRAY, Miss, UnsignedOrText, head_at, number_at, octet_at, octets_at, unsigned_or_text_at,
 };

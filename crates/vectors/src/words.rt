@@ -9,7 +9,7 @@ use sdnv::SdnvFault;
 use std::alloc::{AllocError, Global};
 use std::fmt::Display;
 use std::test::Fail;
-use wire_fields::{Miss, sample};
+use wire_fields::Miss;
 
 /// Whether a cause's word and its message are this name.
 fn is_named<C: Display + Drop>(
@@ -77,21 +77,21 @@ fn words_of_fields(rt: HostRuntime) -> Result<(), Fail> {
 }
 
 /// Why octets are no waybill.
-const WAYBILLS: &[(sample::Cause, &str)] = &[
-    (sample::Cause::Truncated, "Truncated"),
-    (sample::Cause::Mark, "Mark"),
-    (sample::Cause::Count, "Count"),
-    (sample::Cause::Number, "Number"),
-    (sample::Cause::Sender, "Sender"),
-    (sample::Cause::Range, "Range"),
-    (sample::Cause::FrontEnd, "FrontEnd"),
-    (sample::Cause::Kind, "Kind"),
-    (sample::Cause::SecondGoods, "SecondGoods"),
-    (sample::Cause::TooManyItems, "TooManyItems"),
-    (sample::Cause::Repeated, "Repeated"),
-    (sample::Cause::Check, "Check"),
-    (sample::Cause::Order, "Order"),
-    (sample::Cause::Trailing, "Trailing"),
+const WAYBILLS: &[(waybill::Cause, &str)] = &[
+    (waybill::Cause::Truncated, "Truncated"),
+    (waybill::Cause::Mark, "Mark"),
+    (waybill::Cause::Count, "Count"),
+    (waybill::Cause::Number, "Number"),
+    (waybill::Cause::Sender, "Sender"),
+    (waybill::Cause::Range, "Range"),
+    (waybill::Cause::FrontEnd, "FrontEnd"),
+    (waybill::Cause::Kind, "Kind"),
+    (waybill::Cause::SecondGoods, "SecondGoods"),
+    (waybill::Cause::TooManyItems, "TooManyItems"),
+    (waybill::Cause::Repeated, "Repeated"),
+    (waybill::Cause::Check, "Check"),
+    (waybill::Cause::Order, "Order"),
+    (waybill::Cause::Trailing, "Trailing"),
 ];
 
 #[test]

@@ -6,4 +6,5 @@ pub mod StayLemmas
 pub mod WholeLemmas
 pub mod FrontLemmas
 pub mod GroupLemmas
-pub mod WaybillLemmas
+pub mod KeepsLemmas
+pub mod JudgeLemmas

@@ -14,7 +14,7 @@ pub data Format (C : Type 0) : Type 0 → Type 1 where
   field : (k : Kind) → C → Format C (ValueOf k)
   -- fields under conditions on their value, which answer the cause of the first that fails
   such_that : {A : Type 0} → Format C A → (A → Option C) → Format C A
-  -- fields, and behind them others that may depend on their value
+  -- fields, and after them others that may depend on their value
   and_then : {A B : Type 0} → Format C A → (A → Format C B) → Format C B
 
 -- and_then, so that a table can be written down line by line
@@ -22,7 +22,7 @@ infixl 10 ◌>>=◌
 abbrev pub ◌>>=◌ : {C A B : Type 0} → Format C A → (A → Format C B) → Format C B
 f >>= g = and_then f g
 
--- Behind the octets front, the octets w spell the fields with their conditions, and a is what they
+-- After the octets front, the octets w spell the fields with their conditions, and a is what they
 -- make up.
 abbrev pub Spells : {C A : Type 0} → Format C A → List ℕ → List ℕ → A → Type 0
 Spells (give x) front w a = (w ≡ []) × (a ≡ x)

@@ -1,9 +1,9 @@
 -- What code returned beside what reading gives.
-use Rattle.std.specs.Prelude.{◌≡◌, ℕ, ◌≤◌, List, length, Option, Some, None, Result, Ok, Err}
+use Rattle.std.specs.Prelude.{◌≡◌, ℕ, ◌≤◌, List, length, Option, Some, None, Result, Ok, Err, IfErr, IsOk}
 use Rattle.wire_fields.specs.Refusal.{Stop}
 use Rattle.wire_fields.specs.declared.miss.Miss.{Miss}
 
--- a place in a text, at or behind an earlier one
+-- a place in a text, no earlier than another one
 pub record IsOn (before : ℕ) (text : List ℕ) (at : ℕ) : Type 0 where
   pub behind : before ≤ at
   pub within : at ≤ length text
@@ -34,3 +34,15 @@ abbrev pub Finds : {X Y : Type 0}
     → (X → Y) → Result (X × ℕ) Miss → Result (Y × ℕ) Miss → Type 0
 Finds view (Ok x) given = given ≡ Ok (view x.0, x.1)
 Finds view (Err m) given = given ≡ Err m
+
+-- How far octets spell the fields, whatever they make up; or the refusal, which fault tells.
+abbrev pub Judges : {C A E : Type 0}
+    → (E → ℕ × Stop C) → Result ℕ E → Result (A × ℕ) (ℕ × Stop C) → Type 0
+Judges fault (Ok k) (Ok x) = k ≡ x.1
+Judges fault (Ok k) (Err s) = ⊥
+Judges fault (Err e) given = given ≡ Err (fault e)
+
+-- Memory is wanted only where the fields are spelled.
+abbrev pub WantsOnlySpelled : {C X A E : Type 0}
+    → (E → Option (ℕ × Stop C)) → Result X E → Result (A × ℕ) (ℕ × Stop C) → Type 0
+WantsOnlySpelled fault result given = IfErr result (λ e. fault e ≡ None → IsOk given)

@@ -1,9 +1,10 @@
+-- What formats are: the kinds of fields, tables, refusals, whole texts, and the words of tables.
 pub mod Kind
 pub mod Format
 pub mod Refusal
-pub mod Reading
-pub mod Words
 pub mod Whole
-pub mod Gives
+pub mod Words
 pub mod Word
-pub mod Waybill
+-- What ties code to them: reading as a function, and what code returned beside it.
+pub mod Reading
+pub mod Gives

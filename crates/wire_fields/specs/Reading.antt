@@ -1,4 +1,4 @@
--- Reading a format from a place in a text: the value and the place behind it, or the refusal.
+-- Reading a format from a place in a text: the value and the place after it, or the refusal.
 use Rattle.std.specs.Prelude.{ℕ, ◌+◌, ◌-◌, ◌/◌, ◌<◌, ◌==◌, List, [], ◌∷◌, length, take, drop, get_or, nat_lt, slice_index, if◌then◌else◌, Option, Some, None, Result, Ok, Err}
 use Rattle.wire_fields.specs.declared.miss.Miss.{Miss}
 use Rattle.wire_fields.specs.declared.miss.Miss.TheVariants as misses
@@ -45,12 +45,12 @@ look number w = look_number (read_of w)
 look (head kind) w = look_head (λ n. n) (head_at kind w)
 look unsigned_or_text w = look_lead w
 
--- seen from the place at: the octets behind it are counted from the start of the text
+-- seen from the place at: the octets after it are counted from the start of the text
 abbrev pub ahead : {A : Type 0} → ℕ → Result (A × ℕ) Miss → Result (A × ℕ) Miss
 ahead at (Ok x) = Ok (x.0, at + x.1)
 ahead at (Err m) = Err m
 
--- what a field of the kind is at a place, and the place behind it
+-- what a field of the kind is at a place, and the place after it
 abbrev pub look_at : (k : Kind) → List ℕ → ℕ → Result (ValueOf k × ℕ) Miss
 look_at k text at = ahead at (look k (drop at text))
 
@@ -67,7 +67,7 @@ abbrev pub judged : {C A : Type 0}
 judged at None x = Ok x
 judged at (Some cause) x = Err (at, because cause)
 
--- what stands behind a value; a refusal is passed on
+-- what stands after a value; a refusal is passed on
 abbrev pub go_on : {A B E : Type 0} → Result A E → (A → Result B E) → Result B E
 go_on (Ok x) f = f x
 go_on (Err e) f = Err e

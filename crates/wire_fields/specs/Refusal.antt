@@ -30,7 +30,7 @@ pub record HasFailed {C A : Type 0} (f : Format C A) (conditions : A → Option 
   pub fails : conditions value ≡ Some cause
   pub why : s ≡ because cause
 
--- Behind the octets front, the octets w are refused at the place at: the octets before it spell the
+-- After the octets front, the octets w are refused at the place at: the octets before it spell the
 -- earlier fields with their conditions, and the field there is missing, or a condition on it fails.
 abbrev pub Refusal : {C A : Type 0} → Format C A → List ℕ → List ℕ → ℕ → Stop C → Type 0
 Refusal (give x) front w at s = ⊥

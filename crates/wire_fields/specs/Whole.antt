@@ -4,13 +4,13 @@ use Rattle.wire_fields.specs.Format.{Format, Spells}
 use Rattle.wire_fields.specs.Refusal.{Stop, because, Refusal}
 use Rattle.wire_fields.specs.Reading.{read, go_on}
 
--- the fields are spelled, and behind the place at more octets follow
+-- the fields are spelled, and after the place at more octets follow
 pub record HasMore {C A : Type 0} (f : Format C A) (text : List ℕ) (at : ℕ) : Type 0 where
   pub value : A
   pub spells : Spells f [] (take at text) value
   pub more : at < length text
 
--- The whole text is refused: its fields are, or the text goes on behind the last of them.
+-- The whole text is refused: its fields are, or the text goes on after the last of them.
 abbrev pub WholeRefusal : {C A : Type 0} → Format C A → C → List ℕ → ℕ → Stop C → Type 0
 WholeRefusal f trailing text at s =
     Refusal f [] text at s ⊎ (HasMore f text at × (s ≡ because trailing))

@@ -1,4 +1,4 @@
-//! One field at a place in a text: its value and the place behind it.
+//! One field at a place in a text: its value and the place after it.
 
 ghost use Rattle.std.specs.Prelude.{◌≡◌, ◌≤◌, length, IfOk};
 ghost use Rattle.wire_fields.specs.Kind.{octet, octets, number, head, unsigned_or_text};
@@ -81,10 +81,10 @@ pub fn unsigned_or_text_at(text: &[u8], at: usize) -> Result<(UnsignedOrText, us
     ensures exact { result ≡ look_at unsigned_or_text text.now at }
 {
     if at < text.len() && text[at] / 32 == TEXT_STRING {
-        let (count, behind) = head_at(text, at, TEXT_STRING)?;
-        Ok((UnsignedOrText::Text(count), behind))
+        let (count, after) = head_at(text, at, TEXT_STRING)?;
+        Ok((UnsignedOrText::Text(count), after))
     } else {
-        let (value, behind) = head_at(text, at, UNSIGNED)?;
-        Ok((UnsignedOrText::Unsigned(value), behind))
+        let (value, after) = head_at(text, at, UNSIGNED)?;
+        Ok((UnsignedOrText::Unsigned(value), after))
     }
 }

@@ -5,6 +5,6 @@
 pub enum UnsignedOrText {
     /// The number.
     Unsigned(u64),
-    /// How many octets the text has, which stand behind the head.
+    /// How many octets the text has, which stand after the head.
     Text(u64),
 }

@@ -8,16 +8,22 @@
 //!
 //! The functions here read one field of each kind at a place of a text. They lend octets out of
 //! the text and take no memory. A decoder is made of them, a function for each field with a
-//! condition and for each group; `sample` is one that shows how, with all that a decoder can
-//! promise. `docs/formats.md` explains the notion by it.
+//! condition and for each group.
+//!
+//! [`laws`] states what holds of every table: what is read is spelled so ([`laws::found`]), what is
+//! spelled so is read ([`laws::only`]), what is refused has this refusal ([`laws::refused`]), what
+//! has a refusal is refused with it ([`laws::refuses`]), of each text exactly one of both holds
+//! ([`laws::exactly_one`], [`laws::exactly_one_whole`]), and an answer that is settled stays
+//! ([`laws::stays`]). The crate `waybill` has them at a small table, with all that a decoder can
+//! promise; `docs/formats.md` explains the notion by it.
 //!
 //! Left out: writers, which need `Spells` alone, and what a field means to its format.
 #![tactic(auto)]
 
 mod field;
+pub mod laws;
 mod lead;
 mod miss;
-pub mod sample;
 
 pub use field::{
     ARRAY, BYTE_STRING, TEXT_STRING, UNSIGNED, head_at, number_at, octet_at, octets_at,

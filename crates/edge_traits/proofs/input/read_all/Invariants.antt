@@ -1,15 +1,13 @@
-use Rattle.std.proofs.Common.{◌≡◌, ◌+◌, ◌-◌, ◌≤◌, vec_len}
+use Rattle.std.proofs.Common.{◌+◌, ◌-◌, ◌≤◌, vec_len}
 use Rattle.std.specs.Io.KnownBytes.{Consumes}
-use Rattle.edge_traits.specs.Faults.{NoneFailed}
+use Rattle.edge_traits.specs.Faults.{NoneFailed, calls_of}
 use Rattle.edge_traits.proofs.input.read_all.Given as goal
 
 abbrev pub invariant-reading : goal.invariant-reading
 invariant-reading g l = record {
   read : Consumes (g.S.Source.left l.initial.source) (g.S.Source.left l.source) l.input.items;
-  told : NoneFailed (g.S.Source.failing l.initial.source) (g.S.Source.failing l.source);
-  kept : g.S.Source.faults l.source ≡ g.S.Source.faults l.initial.source;
+  calls : NoneFailed (calls_of g.S.Source.faults g.S.Source.failing l.initial.source) (calls_of g.S.Source.faults g.S.Source.failing l.source);
   within : vec_len l.input ≤ l.most + 1;
-  buffer : vec_len l.buffer ≡ vec_len l.initial.buffer;
 }
 
 abbrev pub decreases-reading : goal.decreases-reading

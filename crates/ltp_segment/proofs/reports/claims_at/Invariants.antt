@@ -4,7 +4,7 @@ use Rattle.ltp_segment.proofs.reports.claims_at.Given as goal
 
 abbrev pub invariant-passing : goal.invariant-passing
 invariant-passing l = record {
-  behind : l.at ≤ l.behind;
-  place : l.behind ≤ length l.text;
-  so_far : SoFar l.count l.counter l.most l.end l.text l.behind l.at;
+  after : l.at ≤ l.after;
+  place : l.after ≤ length l.text;
+  so_far : SoFar l.count l.counter l.most l.end l.text l.after l.at;
 }

@@ -1,7 +1,7 @@
 use Rattle.std.proofs.Common.{◌++◌, ◌∙◌, ap, arith}
 use Rattle.sdnv.specs.Shortest.{spelling}
 use Rattle.ltp_segment.specs.Values.{a_report_ack}
-use Rattle.ltp_segment.specs.Writing.{segment_octets}
+use Rattle.ltp_segment.specs.Spelling.{segment_octets}
 use Rattle.ltp_segment.proofs.WritingLemmas.{written}
 use Rattle.ltp_segment.proofs.writing.write_ack.Goals as goal
 

@@ -2,7 +2,7 @@ use Rattle.std.proofs.Common.{◌++◌, ◌∙◌, ap, arith, length}
 use Rattle.sdnv.specs.Shortest.{spelling}
 use Rattle.ltp_segment.specs.Kinds.{is_checkpoint}
 use Rattle.ltp_segment.specs.Values.{a_piece}
-use Rattle.ltp_segment.specs.Writing.{piece_type, serial_octets, header_octets, piece_octets, segment_octets}
+use Rattle.ltp_segment.specs.Spelling.{piece_type, serial_octets, header_octets, piece_octets, segment_octets}
 use Rattle.ltp_segment.proofs.WritingLemmas.{written, five_appended}
 use Rattle.ltp_segment.proofs.writing.write_piece.Goals as goal
 

@@ -2,7 +2,7 @@ use Rattle.std.proofs.Common.{◌++◌, ◌∙◌, ap, arith, length}
 use Rattle.std.specs.List.{flat_map}
 use Rattle.sdnv.specs.Shortest.{spelling}
 use Rattle.ltp_segment.specs.Values.{a_report}
-use Rattle.ltp_segment.specs.Writing.{claim_octets, header_octets, report_octets, segment_octets}
+use Rattle.ltp_segment.specs.Spelling.{claim_octets, header_octets, report_octets, segment_octets}
 use Rattle.ltp_segment.proofs.WritingLemmas.{written, six_appended}
 use Rattle.ltp_segment.proofs.writing.write_report.Goals as goal
 

@@ -1,7 +1,0 @@
-use Rattle.wire_fields.proofs.WholeLemmas.{exactly_one_whole}
-use Rattle.ltp_segment.specs.declared.cause.SegmentCause.TheVariants as causes
-use Rattle.ltp_segment.specs.Table.{segment}
-use Rattle.ltp_segment.proofs.decoding.is_segment_or_refused.Goals as goal
-
-pub returns : goal.returns
-returns c = exactly_one_whole segment causes.Trailing

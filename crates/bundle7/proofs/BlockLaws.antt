@@ -1,6 +1,6 @@
 -- The other blocks and the whole bundle: what is spelled is legal, and has one spelling; what is legal
 -- is spelled.
-use Rattle.std.proofs.Common.{◌≡◌, ℕ, zero, suc, ◌+◌, ◌^◌, ◌<◌, ◌≤◌, ◌==◌, nat_lt, Bool, true, false, ◌&&◌, ◌||◌, not, List, [], ◌∷◌, ◌++◌, length, take, Option, None, Result, Ok, Err, IfOk, refl, sym, ap, ◌∙◌, subst, append_assoc, arith}
+use Rattle.std.proofs.Common.{◌≡◌, ℕ, zero, suc, ◌+◌, ◌^◌, ◌<◌, ◌≤◌, ◌==◌, nat_lt, Bool, true, false, ◌&&◌, ◌||◌, not, List, [], ◌∷◌, ◌++◌, length, take, drop, take-append-drop, Option, None, Result, Ok, Err, IfOk, refl, sym, ap, ◌∙◌, subst, append_assoc, arith}
 use Rattle.std.proofs.lemmas.Bool.{eqb-true, eqb-false, eq-eqb, ne_eqb, ltb-true, false≢true}
 use Rattle.std.proofs.lemmas.List.{append-nil}
 use Rattle.cbor_lite.specs.Head.{head}
@@ -8,18 +8,21 @@ use Rattle.cbor_lite.specs.Item.{string}
 use Rattle.endpoint.specs.declared.extent.Fragment.{Fragment}
 use Rattle.wire_fields.specs.Format.{Spells, give}
 use Rattle.wire_fields.specs.Refusal.{Begins}
+use Rattle.wire_fields.specs.Reading.{read, IsOctets}
+use Rattle.wire_fields.proofs.ReadLemmas.{read-only}
+use Rattle.wire_fields.proofs.ResultLemmas.{found}
 use Rattle.wire_fields.specs.Words.{needs, choice}
 use Rattle.bundle7.specs.declared.fault.Cause7.TheVariants as causes
-use Rattle.bundle7.specs.declared.groups.Lead.{Lead}
+use Rattle.bundle7.specs.declared.block.Lead.{Lead}
 use Rattle.bundle7.specs.declared.block.Block7.{Block7}
 use Rattle.bundle7.specs.declared.bundle.Bundle7.{Bundle7}
 use Rattle.bundle7.specs.Body.{is_body}
-use Rattle.bundle7.specs.Check.{crc}
 use Rattle.bundle7.specs.Table.{check_items, is_single, has_kind, is_number, is_within, lead, block, blocks, bundle}
 use Rattle.bundle7.specs.Spelling.{crc_octets, with_check, bare_octets, block_octets, blocks_octets, primary_octets, octets7}
 use Rattle.bundle7.specs.Legal.{IsLegalBlock, AreLegal, IsLegal}
+use Rattle.bundle7.proofs.BodyLemmas.{octets_front, octets_after, octets_in, body-found, body-only}
 use Rattle.bundle7.proofs.SpellingLaws.{needs-true, also-first, also-second, joined, ended, head-spells}
-use Rattle.bundle7.proofs.PrimaryLaws.{needs-none, check_items-small, crc-spelled, crc-spells, crc_kind-holds, primary-spelled, primary-spells}
+use Rattle.bundle7.proofs.PrimaryLaws.{needs-none, check_items-small, crc-spelled, crc-spells, crc_type-holds, primary-spelled, primary-spells}
 
 not-true : (b : Bool) → not b ≡ true → b ≡ false
 not-true true is = absurd (false≢true is)
@@ -86,7 +89,7 @@ lead-spelled left earlier front w l (
     })
 
 record BlockIs (part : Option Fragment) (left : ℕ) (earlier : List Block7) (w : List ℕ) (b : Block7) : Type 0 where
-  legal : IsLegalBlock part earlier b
+  legal : IsOctets w → IsLegalBlock part earlier b
   may_follow : ((b.kind == 1) || not (left == 0)) ≡ true
   octets : w ≡ block_octets b
 
@@ -133,7 +136,7 @@ block-spelled part left earlier front w b (
     (joined (u2 ++ u3) u2 (head 2 (length octets)) u3 octets refl (size_is.spelt ∙ ap (head 2) count) same) in
     let bare : lead_octets first ++ string 2 octets ≡ bare_octets (record { kind = first.kind; number = first.number; flags = first.flags; crc = first.crc; body = octets }) = simp append_assoc in
     rw is (record {
-      legal = record {
+      legal = λ fits. record {
         kind = l.kind;
         once = l.once;
         number = l.number;
@@ -142,7 +145,8 @@ block-spelled part left earlier front w b (
         crc = l.crc;
         size = subst (λ (n : ℕ). n < 2 ^ 64) count size_is.small;
         within = subst (λ (n : ℕ). is_within part first.kind n ≡ true) count (needs-true (is_within part first.kind size) causes.FragmentRange within);
-        body = needs-true (is_body first.kind octets) causes.ExtensionBody legal;
+        body = body-found first.kind octets (octets_in w (u1 ++ u2) u3 octets u4 (whole ∙ simp append_assoc) same fits)
+            (needs-true (is_body first.kind octets) causes.ExtensionBody legal);
       };
       may_follow = l.may_follow;
       octets = whole ∙ (ap (λ (t : List ℕ). text ++ t) crc_is ∙ ap (λ (t : List ℕ). t ++ crc_octets first.crc t) (text_is ∙ bare));
@@ -154,8 +158,8 @@ record BlocksAre (part : Option Fragment) (left : ℕ) (earlier : List Block7) (
   more : List Block7
   parts : exts ≡ earlier ++ more
   few : length more ≤ left
-  legal : AreLegal part earlier more
-  last : IsLegalBlock part exts payload
+  legal : IsOctets w → AreLegal part earlier more
+  last : IsOctets w → IsLegalBlock part exts payload
   kind : payload.kind ≡ 1
   octets : w ≡ blocks_octets more ++ block_octets payload
 
@@ -164,7 +168,7 @@ or-first true b is other = refl
 or-first false b is other = absurd (false≢true (sym other ∙ is))
 
 last-block : (part : Option Fragment) (left : ℕ) (earlier : List Block7) (w : List ℕ) (exts : List Block7) (payload b : Block7)
-    → IsLegalBlock part earlier b → b.kind ≡ 1 → w ≡ block_octets b → exts ≡ earlier → payload ≡ b
+    → (IsOctets w → IsLegalBlock part earlier b) → b.kind ≡ 1 → w ≡ block_octets b → exts ≡ earlier → payload ≡ b
     → BlocksAre part left earlier w exts payload
 unfolding blocks_octets
 last-block part left earlier w exts payload b legal kind octets same is =
@@ -172,13 +176,13 @@ last-block part left earlier w exts payload b legal kind octets same is =
       more = [];
       parts = sym (append-nil earlier);
       few = omega arith;
-      legal = tt;
+      legal = λ fits. tt;
       last = legal;
       kind = kind;
       octets = octets;
     })
 
--- a block that was read, and what is read behind it
+-- a block that was read, and what is read after it
 choice-spelled : (t : Bool) (part : Option Fragment) (left : ℕ) (earlier : List Block7) (front w u v : List ℕ) (b : Block7) (x : List Block7 × Block7)
     → (b.kind == 1) ≡ t → w ≡ u ++ v → BlockIs part (suc left) earlier u b
     → Spells (choice t (give (earlier, b)) (blocks part left (earlier ++ b ∷ []))) front v x
@@ -186,7 +190,7 @@ choice-spelled : (t : Bool) (part : Option Fragment) (left : ℕ) (earlier : Lis
     → BlocksAre part (suc left) earlier w x.0 x.1
 unfolding blocks_octets
 choice-spelled true part left earlier front w u v b x test parts one (nothing, is) further =
-    last-block part (suc left) earlier w x.0 x.1 b one.legal (eqb-true b.kind 1 test) (ended w u (block_octets b) v parts one.octets nothing)
+    last-block part (suc left) earlier w x.0 x.1 b (λ fits. one.legal (octets_front w u v parts fits)) (eqb-true b.kind 1 test) (ended w u (block_octets b) v parts one.octets nothing)
     (ap (λ (p : List Block7 × Block7). p.0) is) (ap (λ (p : List Block7 × Block7). p.1) is)
 choice-spelled false part left earlier front w u v b x test parts one rest further =
     let others = further (earlier ++ b ∷ []) front v x rest in
@@ -194,8 +198,8 @@ choice-spelled false part left earlier front w u v b x test parts one rest furth
       more = b ∷ others.more;
       parts = others.parts ∙ append_assoc earlier (b ∷ []) others.more;
       few = let few = others.few in omega arith;
-      legal = (one.legal, (eqb-false b.kind 1 test, others.legal));
-      last = others.last;
+      legal = λ fits. (one.legal (octets_front w u v parts fits), (eqb-false b.kind 1 test, others.legal (octets_after w u v parts fits)));
+      last = λ fits. others.last (octets_after w u v parts fits);
       kind = others.kind;
       octets = joined w u (block_octets b) v (blocks_octets others.more ++ block_octets x.1) parts one.octets others.octets
           ∙ sym (append_assoc (block_octets b) (blocks_octets others.more) (block_octets x.1));
@@ -206,7 +210,7 @@ blocks-spelled : (part : Option Fragment) (left : ℕ) (earlier : List Block7) (
 unfolding blocks
 blocks-spelled part zero earlier front w x (u, v, b, parts, block_is, (nothing, is)) =
     let one = block-spelled part 0 earlier front u b block_is in
-    last-block part 0 earlier w x.0 x.1 b one.legal (eqb-true b.kind 1 (or-first (b.kind == 1) false one.may_follow refl))
+    last-block part 0 earlier w x.0 x.1 b (λ fits. one.legal (octets_front w u v parts fits)) (eqb-true b.kind 1 (or-first (b.kind == 1) false one.may_follow refl))
     (ended w u (block_octets b) v parts one.octets nothing)
     (ap (λ (p : List Block7 × Block7). p.0) is) (ap (λ (p : List Block7 × Block7). p.1) is)
 blocks-spelled part (suc left) earlier front w x (u, v, b, parts, block_is, rest) =
@@ -215,7 +219,7 @@ blocks-spelled part (suc left) earlier front w x (u, v, b, parts, block_is, rest
 
 -- ---- the bundle
 
-pub bundle-spelled : (most : ℕ) (w : List ℕ) (b : Bundle7) → Spells (bundle most) [] w b → IsLegal most b × (w ≡ octets7 b)
+pub bundle-spelled : (most : ℕ) (w : List ℕ) (b : Bundle7) → Spells (bundle most) [] w b → (IsOctets w → IsLegal most b) × (w ≡ octets7 b)
 unfolding bundle octets7
 bundle-spelled most w b
     (u, v, opens, parts, (opens_is, mark), (u1, v1, main, parts1, main_is, (u2, v2, all, parts2, blocks_are, (u3, v3, ends, parts3, (ends_is, break), (nothing, is))))) =
@@ -229,13 +233,15 @@ bundle-spelled most w b
     joined v1 u2 (blocks_octets a.more ++ block_octets all.1) v2 (0xFF ∷ []) parts2 a.octets (ended v2 u3 (0xFF ∷ []) v3 parts3 last nothing)
     ∙ (append_assoc (blocks_octets a.more) (block_octets all.1) (0xFF ∷ []) ∙ ap (λ (xs : List Block7). blocks_octets xs ++ back) (sym same)) in
     rw is (
-      record {
-        primary = p.0;
-        few = subst (λ (xs : List Block7). length xs ≤ most) (sym same) a.few;
-        exts = subst (λ (xs : List Block7). AreLegal main.fragment [] xs) (sym same) a.legal;
-        payload = a.last;
-        payload_kind = a.kind;
-      },
+      λ fits.
+          let all_fit : IsOctets u2 = octets_front v1 u2 v2 parts2 (octets_after v u1 v1 parts1 (octets_after w u v parts fits)) in
+          record {
+            primary = p.0;
+            few = subst (λ (xs : List Block7). length xs ≤ most) (sym same) a.few;
+            exts = subst (λ (xs : List Block7). AreLegal main.fragment [] xs) (sym same) (a.legal all_fit);
+            payload = a.last all_fit;
+            payload_kind = a.kind;
+          },
       joined w u (0x9F ∷ []) v (primary_octets main ++ (blocks_octets all.0 ++ back)) parts first
           (joined v u1 (primary_octets main) v1 (blocks_octets all.0 ++ back) parts1 p.1 others),
     )
@@ -271,7 +277,7 @@ lead-spells left earlier front l part body legal may_follow =
             l.flags,
             refl,
             head-spells 0 l.flags legal.flags,
-            (head 0 l.crc, [], l.crc, sym (append-nil (head 0 l.crc)), (head-spells 0 l.crc (let known = legal.crc in omega arith), crc_kind-holds l.crc items 5 legal.crc refl), (refl, refl)),
+            (head 0 l.crc, [], l.crc, sym (append-nil (head 0 l.crc)), (head-spells 0 l.crc (let known = legal.crc in omega arith), crc_type-holds l.crc items 5 legal.crc refl), (refl, refl)),
           ),
         ),
       ),
@@ -311,7 +317,7 @@ block-spells part left earlier front b legal may_follow =
             check,
             b.body,
             refl,
-            ((refl, refl), needs-none _ causes.ExtensionBody legal.body),
+            ((refl, refl), needs-none _ causes.ExtensionBody (body-only b.kind b.body legal.body)),
             (check, [], tt, sym (append-nil check), crc-spells b.crc (length front) (front ++ [] ++ a ++ size ++ b.body) front text refl before, (refl, refl)),
           ),
         ),
@@ -411,13 +417,28 @@ pub encoded-spelled : {E : Type 0} (most : ℕ) (b : Bundle7) (r : Result (List 
 encoded-spelled most b (Ok o) is legal = rw is (bundle-spells most b legal)
 encoded-spelled most b (Err e) is legal = tt
 
+pub encoded-again : {E : Type 0} (most : ℕ) (b : Bundle7) (r : Result (List ℕ) E) → IfOk r (λ o. o ≡ octets7 b) → IsLegal most b
+    → IfOk r (λ o. (more : List ℕ) → read (bundle most) (o ++ more) 0 ≡ Ok (b, length o))
+encoded-again most b (Ok o) is legal = rw is (λ more.
+    read-only (bundle most) [] (octets7 b) more b (bundle-spells most b legal)
+    ∙ ap (λ n. found b n) (omega arith))
+encoded-again most b (Err e) is legal = tt
+
 pub encoded-same : {E : Type 0} (most : ℕ) (b : Bundle7) (r : Result (List ℕ) E) → IfOk r (λ o. o ≡ octets7 b) → (w : List ℕ) → Spells (bundle most) [] w b
     → IfOk r (λ o. o ≡ w)
 encoded-same most b (Ok o) is w spells = is ∙ sym (bundle-spelled most w b spells).1
 encoded-same most b (Err e) is w spells = tt
 
 -- what is decoded is legal
-pub begins-legal : {E : Type 0} (most : ℕ) (text : List ℕ) (r : Result (Bundle7 × ℕ) E) → IfOk r (λ x. Begins (bundle most) text x.1 x.0)
+pub begins-legal : {E : Type 0} (most : ℕ) (text : List ℕ) (r : Result (Bundle7 × ℕ) E) → IsOctets text → IfOk r (λ x. Begins (bundle most) text x.1 x.0)
     → IfOk r (λ x. IsLegal most x.0)
-begins-legal most text (Ok x) begins = (bundle-spelled most (take x.1 text) x.0 begins.spells).0
-begins-legal most text (Err e) begins = tt
+begins-legal most text (Ok x) fits begins =
+    (bundle-spelled most (take x.1 text) x.0 begins.spells).0
+    (octets_front text (take x.1 text) (drop x.1 text) (sym (take-append-drop x.1 text)) fits)
+begins-legal most text (Err e) fits begins = tt
+
+-- a front that spells, its two facts side by side
+pub begins-spelled : {E : Type 0} (most : ℕ) (text : List ℕ) (r : Result (Bundle7 × ℕ) E) → IfOk r (λ x. Begins (bundle most) text x.1 x.0)
+    → IfOk r (λ x. (x.1 ≤ length text) × Spells (bundle most) [] (take x.1 text) x.0)
+begins-spelled most text (Ok x) begins = (begins.within, begins.spells)
+begins-spelled most text (Err e) begins = tt

@@ -1,5 +1,5 @@
 -- The clauses of calls that answer a value without the place of its refusal.
-use Rattle.std.proofs.Common.{◌≡◌, ℕ, List, [], Option, Some, None, Result, Ok, Err, IfSome, IfOk, sym, ap, ◌∙◌, subst}
+use Rattle.std.proofs.Common.{◌≡◌, ℕ, List, [], Option, Some, None, Result, Ok, Err, IfSome, IfOk, IsOk, refl, sym, ap, ◌∙◌, subst}
 use Rattle.std.specs.Result.{result_ok}
 use Rattle.std.proofs.lemmas.Bool.{false≢true}
 use Rattle.wire_fields.specs.Format.{Format, Spells}
@@ -62,3 +62,19 @@ pub eid_whole-refused : {A : Type 0} (f : Format Cause7 A) (trailing : Cause7) (
 eid_whole-refused f trailing w r gives refused x spells =
     let here : GivesEid r (Ok x) = eid_whole-only f trailing w r gives x spells in
     false≢true (subst (λ (q : _). GivesEid q (Ok x)) refused here)
+
+ok-value : {A : Type 0} (r : Result A (ℕ × Stop Cause7)) → IsOk r → (x : A) × (r ≡ Ok x)
+ok-value (Ok x) ok = (x, refl)
+ok-value (Err e) ok = absurd (cc)
+
+pub eid_front-memory : {A : Type 0} (f : Format Cause7 A) (w : List ℕ) (r : Result (A × ℕ) EidFault) → IsOctets w → GivesEid r (read f w 0)
+    → r ≡ Err faults.Memory → (x : A) × (k : ℕ) × Begins f w k x
+eid_front-memory f w r octets gives short =
+    let (x, is) = ok-value (read f w 0) (subst (λ (q : _). GivesEid q (read f w 0)) short gives) in
+    (x.0, x.1, read-begins f w x.1 x.0 octets is)
+
+pub eid_whole-memory : {A : Type 0} (f : Format Cause7 A) (trailing : Cause7) (w : List ℕ) (r : Result A EidFault) → IsOctets w
+    → GivesEid r (read_whole f trailing w) → r ≡ Err faults.Memory → (x : A) × Spells f [] w x
+eid_whole-memory f trailing w r octets gives short =
+    let (x, is) = ok-value (read_whole f trailing w) (subst (λ (q : _). GivesEid q (read_whole f trailing w)) short gives) in
+    (x, whole-found f trailing w x octets is)

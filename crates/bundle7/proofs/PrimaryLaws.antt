@@ -1,5 +1,5 @@
 -- The primary block: what is spelled is legal, and has one spelling; what is legal is spelled.
-use Rattle.std.proofs.Common.{◌≡◌, ℕ, zero, suc, ◌+◌, ◌^◌, ◌<◌, ◌≤◌, ◌==◌, nat_lt, nat_le, Bool, true, false, ◌&&◌, if◌then◌else◌, List, [], ◌++◌, length, drop, Option, Some, None, is_some, refl, sym, ap, ◌∙◌, append_assoc, arith}
+use Rattle.std.proofs.Common.{◌≡◌, ℕ, ◌+◌, ◌^◌, ◌<◌, ◌≤◌, ◌==◌, nat_lt, nat_le, Bool, true, false, ◌&&◌, if◌then◌else◌, List, [], ◌++◌, length, drop, Option, Some, None, is_some, refl, sym, ap, ◌∙◌, append_assoc, arith}
 use Rattle.std.proofs.lemmas.Bool.{le-leb, eqb-true, eq-eqb, ltb-true, lt-ltb, false≢true}
 use Rattle.std.proofs.lemmas.List.{append-nil}
 use Rattle.std.proofs.Math.Seq.{drop-append_seam}
@@ -8,17 +8,17 @@ use Rattle.std.proofs.lemmas.Slice.Eq.{bytes_eq-Decides}
 use Rattle.cbor_lite.specs.Head.{head}
 use Rattle.endpoint.specs.declared.extent.Fragment.{Fragment}
 use Rattle.endpoint.specs.Endpoints.{IsEndpoint}
-use Rattle.wire_fields.specs.Format.{Spells}
-use Rattle.wire_fields.specs.Words.{needs, ◌also◌, optional}
+use Rattle.wire_fields.specs.Format.{Spells, give}
+use Rattle.wire_fields.specs.Words.{needs, ◌also◌, choice, optional}
 use Rattle.bundle7.specs.declared.fault.Cause7.{Cause7}
 use Rattle.bundle7.specs.declared.fault.Cause7.TheVariants as causes
-use Rattle.bundle7.specs.declared.groups.Opening.{Opening}
-use Rattle.bundle7.specs.declared.groups.Names.{Names}
-use Rattle.bundle7.specs.declared.groups.Creation.{Creation}
+use Rattle.bundle7.specs.declared.primary.Opening.{Opening}
+use Rattle.bundle7.specs.Table.{Names}
+use Rattle.bundle7.specs.declared.primary.Creation.{Creation}
 use Rattle.bundle7.specs.declared.primary.Primary7.{Primary7}
-use Rattle.bundle7.specs.Check.{check16, check32, crc}
+use Rattle.bundle7.specs.Check.{check16, check32, check_field, crc_field}
 use Rattle.bundle7.specs.Table.{is_fragment, fragment_items, check_items, opening, names, creation, fragment, primary}
-use Rattle.bundle7.specs.Spelling.{eid_octets, crc_octets, with_check, part_octets, opening_octets, names_octets, creation_octets, main_octets, primary_octets}
+use Rattle.bundle7.specs.Spelling.{eid_octets, check_octets, crc_octets, with_check, part_octets, opening_octets, names_octets, creation_octets, main_octets, primary_octets}
 use Rattle.bundle7.specs.Legal.{IsPart, IsLegalPrimary}
 use Rattle.bundle7.proofs.SpellingLaws.{needs-true, also-first, also-second, joined, ended, exact-head, eid-spelled, eid-spells, head-spells}
 
@@ -28,7 +28,7 @@ bytes_eq-true xs ys is = (bytes_eq-Decides xs ys).0 is
 pub needs-none : (b : Bool) (c : Cause7) → b ≡ true → needs b c ≡ None
 needs-none b c is = rw is refl
 
--- ---- the check behind a block
+-- ---- the check after a block
 
 -- since the start of a block: its octets, and the head of its check
 since-start : (before text u block front : List ℕ) (start : ℕ) → start ≡ length before → front ≡ before ++ text
@@ -38,24 +38,28 @@ since-start before text u block front start begins parts is =
     ∙ (ap (λ (t : List ℕ). drop (length before) (t ++ u)) parts
     ∙ (ap (drop (length before)) (append_assoc before text u) ∙ drop-append_seam before (text ++ u))))
 
-pub crc-spelled : (kind start : ℕ) (front before text w : List ℕ) (c : Unit {0}) → start ≡ length before → front ≡ before ++ text
-    → Spells (crc kind start) front w c → w ≡ crc_octets kind text
-unfolding crc
-crc-spelled zero start front before text w c begins parts (nothing, is) = nothing
-crc-spelled (suc zero) start front before text w c begins parts
-    (u, v, size, parts_u, (heads, two), (u1, v1, block, parts1, (none, block_is), (u2, v2, octets, parts2, ((same, long), equal), (nothing, is)))) =
-    let first : u ≡ head 2 2 = exact-head 2 2 u size causes.Crc heads two in
-    let here : block ≡ text ++ head 2 2 = since-start before text u block front start begins parts block_is ∙ ap (λ (t : List ℕ). text ++ t) first in
-    let check : octets ≡ check16 block = bytes_eq-true octets (check16 block) (needs-true (bytes_eq octets (check16 block)) causes.Crc equal) in
-    joined w u (head 2 2) v (check16 (text ++ head 2 2)) parts_u first
-    (parts1 ∙ (ap (λ (t : List ℕ). t ++ v1) none ∙ ended v1 u2 (check16 (text ++ head 2 2)) v2 parts2 (same ∙ (check ∙ ap check16 here)) nothing))
-crc-spelled (suc (suc kind)) start front before text w c begins parts
-    (u, v, size, parts_u, (heads, four), (u1, v1, block, parts1, (none, block_is), (u2, v2, octets, parts2, ((same, long), equal), (nothing, is)))) =
-    let first : u ≡ head 2 4 = exact-head 2 4 u size causes.Crc heads four in
-    let here : block ≡ text ++ head 2 4 = since-start before text u block front start begins parts block_is ∙ ap (λ (t : List ℕ). text ++ t) first in
-    let check : octets ≡ check32 block = bytes_eq-true octets (check32 block) (needs-true (bytes_eq octets (check32 block)) causes.Crc equal) in
-    joined w u (head 2 4) v (check32 (text ++ head 2 4)) parts_u first
-    (parts1 ∙ (ap (λ (t : List ℕ). t ++ v1) none ∙ ended v1 u2 (check32 (text ++ head 2 4)) v2 parts2 (same ∙ (check ∙ ap check32 here)) nothing))
+check-spelled : (n start : ℕ) (check : List ℕ → List ℕ) (front before text w : List ℕ) (c : Unit {0}) → start ≡ length before → front ≡ before ++ text
+    → Spells (check_field n check start) front w c → w ≡ check_octets n check text
+check-spelled n start check front before text w c begins parts
+    (u, v, size, parts_u, (heads, long), (u1, v1, block, parts1, (none, block_is), (u2, v2, octets, parts2, ((same, _), equal), (nothing, is)))) =
+    let first : u ≡ head 2 n = exact-head 2 n u size causes.Crc heads long in
+    let here : block ≡ text ++ head 2 n = since-start before text u block front start begins parts block_is ∙ ap (λ (t : List ℕ). text ++ t) first in
+    let summed : octets ≡ check block = bytes_eq-true octets (check block) (needs-true (bytes_eq octets (check block)) causes.Crc equal) in
+    joined w u (head 2 n) v (check (text ++ head 2 n)) parts_u first
+    (parts1 ∙ (ap (λ (t : List ℕ). t ++ v1) none ∙ ended v1 u2 (check (text ++ head 2 n)) v2 parts2 (same ∙ (summed ∙ ap check here)) nothing))
+
+-- the same by the two tests of a check's type
+by-type-spelled : (none one : Bool) (start : ℕ) (front before text w : List ℕ) (c : Unit {0}) → start ≡ length before → front ≡ before ++ text
+    → Spells (choice none (give tt) (choice one (check_field 2 check16 start) (check_field 4 check32 start))) front w c
+    → w ≡ (if none then [] else if one then check_octets 2 check16 text else check_octets 4 check32 text)
+by-type-spelled true one start front before text w c begins parts (nothing, is) = nothing
+by-type-spelled false true start front before text w c begins parts spells = check-spelled 2 start check16 front before text w c begins parts spells
+by-type-spelled false false start front before text w c begins parts spells = check-spelled 4 start check32 front before text w c begins parts spells
+
+pub crc-spelled : (crc start : ℕ) (front before text w : List ℕ) (c : Unit {0}) → start ≡ length before → front ≡ before ++ text
+    → Spells (crc_field crc start) front w c → w ≡ crc_octets crc text
+unfolding crc_field crc_octets
+crc-spelled crc start front before text w c begins parts spells = by-type-spelled (crc == 0) (crc == 1) start front before text w c begins parts spells
 
 -- ---- groups
 
@@ -237,65 +241,50 @@ primary-spelled front w p (
 
 -- ---- what is legal is spelled
 
-pub crc-spells : (kind start : ℕ) (front before text : List ℕ) → start ≡ length before → front ≡ before ++ text
-    → Spells (crc kind start) front (crc_octets kind text) tt
-unfolding crc
-crc-spells zero start front before text begins parts = (refl, refl)
-crc-spells (suc zero) start front before text begins parts =
-    let here : drop start (front ++ head 2 2) ≡ text ++ head 2 2 = since-start before text (head 2 2) (drop start (front ++ head 2 2)) front start begins parts refl in
-    let equal : bytes_eq (check16 (text ++ head 2 2)) (check16 (drop start (front ++ head 2 2))) ≡ true =
-    (bytes_eq-Decides (check16 (text ++ head 2 2)) (check16 (drop start (front ++ head 2 2)))).1 (ap check16 (sym here)) in (
-      head 2 2,
-      check16 (text ++ head 2 2),
-      2,
+check-spells : (n start : ℕ) (check : List ℕ → List ℕ) (front before text : List ℕ) → n < 2 ^ 64 → length (check (text ++ head 2 n)) ≡ n
+    → start ≡ length before → front ≡ before ++ text → Spells (check_field n check start) front (check_octets n check text) tt
+check-spells n start check front before text small long begins parts =
+    let here : drop start (front ++ head 2 n) ≡ text ++ head 2 n = since-start before text (head 2 n) (drop start (front ++ head 2 n)) front start begins parts refl in
+    let equal : bytes_eq (check (text ++ head 2 n)) (check (drop start (front ++ head 2 n))) ≡ true =
+    (bytes_eq-Decides (check (text ++ head 2 n)) (check (drop start (front ++ head 2 n)))).1 (ap check (sym here)) in (
+      head 2 n,
+      check (text ++ head 2 n),
+      n,
       refl,
-      (head-spells 2 2 (omega arith), refl),
+      (head-spells 2 n small, needs-none _ causes.Crc (eq-eqb n n refl)),
       (
         [],
-        check16 (text ++ head 2 2),
-        drop start (front ++ head 2 2),
+        check (text ++ head 2 n),
+        drop start (front ++ head 2 n),
         refl,
         (refl, refl),
         (
-          check16 (text ++ head 2 2),
+          check (text ++ head 2 n),
           [],
-          check16 (text ++ head 2 2),
-          sym (append-nil (check16 (text ++ head 2 2))),
-          ((refl, refl), needs-none _ causes.Crc equal),
-          (refl, refl),
-        ),
-      ),
-    )
-crc-spells (suc (suc kind)) start front before text begins parts =
-    let here : drop start (front ++ head 2 4) ≡ text ++ head 2 4 = since-start before text (head 2 4) (drop start (front ++ head 2 4)) front start begins parts refl in
-    let equal : bytes_eq (check32 (text ++ head 2 4)) (check32 (drop start (front ++ head 2 4))) ≡ true =
-    (bytes_eq-Decides (check32 (text ++ head 2 4)) (check32 (drop start (front ++ head 2 4)))).1 (ap check32 (sym here)) in (
-      head 2 4,
-      check32 (text ++ head 2 4),
-      4,
-      refl,
-      (head-spells 2 4 (omega arith), refl),
-      (
-        [],
-        check32 (text ++ head 2 4),
-        drop start (front ++ head 2 4),
-        refl,
-        (refl, refl),
-        (
-          check32 (text ++ head 2 4),
-          [],
-          check32 (text ++ head 2 4),
-          sym (append-nil (check32 (text ++ head 2 4))),
-          ((refl, refl), needs-none _ causes.Crc equal),
+          check (text ++ head 2 n),
+          sym (append-nil (check (text ++ head 2 n))),
+          ((refl, long), needs-none _ causes.Crc equal),
           (refl, refl),
         ),
       ),
     )
 
+by-type-spells : (none one : Bool) (start : ℕ) (front before text : List ℕ) → start ≡ length before → front ≡ before ++ text
+    → Spells (choice none (give tt) (choice one (check_field 2 check16 start) (check_field 4 check32 start))) front
+    (if none then [] else if one then check_octets 2 check16 text else check_octets 4 check32 text) tt
+by-type-spells true one start front before text begins parts = (refl, refl)
+by-type-spells false true start front before text begins parts = check-spells 2 start check16 front before text (omega arith) refl begins parts
+by-type-spells false false start front before text begins parts = check-spells 4 start check32 front before text (omega arith) refl begins parts
+
+pub crc-spells : (crc start : ℕ) (front before text : List ℕ) → start ≡ length before → front ≡ before ++ text
+    → Spells (crc_field crc start) front (crc_octets crc text) tt
+unfolding crc_field crc_octets
+crc-spells crc start front before text begins parts = by-type-spells (crc == 0) (crc == 1) start front before text begins parts
+
 -- a number of items that is as it should be
-pub crc_kind-holds : (kind items bare : ℕ) → kind < 3 → items ≡ bare + check_items kind
+pub crc_type-holds : (kind items bare : ℕ) → kind < 3 → items ≡ bare + check_items kind
     → (needs (nat_lt kind 3) causes.CrcType also needs (items == bare + check_items kind) causes.ItemCount) ≡ None
-crc_kind-holds kind items bare known is = rw (lt-ltb kind 3 known, eq-eqb items (bare + check_items kind) is) refl
+crc_type-holds kind items bare known is = rw (lt-ltb kind 3 known, eq-eqb items (bare + check_items kind) is) refl
 
 none-or-one : (t : Bool) → (if t then 0 else 1) ≤ 1
 none-or-one true = omega arith
@@ -332,7 +321,7 @@ opening-spells front o small known =
           o.flags,
           refl,
           head-spells 0 o.flags small,
-          (head 0 o.crc, [], o.crc, sym (append-nil (head 0 o.crc)), (head-spells 0 o.crc (omega arith), crc_kind-holds o.crc items (8 + fragment_items (is_fragment o.flags)) known refl), (refl, refl)),
+          (head 0 o.crc, [], o.crc, sym (append-nil (head 0 o.crc)), (head-spells 0 o.crc (omega arith), crc_type-holds o.crc items (8 + fragment_items (is_fragment o.flags)) known refl), (refl, refl)),
         ),
       ),
     )

@@ -13,6 +13,9 @@ use Rattle.wire_fields.specs.declared.lead.UnsignedOrText.{UnsignedOrText}
 use Rattle.wire_fields.specs.declared.lead.UnsignedOrText.TheVariants as leads
 use Rattle.wire_fields.specs.Format.{Spells}
 use Rattle.wire_fields.specs.Words.{needs, ◌also◌, choice}
+use Rattle.wire_fields.specs.Refusal.{Stop}
+use Rattle.wire_fields.proofs.ResultLemmas.{ok_is}
+use Rattle.wire_fields.proofs.WholeLemmas.{whole-only}
 use Rattle.bundle7.specs.declared.fault.Cause7.{Cause7}
 use Rattle.bundle7.specs.declared.fault.Cause7.TheVariants as causes
 use Rattle.bundle7.specs.Eid.{dtn_lead, dtn_rest, dtn_name, ipn_name, eid}
@@ -176,3 +179,8 @@ eid-spells front (Dtn octets) legal = (
     ),
   ),
 )
+
+-- octets spell one endpoint
+pub eid-one : (w : List ℕ) (d e : Endpoint) → Spells eid [] w d → Spells eid [] w e → d ≡ e
+eid-one w d e one other =
+    ok_is {E = ℕ × Stop Cause7} d e (sym (whole-only eid causes.Eid w d one) ∙ whole-only eid causes.Eid w e other)

@@ -1,10 +1,11 @@
--- The names of the causes, and a fault as a refusal.
+-- The names of the causes, and what a refusal says.
 use Rattle.std.specs.Prelude.{ℕ, List, codes, Option, Some, None}
 use Rattle.wire_fields.specs.Refusal.{Stop, truncated, because}
 use Rattle.wire_fields.specs.declared.miss.Miss.{Miss}
 use Rattle.wire_fields.specs.declared.miss.Miss.TheVariants as misses
 use Rattle.bundle7.specs.declared.fault.Cause7.{Cause7}
 use Rattle.bundle7.specs.declared.fault.Cause7.TheVariants.{Start, Head, Version, Number, CrcType, ItemCount, Eid, Timestamp, Crc, BlockHead, TooManyBlocks, Repeated, BlockNumber, Body, FragmentRange, ExtensionBody, Break, Truncated, TooLong}
+use Rattle.bundle7.specs.declared.fault.Refused7.{Refused7}
 use Rattle.bundle7.specs.declared.fault.Fail7.{Fail7}
 use Rattle.bundle7.specs.declared.fault.Fail7.TheVariants.{Refused, Memory}
 use Rattle.bundle7.specs.declared.fault.EidFault.{EidFault}
@@ -41,16 +42,15 @@ why Truncated = truncated
 why cause = because cause
 
 -- a field that isn't there at a place, with its cause
-abbrev pub fault_of : ℕ → Miss → Cause7 → Fail7
-fault_of at misses.Truncated cause = Refused at Truncated
-fault_of at misses.Absent cause = Refused at cause
+abbrev pub missed : ℕ → Miss → Cause7 → Refused7
+missed at misses.Truncated cause = record { at = at; cause = Truncated }
+missed at misses.Absent cause = record { at = at; cause = cause }
 
--- the refusal that a fault answers: place and reason; want of memory is none
+-- the place and the reason of a refusal
+abbrev pub refused : Refused7 → Option (ℕ × Stop Cause7)
+refused r = Some (r.at, why r.cause)
+
+-- the refusal that a failure answers; want of memory is none
 abbrev pub refusal : Fail7 → Option (ℕ × Stop Cause7)
 refusal (Refused at cause) = Some (at, why cause)
 refusal Memory = None
-
--- the fault isn't want of memory
-abbrev pub IsRefused : Fail7 → Type 0
-IsRefused (Refused at cause) = Unit {0}
-IsRefused Memory = ⊥

@@ -1,12 +1,15 @@
--- Legal bundles: those that have a spelling.
-use Rattle.std.specs.Prelude.{◌≡◌, ℕ, ◌^◌, ◌<◌, ◌≤◌, true, false, ◌&&◌, List, [], ◌∷◌, ◌++◌, length, Option, Some, None, is_some}
+-- Legal bundles, and what spells them.
+use Rattle.std.specs.Prelude.{◌≡◌, ℕ, ◌^◌, ◌<◌, ◌≤◌, true, false, ◌&&◌, List, [], ◌∷◌, ◌++◌, length, Ok, Option, Some, None, is_some}
 use Rattle.endpoint.specs.declared.extent.Fragment.{Fragment}
 use Rattle.endpoint.specs.Endpoints.{IsEndpoint}
 use Rattle.wire_fields.specs.Format.{Spells}
+use Rattle.wire_fields.specs.Reading.{read}
+use Rattle.wire_fields.specs.Refusal.{Stop, Refusal}
+use Rattle.bundle7.specs.declared.fault.Cause7.{Cause7}
 use Rattle.bundle7.specs.declared.primary.Primary7.{Primary7}
 use Rattle.bundle7.specs.declared.block.Block7.{Block7}
 use Rattle.bundle7.specs.declared.bundle.Bundle7.{Bundle7}
-use Rattle.bundle7.specs.Body.{is_body}
+use Rattle.bundle7.specs.Body.{IsBody}
 use Rattle.bundle7.specs.Table.{bundle, is_fragment, is_single, has_kind, is_number, is_within}
 
 -- the numbers of a fragment
@@ -23,11 +26,11 @@ pub record IsLegalPrimary (p : Primary7) : Type 0 where
   pub millis : p.millis < 2 ^ 64
   pub sequence : p.sequence < 2 ^ 64
   pub lifetime : p.lifetime < 2 ^ 64
-  -- flag bit 0 stands exactly with a fragment
+  -- flag bit 0 stands if and only if there is a fragment
   pub fragment_bit : is_fragment p.flags ≡ is_some p.fragment
   pub fragment : IsPart p.fragment
 
--- a block behind the earlier ones, in a bundle that may be a fragment
+-- a block after the earlier ones, in a bundle that may be a fragment
 pub record IsLegalBlock (part : Option Fragment) (earlier : List Block7) (b : Block7) : Type 0 where
   pub kind : b.kind < 2 ^ 64
   -- previous node, bundle age and hop count stand at most once
@@ -40,9 +43,9 @@ pub record IsLegalBlock (part : Option Fragment) (earlier : List Block7) (b : Bl
   pub size : length b.body < 2 ^ 64
   -- the payload of a fragment lies within the whole
   pub within : is_within part b.kind (length b.body) ≡ true
-  pub body : is_body b.kind b.body ≡ true
+  pub body : IsBody b.kind b.body
 
--- extension blocks behind the earlier ones
+-- extension blocks after the earlier ones
 abbrev pub AreLegal : Option Fragment → List Block7 → List Block7 → Type 0
 AreLegal part earlier [] = Unit {0}
 AreLegal part earlier (b ∷ more) =
@@ -60,5 +63,13 @@ abbrev pub IsLegal7 : Bundle7 → Type 0
 IsLegal7 b = IsLegal 64 b
 
 -- the octets w spell the bundle b
-abbrev pub Spells7 : List ℕ → Bundle7 → Type 0
-Spells7 w b = Spells (bundle 64) [] w b
+abbrev pub Spells7 : Bundle7 → List ℕ → Type 0
+Spells7 b w = Spells (bundle 64) [] w b
+
+-- the octets w are refused at a place: those before it spell the earlier fields, and the next isn't there
+abbrev pub Refusal7 : List ℕ → ℕ → Stop Cause7 → Type 0
+Refusal7 w at reason = Refusal (bundle 64) [] w at reason
+
+-- the octets w are read as the bundle b, whatever follows them
+abbrev pub IsReadAgain : Bundle7 → List ℕ → Type 0
+IsReadAgain b w = (more : List ℕ) → read (bundle 64) (w ++ more) 0 ≡ Ok (b, length w)

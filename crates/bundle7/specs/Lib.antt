@@ -1,9 +1,11 @@
+-- Causes, fields, what a bundle is, what spells it and what calls answer, in reading order.
 pub mod Cause
 pub mod Eid
-pub mod Name
 pub mod Body
 pub mod Check
 pub mod Table
 pub mod Spelling
 pub mod Legal
 pub mod Calls
+-- What follows only ties code to the definitions.
+pub mod Lent

@@ -1,5 +1,5 @@
 -- The one spelling of each value: the octets of an endpoint, of a block and of a bundle.
-use Rattle.std.specs.Prelude.{ℕ, zero, suc, ◌+◌, List, [], ◌∷◌, ◌++◌, Option, Some, None}
+use Rattle.std.specs.Prelude.{ℕ, ◌+◌, ◌==◌, if◌then◌else◌, List, [], ◌∷◌, ◌++◌, Option, Some, None}
 use Rattle.cbor_lite.specs.Head.{head}
 use Rattle.cbor_lite.specs.Item.{string}
 use Rattle.endpoint.specs.declared.name.Endpoint.{Endpoint}
@@ -17,15 +17,20 @@ eid_octets Null = head 4 2 ++ (head 0 1 ++ head 0 0)
 eid_octets (Ipn node service) = head 4 2 ++ (head 0 2 ++ (head 4 2 ++ (head 0 node ++ head 0 service)))
 eid_octets (Dtn ssp) = head 4 2 ++ (head 0 1 ++ string 3 ssp)
 
--- the check behind the octets of a block
-abbrev pub crc_octets : ℕ → List ℕ → List ℕ
-crc_octets zero block = []
-crc_octets (suc zero) block = head 2 2 ++ check16 (block ++ head 2 2)
-crc_octets (suc (suc kind)) block = head 2 4 ++ check32 (block ++ head 2 4)
+-- a check of so many octets, after the octets of a block
+abbrev pub check_octets : ℕ → (List ℕ → List ℕ) → List ℕ → List ℕ
+check_octets n check block = head 2 n ++ check (block ++ head 2 n)
+
+-- the same by the type of the check
+unfoldable pub crc_octets : ℕ → List ℕ → List ℕ
+crc_octets crc block =
+    if crc == 0 then []
+    else if crc == 1 then check_octets 2 check16 block
+    else check_octets 4 check32 block
 
 -- a block with its check
 unfoldable pub with_check : ℕ → List ℕ → List ℕ
-with_check kind block = block ++ crc_octets kind block
+with_check crc block = block ++ crc_octets crc block
 
 -- the two numbers of a fragment
 abbrev pub part_octets : Option Fragment → List ℕ

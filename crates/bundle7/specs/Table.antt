@@ -4,6 +4,7 @@ use Rattle.std.specs.Prelude.{ℕ, zero, suc, ◌+◌, ◌%◌, ◌==◌, nat_lt
 use Rattle.std.specs.Prelude.{List, [], ◌∷◌, ◌++◌, Option, Some, None}
 use Rattle.std.specs.List.{list_any}
 use Rattle.endpoint.specs.declared.extent.Fragment.{Fragment}
+use Rattle.endpoint.specs.declared.name.Endpoint.{Endpoint}
 use Rattle.wire_fields.specs.Format.{Format, give, place, such_that, ◌>>=◌}
 use Rattle.wire_fields.specs.Words.{needs, ◌also◌, any_octets, any_unsigned, any_byte_string, any_array, exact_octet, exact_unsigned, exact_array, choice, optional}
 use Rattle.bundle7.specs.declared.fault.Cause7.{Cause7}
@@ -11,13 +12,12 @@ use Rattle.bundle7.specs.declared.fault.Cause7.TheVariants.{Start, Head, Version
 use Rattle.bundle7.specs.declared.primary.Primary7.{Primary7}
 use Rattle.bundle7.specs.declared.block.Block7.{Block7}
 use Rattle.bundle7.specs.declared.bundle.Bundle7.{Bundle7}
-use Rattle.bundle7.specs.declared.groups.Opening.{Opening}
-use Rattle.bundle7.specs.declared.groups.Names.{Names}
-use Rattle.bundle7.specs.declared.groups.Creation.{Creation}
-use Rattle.bundle7.specs.declared.groups.Lead.{Lead}
+use Rattle.bundle7.specs.declared.primary.Opening.{Opening}
+use Rattle.bundle7.specs.declared.primary.Creation.{Creation}
+use Rattle.bundle7.specs.declared.block.Lead.{Lead}
 use Rattle.bundle7.specs.Eid.{eid}
 use Rattle.bundle7.specs.Body.{previous_node, bundle_age, hop_count, is_body}
-use Rattle.bundle7.specs.Check.{crc}
+use Rattle.bundle7.specs.Check.{crc_field}
 
 -- ---- the primary block
 
@@ -25,29 +25,35 @@ use Rattle.bundle7.specs.Check.{crc}
 abbrev pub is_fragment : ℕ → Bool
 is_fragment flags = flags % 2 == 1
 
--- how many items a fragment and a check add to a block's array
+-- how many items a fragment and a check of a type add to a block's array
 abbrev pub fragment_items : Bool → ℕ
 fragment_items fragment = if fragment then 2 else 0
 
 abbrev pub check_items : ℕ → ℕ
-check_items kind = if kind == 0 then 0 else 1
+check_items crc = if crc == 0 then 0 else 1
 
 -- the array's head
 abbrev pub main_items : Format Cause7 ℕ
 main_items = such_that (any_array Head) (λ n. needs (nat_le 8 n && nat_le n 11) Head)
 
 -- the type of a check, in an array of so many items that should have so many without it
-abbrev pub crc_kind : ℕ → ℕ → Format Cause7 ℕ
-crc_kind items bare = such_that (any_unsigned CrcType) (λ kind.
-    needs (nat_lt kind 3) CrcType also needs (items == bare + check_items kind) ItemCount)
+abbrev pub crc_type_field : ℕ → ℕ → Format Cause7 ℕ
+crc_type_field items bare = such_that (any_unsigned CrcType) (λ crc.
+    needs (nat_lt crc 3) CrcType also needs (items == bare + check_items crc) ItemCount)
 
 unfoldable pub opening : Format Cause7 Opening
 opening = do
   items ← main_items
   version ← exact_unsigned 7 Version
   flags ← any_unsigned Number
-  crc ← crc_kind items (8 + fragment_items (is_fragment flags))
+  crc ← crc_type_field items (8 + fragment_items (is_fragment flags))
   give (record { flags = flags; crc = crc })
+
+-- the three endpoints of the primary block
+pub record Names : Type 0 where
+  pub destination : Endpoint
+  pub source : Endpoint
+  pub report_to : Endpoint
 
 unfoldable pub names : Format Cause7 Names
 names = do
@@ -77,7 +83,7 @@ primary = do
   made ← creation
   lifetime ← any_unsigned Number
   part ← optional (is_fragment head.flags) fragment
-  check ← crc head.crc start
+  check ← crc_field head.crc start
   give (record {
     flags = head.flags;
     crc = head.crc;
@@ -111,7 +117,7 @@ kind_field left earlier = such_that (any_unsigned Number) (λ kind.
     needs (kind == 1 || not (left == 0)) TooManyBlocks
     also needs (not (is_single kind && has_kind kind earlier)) Repeated)
 
--- a number that a block of the type may have behind the earlier ones
+-- a number that a block of the type may have after the earlier ones
 abbrev pub is_number : ℕ → List Block7 → ℕ → Bool
 is_number kind earlier n =
     if kind == 1 then n == 1 else nat_le 2 n && not (has_number n earlier)
@@ -125,7 +131,7 @@ lead left earlier = do
   kind ← kind_field left earlier
   number ← number_field kind earlier
   flags ← any_unsigned Number
-  crc ← crc_kind items 5
+  crc ← crc_type_field items 5
   give (record { kind = kind; number = number; flags = flags; crc = crc })
 
 -- so many octets lie within the whole of which this is a fragment; only the payload is cut
@@ -145,10 +151,10 @@ block part left earlier = do
   front ← lead left earlier
   size ← size_field part front.kind
   body ← body_field front.kind size
-  check ← crc front.crc start
+  check ← crc_field front.crc start
   give (record { kind = front.kind; number = front.number; flags = front.flags; crc = front.crc; body = body })
 
--- Extension blocks and the payload block, which ends them; behind the earlier ones at most so many
+-- Extension blocks and the payload block, which ends them; after the earlier ones at most so many
 -- extension blocks may follow.
 unfoldable pub blocks : Option Fragment → ℕ → List Block7 → Format Cause7 (List Block7 × Block7)
 blocks part zero earlier = block part 0 earlier >>= (λ b. give (earlier, b))

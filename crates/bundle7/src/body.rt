@@ -1,26 +1,26 @@
 //! The bodies of the extension blocks that are known here (RFC 9171, section 4.4).
 
-ghost use Rattle.std.specs.Prelude.{◌≡◌, ◌≤◌, [], ℕ, length, Some, IfOk, IfErr, IfSome, is_ok};
+ghost use Rattle.std.specs.Prelude.{◌≡◌, ◌≤◌, [], ℕ, length, Some, IfOk, IfSome};
 ghost use Rattle.std.specs.Result.{result_ok};
 ghost use Rattle.wire_fields.specs.Format.{Spells};
 ghost use Rattle.wire_fields.specs.Reading.{read};
 ghost use Rattle.wire_fields.specs.Whole.{read_whole};
 ghost use Rattle.wire_fields.specs.Gives.{Gives, IsOn};
 ghost use Rattle.bundle7.specs.declared.body.Hop.{Hop};
-ghost use Rattle.bundle7.specs.Cause.{refusal, IsRefused};
+ghost use Rattle.bundle7.specs.Cause.{refused};
 ghost use Rattle.bundle7.specs.Eid.{eid};
 ghost use Rattle.bundle7.specs.Body.{age, hop_limit, hop, is_whole, is_body};
 
-use crate::eid::name_at;
-use crate::fault::{Cause7, Fail7};
-use crate::field::{exactly, unsigned};
+use crate::eid::eid_at;
+use crate::fault::{Cause7, Refused7};
+use crate::fields::{exactly, unsigned};
 use wire_fields::ARRAY;
 
-/// The block types of previous node, bundle age and hop count.
+/// The block type of a previous node.
 pub(crate) const PREVIOUS_NODE: u64 = 6;
-
+/// The block type of a bundle age.
 pub(crate) const BUNDLE_AGE: u64 = 7;
-
+/// The block type of a hop count.
 pub(crate) const HOP_COUNT: u64 = 10;
 
 /// The body of a hop count block.
@@ -64,14 +64,14 @@ pub(crate) fn is_body(kind: u64, body: &[u8]) -> bool
 fn is_eid(body: &[u8]) -> bool
     ensures { result ≡ is_whole eid body.now }
 {
-    match name_at(body, 0) {
+    match eid_at(body, 0) {
         Ok((_, end)) => end == body.len(),
         Err(_) => false,
     }
 }
 
 /// The age, where the octets are exactly that.
-pub(crate) fn whole_age(body: &[u8]) -> Option<u64>
+fn whole_age(body: &[u8]) -> Option<u64>
     ensures { result ≡ result_ok (read_whole age Cause7.ExtensionBody body.now) }
 {
     match unsigned(body, 0, Cause7::ExtensionBody) {
@@ -81,7 +81,7 @@ pub(crate) fn whole_age(body: &[u8]) -> Option<u64>
 }
 
 /// The hop count, where the octets are exactly that.
-pub(crate) fn whole_hop(body: &[u8]) -> Option<Hop>
+fn whole_hop(body: &[u8]) -> Option<Hop>
     ensures { result ≡ result_ok (read_whole hop Cause7.ExtensionBody body.now) }
 {
     match hop_at(body, 0) {
@@ -92,31 +92,26 @@ pub(crate) fn whole_hop(body: &[u8]) -> Option<Hop>
 
 /// A hop count.
 #[tactic(auto, unfolding(crate::specs::Body::hop))]
-fn hop_at(text: &[u8], at: usize) -> Result<(Hop, usize), Fail7>
+fn hop_at(text: &[u8], at: usize) -> Result<(Hop, usize), Refused7>
     requires { at ≤ length text.now }
     ensures within { IfOk result (λ x. IsOn at text.now x.1) }
-    ensures exact { Gives (λ h. h) refusal result (read hop text.now at) }
-    ensures told { IfErr result IsRefused }
+    ensures exact { Gives (λ h. h) refused result (read hop text.now at) }
 {
-    let (_, after_items) = exactly(text, at, ARRAY, 2, Cause7::ExtensionBody)?;
-    let (limit, after_limit) = hop_limit_at(text, after_items)?;
-    let (count, behind) = unsigned(text, after_limit, Cause7::ExtensionBody)?;
-    Ok((Hop { limit, count }, behind))
+    let (_, at) = exactly(text, at, ARRAY, 2, Cause7::ExtensionBody)?;
+    let (limit, at) = hop_limit_at(text, at)?;
+    let (count, at) = unsigned(text, at, Cause7::ExtensionBody)?;
+    Ok((Hop { limit, count }, at))
 }
 
 /// The most hops, 1 to 255.
-fn hop_limit_at(text: &[u8], at: usize) -> Result<(u64, usize), Fail7>
+fn hop_limit_at(text: &[u8], at: usize) -> Result<(u64, usize), Refused7>
     requires { at ≤ length text.now }
     ensures within { IfOk result (λ x. IsOn at text.now x.1) }
-    ensures exact { Gives (λ n. n) refusal result (read hop_limit text.now at) }
-    ensures told { IfErr result IsRefused }
+    ensures exact { Gives (λ n. n) refused result (read hop_limit text.now at) }
 {
-    let (limit, behind) = unsigned(text, at, Cause7::ExtensionBody)?;
+    let (limit, after) = unsigned(text, at, Cause7::ExtensionBody)?;
     if limit < 1 || 255 < limit {
-        return Err(Fail7::Refused {
-            at,
-            cause: Cause7::ExtensionBody,
-        });
+        return Err(Cause7::ExtensionBody.at(at));
     }
-    Ok((limit, behind))
+    Ok((limit, after))
 }

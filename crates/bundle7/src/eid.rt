@@ -1,20 +1,20 @@
 //! Endpoints as a bundle spells them (RFC 9171, section 4.2.5).
 
-ghost use Rattle.std.specs.Prelude.{◌≡◌, ◌≤◌, ◌++◌, [], ℕ, length, take, IfOk, IfErr, OnOk, OnErr, Ok, Err};
+ghost use Rattle.std.specs.Prelude.{◌≡◌, ◌≤◌, ◌++◌, [], ℕ, length, take, IfOk, OnOk, OnErr, Ok, Err};
 ghost use Rattle.endpoint.specs.declared.name.Endpoint.{Endpoint};
 ghost use Rattle.wire_fields.specs.Format.{Spells};
 ghost use Rattle.wire_fields.specs.Refusal.{Begins};
 ghost use Rattle.wire_fields.specs.Reading.{read};
 ghost use Rattle.wire_fields.specs.Whole.{read_whole};
 ghost use Rattle.wire_fields.specs.Gives.{Gives, IsOn};
-ghost use Rattle.bundle7.specs.Cause.{refusal, IsRefused};
+ghost use Rattle.bundle7.specs.Cause.{refused};
 ghost use Rattle.bundle7.specs.Eid.{may_lead, dtn_lead, ssp, dtn_rest, dtn_name, ipn_name, scheme, eid};
-ghost use Rattle.bundle7.specs.Name.{endpoint_of};
 ghost use Rattle.bundle7.specs.Spelling.{eid_octets};
 ghost use Rattle.bundle7.specs.Calls.{GivesEid};
+ghost use Rattle.bundle7.specs.Lent.{endpoint_of};
 
-use crate::fault::{Cause7, EidFault, Fail7};
-use crate::field::{exactly, fault, octets, unsigned};
+use crate::fault::{Cause7, EidFault, Refused7};
+use crate::fields::{exactly, octets, unsigned};
 use cbor_lite::{write_array, write_text, write_uint};
 use endpoint::{Endpoint, Octets, is_ssp};
 use std::alloc::{AllocError, Global};
@@ -30,6 +30,9 @@ pub fn read_eid(alloc: Global, bytes: &[u8]) -> Result<(Endpoint, usize), EidFau
     // What is refused isn't spelled, whatever follows.
     ensures refused { result ≡ Err EidFault.Eid
         → (e : Endpoint) (k : ℕ) → Begins eid bytes.now k e → ⊥ }
+    // Memory is wanted only for an endpoint that is spelled.
+    ensures memory { result ≡ Err EidFault.Memory
+        → (e : Endpoint) × (k : ℕ) × Begins eid bytes.now k e }
 {
     front_eid(alloc, bytes)
 }
@@ -38,8 +41,8 @@ pub fn read_eid(alloc: Global, bytes: &[u8]) -> Result<(Endpoint, usize), EidFau
 fn front_eid(alloc: Global, bytes: &[u8]) -> Result<(Endpoint, usize), EidFault>
     ensures { GivesEid result (read eid bytes.now 0) }
 {
-    match name_at(bytes, 0) {
-        Ok((name, behind)) => Ok((name.owned(alloc)?, behind)),
+    match eid_at(bytes, 0) {
+        Ok((lent, after)) => Ok((lent.owned(alloc)?, after)),
         Err(_) => Err(EidFault::Eid),
     }
 }
@@ -52,6 +55,8 @@ pub fn previous_of(alloc: Global, body: &[u8]) -> Result<Endpoint, EidFault>
     ensures only { (e : Endpoint) → Spells eid [] body.now e → GivesEid result (Ok e) }
     // What is refused isn't spelled.
     ensures refused { result ≡ Err EidFault.Eid → (e : Endpoint) → Spells eid [] body.now e → ⊥ }
+    // Memory is wanted only for an endpoint that is spelled.
+    ensures memory { result ≡ Err EidFault.Memory → (e : Endpoint) × Spells eid [] body.now e }
 {
     whole_eid(alloc, body)
 }
@@ -60,8 +65,8 @@ pub fn previous_of(alloc: Global, body: &[u8]) -> Result<Endpoint, EidFault>
 fn whole_eid(alloc: Global, body: &[u8]) -> Result<Endpoint, EidFault>
     ensures { GivesEid result (read_whole eid Cause7.Eid body.now) }
 {
-    match name_at(body, 0) {
-        Ok((name, end)) if end == body.len() => Ok(name.owned(alloc)?),
+    match eid_at(body, 0) {
+        Ok((lent, end)) if end == body.len() => Ok(lent.owned(alloc)?),
         _ => Err(EidFault::Eid),
     }
 }
@@ -106,131 +111,106 @@ pub(crate) fn append_eid(endpoint: &Endpoint, out: &mut Vec<u8>) -> Result<(), A
 
 /// An endpoint whose text is lent out of the octets.
 #[derive(Clone, Copy)]
-pub(crate) enum Name<'a> {
+pub(crate) enum LentEndpoint<'a> {
     Null,
     Ipn { node: u64, service: u64 },
     Dtn(&'a [u8]),
 }
 
-impl Name<'_> {
+impl LentEndpoint<'_> {
     /// The endpoint, with octets of its own.
     pub(crate) fn owned(self, alloc: Global) -> Result<Endpoint, AllocError>
         ensures { IfOk result (λ e. e ≡ endpoint_of self.entry) }
     {
         Ok(match self {
-            Name::Null => Endpoint::Null,
-            Name::Ipn { node, service } => Endpoint::Ipn { node, service },
-            Name::Dtn(ssp) => Endpoint::Dtn(Octets::from_slice(alloc, ssp)?),
+            LentEndpoint::Null => Endpoint::Null,
+            LentEndpoint::Ipn { node, service } => Endpoint::Ipn { node, service },
+            LentEndpoint::Dtn(ssp) => Endpoint::Dtn(Octets::from_slice(alloc, ssp)?),
         })
     }
 }
 
 /// An endpoint.
-pub(crate) fn eid_at(alloc: Global, text: &[u8], at: usize) -> Result<(Endpoint, usize), Fail7>
-    requires { at ≤ length text.now }
-    ensures within { IfOk result (λ x. IsOn at text.now x.1) }
-    ensures exact { Gives (λ e. e) refusal result (read eid text.now at) }
-{
-    let (name, behind) = name_at(text, at)?;
-    Ok((name.owned(alloc)?, behind))
-}
-
-/// An endpoint, lent.
 #[tactic(auto, unfolding(crate::specs::Eid::eid))]
-pub(crate) fn name_at(text: &[u8], at: usize) -> Result<(Name<'_>, usize), Fail7>
+pub(crate) fn eid_at(text: &[u8], at: usize) -> Result<(LentEndpoint<'_>, usize), Refused7>
     requires { at ≤ length text.now }
     ensures within { IfOk result (λ x. IsOn at text.now x.1) }
-    ensures exact { Gives endpoint_of refusal result (read eid text.now at) }
-    ensures told { IfErr result IsRefused }
+    ensures exact { Gives endpoint_of refused result (read eid text.now at) }
 {
-    let (_, behind) = exactly(text, at, ARRAY, 2, Cause7::Eid)?;
-    let (number, after) = scheme_at(text, behind)?;
+    let (_, at) = exactly(text, at, ARRAY, 2, Cause7::Eid)?;
+    let (number, at) = scheme_at(text, at)?;
     match number {
-        1 => dtn_name_at(text, after),
-        _ => ipn_name_at(text, after),
+        1 => dtn_name_at(text, at),
+        _ => ipn_name_at(text, at),
     }
 }
 
 /// The number of a scheme: 1 for dtn, 2 for ipn.
-fn scheme_at(text: &[u8], at: usize) -> Result<(u64, usize), Fail7>
+fn scheme_at(text: &[u8], at: usize) -> Result<(u64, usize), Refused7>
     requires { at ≤ length text.now }
     ensures within { IfOk result (λ x. IsOn at text.now x.1) }
-    ensures exact { Gives (λ n. n) refusal result (read scheme text.now at) }
-    ensures told { IfErr result IsRefused }
+    ensures exact { Gives (λ n. n) refused result (read scheme text.now at) }
 {
-    let (number, behind) = unsigned(text, at, Cause7::Eid)?;
+    let (number, after) = unsigned(text, at, Cause7::Eid)?;
     if number != 1 && number != 2 {
-        return Err(Fail7::Refused {
-            at,
-            cause: Cause7::Eid,
-        });
+        return Err(Cause7::Eid.at(at));
     }
-    Ok((number, behind))
+    Ok((number, after))
 }
 
 /// What the scheme dtn has: 0 for nobody, or a text.
 #[tactic(auto, unfolding(crate::specs::Eid::dtn_name))]
-fn dtn_name_at(text: &[u8], at: usize) -> Result<(Name<'_>, usize), Fail7>
+fn dtn_name_at(text: &[u8], at: usize) -> Result<(LentEndpoint<'_>, usize), Refused7>
     requires { at ≤ length text.now }
     ensures within { IfOk result (λ x. IsOn at text.now x.1) }
-    ensures exact { Gives endpoint_of refusal result (read dtn_name text.now at) }
-    ensures told { IfErr result IsRefused }
+    ensures exact { Gives endpoint_of refused result (read dtn_name text.now at) }
 {
-    let (lead, behind) = dtn_lead_at(text, at)?;
+    let (lead, at) = dtn_lead_at(text, at)?;
     match lead {
-        UnsignedOrText::Unsigned(_) => Ok((Name::Null, behind)),
+        UnsignedOrText::Unsigned(_) => Ok((LentEndpoint::Null, at)),
         UnsignedOrText::Text(count) => {
-            let (ssp, after) = ssp_at(text, behind, count)?;
-            Ok((Name::Dtn(ssp), after))
+            let (ssp, at) = ssp_at(text, at, count)?;
+            Ok((LentEndpoint::Dtn(ssp), at))
         }
     }
 }
 
 /// The number 0, or the head of a text.
-fn dtn_lead_at(text: &[u8], at: usize) -> Result<(UnsignedOrText, usize), Fail7>
+fn dtn_lead_at(text: &[u8], at: usize) -> Result<(UnsignedOrText, usize), Refused7>
     requires { at ≤ length text.now }
     ensures within { IfOk result (λ x. IsOn at text.now x.1) }
-    ensures exact { Gives (λ lead. lead) refusal result (read dtn_lead text.now at) }
-    ensures told { IfErr result IsRefused }
+    ensures exact { Gives (λ lead. lead) refused result (read dtn_lead text.now at) }
 {
     match unsigned_or_text_at(text, at) {
-        Ok((UnsignedOrText::Unsigned(0), behind)) => Ok((UnsignedOrText::Unsigned(0), behind)),
-        Ok((UnsignedOrText::Text(count), behind)) => Ok((UnsignedOrText::Text(count), behind)),
-        Ok(_) => Err(Fail7::Refused {
-            at,
-            cause: Cause7::Eid,
-        }),
-        Err(miss) => Err(fault(at, miss, Cause7::Eid)),
+        Ok((UnsignedOrText::Unsigned(0), after)) => Ok((UnsignedOrText::Unsigned(0), after)),
+        Ok((UnsignedOrText::Text(count), after)) => Ok((UnsignedOrText::Text(count), after)),
+        Ok(_) => Err(Cause7::Eid.at(at)),
+        Err(miss) => Err(Cause7::Eid.missed(at, miss)),
     }
 }
 
 /// A scheme-specific part of so many octets.
-fn ssp_at(text: &[u8], at: usize, count: u64) -> Result<(&[u8], usize), Fail7>
+fn ssp_at(text: &[u8], at: usize, count: u64) -> Result<(&[u8], usize), Refused7>
     requires { at ≤ length text.now }
     ensures within { IfOk result (λ x. IsOn at text.now x.1) }
-    ensures exact { Gives (λ lent. lent.now) refusal result (read (ssp count) text.now at) }
-    ensures told { IfErr result IsRefused }
+    ensures exact { Gives (λ lent. lent.now) refused result (read (ssp count) text.now at) }
 {
-    let (part, behind) = octets(text, at, count, Cause7::Eid)?;
-    if !is_ssp(part) {
-        return Err(Fail7::Refused {
-            at,
-            cause: Cause7::Eid,
-        });
+    let (ssp, after) = octets(text, at, count, Cause7::Eid)?;
+    if !is_ssp(ssp) {
+        return Err(Cause7::Eid.at(at));
     }
-    Ok((part, behind))
+    Ok((ssp, after))
 }
 
 /// What the scheme ipn has: the numbers of node and service.
 #[tactic(auto, unfolding(crate::specs::Eid::ipn_name))]
-fn ipn_name_at(text: &[u8], at: usize) -> Result<(Name<'_>, usize), Fail7>
+fn ipn_name_at(text: &[u8], at: usize) -> Result<(LentEndpoint<'_>, usize), Refused7>
     requires { at ≤ length text.now }
     ensures within { IfOk result (λ x. IsOn at text.now x.1) }
-    ensures exact { Gives endpoint_of refusal result (read ipn_name text.now at) }
-    ensures told { IfErr result IsRefused }
+    ensures exact { Gives endpoint_of refused result (read ipn_name text.now at) }
 {
-    let (_, behind) = exactly(text, at, ARRAY, 2, Cause7::Eid)?;
-    let (node, next) = unsigned(text, behind, Cause7::Eid)?;
-    let (service, after) = unsigned(text, next, Cause7::Eid)?;
-    Ok((Name::Ipn { node, service }, after))
+    let (_, at) = exactly(text, at, ARRAY, 2, Cause7::Eid)?;
+    let (node, at) = unsigned(text, at, Cause7::Eid)?;
+    let (service, at) = unsigned(text, at, Cause7::Eid)?;
+    Ok((LentEndpoint::Ipn { node, service }, at))
 }

@@ -1,10 +1,11 @@
 //! Why octets are no version 7 bundle, and why they are no endpoint.
 
 ghost use Rattle.std.specs.Prelude.{◌≡◌};
-ghost use Rattle.bundle7.specs.Cause.{word_of, eid_word_of};
+ghost use Rattle.bundle7.specs.Cause.{word_of, eid_word_of, missed};
 
 use std::alloc::{AllocError, AllocFailed};
 use thiserror::Error;
+use wire_fields::Miss;
 
 /// What isn't as it should be, in the order of the fields.
 #[derive(Clone, Copy, Debug, PartialEq, Eq, Error)]
@@ -36,7 +37,7 @@ pub enum Cause7 {
     /// A block's check isn't that of its octets, or isn't there.
     #[error("Crc")]
     Crc,
-    /// A block behind the primary block isn't an array of 5 or 6 items.
+    /// A block after the primary block isn't an array of 5 or 6 items.
     #[error("BlockHead")]
     BlockHead,
     /// A 65th extension block begins.
@@ -57,7 +58,7 @@ pub enum Cause7 {
     /// The body of a previous node, bundle age or hop count block isn't what it should be.
     #[error("ExtensionBody")]
     ExtensionBody,
-    /// The octet behind the payload block doesn't end the array.
+    /// The octet after the payload block doesn't end the array.
     #[error("Break")]
     Break,
     /// The octets end inside a field.
@@ -95,6 +96,32 @@ impl Cause7 {
             Cause7::TooLong => "TooLong",
         }
     }
+
+    /// The refusal of a field at a place.
+    pub(crate) fn at(self, at: usize) -> Refused7
+        ensures { result ≡ record { at = at; cause = self } }
+    {
+        Refused7 { at, cause: self }
+    }
+
+    /// The refusal of a field that isn't there: the octets end inside it, or it has this cause.
+    pub(crate) fn missed(self, at: usize, miss: Miss) -> Refused7
+        ensures { result ≡ missed at miss self }
+    {
+        match miss {
+            Miss::Truncated => Cause7::Truncated.at(at),
+            Miss::Absent => self.at(at),
+        }
+    }
+}
+
+/// Octets that spell no bundle: those before a place are as they should be, and the field there isn't.
+#[derive(Clone, Copy, Debug, PartialEq, Eq)]
+pub struct Refused7 {
+    /// The place of the field's first octet.
+    pub at: usize,
+    /// What isn't as it should be.
+    pub cause: Cause7,
 }
 
 /// Why no bundle was read.
@@ -109,6 +136,20 @@ pub enum Fail7 {
     },
     /// Memory ran out; this says nothing of the octets.
     Memory,
+}
+
+impl From<Refused7> for Fail7 {
+    ghost use Rattle.std.specs.Prelude.{◌≡◌};
+    ghost use Rattle.bundle7.specs.declared.fault.Fail7.TheVariants as fails;
+
+    ghost from_gives = { λ refused fail. fail ≡ fails.Refused refused.at refused.cause };
+
+    fn from(refused: Refused7) -> Fail7 {
+        Fail7::Refused {
+            at: refused.at,
+            cause: refused.cause,
+        }
+    }
 }
 
 impl From<AllocError> for Fail7 {

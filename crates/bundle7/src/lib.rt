@@ -13,21 +13,23 @@
 #![tactic(auto)]
 
 mod block;
-mod blocks;
 mod body;
 mod bundle;
 mod check;
 mod eid;
 mod fault;
-mod field;
-mod groups;
+mod fields;
+mod laws;
 mod primary;
+mod reading;
 mod writing;
 
 pub use block::{Block7, Blocks7};
 pub use body::{Hop, age_of, hop_of};
-pub use bundle::{Bundle7, decode7};
+pub use bundle::Bundle7;
 pub use eid::{previous_of, read_eid, write_eid};
-pub use fault::{Cause7, EidFault, Fail7};
+pub use fault::{Cause7, EidFault, Fail7, Refused7};
+pub use laws::{exactly_one, one_body, one_eid, one_spelling};
 pub use primary::Primary7;
-pub use writing::{encode7, exactly_one, one_eid, one_spelling};
+pub use reading::decode7;
+pub use writing::encode7;

@@ -4,16 +4,16 @@ ghost use Rattle.std.specs.Prelude.{◌≡◌, ◌≤◌, ◌+◌, length, IfOk}
 ghost use Rattle.wire_fields.specs.Reading.{read};
 ghost use Rattle.wire_fields.specs.Words.{optional};
 ghost use Rattle.wire_fields.specs.Gives.{Gives, IsOn};
-ghost use Rattle.bundle7.specs.Cause.{refusal};
-ghost use Rattle.bundle7.specs.Table.{is_fragment, main_items, crc_kind, opening, names, creation, fragment, primary};
+ghost use Rattle.bundle7.specs.Cause.{refused};
+ghost use Rattle.bundle7.specs.Table.{is_fragment, main_items, crc_type_field, opening, names, creation, fragment, primary};
+ghost use Rattle.bundle7.specs.Lent.{names_of, primary_of};
 
 use crate::check::crc_at;
-use crate::eid::eid_at;
-use crate::fault::{Cause7, Fail7};
-use crate::field::{exactly, item, unsigned};
-use crate::groups::{Creation, Names, Opening};
+use crate::eid::{LentEndpoint, eid_at};
+use crate::fault::{Cause7, Refused7};
+use crate::fields::{exactly, item, unsigned};
 use endpoint::{Endpoint, Fragment};
-use std::alloc::Global;
+use std::alloc::{AllocError, Global};
 use wire_fields::{ARRAY, UNSIGNED};
 
 /// The primary block's values (RFC 9171, section 4.3.1).
@@ -37,138 +37,184 @@ pub struct Primary7 {
     pub sequence: u64,
     /// For how many milliseconds it lives.
     pub lifetime: u64,
-    /// Where its payload lies in the whole, exactly where flag bit 0 is set.
+    /// Where its payload lies in the whole, if and only if flag bit 0 is set.
     pub fragment: Option<Fragment>,
+}
+
+/// What the primary block begins with.
+#[derive(Clone, Copy)]
+pub(crate) struct Opening {
+    pub(crate) flags: u64,
+    pub(crate) crc: u8,
+}
+
+/// The three endpoints of the primary block, lent out of the octets.
+#[derive(Clone, Copy)]
+pub(crate) struct LentNames<'a> {
+    pub(crate) destination: LentEndpoint<'a>,
+    pub(crate) source: LentEndpoint<'a>,
+    pub(crate) report_to: LentEndpoint<'a>,
+}
+
+/// The creation timestamp.
+#[derive(Clone, Copy)]
+pub(crate) struct Creation {
+    pub(crate) millis: u64,
+    pub(crate) sequence: u64,
+}
+
+/// The primary block, lent out of the octets.
+#[derive(Clone, Copy)]
+pub(crate) struct LentPrimary<'a> {
+    pub(crate) opening: Opening,
+    pub(crate) names: LentNames<'a>,
+    pub(crate) creation: Creation,
+    pub(crate) lifetime: u64,
+    pub(crate) fragment: Option<Fragment>,
+}
+
+impl LentPrimary<'_> {
+    /// The primary block, with octets of its own.
+    pub(crate) fn owned(self, alloc: Global) -> Result<Primary7, AllocError>
+        ensures { IfOk result (λ p. p ≡ primary_of self.entry) }
+    {
+        let LentPrimary {
+            opening,
+            names,
+            creation,
+            lifetime,
+            fragment,
+        } = self;
+        Ok(Primary7 {
+            flags: opening.flags,
+            crc: opening.crc,
+            destination: names.destination.owned(alloc)?,
+            source: names.source.owned(alloc)?,
+            report_to: names.report_to.owned(alloc)?,
+            millis: creation.millis,
+            sequence: creation.sequence,
+            lifetime,
+            fragment,
+        })
+    }
 }
 
 /// The primary block.
 #[tactic(auto, unfolding(crate::specs::Table::primary))]
-pub(crate) fn primary_at(alloc: Global, text: &[u8], at: usize) -> Result<(Primary7, usize), Fail7>
+pub(crate) fn primary_at(text: &[u8], at: usize) -> Result<(LentPrimary<'_>, usize), Refused7>
     requires { at ≤ length text.now }
     ensures within { IfOk result (λ x. IsOn at text.now x.1) }
-    ensures exact { Gives (λ p. p) refusal result (read primary text.now at) }
+    ensures exact { Gives primary_of refused result (read primary text.now at) }
 {
-    let (opening, after_opening) = opening_at(text, at)?;
-    let (names, after_names) = names_at(alloc, text, after_opening)?;
-    let (creation, after_creation) = creation_at(text, after_names)?;
-    let (lifetime, after_lifetime) = unsigned(text, after_creation, Cause7::Number)?;
-    let (fragment, after_fragment) = optional_fragment_at(text, after_lifetime, opening.flags)?;
-    let (_, end) = crc_at(text, after_fragment, opening.crc, at)?;
-    let primary = Primary7 {
-        flags: opening.flags,
-        crc: opening.crc,
-        destination: names.destination,
-        source: names.source,
-        report_to: names.report_to,
-        millis: creation.millis,
-        sequence: creation.sequence,
+    let start = at;
+    let (opening, at) = opening_at(text, at)?;
+    let (names, at) = names_at(text, at)?;
+    let (creation, at) = creation_at(text, at)?;
+    let (lifetime, at) = unsigned(text, at, Cause7::Number)?;
+    let (fragment, at) = optional_fragment_at(text, at, opening.flags)?;
+    let (_, at) = crc_at(text, at, opening.crc, start)?;
+    let primary = LentPrimary {
+        opening,
+        names,
+        creation,
         lifetime,
         fragment,
     };
-    Ok((primary, end))
+    Ok((primary, at))
 }
 
 /// The array's head, the version, the flags and the type of the check.
 #[tactic(auto, unfolding(crate::specs::Table::opening))]
-fn opening_at(text: &[u8], at: usize) -> Result<(Opening, usize), Fail7>
+fn opening_at(text: &[u8], at: usize) -> Result<(Opening, usize), Refused7>
     requires { at ≤ length text.now }
     ensures within { IfOk result (λ x. IsOn at text.now x.1) }
-    ensures exact { Gives (λ o. o) refusal result (read opening text.now at) }
+    ensures exact { Gives (λ o. o) refused result (read opening text.now at) }
 {
-    let (items, after_items) = main_items_at(text, at)?;
-    let (_, after_version) = exactly(text, after_items, UNSIGNED, 7, Cause7::Version)?;
-    let (flags, after_flags) = unsigned(text, after_version, Cause7::Number)?;
+    let (items, at) = main_items_at(text, at)?;
+    let (_, at) = exactly(text, at, UNSIGNED, 7, Cause7::Version)?;
+    let (flags, at) = unsigned(text, at, Cause7::Number)?;
     let bare = if flags % 2 == 1 { 10 } else { 8 };
-    let (crc, behind) = crc_kind_at(text, after_flags, items, bare)?;
-    Ok((Opening { flags, crc }, behind))
+    let (crc, at) = crc_type_at(text, at, items, bare)?;
+    Ok((Opening { flags, crc }, at))
 }
 
 /// The head of an array of 8 to 11 items.
-fn main_items_at(text: &[u8], at: usize) -> Result<(u64, usize), Fail7>
+fn main_items_at(text: &[u8], at: usize) -> Result<(u64, usize), Refused7>
     requires { at ≤ length text.now }
     ensures within { IfOk result (λ x. IsOn at text.now x.1) }
-    ensures exact { Gives (λ n. n) refusal result (read main_items text.now at) }
+    ensures exact { Gives (λ n. n) refused result (read main_items text.now at) }
 {
-    let (items, behind) = item(text, at, ARRAY, Cause7::Head)?;
+    let (items, after) = item(text, at, ARRAY, Cause7::Head)?;
     if items < 8 || 11 < items {
-        return Err(Fail7::Refused {
-            at,
-            cause: Cause7::Head,
-        });
+        return Err(Cause7::Head.at(at));
     }
-    Ok((items, behind))
+    Ok((items, after))
 }
 
 /// The type of a check, in an array of so many items that has so many without the check.
-pub(crate) fn crc_kind_at(
+pub(crate) fn crc_type_at(
     text: &[u8],
     at: usize,
     items: u64,
     bare: u64,
-) -> Result<(u8, usize), Fail7>
+) -> Result<(u8, usize), Refused7>
     requires place { at ≤ length text.now }
     requires few { bare ≤ 10 }
     ensures within { IfOk result (λ x. IsOn at text.now x.1) }
-    ensures exact { Gives (λ n. n) refusal result (read (crc_kind items bare) text.now at) }
+    ensures exact { Gives (λ n. n) refused result (read (crc_type_field items bare) text.now at) }
 {
-    let (kind, behind) = unsigned(text, at, Cause7::CrcType)?;
-    if kind >= 3 {
-        return Err(Fail7::Refused {
-            at,
-            cause: Cause7::CrcType,
-        });
+    let (crc, after) = unsigned(text, at, Cause7::CrcType)?;
+    if crc >= 3 {
+        return Err(Cause7::CrcType.at(at));
     }
-    let check = if kind == 0 { 0 } else { 1 };
+    let check = if crc == 0 { 0 } else { 1 };
     if items != bare + check {
-        return Err(Fail7::Refused {
-            at,
-            cause: Cause7::ItemCount,
-        });
+        return Err(Cause7::ItemCount.at(at));
     }
-    Ok((kind as u8, behind))
+    Ok((crc as u8, after))
 }
 
 /// Destination, source and report-to.
 #[tactic(auto, unfolding(crate::specs::Table::names))]
-fn names_at(alloc: Global, text: &[u8], at: usize) -> Result<(Names, usize), Fail7>
+fn names_at(text: &[u8], at: usize) -> Result<(LentNames<'_>, usize), Refused7>
     requires { at ≤ length text.now }
     ensures within { IfOk result (λ x. IsOn at text.now x.1) }
-    ensures exact { Gives (λ n. n) refusal result (read names text.now at) }
+    ensures exact { Gives names_of refused result (read names text.now at) }
 {
-    let (destination, after_destination) = eid_at(alloc, text, at)?;
-    let (source, after_source) = eid_at(alloc, text, after_destination)?;
-    let (report_to, behind) = eid_at(alloc, text, after_source)?;
-    let names = Names {
+    let (destination, at) = eid_at(text, at)?;
+    let (source, at) = eid_at(text, at)?;
+    let (report_to, at) = eid_at(text, at)?;
+    let names = LentNames {
         destination,
         source,
         report_to,
     };
-    Ok((names, behind))
+    Ok((names, at))
 }
 
 /// The creation timestamp.
 #[tactic(auto, unfolding(crate::specs::Table::creation))]
-fn creation_at(text: &[u8], at: usize) -> Result<(Creation, usize), Fail7>
+fn creation_at(text: &[u8], at: usize) -> Result<(Creation, usize), Refused7>
     requires { at ≤ length text.now }
     ensures within { IfOk result (λ x. IsOn at text.now x.1) }
-    ensures exact { Gives (λ c. c) refusal result (read creation text.now at) }
+    ensures exact { Gives (λ c. c) refused result (read creation text.now at) }
 {
-    let (_, after_items) = exactly(text, at, ARRAY, 2, Cause7::Timestamp)?;
-    let (millis, after_millis) = unsigned(text, after_items, Cause7::Number)?;
-    let (sequence, behind) = unsigned(text, after_millis, Cause7::Number)?;
-    Ok((Creation { millis, sequence }, behind))
+    let (_, at) = exactly(text, at, ARRAY, 2, Cause7::Timestamp)?;
+    let (millis, at) = unsigned(text, at, Cause7::Number)?;
+    let (sequence, at) = unsigned(text, at, Cause7::Number)?;
+    Ok((Creation { millis, sequence }, at))
 }
 
 /// Where a fragment lies.
 #[tactic(auto, unfolding(crate::specs::Table::fragment))]
-fn fragment_at(text: &[u8], at: usize) -> Result<(Fragment, usize), Fail7>
+fn fragment_at(text: &[u8], at: usize) -> Result<(Fragment, usize), Refused7>
     requires { at ≤ length text.now }
     ensures within { IfOk result (λ x. IsOn at text.now x.1) }
-    ensures exact { Gives (λ f. f) refusal result (read fragment text.now at) }
+    ensures exact { Gives (λ f. f) refused result (read fragment text.now at) }
 {
-    let (offset, after_offset) = unsigned(text, at, Cause7::Number)?;
-    let (total, behind) = unsigned(text, after_offset, Cause7::Number)?;
-    Ok((Fragment { offset, total }, behind))
+    let (offset, at) = unsigned(text, at, Cause7::Number)?;
+    let (total, at) = unsigned(text, at, Cause7::Number)?;
+    Ok((Fragment { offset, total }, at))
 }
 
 /// The same, where the flags say that the bundle is one.
@@ -176,14 +222,14 @@ fn optional_fragment_at(
     text: &[u8],
     at: usize,
     flags: u64,
-) -> Result<(Option<Fragment>, usize), Fail7>
+) -> Result<(Option<Fragment>, usize), Refused7>
     requires { at ≤ length text.now }
     ensures within { IfOk result (λ x. IsOn at text.now x.1) }
-    ensures exact { Gives (λ f. f) refusal result (read (optional (is_fragment flags) fragment) text.now at) }
+    ensures exact { Gives (λ f. f) refused result (read (optional (is_fragment flags) fragment) text.now at) }
 {
     if flags % 2 == 1 {
-        let (fragment, behind) = fragment_at(text, at)?;
-        Ok((Some(fragment), behind))
+        let (fragment, at) = fragment_at(text, at)?;
+        Ok((Some(fragment), at))
     } else {
         Ok((None, at))
     }

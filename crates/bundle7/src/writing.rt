@@ -1,57 +1,38 @@
 //! Writing bundles.
 
-ghost use Rattle.std.specs.Prelude.{◌≡◌, ◌++◌, ◌≤◌, ◌∷◌, [], ℕ, List, length, drop, IfOk, OnOk};
-ghost use Rattle.endpoint.specs.declared.extent.Fragment.{Fragment};
-ghost use Rattle.endpoint.specs.declared.name.Endpoint.{Endpoint};
-ghost use Rattle.endpoint.specs.Endpoints.{IsEndpoint};
-ghost use Rattle.wire_fields.specs.Format.{Spells};
-ghost use Rattle.wire_fields.specs.Refusal.{ExactlyOne};
-ghost use Rattle.wire_fields.specs.Reading.{IsOctets};
-ghost use Rattle.bundle7.specs.declared.bundle.Bundle7.{Bundle7};
-ghost use Rattle.bundle7.specs.Eid.{eid};
-ghost use Rattle.bundle7.specs.Legal.{IsLegal7, Spells7};
+ghost use Rattle.std.specs.Prelude.{◌≡◌, ◌++◌, ◌≤◌, ℕ, List, length, drop, IfOk, OnOk};
 ghost use Rattle.bundle7.specs.Check.{check16, check32};
-ghost use Rattle.bundle7.specs.Table.{is_fragment, fragment_items, check_items, bundle};
+ghost use Rattle.bundle7.specs.Table.{is_fragment, fragment_items, check_items};
 ghost use Rattle.bundle7.specs.Spelling.{eid_octets, crc_octets, with_check, part_octets, opening_octets, creation_octets, main_octets, bare_octets, primary_octets, block_octets, blocks_octets, octets7};
+ghost use Rattle.bundle7.specs.Legal.{IsLegal7, Spells7, IsReadAgain};
 
 use crate::block::Block7;
-use crate::bundle::{BREAK, Bundle7, OPEN};
+use crate::bundle::Bundle7;
 use crate::check::{sixteen, thirty_two};
 use crate::eid::append_eid;
 use crate::primary::Primary7;
+use crate::reading::{BREAK, OPEN};
 use cbor_lite::{write_array, write_bytes, write_head, write_uint};
 use endpoint::{Fragment, Octets};
 use std::alloc::{AllocError, Global};
 use wire_fields::BYTE_STRING;
 
-/// Writes the one spelling of a legal bundle.
+/// The octets of a bundle: the one spelling of a legal bundle. Of another bundle it writes the same
+/// parts in the same order, and they spell nothing.
 pub fn encode7(alloc: Global, bundle: &Bundle7) -> Result<Octets, AllocError>
+    ensures exact { IfOk result (λ octets. octets ≡ octets7 bundle.now) }
+
     // What is legal is spelled.
-    ensures spelled { IsLegal7 bundle.now → IfOk result (λ o. Spells7 o bundle.now) }
+    ensures spelled { IsLegal7 bundle.now → IfOk result (Spells7 bundle.now) }
+
+    // It is read again, whatever follows it.
+    ensures again { IsLegal7 bundle.now → IfOk result (IsReadAgain bundle.now) }
+
     // What was read is written in the octets that it was read from.
-    ensures same { (w : List ℕ) → Spells7 w bundle.now → IfOk result (λ o. o ≡ w) }
-    ensures exact { IfOk result (λ o. o ≡ octets7 bundle.now) }
+    ensures same { (w : List ℕ) → Spells7 bundle.now w → IfOk result (λ octets. octets ≡ w) }
 {
     spelling(alloc, bundle)
 }
-
-/// A bundle is legal exactly where it has a spelling, and it has one.
-pub fn one_spelling()
-    ensures legal { (w : List ℕ) (b : Bundle7) → Spells7 w b → IsLegal7 b × (w ≡ octets7 b) }
-    ensures spelled { (b : Bundle7) → IsLegal7 b → Spells7 (octets7 b) b }
-{}
-
-/// An endpoint is legal exactly where it has a spelling, and it has one.
-pub fn one_eid()
-    ensures legal { (w : List ℕ) (e : Endpoint) → Spells eid [] w e
-        → IsEndpoint e × (w ≡ eid_octets e) }
-    ensures spelled { (e : Endpoint) → IsEndpoint e → Spells eid [] (eid_octets e) e }
-{}
-
-/// Of each text a front is a bundle's spelling, or the text is refused at one place for one reason.
-pub fn exactly_one()
-    ensures { (text : List ℕ) → IsOctets text → ExactlyOne (bundle 64) text }
-{}
 
 /// The octets of a bundle.
 #[tactic(auto, unfolding(crate::specs::Spelling::octets7))]
@@ -174,6 +155,7 @@ fn append_bare(block: &Block7, out: &mut Vec<u8>) -> Result<(), AllocError>
 }
 
 /// Appends the check of this type of the block that begins at `start`.
+#[tactic(auto, unfolding(crate::specs::Spelling::crc_octets))]
 fn append_check(crc: u8, start: usize, out: &mut Vec<u8>) -> Result<(), AllocError>
     requires { start ≤ length out.old.items }
     ensures { OnOk result (out.new.items ≡ out.old.items ++ crc_octets crc (drop start out.old.items)) }

@@ -1,6 +1,8 @@
 //! What the program says of itself.
 
-/// What `--help` prints.
+/// What `--help` prints. The script `fimdahol` shows it before anything is built, and reads it and
+/// `VERSION` from here: each begins after a line that ends with a backslash, and ends before a line
+/// that is `";`.
 pub const HELP: &str = "\
 fimdahol: a gateway between bundles of BPv6 and of BPv7, over LTP
 
@@ -27,7 +29,9 @@ status: 0 done, 1 the input was refused, 2 wrong usage, 3 a read failed, 4 a wri
 ";
 
 /// What `--version` prints.
-pub const VERSION: &str = "fimdahol 0.1.0, proved with rattle-kit-13f logic dac8208d650f15bf\n";
+pub const VERSION: &str = "\
+fimdahol 0.1.0
+";
 
 /// What is put on standard error where the words name no command.
 pub const USAGE: &str = "fimdahol: these words are no command; 'fimdahol --help' lists them\n";

@@ -3,16 +3,15 @@
 ghost use Rattle.std.specs.Prelude.{◌≡◌};
 ghost use Rattle.wire_fields.specs.Word.{word_of};
 
-use thiserror::Error;
+use std::error::Error;
+use std::fmt::{self, Display, Formatter, Write};
 
 /// Why a field isn't there as it should be. A decoder answers `Truncated`, or its own cause.
-#[derive(Clone, Copy, Debug, PartialEq, Eq, Error)]
+#[derive(Clone, Copy, Debug, PartialEq, Eq)]
 pub enum Miss {
     /// The input ends inside the field.
-    #[error("Truncated")]
     Truncated,
     /// The octets spell no value of the field's kind, however they go on.
-    #[error("Absent")]
     Absent,
 }
 
@@ -27,3 +26,19 @@ impl Miss {
         }
     }
 }
+
+impl Display for Miss {
+    ghost use Rattle.std.specs.Prelude.{Some};
+    ghost use Rattle.wire_fields.specs.Word.{word_of};
+
+    ghost output = { λ miss. Some (word_of miss) };
+
+    fn fmt<W: Write>(&self, f: &mut Formatter<W>) -> fmt::Result
+    where
+        Self: Sized,
+    {
+        f.write_str(self.word())
+    }
+}
+
+impl Error for Miss {}

@@ -1,0 +1,13 @@
+use Rattle.std.proofs.Common.{refl}
+use Rattle.ltp_session.specs.Cells.{filled, all_octets}
+use Rattle.ltp_session.specs.Claims.{report_on, claims_below}
+use Rattle.ltp_session.specs.Engine.{datagram_step, tick_step, arrives, with_receiver, untouched, evicted_of, closed_runs, tick_segments, tick_remarks}
+use Rattle.ltp_session.specs.Examples.{steps_of, opens, all_notes}
+use Rattle.ltp_session.specs.Receiver.{receiver_answers, piece_step, report_of, acknowledged, receiver_tick}
+use Rattle.ltp_session.specs.Table.{find, put, without, ticked, ended}
+use Rattle.spans.specs.Places.{runs_of}
+use Rattle.ltp_session.proofs.examples.the_65th_session_evicts_the_first.Goals as goal
+
+pub returns : goal.returns
+unfolding steps_of datagram_step tick_step arrives find put without with_receiver untouched evicted_of closed_runs receiver_answers piece_step filled all_octets report_of report_on claims_below runs_of acknowledged receiver_tick ticked ended tick_segments tick_remarks opens all_notes
+returns c = refl

@@ -1,0 +1,16 @@
+//! What a session of the Licklider Transmission Protocol does (RFC 5326), as definitions.
+//!
+//! `specs/` is the crate. A step of a session is a function of the state before it, of what came,
+//! and of the moment; it gives the state after it, what is sent, what is handed up, and a note.
+//! `Sender` and `Receiver` have these steps, `Cells`, `Claims` and `Timer` their words, and `Views`
+//! says what the code of a session shows. `Engine` keeps many sessions, and `World` is two engines
+//! on a link that may lose, repeat and reorder what they send.
+//!
+//! The contracts of the sessions and of all that stands on them cite these definitions, and the
+//! laws over whole runs are proved about them. [`examples`] computes short runs.
+#![tactic(auto)]
+
+pub mod examples;
+mod name;
+
+pub use name::SessionName;

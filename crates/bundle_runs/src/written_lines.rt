@@ -2,9 +2,9 @@
 ghost use Rattle.std.specs.Prelude.{◌≡◌, ◌++◌, OnOk};
 ghost use Rattle.std.specs.String.{string_bytes};
 ghost use Rattle.bundle_runs.specs.Legal.{IsLegal};
-ghost use Rattle.bundle_runs.specs.Answering.{check_line, show_line, line_of, refused_line};
+ghost use Rattle.bundle_runs.specs.WrittenLines.{check_line, show_line, bundle_line, refused_line};
 
-use crate::command::Command;
+use crate::commands::command::Command;
 use crate::front::Bundle;
 use crate::show::shown;
 use std::alloc::{AllocError, Global};
@@ -18,7 +18,7 @@ pub fn write_line(
     size: usize,
 ) -> Result<(), AllocError>
     requires { IsLegal bundle.now }
-    ensures { OnOk result (string_bytes text.new ≡ string_bytes text.old ++ line_of command bundle.now size) }
+    ensures { OnOk result (string_bytes text.new ≡ string_bytes text.old ++ bundle_line command bundle.now size) }
 {
     match command {
         Command::Check => write_check(text, bundle.version(), size),

@@ -7,3 +7,4 @@ pub mod SpellingLemmas
 pub mod PlacesLemmas
 pub mod NumberingLemmas
 pub mod WritingLemmas
+pub mod JudgeLemmas

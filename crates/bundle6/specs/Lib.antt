@@ -7,6 +7,7 @@ pub mod Legal
 pub mod Cause
 -- What ties code to them.
 pub mod Seen
+pub mod Judging
 pub mod Gathering
 pub mod Numbering
 pub mod Writing

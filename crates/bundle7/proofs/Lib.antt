@@ -6,3 +6,4 @@ pub mod BodyLemmas
 pub mod SpellingLaws
 pub mod PrimaryLaws
 pub mod BlockLaws
+pub mod JudgingLemmas

@@ -9,3 +9,4 @@ pub mod Legal
 pub mod Calls
 -- What follows only ties code to the definitions.
 pub mod Lent
+pub mod Seen

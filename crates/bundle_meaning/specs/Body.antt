@@ -101,6 +101,12 @@ GivesBody (Ok value) given = given ≡ Ok value
 GivesBody (Err Bad) given = IsErr given
 GivesBody (Err Memory) given = IsOk given
 
+-- what was lent out of a whole body, its value seen by view, is what its table gives; no memory is taken
+abbrev pub LendsBody : {X A : Type 0} → (X → A) → Result X BlockFault → Result A (ℕ × Stop BlockFault) → Type 0
+LendsBody view (Ok lent) given = given ≡ Ok (view lent)
+LendsBody view (Err Bad) given = IsErr given
+LendsBody view (Err Memory) given = ⊥
+
 -- where and why a field isn't there
 abbrev pub why : Miss → Stop BlockFault
 why misses.Truncated = truncated

@@ -36,8 +36,10 @@ pub use extra::{Extra6, Extra7, default6, default7};
 pub use fault::BlockFault;
 pub use full::{Full, copy};
 pub use report::{Part, Report, Stamp};
-pub use residue::{ResidueOld, read_residue_old, write_residue_old};
-pub use residue_new::{ResidueNew, read_residue_new, write_residue_new};
+pub use residue::{ResidueOld, no_time, read_residue_old, write_residue_old};
+pub use residue_new::{
+    LentResidue, ResidueNew, lend_residue_new, read_residue_new, write_residue_new,
+};
 pub use shared::{Content, Shared};
-pub use wrap_new::{read_wrap_new, write_wrap_new};
-pub use wrap_old::{read_wrap_old, write_wrap_old};
+pub use wrap_new::{LentBlock6, Names, lend_wrap_new, read_wrap_new, write_wrap_new};
+pub use wrap_old::{LentBlock7, lend_wrap_old, read_wrap_old, write_wrap_old};

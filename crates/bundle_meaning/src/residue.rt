@@ -108,8 +108,9 @@ fn residue_at(text: &[u8], at: usize) -> Result<(ResidueOld, usize), Unfit>
     Ok((residue, at))
 }
 
-/// The statuses of a report that have no time. Without a report there are none.
-fn no_time(content: &Content) -> u8
+/// The statuses of a report that have no time, by bit: 1 received, 4 forwarded, 8 delivered, 16 deleted.
+/// Without a report there are none.
+pub fn no_time(content: &Content) -> u8
     ensures { result ≡ no_time_of content.now }
 {
     match content {

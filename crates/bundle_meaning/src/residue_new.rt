@@ -5,7 +5,7 @@ ghost use Rattle.wire_fields.specs.Format.{Spells};
 ghost use Rattle.wire_fields.specs.Reading.{read};
 ghost use Rattle.wire_fields.specs.Whole.{read_whole};
 ghost use Rattle.wire_fields.specs.Gives.{Gives, IsOn};
-ghost use Rattle.bundle_meaning.specs.Body.{refusal, below, numbers_octets, GivesBody, SpellsNone, IsWritten};
+ghost use Rattle.bundle_meaning.specs.Body.{refusal, below, numbers_octets, GivesBody, LendsBody, SpellsNone, IsWritten};
 ghost use Rattle.bundle_meaning.specs.Residue.{four_rests, residue_new, residue_new_of, residue_new_octets};
 ghost use Rattle.bundle_meaning.specs.Views.{residue_lent};
 ghost use Rattle.bundle_meaning.specs.Reports.{rests_of};
@@ -33,12 +33,17 @@ pub struct ResidueNew {
 
 /// A residue whose custodian is the text of an endpoint, lent.
 #[derive(Clone, Copy)]
-struct LentResidue<'a> {
-    flags: u64,
-    custodian: &'a [u8],
-    payload_flags: u64,
-    after: u64,
-    rests: [u32; 4],
+pub struct LentResidue<'a> {
+    /// The bundle's flags that version 7 hasn't.
+    pub flags: u64,
+    /// The text of the bundle's custodian.
+    pub custodian: &'a [u8],
+    /// The payload block's flags that version 7 hasn't.
+    pub payload_flags: u64,
+    /// How many of the extension blocks stand after the payload, or more.
+    pub after: u64,
+    /// The parts of a report's times below one millisecond, in nanoseconds.
+    pub rests: [u32; 4],
 }
 
 /// The body of a record's residue in version 7.
@@ -71,14 +76,22 @@ pub fn read_residue_new(alloc: Global, body: &[u8]) -> Result<ResidueNew, BlockF
     whole_residue(alloc, body)
 }
 
+/// What the body of a residue in a version 7 bundle says, with the custodian's text lent. No memory is
+/// taken.
+pub fn lend_residue_new(body: &[u8]) -> Result<LentResidue<'_>, BlockFault>
+    ensures { LendsBody residue_lent result (read_whole residue_new BlockFault.Bad body.now) }
+{
+    match residue_at(body, 0) {
+        Ok((lent, end)) if end == body.len() => Ok(lent),
+        _ => Err(BlockFault::Bad),
+    }
+}
+
 /// What the octets say, if they are exactly the fields of a residue.
 fn whole_residue(alloc: Global, body: &[u8]) -> Result<ResidueNew, BlockFault>
     ensures { GivesBody result (read_whole residue_new BlockFault.Bad body.now) }
 {
-    let lent = match residue_at(body, 0) {
-        Ok((lent, end)) if end == body.len() => lent,
-        _ => return Err(BlockFault::Bad),
-    };
+    let lent = lend_residue_new(body)?;
     // It is an endpoint's text, so only memory can be missing.
     let Ok(custodian) = Endpoint::from_text(alloc, lent.custodian) else {
         return Err(BlockFault::Memory);

@@ -7,7 +7,7 @@ ghost use Rattle.wire_fields.specs.Reading.{read};
 ghost use Rattle.wire_fields.specs.Words.{listed};
 ghost use Rattle.wire_fields.specs.Whole.{read_whole};
 ghost use Rattle.wire_fields.specs.Gives.{Gives, IsOn};
-ghost use Rattle.bundle_meaning.specs.Body.{refusal, name, name_octets, GivesBody, SpellsNone, IsWritten};
+ghost use Rattle.bundle_meaning.specs.Body.{refusal, name, name_octets, GivesBody, LendsBody, SpellsNone, IsWritten};
 ghost use Rattle.bundle_meaning.specs.Blocks.{IsBlock6};
 ghost use Rattle.bundle_meaning.specs.Wrap.{kind6, references, wrap_new, wrap_new_octets};
 ghost use Rattle.bundle_meaning.specs.Views.{names_lent, block6_lent};
@@ -23,7 +23,7 @@ use wire_fields::Miss;
 
 /// So many endpoints at a place in a text, which were all found there.
 #[derive(Clone, Copy)]
-pub(crate) struct Names<'a> {
+pub struct Names<'a> {
     text: &'a [u8],
     at: usize,
     count: u64,
@@ -31,11 +31,15 @@ pub(crate) struct Names<'a> {
 
 /// A block of version 6 whose references and body are lent.
 #[derive(Clone, Copy)]
-struct LentBlock6<'a> {
-    kind: u8,
-    flags: u64,
+pub struct LentBlock6<'a> {
+    /// The block's type, not 1.
+    pub kind: u8,
+    /// The block's flags. Bits 3 and 6 are clear.
+    pub flags: u64,
+    /// The endpoints that it refers to.
     refs: Names<'a>,
-    body: &'a [u8],
+    /// Its octets.
+    pub body: &'a [u8],
 }
 
 /// The body of the wrap that holds a block of version 6 in version 7.
@@ -79,19 +83,30 @@ pub fn read_wrap_new(alloc: Global, body: &[u8]) -> Result<Block6Like, BlockFaul
     whole_wrap(alloc, body)
 }
 
+/// The block of version 6 that the body of a wrap in a version 7 bundle holds, with its references and
+/// its body lent. No memory is taken.
+pub fn lend_wrap_new(body: &[u8]) -> Result<LentBlock6<'_>, BlockFault>
+    ensures given { LendsBody block6_lent result
+        (read_whole (wrap_new (length body.now)) BlockFault.Bad body.now) }
+    ensures place { IfOk result (λ lent. lent.refs.at ≤ length lent.refs.text.now) }
+{
+    match wrap_at(body, 0) {
+        Ok((lent, end)) if end == body.len() => Ok(lent),
+        _ => Err(BlockFault::Bad),
+    }
+}
+
 /// The block that the octets hold, if they are exactly a wrap.
 fn whole_wrap(alloc: Global, body: &[u8]) -> Result<Block6Like, BlockFault>
     ensures { GivesBody result (read_whole (wrap_new (length body.now)) BlockFault.Bad body.now) }
 {
-    match wrap_at(body, 0) {
-        Ok((lent, end)) if end == body.len() => Ok(Block6Like {
-            kind: lent.kind,
-            flags: lent.flags,
-            refs: lent.refs.collect(alloc)?,
-            body: Octets::from_slice(alloc, lent.body)?,
-        }),
-        _ => Err(BlockFault::Bad),
-    }
+    let lent = lend_wrap_new(body)?;
+    Ok(Block6Like {
+        kind: lent.kind,
+        flags: lent.flags,
+        refs: lent.refs.collect(alloc)?,
+        body: Octets::from_slice(alloc, lent.body)?,
+    })
 }
 
 /// The fields of a wrap.

@@ -5,7 +5,7 @@ ghost use Rattle.wire_fields.specs.Format.{Spells};
 ghost use Rattle.wire_fields.specs.Reading.{read};
 ghost use Rattle.wire_fields.specs.Whole.{read_whole};
 ghost use Rattle.wire_fields.specs.Gives.{Gives, IsOn};
-ghost use Rattle.bundle_meaning.specs.Body.{refusal, GivesBody, SpellsNone, IsWritten};
+ghost use Rattle.bundle_meaning.specs.Body.{refusal, GivesBody, LendsBody, SpellsNone, IsWritten};
 ghost use Rattle.bundle_meaning.specs.Blocks.{IsBlock7};
 ghost use Rattle.bundle_meaning.specs.Wrap.{kind7, number7, wrap_old, wrap_old_octets};
 ghost use Rattle.bundle_meaning.specs.Views.{block7_lent};
@@ -20,12 +20,17 @@ use wire_fields::Miss;
 
 /// A block of version 7 whose body is lent.
 #[derive(Clone, Copy)]
-struct LentBlock7<'a> {
-    kind: u64,
-    number: u64,
-    flags: u64,
-    crc: u8,
-    body: &'a [u8],
+pub struct LentBlock7<'a> {
+    /// The block's type, not 1.
+    pub kind: u64,
+    /// The block's number, at least 2.
+    pub number: u64,
+    /// The block's flags.
+    pub flags: u64,
+    /// The block's check: 0 none, 1 CRC-16 X-25, 2 CRC-32C.
+    pub crc: u8,
+    /// Its octets.
+    pub body: &'a [u8],
 }
 
 /// The body of the wrap that holds a block of version 7 in version 6.
@@ -58,20 +63,30 @@ pub fn read_wrap_old(alloc: Global, body: &[u8]) -> Result<Block7Like, BlockFaul
     whole_wrap(alloc, body)
 }
 
+/// The block of version 7 that the body of a wrap in a version 6 bundle holds, with its body lent. No
+/// memory is taken.
+pub fn lend_wrap_old(body: &[u8]) -> Result<LentBlock7<'_>, BlockFault>
+    ensures { LendsBody block7_lent result
+        (read_whole (wrap_old (length body.now)) BlockFault.Bad body.now) }
+{
+    match wrap_at(body, 0) {
+        Ok((lent, end)) if end == body.len() => Ok(lent),
+        _ => Err(BlockFault::Bad),
+    }
+}
+
 /// The block that the octets hold, if they are exactly a wrap.
 fn whole_wrap(alloc: Global, body: &[u8]) -> Result<Block7Like, BlockFault>
     ensures { GivesBody result (read_whole (wrap_old (length body.now)) BlockFault.Bad body.now) }
 {
-    match wrap_at(body, 0) {
-        Ok((lent, end)) if end == body.len() => Ok(Block7Like {
-            kind: lent.kind,
-            number: lent.number,
-            flags: lent.flags,
-            crc: lent.crc,
-            body: Octets::from_slice(alloc, lent.body)?,
-        }),
-        _ => Err(BlockFault::Bad),
-    }
+    let lent = lend_wrap_old(body)?;
+    Ok(Block7Like {
+        kind: lent.kind,
+        number: lent.number,
+        flags: lent.flags,
+        crc: lent.crc,
+        body: Octets::from_slice(alloc, lent.body)?,
+    })
 }
 
 /// The fields of a wrap.

@@ -1,18 +1,15 @@
 -- The table without values keeps of the table's values what later fields look at.
 
-use Rattle.std.proofs.Common.{◌≡◌, ℕ, ◌+◌, ◌-◌, ◌≤◌, length, take, inl, inr, arith, Bool, true, false, List, [], ◌∷◌, ◌++◌, Option, Result, Ok, Err, IfOk, refl, ap}
-use Rattle.std.proofs.lemmas.Bool.{cases_lt}
+use Rattle.std.proofs.Common.{◌≡◌, ℕ, ◌+◌, ◌≤◌, length, take, Bool, List, [], ◌∷◌, ◌++◌, Option, Result, Ok, Err, IfOk, refl, ap}
 use Rattle.endpoint.specs.declared.name.Endpoint.{Endpoint}
 use Rattle.endpoint.specs.declared.extent.Fragment.{Fragment}
-use Rattle.wire_fields.specs.Refusal.{Stop, Begins}
+use Rattle.wire_fields.specs.Refusal.{Begins}
 use Rattle.wire_fields.specs.Reading.{read, IsOctets}
-use Rattle.wire_fields.specs.Words.{one_more, until}
-use Rattle.wire_fields.specs.Gives.{Fails, WantsOnlySpelled}
+use Rattle.wire_fields.specs.Words.{one_more, listed, until}
+use Rattle.wire_fields.specs.Gives.{WantsOnlySpelled}
 use Rattle.wire_fields.proofs.ResultLemmas.{err_is}
 use Rattle.wire_fields.proofs.JudgeLemmas.{wanting-spelled}
-use Rattle.wire_fields.proofs.GroupLemmas.{until-step, until-last, until-fails, until-none}
-use Rattle.wire_fields.proofs.KeepsLemmas.{Keeps, state_kept, keeps-give, keeps-then, keeps-after, keeps-made, keeps-repeated, keeps-until}
-use Rattle.bundle6.specs.declared.fault.Cause6.{Cause6}
+use Rattle.wire_fields.proofs.KeepsLemmas.{Keeps, state_kept, keeps-give, keeps-then, keeps-after, keeps-made, keeps-repeated, keeps-until, keeps-flat_left, keeps-flat_right, keeps-given_right}
 use Rattle.bundle6.specs.declared.fault.Refused6.{Refused6}
 use Rattle.bundle6.specs.declared.fault.Fail6.{Fail6}
 use Rattle.bundle6.specs.declared.fault.Fail6.TheVariants.{Memory}
@@ -23,9 +20,9 @@ use Rattle.bundle6.specs.declared.primary.Primary6.{Primary6}
 use Rattle.bundle6.specs.declared.block.Block6.{Block6}
 use Rattle.bundle6.specs.declared.block.Seen.{Seen}
 use Rattle.bundle6.specs.declared.bundle.Bundle6.{Bundle6}
-use Rattle.bundle6.specs.Seen.{seen_with, how_many, Follows}
+use Rattle.bundle6.specs.Seen.{seen_with}
 use Rattle.bundle6.specs.Table.{primary, dictionary, name, references, block, next_block, bundle, has_payload, others}
-use Rattle.bundle6.specs.Judging.{judged_dictionary, judged_primary, judged_name, judged_references, judged_block, judged_blocks, judged_bundle, none_seen}
+use Rattle.bundle6.specs.Judging.{judged_dictionary, judged_primary, judged_name, judged_names, judged_head, judged_body, judged_block, judged_blocks, judged_bundle, none_seen}
 use Rattle.bundle6.specs.Legal.{Spells6}
 use Rattle.bundle6.proofs.BlocksLemmas.{seen-more}
 use Rattle.bundle6.proofs.LegalLemmas.{begun-legal}
@@ -56,12 +53,11 @@ name-keeps : (texts : List ℕ) → Keeps (λ (x : Endpoint). tt) (name texts) (
 unfolding name judged_name
 name-keeps texts = keeps-after _ _ _ _ (λ scheme. keeps-after _ _ _ _ (λ ssp. keeps-give _ _ _ refl))
 
-references-keeps : (present : Bool) (texts : List ℕ)
-    → Keeps (λ (x : List Endpoint). tt) (references present texts) (judged_references present texts)
-unfolding references judged_references
-references-keeps present texts = keeps-after _ _ _ _ (λ count.
+names-keep : (count : ℕ) (texts : List ℕ)
+    → Keeps (λ (x : List Endpoint). tt) (listed count (λ earlier. name texts)) (judged_names count texts)
+names-keep count texts =
     keeps-repeated (λ (x : List Endpoint). tt) (one_more (λ earlier. name texts)) (λ _. judged_name texts)
-    (λ earlier. keeps-made (λ x. earlier ++ x ∷ []) (λ _. tt) (name texts) (judged_name texts) (name-keeps texts)) count [])
+    (λ earlier. keeps-made (λ x. earlier ++ x ∷ []) (λ _. tt) (name texts) (judged_name texts) (name-keeps texts)) count []
 
 -- what is kept of the blocks so far
 abbrev pub seen_of : List Block6 → Seen
@@ -77,12 +73,17 @@ seen-next earlier b last = let more = seen-more (seen_of earlier) earlier b refl
 block-keeps : (most : ℕ) (part : Option Fragment) (texts : List ℕ) (earlier : List Block6)
     → Keeps (λ next. (seen_of (earlier ++ next.0 ∷ []), next.1))
     (block most part texts (has_payload earlier) (others earlier)) (judged_block most part texts (seen_of earlier))
-unfolding block judged_block
+unfolding block references judged_head judged_body
 block-keeps most part texts earlier =
-    keeps-after _ _ _ _ (λ kind. keeps-after _ _ _ _ (λ flags.
-    keeps-then (λ (x : List Endpoint). tt) _ _ _ _ _ (references-keeps _ texts) (λ refs.
-    keeps-after _ _ _ _ (λ size. keeps-after _ _ _ _ (λ body.
-    keeps-give _ _ _ (seen-next earlier _ _))))))
+    keeps-flat_right _ _ _ _ _ (keeps-after _ _ _ _ (λ kind.
+    keeps-flat_right _ _ _ _ _ (keeps-after _ _ _ _ (λ flags.
+    keeps-flat_left _ _ _ _ _ (keeps-flat_right _ _ _ _ _ (keeps-after _ _ _ _ (λ count.
+    keeps-given_right _ _ _ _ (
+    keeps-then (λ (x : List Endpoint). tt) _ _ _ _ _ (names-keep count texts) (λ refs.
+    keeps-flat_right _ _ _ _ _ (keeps-after _ _ _ _ (λ size.
+    keeps-flat_right _ _ _ _ _ (keeps-after _ _ _ _ (λ body.
+    keeps-given_right _ _ _ _ (
+    keeps-give _ _ _ (seen-next earlier _ _)))))))))))))))
 
 blocks-keep : (n most : ℕ) (part : Option Fragment) (texts : List ℕ)
     → Keeps seen_of (until n (next_block most part texts) []) (judged_blocks n most part texts none_seen)
@@ -98,38 +99,6 @@ bundle-keeps most =
     keeps-then main_kept _ _ _ _ _ primary-keeps (λ main.
     keeps-made (λ blocks. record { primary = main.0; blocks = blocks }) (λ b. seen_of b.blocks) _ _
     (blocks-keep (most + 1) most main.0.fragment main.1))
-
--- ---- the loop over blocks
-
-module _ (most : ℕ) (part : Option Fragment) (texts text : List ℕ) where
-  -- one block more, which isn't the last
-  pub judged-step : (seen next : Seen) (at to : ℕ) (all : Result (Seen × ℕ) (ℕ × Stop Cause6)) → Follows most seen next
-      → read (judged_block most part texts seen) text at ≡ Ok ((next, false), to)
-      → read (judged_blocks (most + 1 - how_many seen) most part texts seen) text at ≡ all
-      → read (judged_blocks (most + 1 - how_many next) most part texts next) text to ≡ all
-  judged-step seen next at to all follows is left =
-      rw follows.counted (until-step (λ _ s. judged_block most part texts s) text (most + 1) (how_many seen) seen next at to all
-      (omega (arith, follows.room)) is left)
-
-  -- the last block
-  pub judged-last : (seen next : Seen) (at to : ℕ) (all : Result (Seen × ℕ) (ℕ × Stop Cause6)) → Follows most seen next
-      → read (judged_block most part texts seen) text at ≡ Ok ((next, true), to)
-      → read (judged_blocks (most + 1 - how_many seen) most part texts seen) text at ≡ all
-      → all ≡ Ok (next, to)
-  judged-last seen next at to all follows is left =
-      until-last (λ _ s. judged_block most part texts s) text (most + 1) (how_many seen) seen next at to all
-      (omega (arith, follows.room)) is left
-
-  -- a block that isn't there
-  pub judged-fails : (seen : Seen) (at : ℕ) (o : Option (ℕ × Stop Cause6)) (all : Result (Seen × ℕ) (ℕ × Stop Cause6))
-      → Fails o (read (judged_block most part texts seen) text at)
-      → read (judged_blocks (most + 1 - how_many seen) most part texts seen) text at ≡ all
-      → Fails o all
-  judged-fails seen at o all fails left =
-      elim (cases_lt (how_many seen) (most + 1)) [
-        | inl room ↦ until-fails (λ _ s. judged_block most part texts s) text (most + 1) (how_many seen) seen at o all room fails left
-        | inr full ↦ until-none (λ _ s. judged_block most part texts s) text (most + 1) (how_many seen) seen at o all full fails left
-      ]
 
 -- ---- what was found is legal
 

@@ -8,3 +8,4 @@ pub mod PlacesLemmas
 pub mod NumberingLemmas
 pub mod WritingLemmas
 pub mod JudgeLemmas
+pub mod PassLemmas

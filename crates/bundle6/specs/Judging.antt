@@ -10,6 +10,7 @@ use Rattle.bundle6.specs.declared.fault.Cause6.{Cause6}
 use Rattle.bundle6.specs.declared.fault.Cause6.TheVariants.{Version, Number, Names, PrimaryEnd, BlockRefs, Truncated}
 use Rattle.bundle6.specs.declared.names.Pairs.{Pairs}
 use Rattle.bundle6.specs.declared.block.Seen.{Seen}
+use Rattle.bundle6.specs.declared.pass.Head.{Head}
 use Rattle.bundle6.specs.Bits.{has_bit}
 use Rattle.bundle6.specs.Names.{resolves, all_resolve}
 use Rattle.bundle6.specs.Seen.{seen_with}
@@ -58,20 +59,34 @@ judged_name dictionary = do
 abbrev pub judged_names : ℕ → List ℕ → Format Cause6 (Unit {0})
 judged_names count dictionary = repeated count (λ _. judged_name dictionary) tt
 
-unfoldable pub judged_references : Bool → List ℕ → Format Cause6 (Unit {0})
-judged_references present dictionary = do
-  count ← count_field present
-  judged_names count dictionary
-
--- the blocks so far with this one, and whether it is marked as the last
-unfoldable pub judged_block : ℕ → Option Fragment → List ℕ → Seen → Format Cause6 (Seen × Bool)
-judged_block most part dictionary seen = do
+-- the head of a block: the blocks so far with it, whether it is the payload and the last, and how many
+-- references follow
+unfoldable pub judged_head : ℕ → Seen → Format Cause6 Head
+judged_head most seen = do
   kind ← kind_field most seen.paid seen.others
   flags ← flags_field (kind == 1 || seen.paid)
-  refs ← judged_references (has_bit 6 flags) dictionary
-  size ← size_field part (kind == 1)
+  count ← count_field (has_bit 6 flags)
+  give (record { seen = seen_with seen kind; payload = kind == 1; last = has_bit 3 flags; count = count })
+
+-- the octets of a block, and how many there are
+unfoldable pub judged_body : Option Fragment → Bool → Format Cause6 (Unit {0})
+judged_body part payload = do
+  size ← size_field part payload
   body ← any_octets size Truncated
-  give (seen_with seen kind, has_bit 3 flags)
+  give tt
+
+-- so many references more, and the octets: the blocks so far, and whether the block is the last
+abbrev pub judged_tail : ℕ → Option Fragment → List ℕ → Bool → Bool → Seen → Format Cause6 (Seen × Bool)
+judged_tail count part dictionary payload last seen = do
+  names ← judged_names count dictionary
+  body ← judged_body part payload
+  give (seen, last)
+
+-- a block
+abbrev pub judged_block : ℕ → Option Fragment → List ℕ → Seen → Format Cause6 (Seen × Bool)
+judged_block most part dictionary seen = do
+  h ← judged_head most seen
+  judged_tail h.count part dictionary h.payload h.last h.seen
 
 abbrev pub none_seen : Seen
 none_seen = record { paid = false; others = 0 }

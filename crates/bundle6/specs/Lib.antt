@@ -8,6 +8,7 @@ pub mod Cause
 -- What ties code to them.
 pub mod Seen
 pub mod Judging
+pub mod Passing
 pub mod Gathering
 pub mod Numbering
 pub mod Writing

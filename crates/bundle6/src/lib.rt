@@ -19,6 +19,7 @@ mod judging;
 mod laws;
 mod names;
 mod numbering;
+mod pass;
 mod primary;
 mod reading;
 mod writing;

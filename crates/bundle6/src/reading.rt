@@ -50,20 +50,19 @@ pub fn decode6(alloc: Global, bytes: &[u8]) -> Result<(Bundle6, usize), Fail6>
         → Gives (λ bundle. bundle) refusal result (read (bundle 64) (bytes.now ++ more) 0) }
     ensures exact { Gives (λ bundle. bundle) refusal result (read (bundle 64) bytes.now 0) }
 {
-    decoded(alloc, bytes, 0, MOST_OTHERS)
+    decoded(alloc, bytes, MOST_OTHERS)
 }
 
-/// The bundle at a place. The octets are judged only where memory ran out, so that this costs nothing
-/// where it doesn't.
-fn decoded(alloc: Global, text: &[u8], at: usize, most: u64) -> Result<(Bundle6, usize), Fail6>
-    requires place { at ≤ length text.now }
-    requires few { most < 2 ^ 64 - 1 }
-    ensures exact { Gives (λ bundle. bundle) refusal result (read (bundle most) text.now at) }
-    ensures wants { WantsOnlySpelled refusal result (read (bundle most) text.now at) }
+/// The bundle at the front. The octets are judged only where memory ran out, so that this costs
+/// nothing where it doesn't.
+fn decoded(alloc: Global, text: &[u8], most: u64) -> Result<(Bundle6, usize), Fail6>
+    requires { most < 2 ^ 64 - 1 }
+    ensures exact { Gives (λ bundle. bundle) refusal result (read (bundle most) text.now 0) }
+    ensures wants { WantsOnlySpelled refusal result (read (bundle most) text.now 0) }
 {
-    match bundle_at(alloc, text, at, most) {
+    match bundle_at(alloc, text, 0, most) {
         Err(Fail6::Memory) => {
-            end_judged(text, at, most)?;
+            end_judged(text, most)?;
             Err(Fail6::Memory)
         }
         found => found,

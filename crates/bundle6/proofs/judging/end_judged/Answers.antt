@@ -1,16 +1,13 @@
--- The table without values is read to the same place.
-use Rattle.std.proofs.Common.{◌∙◌}
-use Rattle.wire_fields.proofs.JudgeLemmas.{judged-ok, judged-err}
-use Rattle.bundle6.specs.Cause.{stop_of}
-use Rattle.bundle6.proofs.JudgeLemmas.{bundle-keeps}
+-- The pass ends where the bundle does, or it is refused as the bundle is.
+use Rattle.bundle6.proofs.PassLemmas.{judges-ended, judges-stopped}
 use Rattle.bundle6.proofs.judging.end_judged.Goals as goal
 
-pub returns-in-Ok : goal.returns-in-Ok
-returns-in-Ok c =
-    judged-ok stop_of _ _ _ c.in-Ok.end
-    ((bundle-keeps c.args.most).reads c.args.text.now c.args.at ∙ c.in-Ok.ensures)
+pub returns-in_default-None : goal.returns-in_default-None
+returns-in_default-None c =
+    judges-ended c.args.most c.args.text.now c.run.result.0 c.run.ensures.stands
+    (rw c.in_default-None.is-1 at c.run.ensures.comes)
 
-pub returns-in-Err : goal.returns-in-Err
-returns-in-Err c =
-    judged-err stop_of _ _ c.in-Err.refused
-    ((bundle-keeps c.args.most).reads c.args.text.now c.args.at ∙ c.in-Err.ensures)
+pub returns-in_default-Some : goal.returns-in_default-Some
+returns-in_default-Some c =
+    judges-stopped c.args.most c.args.text.now c.in_default-Some.refused
+    (rw c.in_default-Some.is-1 at c.run.ensures.comes)

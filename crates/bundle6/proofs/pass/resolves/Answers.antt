@@ -2,7 +2,7 @@
 use Rattle.std.proofs.Common.{sym, ap, ◌∙◌, inl, inr}
 use Rattle.std.specs.Prelude.{is_some}
 use Rattle.bundle6.proofs.NamesLemmas.{resolve-misses}
-use Rattle.bundle6.proofs.judging.resolves.Goals as goal
+use Rattle.bundle6.proofs.pass.resolves.Goals as goal
 
 pub returns-in_default : goal.returns-in_default
 returns-in_default c =

@@ -1,6 +1,7 @@
 //! The versions in memory with calls that fail or find no room, the adapters over std's reader
 //! and writer, and the loops over them.
 
+use crate::runs::{WHOLE, run_over};
 use edge_traits::{
     Answer, Clock, Failed, LONGEST_DATAGRAM, Link, MemClock, MemLink, MemSink, MemSource,
     ReadRefused, Reading, Sink, Source, Status, SureSink, SureSource, Writing, read_all,
@@ -30,6 +31,24 @@ impl Write for Broken {
     }
 }
 
+/// A reader of std whose first call is an error, and which gives its octets from then on.
+#[derive(Drop)]
+struct Stumbling<'a> {
+    kind: ErrorKind,
+    stumbled: bool,
+    octets: &'a [u8],
+}
+
+impl Read for Stumbling<'_> {
+    fn read(&mut self, buf: &mut [u8]) -> io::Result<usize> {
+        if self.stumbled {
+            return self.octets.read(buf);
+        }
+        self.stumbled = true;
+        Err(self.kind.into())
+    }
+}
+
 /// Whether four reads into three octets answer so.
 fn four_reads<S: Source>(source: &mut S, wanted: [Result<usize, Failed>; 4]) -> bool {
     let mut buffer = [0; 3];
@@ -49,6 +68,45 @@ fn reads_give_the_octets_in_order(rt: HostRuntime) -> Result<(), Fail> {
     assert!(rt; four_reads(&mut SureSource::new(rt.alloc(), b"abcde")?, whole));
     assert!(rt; four_reads(&mut Reading::new(b"abcde".as_slice()), whole));
     assert!(rt; four_reads(&mut Reading::new(Broken), [Err(Failed); 4]));
+    Ok(())
+}
+
+/// Errors of a reader that goes on after them. One that was interrupted is a fault like another.
+const STUMBLES: &[ErrorKind] = &[ErrorKind::TimedOut, ErrorKind::Interrupted];
+
+/// A reader of these octets that stumbles first.
+fn stumbles_first(kind: ErrorKind, octets: &[u8]) -> Stumbling<'_> {
+    Stumbling {
+        kind,
+        stumbled: false,
+        octets,
+    }
+}
+
+#[test]
+fn a_reader_may_go_on_after_an_error(rt: HostRuntime) {
+    for &kind in STUMBLES {
+        let mut source = Reading::new(stumbles_first(kind, b"abcde"));
+        assert!(rt;
+            four_reads(&mut source, [Err(Failed), Ok(3), Ok(2), Ok(0)]),
+            "{kind:?}"
+        );
+    }
+}
+
+/// Whether a run over a reader that stumbles ends with its first error and writes nothing.
+fn run_stops(alloc: Global, kind: ErrorKind) -> Result<bool, AllocError> {
+    let mut source = Reading::new(stumbles_first(kind, WHOLE.as_bytes()));
+    let mut sink = SureSink::new(alloc, 100)?;
+    let status = run_over(alloc, &["receive"], &mut source, &mut sink)?;
+    Ok(status == Status::ReadFault && sink.octets().is_empty())
+}
+
+#[test]
+fn a_run_does_not(rt: HostRuntime) -> Result<(), Fail> {
+    for &kind in STUMBLES {
+        assert!(rt; run_stops(rt.alloc(), kind)?, "{kind:?}");
+    }
     Ok(())
 }
 

@@ -4,34 +4,44 @@ ghost use Rattle.std.specs.Prelude.{◌≡◌};
 ghost use Rattle.bundle6.specs.Cause.{word_of, refused, missed};
 
 use std::alloc::AllocError;
-use std::error::Error;
-use std::fmt::{self, Display, Formatter, Write};
+use thiserror::Error;
 use wire_fields::Miss;
 
 /// What isn't as it should be, in the order of the fields.
-#[derive(Clone, Copy, Debug, PartialEq, Eq)]
+#[derive(Clone, Copy, Debug, PartialEq, Eq, Error)]
 pub enum Cause6 {
     /// The first octet isn't 6.
+    #[error("Version")]
     Version,
     /// A number has no end within ten octets, or is 2^64 or more.
+    #[error("Number")]
     Number,
     /// One of the four names of the primary block doesn't resolve in the dictionary.
+    #[error("Names")]
     Names,
     /// The primary block ends elsewhere than its length field says.
+    #[error("PrimaryEnd")]
     PrimaryEnd,
     /// A second payload block begins.
+    #[error("SecondPayload")]
     SecondPayload,
     /// A 65th block of another type than the payload begins.
+    #[error("TooManyBlocks")]
     TooManyBlocks,
     /// The block that is marked as the last comes before a payload block.
+    #[error("NoPayload")]
     NoPayload,
     /// A reference of a block doesn't resolve in the dictionary.
+    #[error("BlockRefs")]
     BlockRefs,
     /// The payload of a fragment would pass the end of the whole.
+    #[error("FragmentRange")]
     FragmentRange,
     /// The octets end inside a field.
+    #[error("Truncated")]
     Truncated,
     /// A bundle of a stream doesn't end within the most octets that a reader keeps.
+    #[error("TooLong")]
     TooLong,
 }
 
@@ -72,22 +82,6 @@ impl Cause6 {
         }
     }
 }
-
-impl Display for Cause6 {
-    ghost use Rattle.std.specs.Prelude.{Some};
-    ghost use Rattle.bundle6.specs.Cause.{word_of};
-
-    ghost output = { λ cause. Some (word_of cause) };
-
-    fn fmt<W: Write>(&self, f: &mut Formatter<W>) -> fmt::Result
-    where
-        Self: Sized,
-    {
-        f.write_str(self.word())
-    }
-}
-
-impl Error for Cause6 {}
 
 /// A refusal: the octets before a place are as they should be, and the field there isn't.
 #[derive(Clone, Copy, Debug, PartialEq, Eq)]

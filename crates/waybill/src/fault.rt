@@ -5,40 +5,53 @@ ghost use Rattle.waybill.specs.declared.fault.Fail.TheVariants.{Memory, Refused}
 ghost use Rattle.waybill.specs.Cause.{word_of, missed};
 
 use std::alloc::{AllocError, AllocFailed};
-use std::error::Error;
-use std::fmt::{self, Display, Formatter, Write};
+use thiserror::Error;
 use wire_fields::Miss;
 
 /// What isn't as it should be at a place.
-#[derive(Clone, Copy, Debug, PartialEq, Eq)]
+#[derive(Clone, Copy, Debug, PartialEq, Eq, Error)]
 pub enum Cause {
     /// The octets end inside a field.
+    #[error("Truncated")]
     Truncated,
     /// The first octet isn't `W`.
+    #[error("Mark")]
     Mark,
     /// More than 15 seals are announced.
+    #[error("Count")]
     Count,
     /// A number is spelled in more than ten octets, or is 2^64 or more.
+    #[error("Number")]
     Number,
     /// The sender is neither nobody nor a text of 1 to 8 octets.
+    #[error("Sender")]
     Sender,
     /// A part doesn't begin within the whole.
+    #[error("Range")]
     Range,
     /// The front has more or fewer octets than it says.
+    #[error("FrontEnd")]
     FrontEnd,
     /// The kind of an item is none of the four.
+    #[error("Kind")]
     Kind,
     /// Goods stand there a second time.
+    #[error("SecondGoods")]
     SecondGoods,
     /// As many items as may stand before the last have been read, and this one isn't the last.
+    #[error("TooManyItems")]
     TooManyItems,
     /// An earlier item has this number.
+    #[error("Repeated")]
     Repeated,
     /// The check octet isn't the sum of the octets before it.
+    #[error("Check")]
     Check,
     /// A seal is smaller than the one before it.
+    #[error("Order")]
     Order,
     /// Octets follow after the last seal.
+    #[error("Trailing")]
     Trailing,
 }
 
@@ -83,28 +96,14 @@ impl Cause {
     }
 }
 
-impl Display for Cause {
-    ghost use Rattle.std.specs.Prelude.{Some};
-    ghost use Rattle.waybill.specs.Cause.{word_of};
-
-    ghost output = { λ cause. Some (word_of cause) };
-
-    fn fmt<W: Write>(&self, f: &mut Formatter<W>) -> fmt::Result
-    where
-        Self: Sized,
-    {
-        f.write_str(self.word())
-    }
-}
-
-impl Error for Cause {}
-
 /// Why no waybill was read.
-#[derive(Clone, Copy, Debug, PartialEq, Eq)]
+#[derive(Clone, Copy, Debug, PartialEq, Eq, Error)]
 pub enum Fail {
     /// The octets before `at` are as they should be, and what stands there isn't.
+    #[error("{cause} at {at}")]
     Refused { at: usize, cause: Cause },
     /// Memory ran out.
+    #[error("Memory")]
     Memory,
 }
 

@@ -3,15 +3,16 @@
 ghost use Rattle.std.specs.Prelude.{◌≡◌};
 ghost use Rattle.wire_fields.specs.Word.{word_of};
 
-use std::error::Error;
-use std::fmt::{self, Display, Formatter, Write};
+use thiserror::Error;
 
 /// Why a field isn't there as it should be. A decoder answers `Truncated`, or its own cause.
-#[derive(Clone, Copy, Debug, PartialEq, Eq)]
+#[derive(Clone, Copy, Debug, PartialEq, Eq, Error)]
 pub enum Miss {
     /// The input ends inside the field.
+    #[error("Truncated")]
     Truncated,
     /// The octets spell no value of the field's kind, however they go on.
+    #[error("Absent")]
     Absent,
 }
 
@@ -26,19 +27,3 @@ impl Miss {
         }
     }
 }
-
-impl Display for Miss {
-    ghost use Rattle.std.specs.Prelude.{Some};
-    ghost use Rattle.wire_fields.specs.Word.{word_of};
-
-    ghost output = { λ miss. Some (word_of miss) };
-
-    fn fmt<W: Write>(&self, f: &mut Formatter<W>) -> fmt::Result
-    where
-        Self: Sized,
-    {
-        f.write_str(self.word())
-    }
-}
-
-impl Error for Miss {}

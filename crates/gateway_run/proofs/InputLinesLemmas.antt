@@ -1,6 +1,6 @@
 -- Lines by the places of their line feeds.
 use Rattle.std.proofs.Common.{◌≡◌, ℕ, zero, suc, ◌<◌, ◌≤◌, Bool, true, false, List, [], ◌∷◌, length, take, drop, get_or, refl, arith}
-use Rattle.gateway_run.specs.Lines.{is_line_feed, lines_of, ended_part}
+use Rattle.gateway_run.specs.InputLines.{is_line_feed, lines_of, ended_part}
 
 is_false : (b : Bool) → (b ≡ true → ⊥) → b ≡ false
 is_false true denied = absurd (denied refl)

@@ -1,13 +1,13 @@
 //! The lines of an input.
 ghost use Rattle.std.specs.Prelude.{◌≡◌, ◌+◌, ◌<◌, ◌∷◌, take, length};
-ghost use Rattle.gateway_run.specs.Lines.{lines_of, ended_part};
+ghost use Rattle.gateway_run.specs.InputLines.{lines_of, ended_part};
 
 use memchr::{memchr, memrchr};
 
 /// What ends a line.
 const LINE_FEED: u8 = b'\n';
 
-/// The first line, without its line feed, and the octets behind it.
+/// The first line, without its line feed, and the octets after it.
 pub fn first_line(text: &[u8]) -> (&[u8], &[u8])
     requires { 0 < length text.now }
     ensures lines { lines_of text.now ≡ result.0.now ∷ lines_of result.1.now }

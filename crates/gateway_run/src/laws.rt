@@ -2,8 +2,8 @@
 //! nothing.
 
 ghost use Rattle.std.specs.Prelude.{ℕ, List};
-ghost use Rattle.gateway_run.specs.Session.{RedPiece};
-ghost use Rattle.gateway_run.specs.RedPart.{IsFrontOfBlock};
+ghost use Rattle.gateway_run.specs.LineContent.{RedPiece};
+ghost use Rattle.gateway_run.specs.ReceiverLaw.{IsFrontOfBlock};
 
 /// Where every piece of a session is of one block, its red part is the front of that block: it
 /// is handed up as it was sent.

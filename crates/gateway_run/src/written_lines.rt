@@ -1,26 +1,24 @@
 //! The lines that `receive` writes.
 ghost use Rattle.std.specs.Prelude.{◌≡◌, ◌++◌, OnOk};
 ghost use Rattle.std.specs.String.{string_bytes};
-ghost use Rattle.gateway_run.specs.Receive.{up_line, note_line, skip_line, hex_line, refusal_line, cause_line};
+ghost use Rattle.gateway_run.specs.WrittenLines.{up_line, note_line, skip_line, hex_line, refusal_line, cause_line};
 
 use ltp_segment::SegmentFault;
+use ltp_session::SessionName;
 use std::alloc::{AllocError, Global};
 
 /// A red part is handed up.
 pub fn write_up(
     alloc: Global,
     text: &mut String,
-    originator: u64,
-    session: u64,
+    name: SessionName,
     body: &[u8],
 ) -> Result<(), AllocError>
-    ensures { OnOk result (string_bytes text.new ≡ string_bytes text.old ++ up_line originator session body.now) }
+    ensures { OnOk result (string_bytes text.new ≡ string_bytes text.old ++ up_line name body.now) }
 {
-    let octets = match hex::encode(alloc, body) {
-        Ok(octets) => octets,
-        Err(e) => return Err(e),
-    };
-    write!(text, "up {originator} {session} {octets}\n")
+    let SessionName { originator, number } = name;
+    let octets = hex::encode(alloc, body)?;
+    write!(text, "up {originator} {number} {octets}\n")
 }
 
 /// The piece of line `number` can't be one of its red part.
@@ -30,7 +28,7 @@ pub fn write_note(text: &mut String, number: u64) -> Result<(), AllocError>
     write!(text, "note {number} BadBounds\n")
 }
 
-/// Line `number` is passed over.
+/// Line `number` is skipped.
 pub fn write_skip(text: &mut String, number: u64) -> Result<(), AllocError>
     ensures { OnOk result (string_bytes text.new ≡ string_bytes text.old ++ skip_line number) }
 {

@@ -2,7 +2,7 @@
 ghost use Rattle.std.specs.Prelude.{◌≡◌};
 ghost use Rattle.gateway_run.specs.Words.{command_of};
 
-use crate::word::Word;
+use crate::commands::word::Word;
 
 /// A command of the program.
 #[derive(Clone, Copy, Debug, PartialEq, Eq, Drop)]

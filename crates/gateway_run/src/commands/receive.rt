@@ -1,21 +1,24 @@
 //! `receive`: the datagrams of recorded traffic, line by line.
-ghost use Rattle.std.specs.Prelude.{◌≡◌, ◌+◌, ◌++◌, ◌<◌, ◌≤◌, ℕ, List, [], None, length, IfOk, IfSome, OnOk};
+ghost use Rattle.std.specs.Prelude.{◌≡◌, ◌+◌, ◌++◌, ◌<◌, ◌≤◌, ℕ, List, [], None, Some, length, IfOk, IfSome, OnOk, OnErr};
 ghost use Rattle.std.specs.String.{string_bytes};
 ghost use Rattle.edge_traits.specs.AnswerView.{answered};
 ghost use Rattle.edge_traits.specs.Outcome.{IsAnswer};
 ghost use Rattle.ltp_segment.specs.Reading.{segment_of};
-ghost use Rattle.gateway_run.specs.Lines.{lines_of};
-ghost use Rattle.gateway_run.specs.Receive.{Kept, red, received, the_limits, answers_from, turn_of, turn_heard, heard_of, heard_segment, line_of};
-ghost use Rattle.gateway_run.specs.Views.{red_piece};
-ghost use Rattle.gateway_run.specs.Sessions.{Shows, said_by};
-ghost use Rattle.gateway_run.specs.Turns.{TurnsAs};
+ghost use Rattle.gateway_run.specs.InputLines.{lines_of};
+ghost use Rattle.gateway_run.specs.LineContent.{segment_content, content_of as content_of_line, red};
+ghost use Rattle.gateway_run.specs.KeptSessions.{Kept};
+ghost use Rattle.gateway_run.specs.WrittenLines.{reply_line};
+ghost use Rattle.gateway_run.specs.Receive.{received, the_limits, lines_settle, turn_of, content_turn};
+ghost use Rattle.gateway_run.specs.Views.{red_piece, reply as replied};
+ghost use Rattle.gateway_run.specs.Table.{Shows};
+ghost use Rattle.gateway_run.specs.Turns.{TurnsAs, WantsMemory};
 
-use crate::hearing::{Hearing, datagram_of, hear};
-use crate::lines::{ended, first_line};
+use crate::input_lines::{ended, first_line};
+use crate::line_content::{LineContent, content_of, datagram_of, is_hex};
 use crate::piece::Piece;
-use crate::sessions::{meet, no_sessions};
-use crate::table::{Reply, Sessions};
-use crate::text::{write_fault, write_no_hex, write_note, write_skip, write_up};
+use crate::sessions::{is_one_too_many, meet, no_sessions};
+use crate::table::{Reply, Sessions, Whole};
+use crate::written_lines::{write_fault, write_no_hex, write_note, write_skip, write_up};
 use edge_traits::{Answer, Status};
 use std::alloc::{AllocError, Global};
 
@@ -28,10 +31,12 @@ pub const MOST_OCTETS: usize = 9_000_000;
 /// The most sessions that may be unfinished at a time.
 pub const MOST_SESSIONS: usize = 64;
 
-/// What `receive` answers to an input, of which only so many octets are looked at.
+/// What `receive` answers to an input, of which only so many octets are looked at. Memory is
+/// wanted only for an input that has octets.
 pub fn receive(alloc: Global, input: &[u8], most: usize) -> Result<Answer, AllocError>
     ensures answer { IfOk result (λ a. answered a ≡ received the_limits most input.now) }
     ensures status { IfOk result (λ a. IsAnswer a.status) }
+    ensures memory { OnErr result (0 < length input.now) }
 {
     if input.len() > most {
         answer_lines(alloc, ended(&input[..most]), Status::Limit)
@@ -43,8 +48,9 @@ pub fn receive(alloc: Global, input: &[u8], most: usize) -> Result<Answer, Alloc
 /// Answers the lines of a text; the run ends so where none of them ends it.
 fn answer_lines(alloc: Global, lines: &[u8], ending: Status) -> Result<Answer, AllocError>
     requires { IsAnswer ending }
-    ensures answer { IfOk result (λ a. answered a ≡ answers_from the_limits 1 [] (lines_of lines.now) ending) }
+    ensures answer { IfOk result (λ a. answered a ≡ lines_settle the_limits 1 [] (lines_of lines.now) (Some ending)) }
     ensures status { IfOk result (λ a. IsAnswer a.status) }
+    ensures memory { OnErr result (0 < length lines.now) }
 {
     let mut text = String::new(alloc);
     let mut sessions = no_sessions(alloc);
@@ -52,7 +58,7 @@ fn answer_lines(alloc: Global, lines: &[u8], ending: Status) -> Result<Answer, A
     let mut number = 1;
     'lines: while !rest.is_empty() {
         let (line, later) = first_line(rest);
-        match turn(alloc, number, line, &mut sessions, &mut text)? {
+        match answer_line(alloc, number, line, &mut sessions, &mut text)? {
             Some(status) => return Ok(Answer { text, status }),
             None => rest = later,
         }
@@ -64,9 +70,10 @@ fn answer_lines(alloc: Global, lines: &[u8], ending: Status) -> Result<Answer, A
     })
 }
 
-/// Answers line `number`: the status where the run ends with it.
+/// Answers line `number`: the status where the run ends with it. A line too many or too long is
+/// answered without memory.
 #[tactic(auto, unfolding(crate::specs::Receive::turn_of))]
-fn turn(
+fn answer_line(
     alloc: Global,
     number: u64,
     line: &[u8],
@@ -74,21 +81,23 @@ fn turn(
     text: &mut String,
 ) -> Result<Option<Status>, AllocError>
     requires { sessions.old.unfinished ≤ MOST_SESSIONS }
-    ensures few { IfOk result (λ ends. ends ≡ None → sessions.new.unfinished ≤ MOST_SESSIONS) }
+    ensures few { (kept : List Kept) → Shows sessions.old kept
+        → IfOk result (λ ends. ends ≡ None → sessions.new.unfinished ≤ MOST_SESSIONS) }
     ensures status { IfOk result (λ ends. IfSome ends IsAnswer) }
     ensures turn { (kept : List Kept) → Shows sessions.old kept
         → IfOk result (λ ends. TurnsAs (turn_of the_limits number kept line.now) ends
         (string_bytes text.old) (string_bytes text.new) sessions.new) }
+    ensures memory { OnErr result ((number ≤ MOST_LINES) × (length line.now ≤ MOST_OCTETS)) }
 {
     if number > MOST_LINES || line.len() > MOST_OCTETS {
         return Ok(Some(Status::Limit));
     }
-    turn_line(alloc, number, line, sessions, text)
+    answer_content(alloc, number, line, sessions, text)
 }
 
 /// Answers line `number`, which is within the limits.
-#[tactic(auto, unfolding(crate::specs::Receive::heard_of))]
-fn turn_line(
+#[tactic(auto, unfolding(crate::specs::LineContent::content_of))]
+fn answer_content(
     alloc: Global,
     number: u64,
     line: &[u8],
@@ -96,23 +105,24 @@ fn turn_line(
     text: &mut String,
 ) -> Result<Option<Status>, AllocError>
     requires { sessions.old.unfinished ≤ MOST_SESSIONS }
-    ensures few { IfOk result (λ ends. ends ≡ None → sessions.new.unfinished ≤ MOST_SESSIONS) }
+    ensures few { (kept : List Kept) → Shows sessions.old kept
+        → IfOk result (λ ends. ends ≡ None → sessions.new.unfinished ≤ MOST_SESSIONS) }
     ensures status { IfOk result (λ ends. IfSome ends IsAnswer) }
     ensures turn { (kept : List Kept) → Shows sessions.old kept
-        → IfOk result (λ ends. TurnsAs (turn_heard the_limits number kept (heard_of line.now)) ends
+        → IfOk result (λ ends. TurnsAs (content_turn the_limits number kept (content_of_line line.now)) ends
         (string_bytes text.old) (string_bytes text.new) sessions.new) }
 {
-    match datagram_of(alloc, line)? {
-        Some(datagram) => turn_datagram(alloc, number, &datagram, sessions, text),
-        None => {
-            write_no_hex(text, number)?;
-            Ok(Some(Status::Refused))
-        }
+    if !is_hex(line) {
+        write_no_hex(text, number)?;
+        return Ok(Some(Status::Refused));
     }
+    let datagram = datagram_of(alloc, line)?;
+    answer_datagram(alloc, number, &datagram, sessions, text)
 }
 
-/// Answers the datagram of line `number`.
-fn turn_datagram(
+/// Answers the datagram of line `number`. One that leaves too many sessions unfinished is answered
+/// without memory.
+fn answer_datagram(
     alloc: Global,
     number: u64,
     datagram: &[u8],
@@ -120,27 +130,30 @@ fn turn_datagram(
     text: &mut String,
 ) -> Result<Option<Status>, AllocError>
     requires { sessions.old.unfinished ≤ MOST_SESSIONS }
-    ensures few { IfOk result (λ ends. ends ≡ None → sessions.new.unfinished ≤ MOST_SESSIONS) }
+    ensures few { (kept : List Kept) → Shows sessions.old kept
+        → IfOk result (λ ends. ends ≡ None → sessions.new.unfinished ≤ MOST_SESSIONS) }
     ensures status { IfOk result (λ ends. IfSome ends IsAnswer) }
     ensures turn { (kept : List Kept) → Shows sessions.old kept
-        → IfOk result (λ ends. TurnsAs (turn_heard the_limits number kept (heard_segment (segment_of datagram.now))) ends
+        → IfOk result (λ ends. TurnsAs (content_turn the_limits number kept (segment_content (segment_of datagram.now))) ends
         (string_bytes text.old) (string_bytes text.new) sessions.new) }
+    ensures memory { (kept : List Kept) → Shows sessions.old kept
+        → OnErr result (WantsMemory (content_turn the_limits number kept (segment_content (segment_of datagram.now)))) }
 {
-    match hear(datagram) {
-        Hearing::Malformed(fault) => {
+    match content_of(datagram) {
+        LineContent::NoSegment(fault) => {
             write_fault(text, number, fault)?;
             Ok(Some(Status::Refused))
         }
-        Hearing::Other => {
+        LineContent::Other => {
             write_skip(text, number)?;
             Ok(None)
         }
-        Hearing::Red(piece) => take_piece(alloc, number, &piece, sessions, text),
+        LineContent::Red(piece) => answer_piece(alloc, number, &piece, sessions, text),
     }
 }
 
 /// Answers the red piece of line `number`.
-fn take_piece(
+fn answer_piece(
     alloc: Global,
     number: u64,
     piece: &Piece<'_>,
@@ -148,36 +161,39 @@ fn take_piece(
     text: &mut String,
 ) -> Result<Option<Status>, AllocError>
     requires { sessions.old.unfinished ≤ MOST_SESSIONS }
-    ensures few { IfOk result (λ ends. ends ≡ None → sessions.new.unfinished ≤ MOST_SESSIONS) }
+    ensures few { (kept : List Kept) → Shows sessions.old kept
+        → IfOk result (λ ends. ends ≡ None → sessions.new.unfinished ≤ MOST_SESSIONS) }
     ensures status { IfOk result (λ ends. IfSome ends IsAnswer) }
     ensures turn { (kept : List Kept) → Shows sessions.old kept
-        → IfOk result (λ ends. TurnsAs (turn_heard the_limits number kept (red (red_piece piece.now))) ends
+        → IfOk result (λ ends. TurnsAs (content_turn the_limits number kept (red (red_piece piece.now))) ends
         (string_bytes text.old) (string_bytes text.new) sessions.new) }
+    ensures memory { (kept : List Kept) → Shows sessions.old kept
+        → OnErr result (WantsMemory (content_turn the_limits number kept (red (red_piece piece.now)))) }
 {
-    let reply = meet(alloc, sessions, piece)?;
-    if sessions.unfinished > MOST_SESSIONS {
+    if is_one_too_many(sessions, piece, MOST_SESSIONS) {
         return Ok(Some(Status::Limit));
     }
+    let reply = meet(alloc, sessions, piece)?;
     write_reply(alloc, text, number, piece, &reply)?;
     Ok(None)
 }
 
-/// Writes the line that answers the piece, where one is due.
+/// Writes the line for what the piece of line `number` brought about, where one is due.
 fn write_reply(
     alloc: Global,
     text: &mut String,
     number: u64,
     piece: &Piece<'_>,
-    reply: &Reply,
+    reply: &Reply<'_>,
 ) -> Result<(), AllocError>
     ensures { OnOk result (string_bytes text.new ≡ string_bytes text.old
-        ++ line_of number (red_piece piece.now) (said_by (red_piece piece.now) reply.now)) }
+        ++ reply_line number (replied piece.now.name reply.now)) }
 {
     match reply {
         Reply::Nothing => Ok(()),
-        Reply::UpAlone => write_up(alloc, text, piece.originator, piece.session, piece.body),
-        Reply::Up(body) => write_up(alloc, text, piece.originator, piece.session, body),
-        Reply::OutOfBounds => write_note(text, number),
-        Reply::PassedOver => write_skip(text, number),
+        Reply::Up(Whole::Lent(body)) => write_up(alloc, text, piece.name, body),
+        Reply::Up(Whole::Built(body)) => write_up(alloc, text, piece.name, body),
+        Reply::Note => write_note(text, number),
+        Reply::Skip => write_skip(text, number),
     }
 }

@@ -1,13 +1,11 @@
 //! The program's one call.
-ghost use Rattle.std.specs.Io.KnownBytes.{IsAtEnd};
-ghost use Rattle.std.specs.Prelude.{◌≡◌, ◌↔◌, ◌⊎◌, ◌-◌, ◌<◌, ◌^◌, None, IfSome};
-ghost use Rattle.edge_traits.specs.Faults.{StopsAtFailure};
-ghost use Rattle.edge_traits.specs.Outcome.{Answers, RoseByRead, RoseByWrite};
-ghost use Rattle.gateway_run.specs.Words.{command_of, answer_to, AnswersCommand, CompletesCommand, KeepsLaw};
+ghost use Rattle.std.specs.Prelude.{◌≡◌, ◌↔◌, ◌-◌, ◌<◌, ◌^◌, None, IfSome};
+ghost use Rattle.edge_traits.specs.Outcome.{Ran, source_tells, sink_tells};
+ghost use Rattle.gateway_run.specs.Words.{command_of, settles, CompletesCommand, KeepsLaw};
 
-use crate::command::{Command, command_named};
-use crate::receive::receive;
-use crate::word::Word;
+use crate::commands::command::{Command, command_named};
+use crate::commands::receive::receive;
+use crate::commands::word::Word;
 use bundle_runs::bundles;
 use edge_traits::{
     Clock, Link, MOST_INPUT, ReadRefused, Sink, Source, Status, read_all, write_answer,
@@ -32,26 +30,21 @@ pub fn run<S: Source, K: Sink, L: Link, C: Clock>(
     ensures usage { (result ≡ Status.Usage) ↔ (command_of words.now ≡ None) }
     ensures untouched { result ≡ Status.Usage → (source.new ≡ source.old) × (sink.new ≡ sink.old) }
 
-    // What is written, and how the run ends, is the command's answer to the input.
-    ensures answers { IfSome (S.left source.old) (λ input.
-        AnswersCommand (command_of words.now) input result (K.held sink.old) (K.held sink.new)) }
+    // What is written, how the run ends, and how its reads and writes went, by what the octets of
+    // the input settle of the command's answer.
+    ensures ran { IfSome (command_of words.now) (λ command. Ran (settles command) result
+        (source_tells S.left S.faults S.failing source.old) (source_tells S.left S.faults S.failing source.new)
+        (sink_tells K.held K.faults K.failing sink.old) (sink_tells K.held K.faults K.failing sink.new)) }
 
-    // A fault is answered exactly where a count rose.
-    ensures read_fault { RoseByRead result (S.faults source.old) (S.faults source.new) }
-    ensures write_fault { RoseByWrite result (K.faults sink.old) (K.faults sink.new) }
-
-    // No call follows one that failed.
-    ensures read_stops { result ≡ Status.ReadFault → StopsAtFailure (S.failing source.old) (S.failing source.new) }
-    ensures write_stops { result ≡ Status.WriteFault → StopsAtFailure (K.failing sink.old) (K.failing sink.new) }
+    // No write follows a failed read.
+    ensures read_fault { result ≡ Status.ReadFault → sink.new ≡ sink.old }
 
     // Where no count rose, the run ends as the input has it, or for want of memory.
     ensures complete { S.faults source.new ≡ S.faults source.old → K.faults sink.new ≡ K.faults sink.old
         → IfSome (S.left source.old) (λ input. CompletesCommand (command_of words.now) input result) }
 
-    // A run that is done read the source to its end.
-    ensures read_whole { result ≡ Status.Done → IsAtEnd (S.left source.new) }
-
-    // `receive` hands up exactly the red parts that become whole.
+    // `receive` hands up exactly the red parts that become whole, and ends where a line is refused
+    // or a limit is passed.
     ensures red_parts { IfSome (S.left source.old) (λ input.
         KeepsLaw (command_of words.now) input result (K.held sink.old) (K.held sink.new)) }
 
@@ -72,16 +65,10 @@ fn run_command<S: Source, K: Sink>(
     source: &mut S,
     sink: &mut K,
 ) -> Status
-    requires source { S.faults source.old < 2 ^ 64 - 1 }
-    requires sink { K.faults sink.old < 2 ^ 64 - 1 }
-    ensures no_usage { result ≡ Status.Usage → ⊥ }
-    ensures answers { IfSome (S.left source.old) (λ input.
-        Answers (answer_to command input) result (K.held sink.old) (K.held sink.new)) }
-    ensures read_fault { RoseByRead result (S.faults source.old) (S.faults source.new) }
-    ensures write_fault { RoseByWrite result (K.faults sink.old) (K.faults sink.new) }
-    ensures read_stops { result ≡ Status.ReadFault → StopsAtFailure (S.failing source.old) (S.failing source.new) }
-    ensures write_stops { result ≡ Status.WriteFault → StopsAtFailure (K.failing sink.old) (K.failing sink.new) }
-    ensures read_whole { result ≡ Status.Done → IsAtEnd (S.left source.new) }
+    ensures ran { Ran (settles command) result
+        (source_tells S.left S.faults S.failing source.old) (source_tells S.left S.faults S.failing source.new)
+        (sink_tells K.held K.faults K.failing sink.old) (sink_tells K.held K.faults K.failing sink.new) }
+    ensures read_fault { result ≡ Status.ReadFault → sink.new ≡ sink.old }
 {
     match command {
         Command::Receive => run_receive(alloc, source, sink),
@@ -91,16 +78,10 @@ fn run_command<S: Source, K: Sink>(
 
 /// Runs `receive`.
 fn run_receive<S: Source, K: Sink>(alloc: Global, source: &mut S, sink: &mut K) -> Status
-    requires source { S.faults source.old < 2 ^ 64 - 1 }
-    requires sink { K.faults sink.old < 2 ^ 64 - 1 }
-    ensures no_usage { result ≡ Status.Usage → ⊥ }
-    ensures answers { IfSome (S.left source.old) (λ input.
-        Answers (answer_to Command.Receive input) result (K.held sink.old) (K.held sink.new)) }
-    ensures read_fault { RoseByRead result (S.faults source.old) (S.faults source.new) }
-    ensures write_fault { RoseByWrite result (K.faults sink.old) (K.faults sink.new) }
-    ensures read_stops { result ≡ Status.ReadFault → StopsAtFailure (S.failing source.old) (S.failing source.new) }
-    ensures write_stops { result ≡ Status.WriteFault → StopsAtFailure (K.failing sink.old) (K.failing sink.new) }
-    ensures read_whole { result ≡ Status.Done → IsAtEnd (S.left source.new) }
+    ensures ran { Ran (settles Command.Receive) result
+        (source_tells S.left S.faults S.failing source.old) (source_tells S.left S.faults S.failing source.new)
+        (sink_tells K.held K.faults K.failing sink.old) (sink_tells K.held K.faults K.failing sink.new) }
+    ensures read_fault { result ≡ Status.ReadFault → sink.new ≡ sink.old }
 {
     let input = match read_all(alloc, source, MOST_INPUT) {
         Ok(input) => input,

@@ -1,6 +1,6 @@
 use Rattle.std.proofs.Common.{add-one, arith, sym}
-use Rattle.gateway_run.proofs.LinesLemmas.{ended_part-feed, ended_part-none}
-use Rattle.gateway_run.proofs.lines.ended.Goals as goal
+use Rattle.gateway_run.proofs.InputLinesLemmas.{ended_part-feed, ended_part-none}
+use Rattle.gateway_run.proofs.input_lines.ended.Goals as goal
 
 pub returns-in-Some : goal.returns-in-Some
 returns-in-Some c =

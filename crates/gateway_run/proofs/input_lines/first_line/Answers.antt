@@ -1,7 +1,7 @@
 use Rattle.std.proofs.Common.{add-one, arith}
 use Rattle.std.proofs.lemmas.List.{take_rest}
-use Rattle.gateway_run.proofs.LinesLemmas.{lines_of-feed, lines_of-none}
-use Rattle.gateway_run.proofs.lines.first_line.Goals as goal
+use Rattle.gateway_run.proofs.InputLinesLemmas.{lines_of-feed, lines_of-none}
+use Rattle.gateway_run.proofs.input_lines.first_line.Goals as goal
 
 pub returns-in-Some-clause-lines : goal.returns-in-Some-clause-lines
 returns-in-Some-clause-lines c =

@@ -1,5 +1,5 @@
 use Rattle.gateway_run.proofs.ReceiveLemmas.{received-long, received-short}
-use Rattle.gateway_run.proofs.receive.receive.Goals as goal
+use Rattle.gateway_run.proofs.commands.receive.receive.Goals as goal
 
 pub returns-then-input-most-clause-answer : goal.returns-then-input-most-clause-answer
 returns-then-input-most-clause-answer c =

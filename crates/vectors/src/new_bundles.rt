@@ -108,10 +108,10 @@ const REFUSED: &[(usize, &str, usize, &str)] = &[
 
 /// Whether the front of `PLAIN` and what stands after it are refused so.
 fn row_holds(alloc: Global, row: (usize, &str, usize, &str)) -> Result<bool, Fail> {
-    let (front, behind, at, word) = row;
+    let (front, after, at, word) = row;
     let mut bytes = octets(alloc, PLAIN)?;
     bytes.truncate(front);
-    bytes.extend_from_slice(&octets(alloc, behind)?)?;
+    bytes.extend_from_slice(&octets(alloc, after)?)?;
     Ok(is_refused(alloc, &bytes, at, word))
 }
 
@@ -152,7 +152,7 @@ const EIDS: &[(&str, &str)] = &[
     ("8202821bffffffffffffffff17", "ipn:18446744073709551615.23"),
 ];
 
-/// Whether an endpoint is read with more behind it, written again, and read as previous node.
+/// Whether an endpoint is read with more after it, written again, and read as previous node.
 fn is_eid(alloc: Global, text: &str, name: &str) -> Result<bool, Fail> {
     let bytes = octets(alloc, text)?;
     let endpoint = Endpoint::from_text(alloc, name.as_bytes())?;
@@ -185,7 +185,7 @@ const NO_EIDS: &[(&str, bool)] = &[
     ("8203820101", false),
 ];
 
-/// Whether octets are refused as previous node, and as an endpoint with more behind it.
+/// Whether octets are refused as previous node, and as an endpoint with more after it.
 fn is_no_eid(alloc: Global, text: &str, fronts: bool) -> Result<bool, Fail> {
     let bytes = octets(alloc, text)?;
     let read = read_eid(alloc, &bytes).is_ok();

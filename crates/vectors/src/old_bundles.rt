@@ -37,7 +37,7 @@ const WRITTEN: &[(&str, &str)] = &[
     ),
 ];
 
-/// Whether octets with more behind them are read to their end, and written so.
+/// Whether octets with more after them are read to their end, and written so.
 fn is_written(alloc: Global, text: &str, wanted: &str) -> Result<bool, Fail> {
     let mut stream = octets(alloc, text)?;
     let size = stream.len();

@@ -98,7 +98,7 @@ place-below lower low most [] k zero_low apart has = absurd has
 place-below lower low most (c ∷ cs) k zero_low apart (inl within) =
     omega (arith, within.1, zero_low, apart.2)
 place-below lower low most (c ∷ cs) k zero_low apart (inr has) =
-    place-below lower (suc (c.offset + c.length)) most cs k zero_low apart.3 has
+    place-below lower (c.offset + c.length + 1) most cs k zero_low apart.3 has
 
 pub reported-below : (red : ℕ) (x : ReportValue) (k : ℕ) → IsReportOf red x
     → HasPlace x.lower x.claims k → k < red

@@ -188,8 +188,8 @@ apart-low low lower most more (c ∷ cs) below above is = (
   omega (arith, is.0),
   is.1,
   omega (arith, is.2),
-  apart-low (suc (c.offset + c.length))
-      (suc (c.offset + c.length)) most more cs (omega arith) above is.3,
+  apart-low (c.offset + c.length + 1)
+      (c.offset + c.length + 1) most more cs (omega arith) above is.3,
 )
 
 -- one more place in front, before all claims
@@ -200,7 +200,7 @@ filled-next : (k low : ℕ) (first : Option ℕ) (cells : List (Option ℕ)) (mo
 filled-next k low first cells most [] above apart all = tt
 filled-next k low first cells most (c ∷ cs) above apart all = (
   here,
-  filled-next k (suc (c.offset + c.length)) first cells most cs (omega (arith, apart.0))
+  filled-next k (c.offset + c.length + 1) first cells most cs (omega (arith, apart.0))
       apart.3 all.1,
 )
   where
@@ -292,7 +292,7 @@ filled-take upper cells cs apart all = go 0 cs apart all
         → AllByRecursion (IsFilledFrom 0 (take upper cells)) cs
         → AllByRecursion (IsFilled cells) cs
     go low [] apart all = tt
-    go low (c ∷ cs) apart all = (here, go (suc (c.offset + c.length)) cs apart.3 all.1)
+    go low (c ∷ cs) apart all = (here, go (c.offset + c.length + 1) cs apart.3 all.1)
       where
         here : IsFilled cells c
         here k from to =
@@ -307,7 +307,7 @@ pub apart-take : (n low most : ℕ) (cs : List Claim) → AreApart low most cs
 apart-take zero low most cs is = tt
 apart-take (suc n) low most [] is = tt
 apart-take (suc n) low most (c ∷ cs) is =
-    (is.0, is.1, is.2, apart-take n (suc (c.offset + c.length)) most cs is.3)
+    (is.0, is.1, is.2, apart-take n (c.offset + c.length + 1) most cs is.3)
 
 all-take : (P : Claim → Type 0) (n : ℕ) (cs : List Claim) → AllByRecursion P cs
     → AllByRecursion P (take n cs)
@@ -320,7 +320,7 @@ pub ends-low : (low most end : ℕ) (cs : List Claim) → AreApart low most cs �
     → end ≤ end_from end cs
 ends-low low most end [] is below = omega arith
 ends-low low most end (c ∷ cs) is below =
-    let rest = ends-low (suc (c.offset + c.length)) most (c.offset + c.length) cs is.3
+    let rest = ends-low (c.offset + c.length + 1) most (c.offset + c.length) cs is.3
     (omega arith) in
     omega (arith, is.0, rest)
 
@@ -328,7 +328,7 @@ pub ends-most : (low most end : ℕ) (cs : List Claim) → AreApart low most cs 
     → end_from end cs ≤ most
 ends-most low most end [] is within = within
 ends-most low most end (c ∷ cs) is within =
-    ends-most (suc (c.offset + c.length)) most (c.offset + c.length) cs is.3 is.2
+    ends-most (c.offset + c.length + 1) most (c.offset + c.length) cs is.3 is.2
 
 ends-apart : (low most end : ℕ) (cs : List Claim) → AreApart low most cs
     → AreApart low (end_from end cs) cs
@@ -338,7 +338,7 @@ ends-apart low most end (c ∷ cs) is = (
   is.1,
   ends-low _ most (c.offset + c.length) cs is.3 (omega arith),
   ends-apart
-      (suc (c.offset + c.length)) most (c.offset + c.length) cs is.3,
+      (c.offset + c.length + 1) most (c.offset + c.length) cs is.3,
 )
 
 report_with-is : (red most serial checkpoint upper : ℕ) (cells : List (Option ℕ))

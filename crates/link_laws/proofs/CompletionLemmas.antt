@@ -106,7 +106,7 @@ place-above : (low most : ℕ) (cs : List Claim) (k : ℕ) → AreApart low most
 place-above low most [] k apart has = absurd has
 place-above low most (c ∷ cs) k apart (inl within) = omega (arith, apart.0, within.0)
 place-above low most (c ∷ cs) k apart (inr has) =
-    omega (arith, apart.0, place-above (suc (c.offset + c.length)) most cs k apart.3 has)
+    omega (arith, apart.0, place-above (c.offset + c.length + 1) most cs k apart.3 has)
 
 one-whole : (red : ℕ) (cs : List Claim) → 1 ≤ red → AreApart 0 red cs
     → ((k : ℕ) → k < red → HasPlace 0 cs k) → cs ≡ record { offset = 0; length = red } ∷ []
@@ -116,7 +116,7 @@ one-whole red (c ∷ cs) some apart has = by_rest cs apart.3 (go (has 0 (omega (
     go : HasPlace 0 (c ∷ cs) 0 → c.offset ≡ 0
     go (inl within) = omega (arith, within.0)
     go (inr later) =
-        absurd (omega (arith, place-above (suc (c.offset + c.length)) red cs 0 apart.3 later))
+        absurd (omega (arith, place-above (c.offset + c.length + 1) red cs 0 apart.3 later))
 
     full : c.offset ≡ 0 → c.length ≡ red
     full first = ⊎_elim (λ short. absurd (past (has c.length short)))
@@ -127,12 +127,12 @@ one-whole red (c ∷ cs) some apart has = by_rest cs apart.3 (go (has 0 (omega (
         past (inr later) =
             omega (
               arith,
-              place-above (suc (c.offset + c.length)) red cs c.length
+              place-above (c.offset + c.length + 1) red cs c.length
                   apart.3 later,
               first,
             )
 
-    by_rest : (ds : List Claim) → AreApart (suc (c.offset + c.length)) red ds → c.offset ≡ 0
+    by_rest : (ds : List Claim) → AreApart (c.offset + c.length + 1) red ds → c.offset ≡ 0
         → cs ≡ ds → c ∷ ds ≡ record { offset = 0; length = red } ∷ []
     by_rest [] further first is = let size =
         full first in λ i. record { offset = first i; length = size i } ∷ []

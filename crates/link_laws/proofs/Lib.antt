@@ -2,6 +2,7 @@ pub mod ListLemmas
 pub mod TableLemmas
 pub mod FrameLemmas
 pub mod RunLemmas
+pub mod ApartLemmas
 pub mod CellLemmas
 pub mod SenderLemmas
 pub mod ReceiverLemmas

@@ -47,7 +47,7 @@ place-above : (low most : ℕ) (cs : List Claim) (k : ℕ) → AreApart low most
 place-above low most [] k apart has = absurd has
 place-above low most (c ∷ cs) k apart (inl within) = omega (arith, apart.0, within.0)
 place-above low most (c ∷ cs) k apart (inr has) =
-    omega (arith, apart.0, place-above (suc (c.offset + c.length)) most cs k apart.3 has)
+    omega (arith, apart.0, place-above (c.offset + c.length + 1) most cs k apart.3 has)
 
 grown-here : (k : ℕ) (cs : List Claim) → HasPlace 0 (grown k cs) k
 grown-here k [] = inl (omega arith, omega arith)
@@ -88,7 +88,7 @@ take-has zero low most end cs k apart below has before =
 take-has (suc n) low most end [] k apart below has before = absurd has
 take-has (suc n) low most end (c ∷ cs) k apart below (inl within) before = inl within
 take-has (suc n) low most end (c ∷ cs) k apart below (inr has) before =
-    inr (take-has n (suc (c.offset + c.length)) most (c.offset + c.length) cs k apart.3
+    inr (take-has n (c.offset + c.length + 1) most (c.offset + c.length) cs k apart.3
     (omega arith) has before)
 
 -- a report claims all that is filled below its upper bound
@@ -136,7 +136,7 @@ leaves-cut (suc zero) bound serial checkpoint cs some more apart = absurd (omega
 leaves-cut (suc (suc m)) bound serial checkpoint [] some more apart = absurd (omega arith)
 leaves-cut (suc (suc m)) bound serial checkpoint (c ∷ []) some more apart = absurd (omega arith)
 leaves-cut (suc (suc m)) bound serial checkpoint (c ∷ d ∷ cs) some more apart =
-    let further = ends-low (suc (d.offset + d.length)) bound (d.offset + d.length) (take m cs)
+    let further = ends-low (d.offset + d.length + 1) bound (d.offset + d.length) (take m cs)
     (apart-take m _ _ cs apart.3.3) (omega arith) in
     record {
       place = c.offset + c.length;
@@ -149,7 +149,7 @@ leaves-cut (suc (suc m)) bound serial checkpoint (c ∷ d ∷ cs) some more apar
     unclaimed (inr later) =
         omega (
           arith,
-          place-above (suc (c.offset + c.length)) bound (d ∷ take m cs)
+          place-above (c.offset + c.length + 1) bound (d ∷ take m cs)
               (c.offset + c.length) (apart-take (suc m) _ _ (d ∷ cs) apart.3) later,
         )
 

@@ -208,18 +208,6 @@ receiver-arrival A B P inv me you p q e f sent n content now t both ok apart amo
         left-holds A B P inv you m (view_by you me q f e sent m) _
         (receiver-others me you q f e sent n m t both (eqb-false n m is_same)) good
 
--- nothing happens
-nothing-keeps : (P : End → ℕ → View → Type 0) (me you : End) (p q : Party) (e f : Engine)
-    (sent : List Sent) → KeepsAll P P me you p q e f sent e sent
-nothing-keeps P me you p q e f sent =
-    record {
-      own = λ n good. good;
-      peer = λ n good. good;
-      senders = λ h. h;
-      receivers = λ h. h;
-      next = λ h. h;
-    }
-
 -- an end's reply, or none
 abbrev ReplyKeeps : (End → ℕ → View → Type 0) → End → End → Party → Party → Engine → Engine
     → List Sent → ℕ → ℕ → Option Reply → Type 0

@@ -120,12 +120,6 @@ red_kind size red end within =
     kinds.RedEndBlock kinds.RedEnd here here)
     (λ before. within)
 
--- it doesn't matter where a red piece begins
-from_anywhere : (red : ℕ) (ends : Bool) (a b end : ℕ) → IsInPart red true ends a end
-    → IsInPart red true ends b end
-from_anywhere red true a b end is = is
-from_anywhere red false a b end is = is
-
 checkpoint-is : (block : List ℕ) (red serial report : ℕ) (part : ℕ × List ℕ)
     → IsPart block 0 red part
     → IsPieceOf block red (checkpoint_at (length block) red serial report part)

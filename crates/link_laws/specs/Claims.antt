@@ -1,6 +1,6 @@
 -- What a session's reports claim (RFC 5326, sections 3.2.2 and 6.11).
 
-use Rattle.std.specs.Prelude.{◌≡◌, ℕ, suc, ◌+◌, ◌<◌, ◌≤◌, true, List, [], ◌∷◌, Option}
+use Rattle.std.specs.Prelude.{◌≡◌, ℕ, ◌+◌, ◌<◌, ◌≤◌, true, List, [], ◌∷◌, Option}
 use Rattle.std.specs.Prelude.{is_some, ◌⊎◌}
 use Rattle.std.specs.List.{AllByRecursion}
 use Rattle.ltp_segment.specs.declared.segment.Claim.{Claim}
@@ -16,7 +16,7 @@ abbrev pub AreApart : ℕ → ℕ → List Claim → Type 0
 AreApart low most [] = Unit {0}
 AreApart low most (c ∷ cs) =
     (low ≤ c.offset) × (0 < c.length) × (c.offset + c.length ≤ most)
-    × AreApart (suc (c.offset + c.length)) most cs
+    × AreApart (c.offset + c.length + 1) most cs
 
 -- one of the claims has a place
 abbrev pub HasPlace : ℕ → List Claim → ℕ → Type 0

@@ -1,11 +1,11 @@
 -- The laws over every run: any two engines that name each other, any list of submits, deliveries
--- of
--- anything ever sent in any order and number, and clocks.
+-- of anything ever sent in any order and number, and clocks.
 
 use Rattle.std.specs.Prelude.{◌≡◌, ℕ, List, slice_get, Some}
 use Rattle.ltp_session.specs.Engine.{Party}
-use Rattle.ltp_session.specs.World.{ArePeers, End, Event, Sent, run, starts_world}
+use Rattle.ltp_session.specs.World.{ArePeers, End, Event, Sent, World, happens, run, starts_world}
 use Rattle.link_laws.specs.Deadlines.{AreAhead, Waits}
+use Rattle.link_laws.specs.Frame.{IsAbout, IsLeftAlone}
 use Rattle.link_laws.specs.HandUps.{up_by}
 use Rattle.link_laws.specs.Log.{HandsUpFronts, HasFacts, HasSession, hand_ups, submissions}
 use Rattle.link_laws.specs.Spelling.{IsRedPart}
@@ -52,3 +52,10 @@ DeadlinesAreAhead =
     → AreAhead (run parties (starts_world parties) events).now
     (run parties (starts_world parties) events).now
     (view parties (run parties (starts_world parties) events) o n)
+
+-- in any world an event leaves each session alone that it isn't about
+abbrev pub SessionsAreApart : Type 0
+SessionsAreApart =
+    (parties : Party × Party) (w : World) (event : Event) → ArePeers parties
+    → (o : End) (n : ℕ) → (IsAbout parties w event o n → ⊥)
+    → IsLeftAlone (view parties w o n) (view parties (happens parties w event) o n)

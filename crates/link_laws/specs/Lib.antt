@@ -1,5 +1,6 @@
 -- what a session's view is, and words for it
 pub mod View
+pub mod Frame
 pub mod Kept
 -- the facts of a session, each after those that it needs
 pub mod Blocks

@@ -13,7 +13,13 @@ ghost use Rattle.link_laws.specs.Reach.{ReachFacts, WholeFacts};
 ghost use Rattle.link_laws.specs.Completion.{CompletionFacts};
 ghost use Rattle.link_laws.specs.Facts.{SessionFacts};
 ghost use Rattle.link_laws.specs.Laws.{EveryRun, RedPartsAreFronts, HandedUpIsSent};
-ghost use Rattle.link_laws.specs.Laws.{SegmentsHaveSessions, DeadlinesAreAhead};
+ghost use Rattle.link_laws.specs.Laws.{SegmentsHaveSessions, DeadlinesAreAhead, SessionsAreApart};
+
+/// In any world, reached by a run or not, an event leaves each session alone that it isn't about:
+/// its view stays as it was, but that a receiver may be closed to make room for another.
+pub fn sessions_are_apart()
+    ensures { SessionsAreApart }
+{}
 
 /// Each red part that a run hands up is the front of the block that was submitted, up to its red
 /// length. No session's red part is handed up twice, and no session number is given twice.

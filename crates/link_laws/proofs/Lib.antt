@@ -17,6 +17,7 @@ pub mod RedPartLemmas
 pub mod LawLemmas
 pub mod HandUpLemmas
 pub mod AckLemmas
+pub mod ClosedLemmas
 pub mod CancelLemmas
 pub mod CloseLemmas
 pub mod ReachLemmas

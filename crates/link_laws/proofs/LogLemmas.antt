@@ -24,6 +24,7 @@ use Rattle.ltp_session.specs.World.{submit, deliver, clock, replies, submitted, 
 use Rattle.ltp_session.specs.World.{happens, run, starts_world, ArePeers, unless_refused}
 use Rattle.ltp_session.specs.World.{submit_reply}
 use Rattle.link_laws.specs.Blocks.{IsAt, IfKnown, IsContentOf, IsPieceOf, IsReceiverOf, BlockFacts}
+use Rattle.link_laws.specs.Engines.{IsWellFormed}
 use Rattle.link_laws.specs.Facts.{SessionFacts}
 use Rattle.link_laws.specs.HandUps.{up_of, up_by}
 use Rattle.link_laws.specs.Kept.{IsClosedOr, IfKeeps, KeepsOrEnds}
@@ -720,3 +721,17 @@ red_parts_are_fronts parties events peers = record {
   once = at-most-once parties peers events (starts_world parties)
       (holds-start Anything (λ o n. tt) parties);
 }
+
+-- ---- engines
+
+pub engines_are_well_formed : (parties : Party × Party) (events : List Event) → ArePeers parties
+    → (o : End)
+    → IsWellFormed (at_end parties o)
+    (at_end (run parties (starts_world parties) events).engines o)
+engines_are_well_formed parties events peers o =
+    record { senders = good.senders o; receivers = good.receivers o; next = good.next o }
+  where
+    good : HoldsIn Anything parties (run parties (starts_world parties) events)
+    good = holds-run any_time no_submissions Anything anything-invariant parties
+        (starts_world parties) events (λ end now. tt) peers (λ plan is. tt)
+        (holds-start Anything (λ o n. tt) parties)

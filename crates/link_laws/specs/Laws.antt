@@ -3,8 +3,10 @@
 
 use Rattle.std.specs.Prelude.{◌≡◌, ℕ, List, slice_get, Some}
 use Rattle.ltp_session.specs.Engine.{Party}
-use Rattle.ltp_session.specs.World.{ArePeers, End, Event, Sent, World, happens, run, starts_world}
+use Rattle.ltp_session.specs.World.{ArePeers, End, Event, Sent, World, at_end, happens, run}
+use Rattle.ltp_session.specs.World.{starts_world}
 use Rattle.link_laws.specs.Deadlines.{AreAhead, Waits}
+use Rattle.link_laws.specs.Engines.{IsWellFormed}
 use Rattle.link_laws.specs.Frame.{IsAbout, IsLeftAlone}
 use Rattle.link_laws.specs.HandUps.{up_by}
 use Rattle.link_laws.specs.Log.{HandsUpFronts, HasFacts, HasSession, hand_ups, submissions}
@@ -59,3 +61,10 @@ SessionsAreApart =
     (parties : Party × Party) (w : World) (event : Event) → ArePeers parties
     → (o : End) (n : ℕ) → (IsAbout parties w event o n → ⊥)
     → IsLeftAlone (view parties w o n) (view parties (happens parties w event) o n)
+
+-- every engine is well formed
+abbrev pub EnginesAreWellFormed : Type 0
+EnginesAreWellFormed =
+    (parties : Party × Party) (events : List Event) → ArePeers parties → (o : End)
+    → IsWellFormed (at_end parties o)
+    (at_end (run parties (starts_world parties) events).engines o)

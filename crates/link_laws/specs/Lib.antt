@@ -15,6 +15,7 @@ pub mod Cancels
 pub mod Reach
 pub mod Completion
 pub mod Deadlines
+pub mod Engines
 pub mod Facts
 -- what a run submits and hands up
 pub mod Log

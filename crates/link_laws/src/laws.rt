@@ -12,8 +12,10 @@ ghost use Rattle.link_laws.specs.Cancels.{CancelFacts};
 ghost use Rattle.link_laws.specs.Reach.{ReachFacts, WholeFacts};
 ghost use Rattle.link_laws.specs.Completion.{CompletionFacts};
 ghost use Rattle.link_laws.specs.Facts.{SessionFacts};
-ghost use Rattle.link_laws.specs.Laws.{EveryRun, RedPartsAreFronts, HandedUpIsSent};
-ghost use Rattle.link_laws.specs.Laws.{SegmentsHaveSessions, DeadlinesAreAhead, SessionsAreApart};
+ghost use Rattle.link_laws.specs.Engines.{ClosedFacts};
+ghost use Rattle.link_laws.specs.Laws.{EveryRun, SessionsAreApart, RedPartsAreFronts};
+ghost use Rattle.link_laws.specs.Laws.{HandedUpIsSent, EnginesAreWellFormed};
+ghost use Rattle.link_laws.specs.Laws.{SegmentsHaveSessions, DeadlinesAreAhead};
 
 /// In any world, reached by a run or not, an event leaves each session alone that it isn't about:
 /// its view stays as it was, but that a receiver may be closed to make room for another.
@@ -92,6 +94,16 @@ pub fn whole_reports_end_sessions()
     ensures whole { EveryRun WholeFacts }
     // A sender completes its claims only where a whole report was sent and all was handed up.
     ensures ends { EveryRun CompletionFacts }
+{}
+
+/// Both engines keep their sessions in the order of their numbers, and no number twice.
+pub fn engines_are_well_formed()
+    ensures { EnginesAreWellFormed }
+{}
+
+/// Nothing is kept of a receiver whose number is closed.
+pub fn closed_numbers_are_not_kept()
+    ensures { EveryRun ClosedFacts }
 {}
 
 /// Every segment that was ever sent is of a session that was begun at one of the ends.

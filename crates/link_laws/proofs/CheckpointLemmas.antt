@@ -675,7 +675,7 @@ receiver-moved block red v t facts on = record {
 
 hears-answers : (block : List ℕ) (red : ℕ) (v : View) (place : Place) (content : ContentValue)
     (t : StepValue Receiving) → place.closed ≡ v.closed → IsIn content v.by_sender
-    → BlockFacts block red v → SerialFacts v → CheckpointFacts block red v
+    → BlockFacts block red v → SerialFacts block red v → CheckpointFacts block red v
     → Hears content place v.receiver t → AnswersOn v.by_sender v.by_receiver red t
 hears-answers block red v place content t closed among facts reports asks hears =
     by_kept v.receiver refl hears

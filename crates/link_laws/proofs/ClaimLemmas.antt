@@ -535,7 +535,8 @@ met-receives block red session None is = fresh-is block red session
 met-receives block red session (Some r) is = is
 
 -- what is met has the facts on reports, or nothing changes
-met-claims : (v : View) (session : ℕ) (kept : Option Receiving) → v.receiver ≡ kept → SerialFacts v
+met-claims : {block : List ℕ} {red : ℕ} (v : View) (session : ℕ) (kept : Option Receiving)
+    → v.receiver ≡ kept → SerialFacts block red v
     → IfKept (ClaimsFilled v.by_receiver) kept → (kept ≡ None → v.closed ≡ false)
     → HasReported v.by_receiver (met session kept) × ClaimsFilled v.by_receiver (met session kept)
 met-claims v session None is facts filled opens =
@@ -546,7 +547,7 @@ met-claims v session (Some r) is facts filled opens =
 
 hears-claims : (block : List ℕ) (red : ℕ) (v : View) (place : Place) (content : ContentValue)
     (t : StepValue Receiving) → place.closed ≡ v.closed
-    → BlockFacts block red v → SerialFacts v → IsContentOf block red content
+    → BlockFacts block red v → SerialFacts block red v → IsContentOf block red content
     → ClaimFacts block red v → Hears content place v.receiver t → ClaimsOn red v.by_receiver t
 hears-claims block red v place content t closed facts reports of claims hears =
     by_kept v.receiver refl hears
@@ -587,7 +588,7 @@ hears-claims block red v place content t closed facts reports of claims hears =
             idly (fills q r' is_q red_kind next filling none) = absurd (cc)
             idly (reports_on q r' is_q red_kind checkpoint next reporting out) = absurd (cc)
 
-pub claims-keep : KeepsUnder (both_facts BlockFacts (λ block red v. SerialFacts v)) ClaimFacts
+pub claims-keep : KeepsUnder (both_facts BlockFacts SerialFacts) ClaimFacts
 claims-keep = record {
   begins = λ policy n block red now v cuts within unused _. record {
     told = λ x among. absurd (subst (IsIn (a_report x)) unused.by_receiver among);

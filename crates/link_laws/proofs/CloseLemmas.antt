@@ -121,7 +121,7 @@ closes-whole block red v known = record { closes = closes }
     facts : BlockFacts block red v
     facts = known.more.0.0.0
 
-    reports : SerialFacts v
+    reports : SerialFacts block red v
     reports = known.more.0.0.1
 
     closes : (r : Receiving) (serial : ℕ) → v.receiver ≡ Some r

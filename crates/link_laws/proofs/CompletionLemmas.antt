@@ -149,7 +149,7 @@ all-at (false ∷ bs) k all low = absurd (cc)
 -- ---- claims that are complete
 
 pub record Told (block : List ℕ) (red : ℕ) (v : View) : Type 0 where
-  pub reports : SerialFacts v
+  pub reports : SerialFacts block red v
   pub claims : ClaimFacts block red v
   pub asks : CheckpointFacts block red v
   pub acks : AckFacts block red v

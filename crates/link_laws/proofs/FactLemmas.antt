@@ -96,8 +96,8 @@ facts-keep = record {
 }
 
 pub all-keep : KeepsUnder no_facts ReportedFacts
-all-keep = joined (both_facts BlockFacts (λ block red v. SerialFacts v)) ClaimFacts
-    (joined BlockFacts (λ block red v. SerialFacts v) facts-keep reports-keep) claims-keep
+all-keep = joined (both_facts BlockFacts SerialFacts) ClaimFacts
+    (joined BlockFacts SerialFacts facts-keep reports-keep) claims-keep
 
 pub more-keep : KeepsUnder no_facts AskedFacts
 more-keep = joined ReportedFacts CheckpointFacts all-keep asks-keep

@@ -253,7 +253,8 @@ step-made said content r t tells claims (reports_on q r' is_q red_kind checkpoin
     })
 
 hears-made : (block : List ℕ) (red : ℕ) (v : View) (place : Place) (content : ContentValue)
-    (t : StepValue Receiving) → place.closed ≡ v.closed → SerialFacts v → ClaimFacts block red v
+    (t : StepValue Receiving) → place.closed ≡ v.closed → SerialFacts block red v
+    → ClaimFacts block red v
     → Hears content place v.receiver t → Old v.by_receiver t.out ⊎ Made v.by_receiver content t
 hears-made block red v place content t closed reports claims hears = by_kept v.receiver refl hears
   where

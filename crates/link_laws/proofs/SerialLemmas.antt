@@ -402,10 +402,11 @@ none-more : (said out : List ContentValue) → NoReports said → Old said out
     → NoReports (said ++ out)
 none-more said out none old x among = none x (old-among said out old x among)
 
-moves-reports : (v : View) (t : StepValue Receiving) → SerialFacts v → ReportsOn v.by_receiver t
+moves-reports : {block : List ℕ} {red : ℕ} (v : View) (t : StepValue Receiving)
+    → SerialFacts block red v → ReportsOn v.by_receiver t
     → ((r : Receiving) → v.receiver ≡ Some r → t.next ≡ stays → HasReported
     (v.by_receiver ++ t.out) r)
-    → SerialFacts (receiver_moves v t)
+    → SerialFacts block red (receiver_moves v t)
 moves-reports v t facts on still =
     record { unknown = unknown t.next refl; kept = kept t.next refl on.next; once = on.once }
   where
@@ -428,7 +429,8 @@ moves-reports v t facts on still =
     kept ends is change = tt
 
 -- a receiver of which nothing changed
-still-tells : (v : View) (t : StepValue Receiving) → SerialFacts v → ReportsOn v.by_receiver t
+still-tells : {block : List ℕ} {red : ℕ} (v : View) (t : StepValue Receiving)
+    → SerialFacts block red v → ReportsOn v.by_receiver t
     → (r : Receiving) → v.receiver ≡ Some r → t.next ≡ stays
     → HasReported (v.by_receiver ++ t.out) r
 still-tells v t facts on r is unchanged =
@@ -436,7 +438,7 @@ still-tells v t facts on r is unchanged =
     subst (IfKept (HasReported v.by_receiver)) is facts.kept in
     tells-old v.by_receiver t.out r r (on.quiet unchanged) tells refl tells.pending
 
-pub reports-keep : KeepsUnder BlockFacts (λ block red v. SerialFacts v)
+pub reports-keep : KeepsUnder BlockFacts SerialFacts
 reports-keep = record {
   begins = λ policy n block red now v cuts within unused _. record {
     unknown = λ none not_closed x among. subst (IsIn (a_report x)) unused.by_receiver among;

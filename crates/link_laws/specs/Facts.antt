@@ -21,7 +21,7 @@ pub record SessionFacts (block : List ℕ) (red : ℕ) (v : View) : Type 0 where
   pub spelled : SpellingFacts block red v
   pub held : HeldFacts block red v
   pub handed : HandUpFacts block red v
-  pub reports : SerialFacts v
+  pub reports : SerialFacts block red v
   pub claims : ClaimFacts block red v
   pub asks : CheckpointFacts block red v
   pub firsts : FirstFacts block red v

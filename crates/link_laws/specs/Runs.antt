@@ -134,7 +134,7 @@ pub record KeepsTo (block : List ℕ) (red : ℕ) {S : Type 0} (P : S → Type 0
 -- ---- the layers in which facts hold one another
 
 abbrev pub ReportedFacts : List ℕ → ℕ → View → Type 0
-ReportedFacts = both_facts (both_facts BlockFacts (λ block red v. SerialFacts v)) ClaimFacts
+ReportedFacts = both_facts (both_facts BlockFacts SerialFacts) ClaimFacts
 
 abbrev pub AskedFacts : List ℕ → ℕ → View → Type 0
 AskedFacts = both_facts ReportedFacts CheckpointFacts

@@ -1,6 +1,6 @@
 -- The serial numbers of a session's reports (RFC 5326, section 3.2.2).
 
-use Rattle.std.specs.Prelude.{◌≡◌, ◌<◌, false, List, Option, None, Some}
+use Rattle.std.specs.Prelude.{◌≡◌, ℕ, ◌<◌, false, List, Option, None, Some}
 use Rattle.ltp_segment.specs.Values.{ContentValue, ReportValue, a_report}
 use Rattle.ltp_session.specs.Receiver.{Pending, Receiving, ReceivingPhase, receiver_cancelling}
 use Rattle.ltp_session.specs.Receiver.{receiver_open}
@@ -29,7 +29,7 @@ NoReports said = (x : ReportValue) → IsIn (a_report x) said → ⊥
 
 -- a receiver that isn't kept and whose number isn't closed sent no report; the serials of one that
 -- is kept go on; and a serial names one report
-pub record SerialFacts (v : View) : Type 0 where
+pub record SerialFacts (block : List ℕ) (red : ℕ) (v : View) : Type 0 where
   pub unknown : v.receiver ≡ None → v.closed ≡ false → NoReports v.by_receiver
   pub kept : IfKept (HasReported v.by_receiver) v.receiver
   pub once : AreNumbered v.by_receiver

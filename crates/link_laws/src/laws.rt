@@ -60,7 +60,7 @@ pub fn handed_up_where_whole()
 /// What reports say has come.
 pub fn reports_say_what_came()
     // One serial names one report.
-    ensures serials { EveryRun (λ block red v. SerialFacts v) }
+    ensures serials { EveryRun SerialFacts }
     // What they claim lies within the red part, and has come where the receiver is kept.
     ensures claims { EveryRun ClaimFacts }
     // Later reports claim what earlier ones do, and reach the red length or leave a place out.

@@ -236,7 +236,7 @@ adds-has : (content : ContentValue) (s s' : Sending) (x : ReportValue) → Adds 
     → HasClaims s x → HasClaims s' x
 adds-has content s s' x adds has k place =
     subst (λ (places : List Bool). slice_index_or places k false ≡ true) (sym adds.claimed)
-    (claims-keep (adds.x).lower (adds.x).claims s.claimed k (has k place))
+    (claims-keep (adds.report).lower (adds.report).claims s.claimed k (has k place))
 
 step-has : (content : ContentValue) (s : Sending) (t : StepValue Sending) (x : ReportValue)
     → SenderStep content s t
@@ -283,8 +283,8 @@ step-gives content s t (rounds s' next on) giving =
 
 adds-size : (content : ContentValue) (red : ℕ) (s s' : Sending) → Adds content s s'
     → length s.claimed ≡ red → length s'.claimed ≡ red
-adds-size content red s s' adds size = ap length adds.claimed ∙ length-claims (adds.x).lower
-    (adds.x).claims s.claimed ∙ size
+adds-size content red s s' adds size = ap length adds.claimed ∙ length-claims (adds.report).lower
+    (adds.report).claims s.claimed ∙ size
 
 step-size : (content : ContentValue) (red : ℕ) (s : Sending) (t : StepValue Sending)
     → SenderStep content s t → length s.claimed ≡ red
@@ -343,20 +343,20 @@ some-moved block red v s content t is heard told form says facts = record {
     acks serial (inl before) =
         let was = facts.acks serial before in
         record {
-          x = was.x;
+          report = was.report;
           among = was.among;
           named = was.named;
-          taken = kept-on (λ s'. IsSenderCancelling s'.phase ⊎ HasClaims s' was.x) t.next
+          taken = kept-on (λ s'. IsSenderCancelling s'.phase ⊎ HasClaims s' was.report) t.next
               v.sender was.taken
-              (step-has content s t was.x form
-              (subst (IfKept (λ s'. IsSenderCancelling s'.phase ⊎ HasClaims s' was.x))
+              (step-has content s t was.report form
+              (subst (IfKept (λ s'. IsSenderCancelling s'.phase ⊎ HasClaims s' was.report))
               is was.taken));
         }
     acks serial (inr now) =
         let (x, is_told, named, is_kept) =
         all-among (Says content s t.next) (a_report_ack serial) t.out says now in
         record {
-          x = x;
+          report = x;
           among = heard x is_told;
           named = named;
           taken = subst (λ o. IfKept (λ s'. IsSenderCancelling s'.phase ⊎ HasClaims s' x)
@@ -392,11 +392,11 @@ none-moved block red v content t is next heard says facts = record {
     acks : (serial : ℕ) → IsIn (a_report_ack serial) v.by_sender ⊎ IsIn (a_report_ack serial) t.out
         → IsAnswered (sender_moves v t) serial
     acks serial (inl before) = let was = facts.acks serial before in
-        record { x = was.x; among = was.among; named = was.named; taken = any _ }
+        record { report = was.report; among = was.among; named = was.named; taken = any _ }
     acks serial (inr now) =
         let (x, is_told, named) =
         all-among (Echoes content) (a_report_ack serial) t.out says now in
-        record { x = x; among = heard x is_told; named = named; taken = any _ }
+        record { report = x; among = heard x is_told; named = named; taken = any _ }
 
 hears-acks : (block : List ℕ) (red : ℕ) (policy : PolicyValue) (v : View) (content : ContentValue)
     (now : ℕ) (t : StepValue Sending) (kept : Option Sending) → v.sender ≡ kept
@@ -461,8 +461,8 @@ acks-keep = record {
     size = facts.size;
     acks = λ serial among. let was = facts.acks serial among in
         record {
-          x = was.x;
-          among = among-left (a_report was.x) v.by_receiver t.out was.among;
+          report = was.report;
+          among = among-left (a_report was.report) v.by_receiver t.out was.among;
           named = was.named;
           taken = was.taken;
         };
@@ -476,8 +476,8 @@ acks-keep = record {
     size = facts.size;
     acks = λ serial among. let was = facts.acks serial among in
         record {
-          x = was.x;
-          among = among-left (a_report was.x) v.by_receiver _ was.among;
+          report = was.report;
+          among = among-left (a_report was.report) v.by_receiver _ was.among;
           named = was.named;
           taken = was.taken;
         };
@@ -487,7 +487,7 @@ acks-keep = record {
     size = facts.size;
     acks = λ serial among.
         let was = facts.acks serial among in
-        record { x = was.x; among = was.among; named = was.named; taken = was.taken };
+        record { report = was.report; among = was.among; named = was.named; taken = was.taken };
     cancels =
         facts.cancels;
   };

@@ -88,21 +88,25 @@ with-claims lower (c ∷ cs) places k is = go (with-claims lower cs _ k is)
 more-claimed : (said out : List ContentValue) (k : ℕ) → IsClaimedBy said k
     → IsClaimedBy (said ++ out) k
 more-claimed said out k by =
-    record { x = by.x; among = among-left (a_report by.x) said out by.among; claims = by.claims }
+    record {
+      report = by.report;
+      among = among-left (a_report by.report) said out by.among;
+      claims = by.claims;
+    }
 
 more-asked : (said out : List ContentValue) (serial : ℕ) → IsAsked said serial
     → IsAsked (said ++ out) serial
 more-asked said out serial by =
     record {
-      q = by.q;
-      among = among-left (a_piece by.q) said out by.among;
+      piece = by.piece;
+      among = among-left (a_piece by.piece) said out by.among;
       asks = by.asks;
       named = by.named;
     }
 
 pub more-reports : (said out : List ContentValue) → SomeReport said → SomeReport (said ++ out)
 more-reports said out some =
-    record { x = some.x; among = among-left (a_report some.x) said out some.among }
+    record { report = some.report; among = among-left (a_report some.report) said out some.among }
 
 none-claimed : (red k : ℕ) → slice_index_or (replicate red false) k false ≡ true → ⊥
 none-claimed zero k is = cc
@@ -178,15 +182,16 @@ adds-claimed : (by_receiver : List ContentValue) (content : ContentValue) (s s' 
     → Adds content s s'
     → (k : ℕ) → slice_index_or s'.claimed k false ≡ true → IsClaimedBy by_receiver k
 adds-claimed by_receiver content s s' among before adds k is =
-    go (with-claims (adds.x).lower (adds.x).claims s.claimed k
+    go (with-claims (adds.report).lower (adds.report).claims s.claimed k
     (subst (λ (places : List Bool). slice_index_or places k false ≡ true) adds.claimed is))
   where
-    go : (slice_index_or s.claimed k false ≡ true) ⊎ HasPlace (adds.x).lower (adds.x).claims k
+    go : (slice_index_or s.claimed k false ≡ true) ⊎ HasPlace (adds.report).lower
+        (adds.report).claims k
         → IsClaimedBy by_receiver k
     go (inl old) = before k old
     go (inr now) =
         record {
-          x = adds.x;
+          report = adds.report;
           among = subst (λ c. IsIn c by_receiver) (adds.told).is among;
           claims = now;
         }
@@ -224,7 +229,8 @@ step-asks by_sender by_receiver content s t heard asks (continues s' next on) = 
     claimed (inl same) k is =
         asks.claimed k (subst (λ (places : List Bool). slice_index_or places k false
         ≡ true) same is)
-    claimed (inr adds) k is = adds-claimed by_receiver content s s' (heard adds.x (adds.told).is)
+    claimed (inr adds) k is =
+        adds-claimed by_receiver content s s' (heard adds.report (adds.told).is)
         asks.claimed adds k is
 
     unclaimed : (c : PieceValue) (timer : Timer) → s'.phase ≡ sender_open c timer
@@ -250,7 +256,7 @@ step-asks by_sender by_receiver content s t heard asks (rounds s' next on) = rec
     current = λ c timer waits. current c (is_last c timer waits);
   });
   pieces = λ q among is. inr (record {
-    x = (on.adds).x;
+    report = (on.adds).report;
     among = subst (λ c. IsIn c by_receiver)
         ((on.adds).told).is told;
   });
@@ -258,10 +264,10 @@ step-asks by_sender by_receiver content s t heard asks (rounds s' next on) = rec
 }
   where
     told : IsIn content by_receiver
-    told = heard (on.adds).x ((on.adds).told).is
+    told = heard (on.adds).report ((on.adds).told).is
 
     last : ℕ × List ℕ → PieceValue
-    last = checkpoint_at (length s.block) s.red ((on.c).checkpoint + 1) ((on.adds).x).serial
+    last = checkpoint_at (length s.block) s.red ((on.c).checkpoint + 1) ((on.adds).report).serial
 
     is_last : (c : PieceValue) (timer : Timer) → s'.phase ≡ sender_open c timer → last on.part ≡ c
     is_last c timer waits = cc (sym on.waits ∙ waits)
@@ -270,11 +276,12 @@ step-asks by_sender by_receiver content s t heard asks (rounds s' next on) = rec
         → q.checkpoint ≡ (on.c).checkpoint + 1
     now_sent q among asks_q = go (subst (IsIn (a_piece q)) on.sends among)
       where
-        go : IsIn (a_piece q) (a_report_ack ((on.adds).x).serial ∷ red_pieces last on.parts)
+        go : IsIn (a_piece q) (a_report_ack ((on.adds).report).serial ∷ red_pieces last on.parts)
             → q.checkpoint ≡ (on.c).checkpoint + 1
         go (inl here) = absurd (cc)
-        go (inr among) = let (part, is_part, is_q) = round-among last on.parts q among asks_q in
-            ap (λ (p : PieceValue). p.checkpoint) (sym is_q)
+        go (inr among) = let (part, is_part, is_piece) =
+            round-among last on.parts q among asks_q in
+            ap (λ (p : PieceValue). p.checkpoint) (sym is_piece)
 
     current : (c : PieceValue) → last on.part ≡ c → IsCurrent (by_sender ++ t.out) c
     current c is = record {
@@ -283,7 +290,7 @@ step-asks by_sender by_receiver content s t heard asks (rounds s' next on) = rec
           (round-has last on.parts on.part on.last))));
       asks = subst (λ (p : PieceValue). is_checkpoint p.kind ≡ true) is
           (checkpoint_at-asks (length s.block) s.red ((on.c).checkpoint + 1)
-          ((on.adds).x).serial on.part);
+          ((on.adds).report).serial on.part);
       largest = λ q among asks_q. go q asks_q (among-append (a_piece q) by_sender t.out among);
     }
       where
@@ -410,12 +417,12 @@ pub begun-ends : (policy : PolicyValue) (n : ℕ) (block : List ℕ) (red now : 
     → IsIn (a_piece q) (begin policy n block red now).out → is_checkpoint q.kind ≡ true
     → ends_red_part q.kind ≡ true
 begun-ends policy n block red now q cuts within among asks =
-    let (part, is_part, is_q) = begun-among policy n block red now q among asks in
+    let (part, is_part, is_piece) = begun-among policy n block red now q among asks in
     let end : part.0 + length part.1 ≡ 0 + length (take red block) =
     ends-at policy.segment (length (take red block)) 0 (take red block) part cuts
     (omega arith) is_part in
     let at_end : part.0 + length part.1 ≡ red = omega (arith, end, length-take red block) in
-    subst (λ (p : PieceValue). ends_red_part p.kind ≡ true) is_q
+    subst (λ (p : PieceValue). ends_red_part p.kind ≡ true) is_piece
     (rw (eq-eqb (part.0 + length part.1) red at_end) (both_arms (λ kind. ends_red_part kind ≡ true)
     (red == length block) kinds.RedEndBlock kinds.RedEnd refl refl))
 
@@ -467,11 +474,11 @@ begun-asks policy n block red now by_receiver =
           among = begun-has policy n block red now c part some is;
           asks = subst (λ (p : PieceValue). is_checkpoint p.kind ≡ true) is
               (checkpoint_at-asks (length block) red (first_serial n) 0 part);
-          largest = λ q among asks_q. let (other, is_other, is_q) =
+          largest = λ q among asks_q. let (other, is_other, is_piece) =
               begun-among policy n block red now q among asks_q in
               omega (
                 arith,
-                ap (λ (p : PieceValue). p.checkpoint) is_q,
+                ap (λ (p : PieceValue). p.checkpoint) is_piece,
                 ap (λ (p : PieceValue).
                     p.checkpoint) is,
               );
@@ -482,7 +489,7 @@ begun-asks policy n block red now by_receiver =
 pub some-old : (said out : List ContentValue) → Old said out → SomeReport (said ++ out)
     → SomeReport said
 some-old said out old some =
-    record { x = some.x; among = old-among said out old some.x some.among }
+    record { report = some.report; among = old-among said out old some.report some.among }
 
 pub no-old : (said out : List ContentValue) → NoReports out → Old said out
 no-old said out none x among = absurd (none x among)
@@ -541,7 +548,7 @@ step-answers block red by_sender by_receiver content r t heard pending bound kno
       quiet = λ h. old;
     }
 step-answers block red by_sender by_receiver content r t heard pending bound known later
-    (fills q r' is_q red_kind next filling none) = record {
+    (fills q r' is_piece red_kind next filling none) = record {
       known = λ some. subst (IfKeeps (λ r'. r'.length ≡ Some red)) (sym next)
           (filling.known ∙ still-known red r.length q
           (known (some-old by_receiver t.out (no-old by_receiver t.out none) some)));
@@ -549,7 +556,7 @@ step-answers block red by_sender by_receiver content r t heard pending bound kno
       quiet = λ h. no-old by_receiver t.out none;
     }
 step-answers block red by_sender by_receiver content r t heard pending bound known later
-    (reports_on q r' is_q red_kind checkpoint next reporting out) = record {
+    (reports_on q r' is_piece red_kind checkpoint next reporting out) = record {
       known = λ some. subst (IfKeeps (λ r'. r'.length ≡ Some red)) (sym next)
           (reporting.known ∙ now_known (ends_red_part q.kind) refl);
       names = λ x among. inr (by_out x (subst (IsIn (a_report x)) out among));
@@ -557,18 +564,18 @@ step-answers block red by_sender by_receiver content r t heard pending bound kno
     }
   where
     asked : IsIn (a_piece q) by_sender
-    asked = (heard q is_q).0
+    asked = (heard q is_piece).0
 
     part : IsInPart red true (ends_red_part q.kind) q.offset (piece_stop q)
     part = subst (λ b. IsInPart red b (ends_red_part q.kind) q.offset (piece_stop q)) red_kind
-        ((heard q is_q).1).part
+        ((heard q is_piece).1).part
 
     by_out : (x : ReportValue) → IsIn (a_report x) (a_report (report_of (with_red r q) q) ∷ [])
         → IsAsked by_sender x.checkpoint
     by_out x (inl here) =
         let same : report_of (with_red r q) q ≡ x = cc in
         record {
-          q = q;
+          piece = q;
           among = asked;
           asks = checkpoint;
           named = sym (report_of-names (with_red r q) q) ∙ ap (λ (y : ReportValue).
@@ -704,7 +711,7 @@ hears-answers block red v place content t closed among facts reports asks hears 
         by_opening (inr open_number) =
             step-answers block red v.by_sender v.by_receiver content (fresh place.session) t heard
             (λ p h. absurd (cc)) tt
-            (λ some. absurd (reports.unknown is (sym closed ∙ open_number) some.x some.among))
+            (λ some. absurd (reports.unknown is (sym closed ∙ open_number) some.report some.among))
             asks.later hears.form
         by_opening (inl unchanged) = idly hears.form
           where
@@ -720,8 +727,8 @@ hears-answers block red v place content t closed among facts reports asks hears 
             idly (over next none) = absurd (cc)
             idly (turns r' next turned none) = absurd (cc)
             idly (again p timer pending next out) = absurd (cc)
-            idly (fills q r' is_q red_kind next filling none) = absurd (cc)
-            idly (reports_on q r' is_q red_kind checkpoint next reporting out) = absurd (cc)
+            idly (fills q r' is_piece red_kind next filling none) = absurd (cc)
+            idly (reports_on q r' is_piece red_kind checkpoint next reporting out) = absurd (cc)
 
 pub listens-asks : (v : View) (content : ContentValue) (t : StepValue Sending)
     (kept : Option Sending) → v.sender ≡ kept → IsHeard content v.by_receiver
@@ -745,7 +752,7 @@ asks-keep = record {
     later = λ q among asks no_end. absurd (let ends_there = begun-ends policy n block red now q
         cuts within (subst (λ said. IsIn (a_piece q) (said ++ (begin policy n block red now).out))
         unused.by_sender among) asks in cc);
-    known = λ some. absurd (subst (IsIn (a_report some.x)) unused.by_receiver some.among);
+    known = λ some. absurd (subst (IsIn (a_report some.report)) unused.by_receiver some.among);
   };
   sender = λ block red policy v content now t among hears f f' asks.
       let on = listens-asks v content t v.sender refl (λ x is. among) asks.sender

@@ -447,7 +447,7 @@ step-claims block red said content r t is of tells claims (again p timer pending
       quiet = λ h. old;
     }
 step-claims block red said content r t is of tells claims
-    (fills q r' is_q red_kind next filling none) = record {
+    (fills q r' is_piece red_kind next filling none) = record {
       told = λ x among. absurd (none x among);
       filled = subst (IfKeeps (ClaimsFilled (said ++ t.out))) (sym next)
           (old-claims said t.out r' (none-old said t.out none)
@@ -456,14 +456,14 @@ step-claims block red said content r t is of tells claims
       quiet = λ h. none-old said t.out none;
     }
 step-claims block red said content r t is of tells claims
-    (reports_on q r' is_q red_kind checkpoint next reporting out) = record {
+    (reports_on q r' is_piece red_kind checkpoint next reporting out) = record {
       told = λ x among. by_out x (subst (IsIn (a_report x)) out among);
       filled = subst (IfKeeps (ClaimsFilled (said ++ t.out))) (sym next) all_filled;
       quiet = λ h. absurd (cc);
     }
   where
     piece : IsPieceOf block red q
-    piece = subst (IsContentOf block red) is_q of
+    piece = subst (IsContentOf block red) is_piece of
 
     now_is : IsReceiverOf block red (with_red r q)
     now_is = with_red-is block red r q is piece red_kind
@@ -585,8 +585,8 @@ hears-claims block red v place content t closed facts reports of claims hears =
             idly (over next none) = absurd (cc)
             idly (turns r' next turned none) = absurd (cc)
             idly (again p timer pending next out) = absurd (cc)
-            idly (fills q r' is_q red_kind next filling none) = absurd (cc)
-            idly (reports_on q r' is_q red_kind checkpoint next reporting out) = absurd (cc)
+            idly (fills q r' is_piece red_kind next filling none) = absurd (cc)
+            idly (reports_on q r' is_piece red_kind checkpoint next reporting out) = absurd (cc)
 
 pub claims-keep : KeepsUnder (both_facts BlockFacts SerialFacts) ClaimFacts
 claims-keep = record {

@@ -136,8 +136,8 @@ closes-whole block red v known = record { closes = closes }
         let named = known.acks.acks serial among in
         let sent : IsIn (a_report (closing.p).report) v.by_receiver =
         tells.pending closing.p closing.waits in
-        let same : (closing.p).report ≡ named.x =
-        reports.once (closing.p).report named.x sent named.among
+        let same : (closing.p).report ≡ named.report =
+        reports.once (closing.p).report named.report sent named.among
         (closing.named ∙ sym named.named) in
         let whole : IsWhole red (closing.p).report =
         record {
@@ -145,13 +145,14 @@ closes-whole block red v known = record { closes = closes }
               closing.whole;
           lower = (known.more.0.1.told (closing.p).report sent).lower;
         } in
-        let whole_x : IsWhole red named.x = subst (IsWhole red) same whole in
+        let whole_x : IsWhole red named.report = subst (IsWhole red) same whole in
         record {
-          x = named.x;
+          report = named.report;
           among = named.among;
           named = named.named;
           whole = whole_x;
-          over = by_kept named.x whole_x v.sender known.acks.size known.more.1.sender named.taken;
+          over = by_kept named.report whole_x v.sender known.acks.size
+              known.more.1.sender named.taken;
         }
       where
         by_kept : (x : ReportValue) → IsWhole red x → (kept : Option Sending)
@@ -210,10 +211,10 @@ pub first-keep : KeepsUnder CheckpointFacts FirstFacts
 first-keep = record {
   begins = λ policy n block red now v cuts within unused f'.
       with-first block red _ (first_serial n) f'
-      (λ q among asks. let (part, is_part, is_q) = begun-among policy n block red now q
+      (λ q among asks. let (part, is_part, is_piece) = begun-among policy n block red now q
       (subst (λ said. IsIn (a_piece q) (said ++ (begin policy n block red now).out))
       unused.by_sender among) asks in
-      inl (ap (λ (p : PieceValue). p.checkpoint) (sym is_q)));
+      inl (ap (λ (p : PieceValue). p.checkpoint) (sym is_piece)));
   sender = λ block red policy v content now t among hears f f' facts.
       with-first block red _ facts.first f'
       (still-first v.by_sender v.by_receiver facts.first t facts.sent

@@ -172,8 +172,9 @@ ends-whole block red v told = record { ends = ends; handed = handed; filled = cl
             → IfKept (λ r. is_some (cell r.cells k) ≡ true) kept
         by_kept None filled = tt
         by_kept (Some r) filled =
-            place-filled r.cells (by.x).claims k (subst (λ lower. HasPlace lower (by.x).claims k)
-            (told.claims.told by.x by.among).lower by.claims) (filled by.x by.among)
+            place-filled r.cells (by.report).claims k
+            (subst (λ lower. HasPlace lower (by.report).claims k)
+            (told.claims.told by.report by.among).lower by.claims) (filled by.report by.among)
 
     ends : (s : Sending) (c : PieceValue) (timer : Timer) (x : ReportValue) → v.sender ≡ Some s
         → s.phase ≡ sender_open c timer → IsIn (a_report x) v.by_receiver
@@ -202,7 +203,7 @@ ends-whole block red v told = record { ends = ends; handed = handed; filled = cl
             go : (slice_index_or s.claimed k false ≡ true) ⊎ HasPlace x.lower x.claims k
                 → IsClaimedBy v.by_receiver k
             go (inl before) = asks.claimed k before
-            go (inr now) = record { x = x; among = among; claims = now }
+            go (inr now) = record { report = x; among = among; claims = now }
 
         by_largest : NoReports v.by_receiver ⊎ Largest v.by_receiver → WholeSent red v.by_receiver
         by_largest (inl none) = absurd (none x among)
@@ -211,19 +212,20 @@ ends-whole block red v told = record { ends = ends; handed = handed; filled = cl
             covers : (k : ℕ) → k < red → k < (l.y).upper → ClaimsPlace l.y k
             covers k low below =
                 let other = by k low in
-                ⊎_elim (λ less. told.reach.grows other.x l.y other.among l.among less k
+                ⊎_elim (λ less. told.reach.grows other.report l.y other.among l.among less k
                 other.claims below)
-                (λ most. let same : other.x ≡ l.y = told.reports.once other.x l.y other.among
-                l.among (omega (arith, most, l.most other.x other.among)) in
+                (λ most. let same : other.report ≡ l.y = told.reports.once other.report
+                l.y other.among
+                l.among (omega (arith, most, l.most other.report other.among)) in
                 subst (λ z. ClaimsPlace z k) same other.claims)
-                (cases_lt (other.x).serial (l.y).serial)
+                (cases_lt (other.report).serial (l.y).serial)
 
             of : IsReportOf red l.y
             of = told.claims.told l.y l.among
 
             by_reach : ((l.y).upper ≡ red) ⊎ LeavesOut l.y → WholeSent red v.by_receiver
             by_reach (inl upper) = record {
-              x = l.y;
+              report = l.y;
               among = l.among;
               whole = record {
                 claims = one-whole red (l.y).claims some
@@ -243,9 +245,9 @@ ends-whole block red v told = record { ends = ends; handed = handed; filled = cl
         → IfKept (λ r. r.handed_up ≡ true) kept
     handed-by y None filled known whole = tt
     handed-by y (Some r) filled known whole =
-        whole.there known (λ k low. place-filled r.cells (y.x).claims k
+        whole.there known (λ k low. place-filled r.cells (y.report).claims k
         (subst (λ (claims : List Claim). HasPlace 0 claims k) (sym (y.whole).claims)
-        (inl (omega arith, omega (arith, low)))) (filled y.x y.among))
+        (inl (omega arith, omega (arith, low)))) (filled y.report y.among))
 
     handed : (s : Sending) (c : PieceValue) (timer : Timer) (x : ReportValue) → v.sender ≡ Some s
         → s.phase ≡ sender_open c timer → IsIn (a_report x) v.by_receiver
@@ -253,28 +255,28 @@ ends-whole block red v told = record { ends = ends; handed = handed; filled = cl
         → IfKept (λ r. r.handed_up ≡ true) v.receiver
     handed s c timer x is waits among all =
         handed-by (ends s c timer x is waits among all) v.receiver told.claims.filled
-        (told.asks.known (record { x = x; among = among })) told.hands.handed
+        (told.asks.known (record { report = x; among = among })) told.hands.handed
 
 -- ---- the block that the pieces spell
 
 record HasPiece (said : List ContentValue) (k : ℕ) : Type 0 where
-  q : PieceValue
-  among : IsIn (a_piece q) said
-  from : q.offset ≤ k
-  to : k < piece_stop q
+  piece : PieceValue
+  among : IsIn (a_piece piece) said
+  from : piece.offset ≤ k
+  to : k < piece_stop piece
 
 more-has : (xs ys : List ContentValue) (k : ℕ) → HasPiece xs k → HasPiece (xs ++ ys) k
 more-has xs ys k has = record {
-  q = has.q;
-  among = among-left (a_piece has.q) xs ys has.among;
+  piece = has.piece;
+  among = among-left (a_piece has.piece) xs ys has.among;
   from = has.from;
   to = has.to;
 }
 
 later-has : (xs ys : List ContentValue) (k : ℕ) → HasPiece ys k → HasPiece (xs ++ ys) k
 later-has xs ys k has = record {
-  q = has.q;
-  among = among-right (a_piece has.q) xs ys has.among;
+  piece = has.piece;
+  among = among-right (a_piece has.piece) xs ys has.among;
   from = has.from;
   to = has.to;
 }
@@ -285,34 +287,44 @@ unfolding red_pieces
 red-has size red serial [] k has = absurd has
 red-has size red serial (part ∷ []) k (inl within) =
     record {
-      q = checkpoint_at size red serial 0 part;
+      piece = checkpoint_at size red serial 0 part;
       among = inl refl;
       from = within.0;
       to = within.1;
     }
 red-has size red serial (part ∷ []) k (inr later) = absurd later
 red-has size red serial (part ∷ next ∷ parts) k (inl within) =
-    record { q = piece_at kinds.Red 0 0 part; among = inl refl; from = within.0; to = within.1 }
+    record {
+      piece = piece_at kinds.Red 0 0 part;
+      among = inl refl;
+      from = within.0;
+      to = within.1;
+    }
 red-has size red serial (part ∷ next ∷ parts) k (inr later) =
     let rest = red-has size red serial (next ∷ parts) k later in
-    record { q = rest.q; among = inr rest.among; from = rest.from; to = rest.to }
+    record { piece = rest.piece; among = inr rest.among; from = rest.from; to = rest.to }
 
 green-has : (parts : List (ℕ × List ℕ)) (k : ℕ) → HasPart k parts → HasPiece (green_pieces parts) k
 unfolding green_pieces
 green-has [] k has = absurd has
 green-has (part ∷ []) k (inl within) =
     record {
-      q = piece_at kinds.GreenEndBlock 0 0 part;
+      piece = piece_at kinds.GreenEndBlock 0 0 part;
       among = inl refl;
       from = within.0;
       to = within.1;
     }
 green-has (part ∷ []) k (inr later) = absurd later
 green-has (part ∷ next ∷ parts) k (inl within) =
-    record { q = piece_at kinds.Green 0 0 part; among = inl refl; from = within.0; to = within.1 }
+    record {
+      piece = piece_at kinds.Green 0 0 part;
+      among = inl refl;
+      from = within.0;
+      to = within.1;
+    }
 green-has (part ∷ next ∷ parts) k (inr later) =
     let rest = green-has (next ∷ parts) k later in
-    record { q = rest.q; among = inr rest.among; from = rest.from; to = rest.to }
+    record { piece = rest.piece; among = inr rest.among; from = rest.from; to = rest.to }
 
 begun-covers : (policy : PolicyValue) (n : ℕ) (block : List ℕ) (red now k : ℕ) → 1 ≤ policy.segment
     → red ≤ length block → k < length block → HasPiece (begin policy n block red now).out k
@@ -331,19 +343,20 @@ begun-covers policy n block red now k cuts within low =
 holds-piece : (block : List ℕ) (red : ℕ) (said : List ContentValue) (k : ℕ)
     → AllByRecursion (IsContentOf block red) said → HasPiece said k
     → Holds said k (slice_index block k)
-holds-piece block red said k all has = record { q = has.q; among = has.among; has = by_tests }
+holds-piece block red said k all has =
+    record { piece = has.piece; among = has.among; has = by_tests }
   where
-    of : IsPieceOf block red has.q
-    of = all-among (IsContentOf block red) (a_piece has.q) said all has.among
+    of : IsPieceOf block red has.piece
+    of = all-among (IsContentOf block red) (a_piece has.piece) said all has.among
 
-    by_tests : octet_in (has.q).offset (has.q).body k ≡ Some (slice_index block k)
+    by_tests : octet_in (has.piece).offset (has.piece).body k ≡ Some (slice_index block k)
     by_tests =
-        let here = of.octets (k - (has.q).offset) (omega (arith, has.from, has.to)) in
-        let place : (has.q).offset + (k - (has.q).offset) ≡ k = omega (arith, has.from) in
+        let here = of.octets (k - (has.piece).offset) (omega (arith, has.from, has.to)) in
+        let place : (has.piece).offset + (k - (has.piece).offset) ≡ k = omega (arith, has.from) in
         rw (
-          le-leb (has.q).offset k has.from,
-          lt-ltb k ((has.q).offset + length
-              (has.q).body) has.to,
+          le-leb (has.piece).offset k has.from,
+          lt-ltb k ((has.piece).offset + length
+              (has.piece).body) has.to,
         )
         (ap (λ (n : ℕ). Some n) (sym here.1 ∙ ap (slice_index block) place))
 
@@ -387,10 +400,10 @@ red_where_ends p ends = by_kind p.kind ends
 ends-at-red : (block : List ℕ) (red : ℕ) (said : List ContentValue)
     → AllByRecursion (IsContentOf block red) said → (end : ℕ) → Ends said end → end ≡ red
 ends-at-red block red said all end ends =
-    let of : IsPieceOf block red ends.q =
-    all-among (IsContentOf block red) (a_piece ends.q) said all ends.among in
-    sym ends.place ∙ end-there red (is_red (ends.q).kind) (ends_red_part (ends.q).kind)
-    (ends.q).offset (piece_stop ends.q) (red_where_ends ends.q ends.ends_there)
+    let of : IsPieceOf block red ends.piece =
+    all-among (IsContentOf block red) (a_piece ends.piece) said all ends.among in
+    sym ends.place ∙ end-there red (is_red (ends.piece).kind) (ends_red_part (ends.piece).kind)
+    (ends.piece).offset (piece_stop ends.piece) (red_where_ends ends.piece ends.ends_there)
     ends.ends_there of.part
 
 begun-ended : (policy : PolicyValue) (n : ℕ) (block : List ℕ) (red now : ℕ) → 1 ≤ policy.segment
@@ -407,12 +420,12 @@ begun-ended policy n block red now cuts within all some =
     (first_serial n) 0 part) cuts within among (checkpoint_at-asks (length block) red
     (first_serial n) 0 part) in
     record {
-      q = checkpoint_at (length block) red (first_serial n) 0 part;
+      piece = checkpoint_at (length block) red (first_serial n) 0 part;
       among =
           among;
       ends_there = last;
       place = ends-at-red block red _ all _ (record {
-        q = checkpoint_at (length block) red
+        piece = checkpoint_at (length block) red
             (first_serial n) 0 part;
         among = among;
         ends_there = last;
@@ -423,12 +436,12 @@ begun-ended policy n block red now cuts within all some =
 more-held : (said out : List ContentValue) (k octet : ℕ) → Holds said k octet
     → Holds (said ++ out) k octet
 more-held said out k octet h =
-    record { q = h.q; among = among-left (a_piece h.q) said out h.among; has = h.has }
+    record { piece = h.piece; among = among-left (a_piece h.piece) said out h.among; has = h.has }
 
 more-ended : (said out : List ContentValue) (end : ℕ) → Ends said end → Ends (said ++ out) end
 more-ended said out end h = record {
-  q = h.q;
-  among = among-left (a_piece h.q) said out h.among;
+  piece = h.piece;
+  among = among-left (a_piece h.piece) said out h.among;
   ends_there = h.ends_there;
   place = h.place;
 }
@@ -438,9 +451,9 @@ of-said : (block : List ℕ) (red : ℕ) (said : List ContentValue)
     → AllByRecursion (IsContentOf block red) said → (k octet : ℕ) → Holds said k octet
     → IsAt block k octet
 of-said block red said all k octet h =
-    let of : IsPieceOf block red h.q =
-    all-among (IsContentOf block red) (a_piece h.q) said all h.among in
-    octet-at block (h.q).offset (h.q).body of.octets k octet h.has
+    let of : IsPieceOf block red h.piece =
+    all-among (IsContentOf block red) (a_piece h.piece) said all h.among in
+    octet-at block (h.piece).offset (h.piece).body of.octets k octet h.has
 
 grows-block : (block : List ℕ) (red : ℕ) (v : View) (out : List ContentValue) (v' : View)
     → v'.by_sender ≡ v.by_sender ++ out → BlockFacts block red v' → SpellingFacts block red v

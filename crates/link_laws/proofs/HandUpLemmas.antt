@@ -132,14 +132,14 @@ step-whole block red content r t heard is whole (turns r' next turned none) =
     (same-whole red r r' whole turned.cells turned.known turned.handed)
 step-whole block red content r t heard is whole (again p timer pending next out) =
     subst (IfKeeps (HasHandedUp red)) (sym next) (same-whole red r _ whole refl refl refl)
-step-whole block red content r t heard is whole (fills q r' is_q red_kind next filling none) =
+step-whole block red content r t heard is whole (fills q r' is_piece red_kind next filling none) =
     subst (IfKeeps (HasHandedUp red)) (sym next)
-    (took-whole block red r r' q (with_red-is block red r q is (heard q is_q) red_kind) whole
+    (took-whole block red r r' q (with_red-is block red r q is (heard q is_piece) red_kind) whole
     filling.cells filling.known filling.handed)
-step-whole block red content r t heard is whole (reports_on q r' is_q red_kind checkpoint next
+step-whole block red content r t heard is whole (reports_on q r' is_piece red_kind checkpoint next
     reporting out) =
     subst (IfKeeps (HasHandedUp red)) (sym next)
-    (took-whole block red r r' q (with_red-is block red r q is (heard q is_q) red_kind) whole
+    (took-whole block red r r' q (with_red-is block red r q is (heard q is_piece) red_kind) whole
     reporting.cells reporting.known reporting.handed)
 
 -- ---- a fact of receivers

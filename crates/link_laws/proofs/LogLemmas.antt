@@ -74,9 +74,9 @@ step-handed content r t (turns r' next turned none) handed =
     subst (IfKeeps IsHanded) (sym next) (turned.handed ∙ handed)
 step-handed content r t (again p timer pending next out) handed =
     subst (IfKeeps IsHanded) (sym next) handed
-step-handed content r t (fills q r' is_q red_kind next filling none) handed =
+step-handed content r t (fills q r' is_piece red_kind next filling none) handed =
     subst (IfKeeps IsHanded) (sym next) (filling.handed ∙ still_true r.handed_up _ handed)
-step-handed content r t (reports_on q r' is_q red_kind checkpoint next reporting out) handed =
+step-handed content r t (reports_on q r' is_piece red_kind checkpoint next reporting out) handed =
     subst (IfKeeps IsHanded) (sym next) (reporting.handed ∙ still_true r.handed_up _ handed)
 
 -- session n of an end is past
@@ -382,18 +382,18 @@ submitted-on F all o n v v' not_unused used' follows planned = by_used v.used re
     by_used true used has =
         subst (λ b. HasFactsBy F all o n b v') (sym (used' ∙ used))
         (record {
-          p = has.p;
+          submission = has.submission;
           among = has.among;
           from = has.from;
           session = has.session;
-          facts = follows (has.p).block (has.p).red has.facts;
+          facts = follows (has.submission).block (has.submission).red has.facts;
         })
 
 submitted-invariant : (F : List ℕ → ℕ → View → Type 0) (all : List Submission)
     → KeepsUnder no_facts F → IsInvariant any_time (Begun all) (HasFacts F all)
 submitted-invariant F all kept = record {
   begins = λ o policy n block red now v ok told cuts within unused planned. record {
-    p = record { from = o; session = n; block = block; red = red };
+    submission = record { from = o; session = n; block = block; red = red };
     among = told;
     from = refl;
     session = refl;
@@ -468,11 +468,11 @@ every_fact G gives parties events peers o n =
         go false unused = unused
         go true has =
             record {
-              p = has.p;
+              submission = has.submission;
               among = has.among;
               from = has.from;
               session = has.session;
-              facts = gives (has.p).block (has.p).red v has.facts;
+              facts = gives (has.submission).block (has.submission).red v has.facts;
             }
 
 -- what an arrival hands up is the front of the planned block
@@ -500,17 +500,17 @@ front-of all parties w d body heard planned up = by_used v.used planned
         → BlockFacts block red (view parties w d.from (d.segment).session) → body ≡ take red block
     front block red facts =
         let hands = up.hands in
-        let of : IsPieceOf block red hands.q =
-        all-among (IsContentOf block red) (a_piece hands.q) _ facts.said
+        let of : IsPieceOf block red hands.piece =
+        all-among (IsContentOf block red) (a_piece hands.piece) _ facts.said
         (subst (λ c. IsIn c (view parties w d.from (d.segment).session).by_sender)
-        hands.is_q among) in
+        hands.is_piece among) in
         let was : IsReceiverOf block red (met (d.segment).session (find (d.segment).session
         (at_end w.engines (other d.from)).receivers)) =
         met-kept (IsReceiverOf block red) (d.segment).session (find (d.segment).session
         (at_end w.engines (other d.from)).receivers) (fresh-is block red (d.segment).session)
         facts.receiver in
         let now = with_red-is block red (met (d.segment).session (find (d.segment).session
-        (at_end w.engines (other d.from)).receivers)) hands.q was of hands.red_kind in
+        (at_end w.engines (other d.from)).receivers)) hands.piece was of hands.red_kind in
         whole-front block red _ _ body facts.within now.cells now.known hands.whole
 
     by_used : (used : Bool) → HasFactsBy BlockFacts all d.from (d.segment).session used
@@ -523,13 +523,13 @@ front-of all parties w d body heard planned up = by_used v.used planned
         })
     by_used false unused = absurd (among_none (d.segment).content _ among unused.by_sender)
     by_used true has = record {
-      p = has.p;
+      submission = has.submission;
       among = has.among;
       from = ap other (sym has.from);
       originator =
           up.originator ∙ ap (λ e. (at_end parties e).own) (sym has.from);
       session = sym has.session;
-      front = front (has.p).block (has.p).red has.facts;
+      front = front (has.submission).block (has.submission).red has.facts;
     }
 
 fronts-of : (all : List Submission) (parties : Party × Party) → ArePeers parties

@@ -217,12 +217,12 @@ record Made (said : List ContentValue) (content : ContentValue)
   r : Receiving
   tells : HasReported said r
   claims : ClaimsFilled said r
-  q : PieceValue
-  is_q : content ≡ a_piece q
+  piece : PieceValue
+  is_piece : content ≡ a_piece piece
   r' : Receiving
   next : t.next ≡ keeps r'
-  reporting : Reports r q r'
-  out : t.out ≡ a_report (report_of (with_red r q) q) ∷ []
+  reporting : Reports r piece r'
+  out : t.out ≡ a_report (report_of (with_red r piece) piece) ∷ []
 
 none-old : (said out : List ContentValue) → NoReports out → Old said out
 none-old said out none x among = absurd (none x among)
@@ -236,16 +236,16 @@ step-made said content r t tells claims (turns r' next turned none) =
     inl (none-old said t.out none)
 step-made said content r t tells claims (again p timer pending next out) =
     inl (subst (Old said) (sym out) (old-resent said p.report (tells.pending p pending)))
-step-made said content r t tells claims (fills q r' is_q red_kind next filling none) =
+step-made said content r t tells claims (fills q r' is_piece red_kind next filling none) =
     inl (none-old said t.out none)
-step-made said content r t tells claims (reports_on q r' is_q red_kind checkpoint next
+step-made said content r t tells claims (reports_on q r' is_piece red_kind checkpoint next
     reporting out) =
     inr (record {
       r = r;
       tells = tells;
       claims = claims;
-      q = q;
-      is_q = is_q;
+      piece = q;
+      is_piece = is_piece;
       r' = r';
       next = next;
       reporting = reporting;
@@ -280,9 +280,9 @@ hears-made block red v place content t closed reports claims hears = by_kept v.r
             idly (over next none) = inl (none-old v.by_receiver t.out none)
             idly (turns r' next turned none) = inl (none-old v.by_receiver t.out none)
             idly (again p timer pending next out) = absurd (cc)
-            idly (fills q r' is_q red_kind next filling none) =
+            idly (fills q r' is_piece red_kind next filling none) =
                 inl (none-old v.by_receiver t.out none)
-            idly (reports_on q r' is_q red_kind checkpoint next reporting out) = absurd (cc)
+            idly (reports_on q r' is_piece red_kind checkpoint next reporting out) = absurd (cc)
 
 -- ---- reports grow, and reach the end or leave a place out
 
@@ -298,13 +298,17 @@ old-reach block red v t old facts = record {
 made-known : (block : List ℕ) (red : ℕ) (v : View) (content : ContentValue)
     (t : StepValue Receiving) → CheckpointFacts block red (receiver_moves v t)
     → (made : Made v.by_receiver content t)
-    → length_after (made.r).length (ends_red_part (made.q).kind) (piece_stop made.q) ≡ Some red
+    → length_after (made.r).length (ends_red_part (made.piece).kind)
+    (piece_stop made.piece) ≡ Some red
 made-known block red v content t asks made =
-    let new : IsIn (a_report (report_of (with_red made.r made.q) made.q))
+    let new : IsIn (a_report (report_of (with_red made.r made.piece) made.piece))
     (v.by_receiver ++ t.out) =
     among-right _ v.by_receiver t.out (subst (IsIn _) (sym made.out) (inl refl)) in
     let kept : IfKept (λ r. r.length ≡ Some red) (after t.next v.receiver) =
-    asks.known (record { x = report_of (with_red made.r made.q) made.q; among = new }) in
+    asks.known (record {
+      report = report_of (with_red made.r made.piece) made.piece;
+      among = new;
+    }) in
     let now : (made.r').length ≡ Some red =
     subst (λ c. IfKept (λ r. r.length ≡ Some red) (after c v.receiver)) made.next kept in
     sym (made.reporting).known ∙ now
@@ -322,19 +326,19 @@ made-reach block red v content t claims asks made facts = record {
     r = made.r
 
     cells : List (Option ℕ)
-    cells = filled (made.r).cells (made.q).offset (made.q).body
+    cells = filled (made.r).cells (made.piece).offset (made.piece).body
 
     new : ReportValue
-    new = report_with 1024 (made.r).serial (made.q).checkpoint red
-        (claims_from 0 (take red (filled (made.r).cells (made.q).offset (made.q).body)))
+    new = report_with 1024 (made.r).serial (made.piece).checkpoint red
+        (claims_from 0 (take red (filled (made.r).cells (made.piece).offset (made.piece).body)))
 
     out : t.out ≡ a_report new ∷ []
     out = made.out ∙ ap (λ (x : ReportValue). a_report x ∷ [])
-        (report_of-known red (with_red made.r made.q) made.q
+        (report_of-known red (with_red made.r made.piece) made.piece
         (made-known block red v content t asks made))
 
     serial : new.serial ≡ (made.r).serial
-    serial = report_with-serial 1024 (made.r).serial (made.q).checkpoint red _
+    serial = report_with-serial 1024 (made.r).serial (made.piece).checkpoint red _
 
     split : (x : ReportValue) → IsIn (a_report x) (v.by_receiver ++ t.out)
         → IsIn (a_report x) v.by_receiver ⊎ (new ≡ x)
@@ -374,8 +378,8 @@ made-reach block red v content t claims asks made facts = record {
         ))
     grows x y (inl of_x) (inr is_y) less k has low =
         subst (λ z. ClaimsPlace z k) is_y
-        (report-has 1024 (made.r).serial (made.q).checkpoint red cells k
-        (rw (cell-filled (made.r).cells (made.q).offset (made.q).body k)
+        (report-has 1024 (made.r).serial (made.piece).checkpoint red cells k
+        (rw (cell-filled (made.r).cells (made.piece).offset (made.piece).body k)
         (still_some (cell (made.r).cells k) _ (is_filled x of_x k has)))
         (subst (λ (z : ReportValue). k < z.upper) (sym is_y) low))
       where
@@ -388,7 +392,7 @@ made-reach block red v content t claims asks made facts = record {
         → (x.upper ≡ red) ⊎ LeavesOut x
     reach x (inl of_x) = facts.reach x of_x
     reach x (inr is_x) = subst (λ (z : ReportValue). (z.upper ≡ red) ⊎ LeavesOut z) is_x
-        (report-reach 1024 (made.r).serial (made.q).checkpoint red cells (omega arith))
+        (report-reach 1024 (made.r).serial (made.piece).checkpoint red cells (omega arith))
 
 moves-reach : (block : List ℕ) (red : ℕ) (v : View) (content : ContentValue)
     (t : StepValue Receiving) → ClaimFacts block red v
@@ -544,7 +548,7 @@ moves-whole block red v content t opens still claims asks made facts =
         (λ r is done.
         let known : r.length ≡ Some red =
         subst (IfKept (λ (s : Receiving). s.length ≡ Some red)) is
-        (asks.known (record { x = x; among = among })) in
+        (asks.known (record { report = x; among = among })) in
         still r is known (fresh-whole red v.by_receiver r x among (claims.told x among) whole
         (subst (IfKept (ClaimsFilled v.by_receiver)) is claims.filled) known) done)
         (facts.whole x among whole) t.next refl
@@ -557,9 +561,10 @@ moves-whole block red v content t opens still claims asks made facts =
         subst (λ c. IsClosedOr (IsDone red) (after c v.receiver) (closed_after c v.closed))
         (sym made.next) (by_here (subst (IsIn (a_report x)) made.out among))
       where
-        by_here : IsIn (a_report x) (a_report (report_of (with_red made.r made.q) made.q) ∷ [])
+        by_here : IsIn (a_report x)
+            (a_report (report_of (with_red made.r made.piece) made.piece) ∷ [])
             → IsDone red made.r'
-        by_here (inl here) = let same : report_of (with_red made.r made.q) made.q ≡ x =
+        by_here (inl here) = let same : report_of (with_red made.r made.piece) made.piece ≡ x =
             cc (here) in inr (_, (made.reporting).pending, subst (IsWhole red) (sym same) whole)
         by_here (inr none) = absurd none
 

@@ -42,11 +42,15 @@ more-holds : (said out : List ContentValue) (cells : List (Option ℕ)) (known :
     → HoldsCells said cells known → HoldsCells (said ++ out) cells known
 more-holds said out cells known holds = record {
   octets = λ k octet is. let h = holds.octets k octet is in
-      record { q = h.q; among = among-left (a_piece h.q) said out h.among; has = h.has };
+      record {
+        piece = h.piece;
+        among = among-left (a_piece h.piece) said out h.among;
+        has = h.has;
+      };
   ends_where = λ end is. let h = holds.ends_where end is in
       record {
-        q = h.q;
-        among = among-left (a_piece h.q) said out h.among;
+        piece = h.piece;
+        among = among-left (a_piece h.piece) said out h.among;
         ends_there = h.ends_there;
         place = h.place;
       };
@@ -64,12 +68,13 @@ filled-holds said r q among holds = record {
   where
     by_first : (k octet : ℕ) (first : Option ℕ) → cell r.cells k ≡ first
         → or_else first (octet_in q.offset q.body k) ≡ Some octet → Holds said k octet
-    by_first k octet None none now = record { q = q; among = among; has = now }
+    by_first k octet None none now = record { piece = q; among = among; has = now }
     by_first k octet (Some x) some now = holds.octets k octet (some ∙ now)
 
     by_end : (end : ℕ) (last : Bool) → ends_red_part q.kind ≡ last
         → (if last then Some (piece_stop q) else None) ≡ Some end → Ends said end
-    by_end end true last is = record { q = q; among = among; ends_there = last; place = cc (is) }
+    by_end end true last is =
+        record { piece = q; among = among; ends_there = last; place = cc (is) }
     by_end end false last is = absurd (cc)
 
     by_known : (end : ℕ) (known : Option ℕ) → r.length ≡ known
@@ -99,13 +104,13 @@ step-holds said content r t heard holds (turns r' next turned none) =
     subst (IfKeeps (HeldBy said)) (sym next) (rw (turned.cells, turned.known) holds)
 step-holds said content r t heard holds (again p timer pending next out) =
     subst (IfKeeps (HeldBy said)) (sym next) holds
-step-holds said content r t heard holds (fills q r' is_q red_kind next filling none) =
+step-holds said content r t heard holds (fills q r' is_piece red_kind next filling none) =
     subst (IfKeeps (HeldBy said)) (sym next) (rw (filling.cells, filling.known)
-    (filled-holds said r q (heard q is_q) holds))
-step-holds said content r t heard holds (reports_on q r' is_q red_kind checkpoint next
+    (filled-holds said r q (heard q is_piece) holds))
+step-holds said content r t heard holds (reports_on q r' is_piece red_kind checkpoint next
     reporting out) =
     subst (IfKeeps (HeldBy said)) (sym next) (rw (reporting.cells, reporting.known)
-    (filled-holds said r q (heard q is_q) holds))
+    (filled-holds said r q (heard q is_piece) holds))
 
 kept-held : (v : View) (t : StepValue Receiving) → HeldFacts [] 0 v
     → IfKeeps (HeldBy v.by_sender) t.next → IfKept (HeldBy v.by_sender) (after t.next v.receiver)
@@ -200,8 +205,8 @@ piece-ups policy r q now =
         by_handed true handed some = absurd (cc)
         by_handed false handed some =
             record {
-              q = q;
-              is_q = refl;
+              piece = q;
+              is_piece = refl;
               red_kind = red_kind;
               whole = some;
               before = handed;
@@ -289,8 +294,8 @@ pub hands-up : (said : List ContentValue) (policy : PolicyValue) (place : Place)
     now ≡ Some t → t.up ≡ Some body → IsRedPart said body
 hands-up said policy place kept content now t body among held hears up =
     let h = hears-ups policy place kept content now t hears body up in
-    let there : IsIn (a_piece h.q) said = subst (λ c. IsIn c said) h.is_q among in
-    whole-is said _ _ body h.whole (filled-holds said (met place.session kept) h.q there
+    let there : IsIn (a_piece h.piece) said = subst (λ c. IsIn c said) h.is_piece among in
+    whole-is said _ _ body h.whole (filled-holds said (met place.session kept) h.piece there
     (met-holds said place.session kept held))
 
 -- ---- in every run

@@ -88,7 +88,7 @@ round-form policy s c timer x now waited open_part names =
       phase =
           sender_cancelling 4 (first_timer policy now);
     })
-    adds_given_up = record { x = x; told = record { is = refl }; claimed = refl }
+    adds_given_up = record { report = x; told = record { is = refl }; claimed = refl }
 
     by_last : (o : Option (ℕ × List ℕ)) → last_segment parts ≡ o
         → SenderStep (a_report x) s
@@ -99,10 +99,10 @@ round-form policy s c timer x now waited open_part names =
       pieces = λ q among. absurd (ack-none x.serial q among);
       waits = λ c' timer' waits. (timer', waits);
       unclaimed = λ c' timer' waits. inl open_part;
-      claimed = inr (record { x = x; told = record { is = refl }; claimed = refl });
+      claimed = inr (record { report = x; told = record { is = refl }; claimed = refl });
     })
     by_last (Some part) is = rounds _ refl (record {
-      adds = record { x = x; told = record { is = refl }; claimed = refl };
+      adds = record { report = x; told = record { is = refl }; claimed = refl };
       c = c;
       timer = timer;
       waited = waited;
@@ -140,7 +140,7 @@ report-form policy s x now =
           pieces = λ q among. absurd (ack-none x.serial q among);
           waits = λ c' timer' waits. (timer', waits);
           unclaimed = λ c' timer' waits. inl open_part;
-          claimed = inr (record { x = x; told = record { is = refl }; claimed = refl });
+          claimed = inr (record { report = x; told = record { is = refl }; claimed = refl });
         })))
 
 pub sender_tick-form : (content : ContentValue) (policy : PolicyValue) (now : ℕ) (s : Sending)

@@ -20,12 +20,13 @@ HasClaims s x = (k : ℕ) → ClaimsPlace x k → slice_index_or s.claimed k fal
 
 -- a report with this serial was sent, and its claims are known to a sender that is still open
 pub record IsAnswered (v : View) (serial : ℕ) : Type 0 where
-  pub x : ReportValue
-  pub among : IsIn (a_report x) v.by_receiver
-  pub named : x.serial ≡ serial
-  pub taken : IfKept (λ s. IsSenderCancelling s.phase ⊎ HasClaims s x) v.sender
+  pub report : ReportValue
+  pub among : IsIn (a_report report) v.by_receiver
+  pub named : report.serial ≡ serial
+  pub taken : IfKept (λ s. IsSenderCancelling s.phase ⊎ HasClaims s report) v.sender
 
--- what is acknowledged was reported, and taken; and a sender that sent a cancel isn't open
+-- a sender has a truth value for each place of the red part; what is acknowledged was reported, and
+-- taken; and a sender that sent a cancel isn't open
 pub record AckFacts (block : List ℕ) (red : ℕ) (v : View) : Type 0 where
   pub size : IfKept (λ s. length s.claimed ≡ red) v.sender
   pub acks : (serial : ℕ) → IsIn (a_report_ack serial) v.by_sender → IsAnswered v serial
@@ -35,10 +36,10 @@ pub record AckFacts (block : List ℕ) (red : ℕ) (v : View) : Type 0 where
 
 -- a report with this serial was sent that claims the whole red part, and the sender isn't open
 pub record IsClosedWhole (red : ℕ) (v : View) (serial : ℕ) : Type 0 where
-  pub x : ReportValue
-  pub among : IsIn (a_report x) v.by_receiver
-  pub named : x.serial ≡ serial
-  pub whole : IsWhole red x
+  pub report : ReportValue
+  pub among : IsIn (a_report report) v.by_receiver
+  pub named : report.serial ≡ serial
+  pub whole : IsWhole red report
   pub over : IfKept (λ s. IsSenderCancelling s.phase) v.sender
 
 -- whatever acknowledgement was sent, it ends a receiver's session only where the whole red part is

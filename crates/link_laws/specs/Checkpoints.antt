@@ -12,9 +12,9 @@ use Rattle.link_laws.specs.View.{IsIn, View}
 
 -- a report among these claims the place
 pub record IsClaimedBy (said : List ContentValue) (k : ℕ) : Type 0 where
-  pub x : ReportValue
-  pub among : IsIn (a_report x) said
-  pub claims : ClaimsPlace x k
+  pub report : ReportValue
+  pub among : IsIn (a_report report) said
+  pub claims : ClaimsPlace report k
 
 -- the checkpoint was sent, and none with a larger serial was
 pub record IsCurrent (said : List ContentValue) (c : PieceValue) : Type 0 where
@@ -36,15 +36,15 @@ pub record HasAsked (by_sender by_receiver : List ContentValue) (s : Sending) : 
 
 -- a checkpoint with this serial was sent
 pub record IsAsked (said : List ContentValue) (serial : ℕ) : Type 0 where
-  pub q : PieceValue
-  pub among : IsIn (a_piece q) said
-  pub asks : is_checkpoint q.kind ≡ true
-  pub named : q.checkpoint ≡ serial
+  pub piece : PieceValue
+  pub among : IsIn (a_piece piece) said
+  pub asks : is_checkpoint piece.kind ≡ true
+  pub named : piece.checkpoint ≡ serial
 
 -- a report is among these
 pub record SomeReport (said : List ContentValue) : Type 0 where
-  pub x : ReportValue
-  pub among : IsIn (a_report x) said
+  pub report : ReportValue
+  pub among : IsIn (a_report report) said
 
 -- a report names a checkpoint that was sent; a checkpoint that doesn't end the red part was sent
 -- after a report; and once a report was sent, a kept receiver knows the red part's length

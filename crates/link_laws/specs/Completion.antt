@@ -12,9 +12,9 @@ use Rattle.link_laws.specs.View.{IsIn, View}
 
 -- a report that claims the whole red part is among these
 pub record WholeSent (red : ℕ) (said : List ContentValue) : Type 0 where
-  pub x : ReportValue
-  pub among : IsIn (a_report x) said
-  pub whole : IsWhole red x
+  pub report : ReportValue
+  pub among : IsIn (a_report report) said
+  pub whole : IsWhole red report
 
 -- a report completes an open sender's claims only where a whole one was sent, and a kept receiver
 -- has handed the red part up; and what a sender has as claimed came, where the receiver is kept

@@ -90,12 +90,12 @@ AtMostOnce (u ∷ us) = AllByRecursion (λ v. IsSame u v → ⊥) us × AtMostOn
 -- a red part is the front of the block that its originator submitted, up to the red length
 pub record IsFront (parties : Party × Party) (submitted : List Submission) (u : HandUp)
     : Type 0 where
-  pub p : Submission
-  pub among : IsIn p submitted
-  pub from : u.end ≡ other p.from
-  pub originator : u.originator ≡ (at_end parties p.from).own
-  pub session : u.session ≡ p.session
-  pub front : u.body ≡ take p.red p.block
+  pub submission : Submission
+  pub among : IsIn submission submitted
+  pub from : u.end ≡ other submission.from
+  pub originator : u.originator ≡ (at_end parties submission.from).own
+  pub session : u.session ≡ submission.session
+  pub front : u.body ≡ take submission.red submission.block
 
 -- two blocks have one end's session
 pub record IsSameNumber (p q : Submission) : Type 0 where
@@ -122,11 +122,11 @@ pub record HandsUpFronts
 pub record IsSubmitted
     (F : List ℕ → ℕ → View → Type 0) (all : List Submission) (o : End) (n : ℕ) (v : View)
     : Type 0 where
-  pub p : Submission
-  pub among : IsIn p all
-  pub from : p.from ≡ o
-  pub session : p.session ≡ n
-  pub facts : F p.block p.red v
+  pub submission : Submission
+  pub among : IsIn submission all
+  pub from : submission.from ≡ o
+  pub session : submission.session ≡ n
+  pub facts : F submission.block submission.red v
 
 abbrev pub HasFactsBy :
     (List ℕ → ℕ → View → Type 0) → List Submission → End → ℕ → Bool → View → Type 0

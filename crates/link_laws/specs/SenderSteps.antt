@@ -20,9 +20,9 @@ pub record IsTold (content : ContentValue) (x : ReportValue) : Type 0 where
 
 -- the claims of the report that came are added
 pub record Adds (content : ContentValue) (s s' : Sending) : Type 0 where
-  pub x : ReportValue
-  pub told : IsTold content x
-  pub claimed : s'.claimed ≡ with_claims x.lower x.claims s.claimed
+  pub report : ReportValue
+  pub told : IsTold content report
+  pub claimed : s'.claimed ≡ with_claims report.lower report.claims s.claimed
 
 -- a sender that waits on as before, or not at all
 pub record Continues (content : ContentValue) (s s' : Sending) (out : List ContentValue)
@@ -44,7 +44,7 @@ pub record Rounds (content : ContentValue) (s s' : Sending) (out : List ContentV
   pub c : PieceValue
   pub timer : Timer
   pub waited : s.phase ≡ sender_open c timer
-  pub names : (adds.x).checkpoint ≡ c.checkpoint
+  pub names : (adds.report).checkpoint ≡ c.checkpoint
   pub unclaimed : is_all_claimed s'.claimed ≡ false
   pub z : ℕ
   pub parts : List (ℕ × List ℕ)
@@ -55,12 +55,13 @@ pub record Rounds (content : ContentValue) (s s' : Sending) (out : List ContentV
   pub waits :
       s'.phase
       ≡ sender_open
-      (checkpoint_at (length s.block) s.red (c.checkpoint + 1) (adds.x).serial part)
+      (checkpoint_at (length s.block) s.red (c.checkpoint + 1) (adds.report).serial part)
       timer'
   pub sends :
       out
-      ≡ a_report_ack (adds.x).serial
-      ∷ red_pieces (checkpoint_at (length s.block) s.red (c.checkpoint + 1) (adds.x).serial) parts
+      ≡ a_report_ack (adds.report).serial
+      ∷ red_pieces (checkpoint_at (length s.block) s.red (c.checkpoint + 1)
+      (adds.report).serial) parts
 
 -- what a content, or a tick, does to a sender
 pub data SenderStep (content : ContentValue) (s : Sending) (t : StepValue Sending) : Type 0 where

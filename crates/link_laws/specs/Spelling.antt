@@ -11,16 +11,16 @@ use Rattle.link_laws.specs.View.{IsIn, View}
 
 -- a piece among these contents has this octet at a place
 pub record Holds (said : List ContentValue) (k octet : ℕ) : Type 0 where
-  pub q : PieceValue
-  pub among : IsIn (a_piece q) said
-  pub has : octet_in q.offset q.body k ≡ Some octet
+  pub piece : PieceValue
+  pub among : IsIn (a_piece piece) said
+  pub has : octet_in piece.offset piece.body k ≡ Some octet
 
 -- a piece among them ends the red part at a place
 pub record Ends (said : List ContentValue) (end : ℕ) : Type 0 where
-  pub q : PieceValue
-  pub among : IsIn (a_piece q) said
-  pub ends_there : ends_red_part q.kind ≡ true
-  pub place : piece_stop q ≡ end
+  pub piece : PieceValue
+  pub among : IsIn (a_piece piece) said
+  pub ends_there : ends_red_part piece.kind ≡ true
+  pub place : piece_stop piece ≡ end
 
 -- the block is what the pieces hold, and its red part ends where they end it
 pub record SpellingFacts (block : List ℕ) (red : ℕ) (v : View) : Type 0 where

@@ -66,12 +66,12 @@ pub data ReceiverStep (content : ContentValue) (r : Receiving) (t : StepValue Re
 pub record HandsUp
     (content : ContentValue) (r : Receiving) (t : StepValue Receiving) (body : List ℕ)
     : Type 0 where
-  pub q : PieceValue
-  pub is_q : content ≡ a_piece q
-  pub red_kind : is_red q.kind ≡ true
+  pub piece : PieceValue
+  pub is_piece : content ≡ a_piece piece
+  pub red_kind : is_red piece.kind ≡ true
   pub whole :
-      whole_part (filled r.cells q.offset q.body)
-      (length_after r.length (ends_red_part q.kind) (piece_stop q))
+      whole_part (filled r.cells piece.offset piece.body)
+      (length_after r.length (ends_red_part piece.kind) (piece_stop piece))
       ≡ Some body
   pub before : r.handed_up ≡ false
   pub kept : KeepsOrEnds (λ r'. r'.handed_up ≡ true) t.next

@@ -1,6 +1,6 @@
 -- Reading a stream: octets that are open, whole bundles at their front, and pieces.
 
-use Rattle.std.proofs.Common.{◌≡◌, ◌≢◌, ℕ, ◌+◌, ◌-◌, ◌<◌, ◌≤◌, ltb, min, Bool, List, [], ◌++◌, length, take, drop, Option, Some, None, Result, Ok, Err, IsErrAnd, refl, sym, ap, ◌∙◌, subst, inl, inr, lit<, arith, append_assoc, append-nil, length-append, take-append-drop}
+use Rattle.std.proofs.Common.{◌≡◌, ◌≢◌, ℕ, zero, suc, ◌∷◌, ◌+◌, ◌-◌, ◌<◌, ◌≤◌, ltb, min, Bool, List, [], ◌++◌, length, take, drop, Option, Some, None, Result, Ok, Err, IsErrAnd, refl, sym, ap, ◌∙◌, subst, inl, inr, lit<, arith, append_assoc, append-nil, length-append, take-append-drop}
 use Rattle.std.proofs.lemmas.Bool.{cases_lt, ltb-true, ltb-false}
 use Rattle.std.proofs.lemmas.List.{take-append-le, drop-append-le, length-take-le, length-drop, take_all}
 use Rattle.wire_fields.specs.Refusal.{Stop, truncated, because}
@@ -20,12 +20,13 @@ use Rattle.bundle6.specs.declared.pass.Pass.{Pass}
 use Rattle.bundle6.specs.declared.pass.Texts.{Texts}
 use Rattle.bundle6.specs.declared.reader.Fed6.{Fed6}
 use Rattle.bundle6.specs.declared.reader.Gained.{Gained}
-use Rattle.bundle6.specs.Cause.{why, stop_of, refusal}
+use Rattle.bundle6.specs.Cause.{why, stop_of, refusal, fail_after}
 use Rattle.bundle6.specs.Table.{primary, bundle}
 use Rattle.bundle6.specs.Judging.{judged_bundle}
 use Rattle.bundle6.specs.Passing.{texts_in, left_at, left_of, Fits, Stands, Comes}
-use Rattle.bundle6.specs.Streaming.{Stream, IsOpen, Takes, near, Refuses, Feeds}
+use Rattle.bundle6.specs.Streaming.{Stream, IsOpen, IsSpared, Takes, near, Refuses, Feeds, later, CutsAlike}
 use Rattle.bundle6.specs.Holding.{IsRefused, IsWhole, Gains, Took, Tells}
+use Rattle.bundle6.proofs.LegalLemmas.{begun-legal}
 use Rattle.bundle6.proofs.PassLemmas.{judges-ended, judges-stopped}
 
 -- ---- nothing
@@ -98,19 +99,30 @@ pub settled-text : (text : List ℕ) (cut : Bool) (pass : Pass) (e : Refused6) �
 settled-text text cut pass e comes other =
     inl (stopped-at text pass e comes ∙ ap (stopped e.at) (is-because e.cause other))
 
+-- ---- no refusal
+
+spared-ok : (text : List ℕ) (b : Bundle6) (k : ℕ) → read (bundle 64) text 0 ≡ found b k → IsSpared text
+spared-ok text b k is at cause refused = let no : found b k ≡ stopped at (because cause) = sym is ∙ refused in absurd (cc)
+
+pub spared-open : (text : List ℕ) → IsOpen text → IsSpared text
+spared-open text (p, is) at cause refused =
+    let both = stopped_is {A = Bundle6 × ℕ} p at truncated (because cause) (sym is ∙ refused) in
+    let no = both.1 in absurd (cc)
+
 -- what was judged is built, but for want of memory
 pub built : (text : List ℕ) (cut : Bool) (pass : Pass) (result : Result Gained Fail6) (e : Fail6) → Stands 64 text pass
     → Comes 64 text pass None → IsErrAnd result (λ y. y ≡ e) → Fails (refusal e) (read (bundle 64) text 0)
     → Gains text cut result
 built text cut pass result e stands comes is fails =
-    by result e (read (bundle 64) text 0) (judges-ended 64 text pass stands comes) is fails
+    by result e (read (bundle 64) text 0) refl (judges-ended 64 text pass stands comes) is fails
   where
-    by : (result : Result Gained Fail6) (e : Fail6) (given : Result (Bundle6 × ℕ) (ℕ × Stop Cause6)) → Judges stop_of (Ok pass.at) given
-        → IsErrAnd result (λ y. y ≡ e) → Fails (refusal e) given → Gains text cut result
-    by (Ok x) e given judges is fails = absurd is
-    by (Err y) (Refused at cause) (Ok x) judges is fails = absurd (cc)
-    by (Err y) (Refused at cause) (Err s) judges is fails = absurd judges
-    by (Err y) Memory given judges is fails = rw is tt
+    by : (result : Result Gained Fail6) (e : Fail6) (given : Result (Bundle6 × ℕ) (ℕ × Stop Cause6)) → read (bundle 64) text 0 ≡ given
+        → Judges stop_of (Ok pass.at) given → IsErrAnd result (λ y. y ≡ e) → Fails (refusal e) given → Gains text cut result
+    by (Ok x) e given reads judges is fails = absurd is
+    by (Err y) (Refused at cause) (Ok x) reads judges is fails = absurd (cc)
+    by (Err y) (Refused at cause) (Err s) reads judges is fails = absurd judges
+    by (Err y) Memory (Ok x) reads judges is fails = rw is (spared-ok text x.0 x.1 reads)
+    by (Err y) Memory (Err s) reads judges is fails = absurd judges
 
 pub whole-text : (text : List ℕ) (b : Bundle6) (k : ℕ) → IsOctets text → k ≤ length text
     → read (bundle 64) text 0 ≡ Ok (b, k) → IsWhole text b k
@@ -118,6 +130,7 @@ whole-text text b k fits within is = record {
   within = within;
   octets = fits;
   reads = λ more. found-longer (bundle 64) text 0 k b fits (omega arith) is more;
+  legal = (begun-legal text k b fits (read-begins (bundle 64) text k b fits is)).legal;
 }
 
 -- an open bundle has not ended
@@ -141,6 +154,17 @@ after-open kept piece b k (at, is) whole =
           let ended = begins-read (bundle 64) kept k b (begins-within (bundle 64) kept piece k b (omega (arith, early)) begins) in
           let no : found b k ≡ stopped at truncated = sym ended ∙ is in absurd (cc)
     ]
+
+-- a piece that is refused, or for which memory is wanted
+pub tells-fail : (old : Stream) (piece : List ℕ) (cut : Bool) (fail : Fail6) → Gains (old.kept ++ piece) cut (Err fail)
+    → Tells old piece cut (Err (fail_after old.before fail)) old
+tells-fail old piece cut (Refused at cause) (within, refused) = ((at, refused, refl), refl)
+tells-fail old piece cut Memory spared = (refl, λ empty. rw empty at spared)
+
+pub tells-memory : (old new : Stream) (piece : List ℕ) (cut : Bool) (result : Result Fed6 Fail6) → IsErrAnd result (λ e. e ≡ Memory)
+    → new ≡ old → (old.kept ≡ [] → IsSpared piece) → Tells old piece cut result new
+tells-memory old new piece cut (Ok x) is same spared = absurd is
+tells-memory old new piece cut (Err e) is same spared = rw is (same, spared)
 
 abbrev stream : ℕ → List ℕ → Stream
 stream before kept = record { before = before; kept = kept }
@@ -201,10 +225,11 @@ module _ (longest : ℕ) (old : Stream) (piece part : List ℕ) (cut : Bool) (sm
       ∙ ap (λ t. old.kept ++ t) (ap (λ t. t ++ rest) is ∙ take-append-drop (longest - length old.kept) piece)
 
   takes : (used : ℕ) (found : Option Bundle6) (new : Stream) → Took old part cut used found new → Takes longest old piece used found new
-  takes used (Some b) new (low, reads, stands) = (
+  takes used (Some b) new (low, reads, legal, stands) = (
     omega (arith, low, sizes.shorter),
     omega (arith, low, sizes.within, small),
     ap (λ t. read (bundle 64) t 0) (sym joined) ∙ reads rest,
+    legal,
     stands,
   )
   takes used None new (low, last, begun, stands) =
@@ -232,7 +257,7 @@ module _ (longest : ℕ) (old : Stream) (piece part : List ℕ) (cut : Bool) (sm
   pub tells-feeds : (result : Result Fed6 Fail6) (new : Stream) → Tells old part cut result new → Feeds longest old piece result new
   tells-feeds (Ok fed) new tells = takes fed.used fed.bundle new tells
   tells-feeds (Err (Refused at cause)) new ((p, refused, spot), same) = refuses at cause p refused spot
-  tells-feeds (Err Memory) new tells = tt
+  tells-feeds (Err Memory) new (same, spared) = λ empty. subst IsSpared is (spared empty)
 
 -- ---- the end
 
@@ -254,3 +279,71 @@ ends-open stream pass e (at, is) comes =
     is-truncated causes.FragmentRange is = absurd (cc)
     is-truncated causes.Truncated is = refl
     is-truncated causes.TooLong is = absurd (cc)
+
+-- ---- cutting
+
+take-past : (n : ℕ) (xs ys : List ℕ) → length xs ≤ n → take n (xs ++ ys) ≡ xs ++ take (n - length xs) ys
+take-past n [] ys h = let none : n ≡ n - 0 = omega arith in ap (λ m. take m ys) none
+take-past zero (x ∷ xs) ys h = absurd (omega (arith, h))
+take-past (suc n) (x ∷ xs) ys h =
+    let rest = take-past n xs ys (omega (arith, h)) in
+    let left : n - length xs ≡ suc n - length (x ∷ xs) = omega arith in
+    ap (λ t. x ∷ t) rest ∙ ap (λ m. x ∷ (xs ++ take m ys)) left
+
+cut-near : (longest : ℕ) (old : Stream) (first second : List ℕ) → length old.kept + length first ≤ longest
+    → (old.kept ++ first) ++ near longest (stream old.before (old.kept ++ first)) second ≡ old.kept ++ near longest old (first ++ second)
+cut-near longest old first second small =
+    let n = longest - length old.kept in
+    let long = length-append old.kept first in
+    let left : longest - length (old.kept ++ first) ≡ n - length first = omega (arith, long) in
+    let parts : near longest old (first ++ second) ≡ first ++ take (n - length first) second =
+    take-past n first second (omega (arith, small)) in
+    append_assoc old.kept first (near longest (stream old.before (old.kept ++ first)) second)
+    ∙ ap (λ t. old.kept ++ t) (ap (λ m. first ++ take m second) left ∙ sym parts)
+
+cut-feeds : (longest : ℕ) (old new : Stream) (first second : List ℕ) (result : Result Fed6 Fail6)
+    → length old.kept + length first ≤ longest
+    → Feeds longest (stream old.before (old.kept ++ first)) second result new → (result ≡ Err Memory → ⊥)
+    → Feeds longest old (first ++ second) (later (length first) result) new
+cut-feeds longest old new first second (Ok fed) small feeds whole = by fed.bundle feeds
+  where
+    long : length (old.kept ++ first) ≡ length old.kept + length first
+    long = length-append old.kept first
+
+    joined : length (first ++ second) ≡ length first + length second
+    joined = length-append first second
+
+    by : (found : Option Bundle6) → Takes longest (stream old.before (old.kept ++ first)) second fed.used found new
+        → Takes longest old (first ++ second) (length first + fed.used) found new
+    by (Some b) (low, fits, reads, legal, stands) =
+        let ends : length (old.kept ++ first) + fed.used ≡ length old.kept + (length first + fed.used) = omega (arith, long) in (
+          omega (arith, low, joined),
+          omega (arith, fits, long),
+          ap (λ t. read (bundle 64) t 0) (sym (append_assoc old.kept first second)) ∙ reads ∙ ap (found b) ends,
+          legal,
+          stands ∙ ap (λ n. stream (old.before + n) []) ends,
+        )
+    by None (low, fits, begun, stands) = (
+      omega (arith, low, joined),
+      omega (arith, fits, long, joined),
+      subst IsOpen (append_assoc old.kept first second) begun,
+      stands ∙ ap (stream old.before) (append_assoc old.kept first second),
+    )
+cut-feeds longest old new first second (Err (Refused at cause)) small (inl refused) whole =
+    inl (record {
+      place = refused.place;
+      reads = ap (λ t. read (bundle 64) t 0) (sym (cut-near longest old first second small)) ∙ refused.reads;
+      spot = refused.spot;
+    })
+cut-feeds longest old new first second (Err (Refused at cause)) small (inr spread) whole =
+    inr (record {
+      begun = subst IsOpen (cut-near longest old first second small) spread.begun;
+      more = omega (arith, spread.more, length-append old.kept first, length-append first second);
+      spot = spread.spot;
+      named = spread.named;
+    })
+cut-feeds longest old new first second (Err Memory) small feeds whole = absurd (whole refl)
+
+pub cuts-alike : (longest : ℕ) → CutsAlike longest
+cuts-alike longest old mid new first second result (low, small, begun, stands) feeds whole =
+    cut-feeds longest old new first second result small (subst (λ s. Feeds longest s second result new) stands feeds) whole

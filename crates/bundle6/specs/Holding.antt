@@ -15,8 +15,9 @@ use Rattle.bundle6.specs.declared.reader.Held.{Held}
 use Rattle.bundle6.specs.declared.reader.Gained.{Gained}
 use Rattle.bundle6.specs.declared.reader.Gained.TheVariants.{Whole, Open}
 use Rattle.bundle6.specs.Table.{bundle}
+use Rattle.bundle6.specs.Legal.{IsLegal}
 use Rattle.bundle6.specs.Passing.{Fits, Stands}
-use Rattle.bundle6.specs.Streaming.{Stream, IsOpen}
+use Rattle.bundle6.specs.Streaming.{Stream, IsOpen, IsSpared}
 
 abbrev pub stream_of : Held → Stream
 stream_of h = record { before = h.before; kept = h.kept.items }
@@ -45,6 +46,7 @@ pub record IsWhole (text : List ℕ) (b : Bundle6) (k : ℕ) : Type 0 where
   pub within : k ≤ length text
   pub octets : IsOctets text
   pub reads : (more : List ℕ) → read (bundle 64) (text ++ more) 0 ≡ Ok (b, k)
+  pub legal : IsLegal b
 
 -- octets that end inside a bundle, and a pass that stands for them
 pub record Waits (text : List ℕ) (cut : Bool) (pass : Pass) : Type 0 where
@@ -58,13 +60,14 @@ abbrev pub Gains : List ℕ → Bool → Result Gained Fail6 → Type 0
 Gains text cut (Ok (Whole b k)) = IsWhole text b k
 Gains text cut (Ok (Open pass)) = Waits text cut pass
 Gains text cut (Err (Refused at cause)) = (at ≤ length text) × IsRefused text cut at cause
-Gains text cut (Err Memory) = Unit {0}
+Gains text cut (Err Memory) = IsSpared text
 
 -- a piece was taken, or a part of it after which no more may follow; a refusal leaves all as it was
 abbrev pub Took : Stream → List ℕ → Bool → ℕ → Option Bundle6 → Stream → Type 0
 Took old piece cut used (Some b) new =
     (used ≤ length piece)
     × ((more : List ℕ) → read (bundle 64) ((old.kept ++ piece) ++ more) 0 ≡ Ok (b, length old.kept + used))
+    × IsLegal b
     × (new ≡ record { before = old.before + (length old.kept + used); kept = [] })
 Took old piece cut used None new =
     (used ≡ length piece) × (cut ≡ false) × IsOpen (old.kept ++ piece)
@@ -74,7 +77,7 @@ abbrev pub Tells : Stream → List ℕ → Bool → Result Fed6 Fail6 → Stream
 Tells old piece cut (Ok fed) new = Took old piece cut fed.used fed.bundle new
 Tells old piece cut (Err (Refused at cause)) new =
     ((p : ℕ) × IsRefused (old.kept ++ piece) cut p cause × (at ≡ old.before + p)) × (new ≡ old)
-Tells old piece cut (Err Memory) new = new ≡ old
+Tells old piece cut (Err Memory) new = (new ≡ old) × (old.kept ≡ [] → IsSpared piece)
 
 -- the end of the stream as a refusal
 abbrev pub Ends : Stream → Option Refused6 → Type 0

@@ -11,6 +11,7 @@ use Rattle.bundle6.specs.declared.fault.Fail6.TheVariants.{Refused, Memory}
 use Rattle.bundle6.specs.declared.bundle.Bundle6.{Bundle6}
 use Rattle.bundle6.specs.declared.reader.Fed6.{Fed6}
 use Rattle.bundle6.specs.Table.{bundle}
+use Rattle.bundle6.specs.Legal.{IsLegal}
 
 -- A stream as far as it was taken: how many octets its bundles took, and the octets after them.
 pub record Stream : Type 0 where
@@ -27,11 +28,16 @@ pub record Reading : Type 0 where
 abbrev pub IsOpen : List ℕ → Type 0
 IsOpen text = (at : ℕ) × (read (bundle 64) text 0 ≡ Err (at, truncated))
 
--- A piece was taken: up to the end of the first bundle, or all of it where none ends in it.
+-- the octets are not refused for a cause
+abbrev pub IsSpared : List ℕ → Type 0
+IsSpared text = (at : ℕ) (cause : Cause6) → read (bundle 64) text 0 ≡ Err (at, because cause) → ⊥
+
+-- A piece was taken: up to the end of the first bundle, which is legal, or all of it where none ends in
+-- it.
 abbrev pub Takes : ℕ → Stream → List ℕ → ℕ → Option Bundle6 → Stream → Type 0
 Takes longest old piece used (Some b) new =
     (used ≤ length piece) × (length old.kept + used ≤ longest)
-    × (read (bundle 64) (old.kept ++ piece) 0 ≡ Ok (b, length old.kept + used))
+    × (read (bundle 64) (old.kept ++ piece) 0 ≡ Ok (b, length old.kept + used)) × IsLegal b
     × (new ≡ record { before = old.before + (length old.kept + used); kept = [] })
 Takes longest old piece used None new =
     (used ≡ length piece) × (length old.kept + length piece ≤ longest) × IsOpen (old.kept ++ piece)
@@ -58,11 +64,12 @@ abbrev pub Refuses : ℕ → Stream → List ℕ → ℕ → Cause6 → Type 0
 Refuses longest old piece at cause =
     HasRefusal old (near longest old piece) at cause ⊎ IsTooLong longest old piece at cause
 
--- what a piece gives; want of memory says nothing
+-- What a piece gives. Memory is wanted for a bundle and for octets that are kept: where nothing was kept
+-- before the piece, want of memory hides no refusal.
 abbrev pub Feeds : ℕ → Stream → List ℕ → Result Fed6 Fail6 → Stream → Type 0
 Feeds longest old piece (Ok fed) new = Takes longest old piece fed.used fed.bundle new
 Feeds longest old piece (Err (Refused at cause)) new = Refuses longest old piece at cause
-Feeds longest old piece (Err Memory) new = Unit {0}
+Feeds longest old piece (Err Memory) new = old.kept ≡ [] → IsSpared (near longest old piece)
 
 -- The end of the stream: nothing is kept, or the octets end inside a bundle.
 abbrev pub Finishes : Stream → Result (Unit {0}) Fail6 → Type 0
@@ -84,3 +91,17 @@ pub record AnswersAgain {A : Type 0} (refused : Refused6) (old : Reading)
     (result : Result A Fail6) (new : Reading) : Type 0 where
   pub answer : result ≡ Err (Refused refused.at refused.cause)
   pub kept : new ≡ old
+
+-- ---- cutting
+
+-- an answer to a piece, as one to so many octets more before it
+abbrev pub later : ℕ → Result Fed6 Fail6 → Result Fed6 Fail6
+later n (Ok fed) = Ok (record { used = n + fed.used; bundle = fed.bundle })
+later n (Err e) = Err e
+
+-- A piece that completes nothing, and another after it, give what both give as one piece.
+abbrev pub CutsAlike : ℕ → Type 0
+CutsAlike longest = (old mid new : Stream) (first second : List ℕ) (result : Result Fed6 Fail6)
+    → Takes longest old first (length first) None mid → Feeds longest mid second result new
+    → (result ≡ Err Memory → ⊥)
+    → Feeds longest old (first ++ second) (later (length first) result) new

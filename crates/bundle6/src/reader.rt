@@ -189,6 +189,7 @@ impl Held {
     fn go_on(&mut self, alloc: Global, piece: &[u8], cut: bool) -> Result<Fed6, Fail6>
         requires held { IsHeld self.old }
         requires counted { self.old.before + length self.old.kept.items + length piece.now < 2 ^ 64 }
+        requires some { self.old.kept.items ≡ [] → ⊥ }
         ensures held { IsHeld self.new }
         ensures tells { Tells (stream_of self.old) piece.now cut result (stream_of self.new) }
     {

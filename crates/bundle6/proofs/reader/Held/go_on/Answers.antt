@@ -39,5 +39,6 @@ returns-in-Ok-Whole-clause-tells c =
     rw c.as_slice-held.ensures.value (
       omega (arith, (whole c).within, late, length-append kept c.args.piece.now),
       λ more. (whole c).reads more ∙ ap (found c.in-Ok-Whole.bundle) (omega (arith, late)),
+      (whole c).legal,
       stream-is _ _ _ (omega (arith, late)) c.clear.ensures.items,
     )

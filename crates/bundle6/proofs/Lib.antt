@@ -9,3 +9,4 @@ pub mod NumberingLemmas
 pub mod WritingLemmas
 pub mod JudgeLemmas
 pub mod PassLemmas
+pub mod ReaderLemmas

@@ -7,6 +7,8 @@ pub mod Table
 pub mod Spelling
 pub mod Legal
 pub mod Calls
+pub mod Stream
 -- What follows only ties code to the definitions.
 pub mod Lent
 pub mod Seen
+pub mod Told

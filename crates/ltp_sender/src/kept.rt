@@ -1,12 +1,12 @@
 //! What is kept of a session that isn't over, and its steps.
 
-ghost use Rattle.std.specs.Prelude.{◌≡◌, ◌+◌, ◌<◌, ◌≤◌, ◌^◌, ◌++◌, ◌∷◌, [], List, length, take, IfOk, Some, None};
+ghost use Rattle.std.specs.Prelude.{◌≡◌, ◌+◌, ◌<◌, ◌≤◌, ◌^◌, ◌++◌, ◌∷◌, [], List, length, take, IfOk, OnErr, Some, None};
 ghost use Rattle.std.specs.Option.{option_map};
 ghost use Rattle.ltp_segment.specs.Legal.{IsReport};
 ghost use Rattle.ltp_segment.specs.PolicyViews.{policy_value};
 ghost use Rattle.ltp_segment.specs.Views.{report_value};
 ghost use Rattle.ltp_segment.specs.Values.{ContentValue, ReportValue, a_report_ack, a_sender_cancel};
-ghost use Rattle.ltp_session.specs.Step.{stays, keeps, ends, sending, noting, note_sent};
+ghost use Rattle.ltp_session.specs.Step.{Sends};
 ghost use Rattle.ltp_session.specs.Sender.{Sending, sender_open, sending_timer, gives_up, next_round, goes_on, with_report, takes_report, report_step, sender_due, sender_tick};
 ghost use Rattle.ltp_session.specs.Views.{headed, datagrams_of, answer_of};
 ghost use Rattle.ltp_sender.specs.Sender.{is_cancelling};
@@ -105,7 +105,8 @@ pub(crate) fn acknowledgement(terms: Terms, serial: u64) -> Result<Outs, AllocEr
 }
 
 impl Kept {
-    ghost use Rattle.ltp_sender.specs.Kept.{phase_value, sending_of, opened_by, Did, awaited, with_timer, exhausted};
+    ghost use Rattle.ltp_sender.specs.Kept.{phase_value, sending_of, opened_by, Did};
+    ghost use Rattle.ltp_sender.specs.Kept.{awaited, with_timer, exhausted};
 
     /// What is kept of a session that begins: nothing where no checkpoint was sent. The block is
     /// copied.
@@ -279,8 +280,12 @@ impl Kept {
     pub(crate) fn report(self, terms: Terms, report: ReportView<'_>, now: u64) -> Answer
         requires moment { now < 2 ^ 62 }
         requires legal { IsReport (report_value report) }
-        ensures { IfOk result (Did terms.name (sending_of self)
-            (report_step (policy_value terms.policy) (sending_of self) (report_value report.entry) now)) }
+        ensures done { IfOk result (Did terms.name (sending_of self)
+            (report_step (policy_value terms.policy) (sending_of self) (report_value report.entry)
+            now)) }
+        ensures wanted { OnErr result (Sends
+            (report_step (policy_value terms.policy) (sending_of self) (report_value report.entry)
+            now)) }
     {
         if report.upper > self.red as u64 {
             let note = Note::BadBounds {
@@ -310,7 +315,8 @@ impl Kept {
 
     /// The datagram that waits for an answer.
     fn awaited(&self, terms: Terms) -> Result<Outs, AllocError>
-        ensures { IfOk result (λ out. out ≡ datagrams_of terms.name (awaited (sending_of self.now).phase ∷ [])) }
+        ensures { IfOk result (λ out. out
+            ≡ datagrams_of terms.name (awaited (sending_of self.now).phase ∷ [])) }
     {
         let Terms { alloc, name, .. } = terms;
         let mut out = Outs::new(alloc);
@@ -340,7 +346,9 @@ impl Kept {
     /// What it waits for was sent too often.
     fn exhausted(self, terms: Terms, now: u64) -> Answer
         requires { now < 2 ^ 62 }
-        ensures { IfOk result (Did terms.name (sending_of self)
+        ensures done { IfOk result (Did terms.name (sending_of self)
+            (exhausted (policy_value terms.policy) (sending_of self) (sending_of self).phase now)) }
+        ensures wanted { OnErr result (Sends
             (exhausted (policy_value terms.policy) (sending_of self) (sending_of self).phase now)) }
     {
         let out = Outs::new(terms.alloc);
@@ -353,7 +361,9 @@ impl Kept {
     /// Time has passed.
     pub(crate) fn tick(self, terms: Terms, now: u64) -> Answer
         requires { now < 2 ^ 62 }
-        ensures { IfOk result (Did terms.name (sending_of self)
+        ensures done { IfOk result (Did terms.name (sending_of self)
+            (sender_tick (policy_value terms.policy) (sending_of self) now)) }
+        ensures wanted { OnErr result (Sends
             (sender_tick (policy_value terms.policy) (sending_of self) now)) }
     {
         let timer = self.timer();

@@ -236,14 +236,14 @@ goes_on-sends-by policy s checkpoint report now ack false false is is_same_one =
 goes_on-sends-by policy s checkpoint report now ack false true is is_same_one =
     Sends-is _ _ (goes_on-round policy s checkpoint report now (a_report_ack ack ∷ []) is is_same_one)
     (next_round-sends-by policy s checkpoint.checkpoint report.serial now ack (is_past_serials (checkpoint.checkpoint + 1))
-        (last_segment (unclaimed s.claimed (red_segments policy s.block s.red))) refl refl)
+    (last_segment (unclaimed s.claimed (red_segments policy s.block s.red))) refl refl)
 
 report_step-sends-by : (policy : PolicyValue) (s : Sending) (report : ReportValue) (now : ℕ) (phase : SendingPhase) → nat_lt s.red report.upper ≡ false → s.phase ≡ phase
     → Sends (report_step policy s report now)
 report_step-sends-by policy s report now (sender_open checkpoint timer) inside is =
     Sends-is _ _ (report_step-open policy s report now checkpoint timer inside is)
     (goes_on-sends-by policy (with_report s report) checkpoint report now report.serial (is_all_claimed (with_report s report).claimed)
-        (report.checkpoint == checkpoint.checkpoint) refl refl)
+    (report.checkpoint == checkpoint.checkpoint) refl refl)
 report_step-sends-by policy s report now (sender_cancelling reason timer) inside is =
     Sends-is _ _ (report_step-cancelling policy s report now reason timer inside is) (λ none. cc)
 

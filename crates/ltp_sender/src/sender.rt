@@ -9,9 +9,10 @@ ghost use Rattle.ltp_session.specs.Step.{Sends};
 ghost use Rattle.ltp_session.specs.Views.{datagrams_of, answer_of, changed};
 ghost use Rattle.ltp_sender.specs.Sender.{is_kept_cancelling, begun_with, deadline_of, claimed_of};
 
-use crate::kept::{Kept, Terms, acknowledgement, noting, sending};
+use crate::kept::{Kept, Terms};
 use crate::pieces::{send_green, send_red};
 use crate::segments::unclaimed;
+use crate::steps::{acknowledgement, noting, sending};
 use ltp_segment::{Note, Outs, Policy, ReportView, Step, write_cancel_ack};
 use ltp_session::{SessionName, Timer, first_serial};
 use spans::Spans;

@@ -48,14 +48,14 @@ returns-in-Cancelling-clause-done c =
 pub returns-in_err-acks-clause-wanted : goal.returns-in_err-acks-clause-wanted
 returns-in_err-acks-clause-wanted c =
     OnErr-of c.from_residual.result _ (report_step-sends (policy_value c.args.terms.policy) (sending_of c.args.self) (report_value c.args.report) c.args.now
-        (le-ltb c.args.self.red c.args.report.upper c.if-report-self.false))
+    (le-ltb c.args.self.red c.args.report.upper c.if-report-self.false))
 
 pub returns-in_err-add-in-Open-clause-wanted : goal.returns-in_err-add-in-Open-clause-wanted
 returns-in_err-add-in-Open-clause-wanted c =
     OnErr-of c.from_residual-in_err-add-in-Open.result _ (report_step-sends (policy_value c.args.terms.policy) (sending_of c.args.self) (report_value c.args.report) c.args.now
-        (le-ltb c.args.self.red c.args.report.upper c.if-report-self.false))
+    (le-ltb c.args.self.red c.args.report.upper c.if-report-self.false))
 
 pub returns-in_ok-add-in-Open-clause-wanted : goal.returns-in_ok-add-in-Open-clause-wanted
 returns-in_ok-add-in-Open-clause-wanted c =
     OnErr-of c.go_on.result _ (report_step-sends (policy_value c.args.terms.policy) (sending_of c.args.self) (report_value c.args.report) c.args.now
-        (le-ltb c.args.self.red c.args.report.upper c.if-report-self.false))
+    (le-ltb c.args.self.red c.args.report.upper c.if-report-self.false))

@@ -10,3 +10,4 @@ pub mod SessionsLemmas
 pub mod ReceiveLemmas
 pub mod CommandLemmas
 pub mod HexLemmas
+pub mod FrontLemmas

@@ -22,4 +22,4 @@ mod written_lines;
 
 pub use commands::run::run;
 pub use commands::word::Word;
-pub use laws::red_part_is_front_of_block;
+pub use laws::{earliest_place_decides, red_part_is_front_of_block};

@@ -22,7 +22,7 @@ use Rattle.std.specs.Str.Parse.{digits_value}
 use Rattle.std.proofs.lemmas.Str.Parse.{IsNumeralModel, numerals_by_value}
 use Rattle.std.proofs.lemmas.Fmt.{digits_decimal}
 use Rattle.bundle6.specs.Names.{is_nul, up_to_nul, text_at, resolve}
-use Rattle.bundle6.specs.Canon.{is_numbered, has_text, dictionary_of, offset_of, offsets_of}
+use Rattle.bundle6.specs.Spelling.{is_numbered, has_text, dictionary_of, offset_of, offsets_of}
 
 -- ---- texts without a NUL
 

@@ -13,7 +13,7 @@ use Rattle.std.proofs.lemmas.List.Concat.{flat_map-append}
 use Rattle.endpoint.specs.declared.name.Endpoint.{Endpoint}
 use Rattle.endpoint.specs.Endpoints.{IsEndpoint, scheme_of, ssp_of}
 use Rattle.bundle6.specs.declared.bundle.Bundle6.{Bundle6}
-use Rattle.bundle6.specs.Canon.{endpoints_of, is_numbered, has_text, with_text, with_name, with_names, texts_of, dictionary_of, offset_of, places_of}
+use Rattle.bundle6.specs.Spelling.{endpoints_of, is_numbered, has_text, with_text, with_name, with_names, texts_of, dictionary_of, offset_of, places_of}
 use Rattle.bundle6.proofs.CanonLemmas.{Holds, IsNamed, named-in, named-numbered, both_parts}
 
 -- ---- one text

@@ -1,7 +1,7 @@
 -- What octets spell is a legal bundle.
 
 use Rattle.std.proofs.Common.{◌≡◌, ℕ, ◌+◌, ◌/◌, ◌%◌, ◌^◌, ◌<◌, ◌≤◌, suc, zero, Bool, true, false, ◌&&◌, ◌||◌, not, cond, eqb, ltb}
-use Rattle.std.proofs.Common.{List, [], ◌∷◌, ◌++◌, length, take, refl, sym, ◌∙◌, arith, length-append}
+use Rattle.std.proofs.Common.{List, [], ◌∷◌, ◌++◌, length, take, drop, take-append-drop, refl, sym, ap, ◌∙◌, arith, length-append}
 use Rattle.std.proofs.Common.{Option, None, Some, Result, Ok, Err}
 use Rattle.std.specs.Prelude.{IfOk, is_some}
 use Rattle.std.specs.List.{All, count_by}
@@ -17,6 +17,8 @@ use Rattle.endpoint.specs.Endpoints.{IsEndpoint}
 use Rattle.endpoint.proofs.ReadingLemmas.{named-found}
 use Rattle.wire_fields.specs.Format.{give, Spells}
 use Rattle.wire_fields.specs.Refusal.{Begins}
+use Rattle.wire_fields.specs.Reading.{IsOctets}
+use Rattle.wire_fields.proofs.StayLemmas.{octets-parts}
 use Rattle.wire_fields.specs.Words.{needs, ◌also◌, optional, repeated, one_more, until, choice}
 use Rattle.bundle6.specs.declared.fault.Cause6.TheVariants.{Names, SecondPayload, TooManyBlocks, NoPayload, BlockRefs, FragmentRange}
 use Rattle.bundle6.specs.declared.fault.Fail6.{Fail6}
@@ -28,7 +30,7 @@ use Rattle.bundle6.specs.declared.block.Block6.{Block6}
 use Rattle.bundle6.specs.declared.bundle.Bundle6.{Bundle6}
 use Rattle.bundle6.specs.Bits.{has_bit, without}
 use Rattle.bundle6.specs.Names.{text_at, named_by, resolve, resolves, name_of, all_resolve}
-use Rattle.bundle6.specs.Table.{offsets, four_names, dictionary, fragment, primary, is_payload, has_payload, others, name, references, is_within, block, next_block, bundle}
+use Rattle.bundle6.specs.Table.{offsets, four_names, dictionary, fragment, primary, is_payload, has_payload, others, name, references, is_within, count_field, block, next_block, bundle}
 use Rattle.bundle6.specs.Legal.{IsPart, IsLegalPrimary, IsLegalBlock, IsWithin, IsLegal, Spells6}
 use Rattle.bundle6.proofs.BlocksLemmas.{count-push, others-push}
 
@@ -159,16 +161,29 @@ name-legal texts front w endpoint s =
     rw s.5.5.1 (name_of-legal texts pair s.4.small s.5.4.0.small (met (resolves texts pair) BlockRefs s.5.4.1))
 
 repeated-legal : (n : ℕ) (texts front w : List ℕ) (earlier refs : List Endpoint) → All IsEndpoint earlier
-    → Spells (repeated n (one_more (λ others. name texts)) earlier) front w refs → All IsEndpoint refs
-repeated-legal zero texts front w earlier refs all s = rw s.1 all
+    → Spells (repeated n (one_more (λ others. name texts)) earlier) front w refs
+    → All IsEndpoint refs × (length refs ≡ length earlier + n)
+repeated-legal zero texts front w earlier refs all s = rw s.1 (all, omega arith)
 repeated-legal (suc n) texts front w earlier refs all s =
-    repeated-legal n texts _ _ s.2 refs
-    (rw s.4.5.1 (All-push IsEndpoint earlier s.4.2 all (name-legal texts _ _ s.4.2 s.4.4))) s.5
+    let more : s.2 ≡ earlier ++ s.4.2 ∷ [] = s.4.5.1 in
+    let long : length s.2 ≡ length earlier + 1 = ap length more ∙ length-append earlier (s.4.2 ∷ []) in
+    let rest = repeated-legal n texts _ _ s.2 refs
+    (rw more (All-push IsEndpoint earlier s.4.2 all (name-legal texts _ _ s.4.2 s.4.4))) s.5 in
+    (rest.0, omega (arith, rest.1, long))
+
+count-small : (present : Bool) (front w : List ℕ) (n : ℕ) → Spells (count_field present) front w n → n < 2 ^ 64
+count-small true front w n s = s.small
+count-small false front w n s = omega (arith, s.1)
 
 references-legal : (present : Bool) (texts front w : List ℕ) (refs : List Endpoint) → Spells (references present texts) front w refs
-    → All IsEndpoint refs
+    → All IsEndpoint refs × (length refs < 2 ^ 64)
 unfolding references
-references-legal present texts front w refs s = repeated-legal s.2 texts _ _ [] refs (λ k d inside. absurd (omega arith)) s.5
+references-legal present texts front w refs s =
+    let all = repeated-legal s.2 texts _ _ [] refs (λ k d inside. absurd (omega arith)) s.5 in
+    (all.0, omega (arith, all.1, count-small present _ _ s.2 s.4))
+
+first-small : (w v : List ℕ) (b : ℕ) → w ≡ (b ∷ []) ++ v → IsOctets w → b < 256
+first-small w v b is fits = let both : IsOctets ((b ∷ []) ++ v) = rw is at fits in both 0
 
 -- two conditions neither of which fails
 both_met : {C : Type 0} (a b : Bool) (one other : C) → (needs a one also needs b other) ≡ None → (a ≡ true) × (b ≡ true)
@@ -221,17 +236,26 @@ the_other true b is first = cc
 the_other false b is first = is
 
 block-legal : (most : ℕ) (part : Option Fragment) (texts : List ℕ) (paid : Bool) (other : ℕ) (front w : List ℕ) (x : Block6 × Bool)
-    → Spells (block most part texts paid other) front w x → IsBlock most part paid other x
+    → IsOctets w → Spells (block most part texts paid other) front w x → IsBlock most part paid other x
 unfolding block
-block-legal most part texts paid other front w x s =
+block-legal most part texts paid other front w x fits s =
     let flags = s.5 in
     let refs = flags.5 in
     let size = refs.5 in
     let body = size.5 in
     let kinds = both_met (not (eqb s.2 1 && paid)) (eqb s.2 1 || ltb other most) SecondPayload TooManyBlocks s.4.1 in
     let bits = without-bits flags.2 flags.4.0.small in
+    let named = references-legal _ texts _ _ refs.2 refs.4 in
     rw body.5.1 (record {
-      legal = record { flags = bits.0; last_bit = bits.1; refs_bit = bits.2; refs = references-legal _ texts _ _ refs.2 refs.4 };
+      legal = record {
+        kind = first-small w s.1 s.2 (s.3 ∙ ap (λ u. u ++ s.1) s.4.0) fits;
+        flags = bits.0;
+        last_bit = bits.1;
+        refs_bit = bits.2;
+        refs = named.0;
+        count = named.1;
+        size = rw (← body.4.0, body.4.1) size.4.0.small;
+      };
       within = within-legal part (eqb s.2 1) size.2 _ (met _ FragmentRange size.4.1) refl (rw (← body.4.0) body.4.1);
       one = λ is. not_both (eqb s.2 1) paid kinds.0 is;
       few = λ is. ltb-true _ _ (the_other (eqb s.2 1) (ltb other most) kinds.1 is);
@@ -314,24 +338,31 @@ ends-legal n most part texts front w earlier all x true are is last s again =
     flipped false false is = cc
 ends-legal n most part texts front w earlier all x false are is last s again = again s
 
+block-octets : (w u v : List ℕ) → w ≡ u ++ v → IsOctets w → IsOctets u
+block-octets w u v is fits = (octets-parts w u v is fits).0
+
 until-legal : (n most : ℕ) (part : Option Fragment) (texts front w : List ℕ) (earlier all : List Block6) → AreBlocks most part earlier
-    → length earlier + n ≡ most + 1 → Spells (until n (next_block most part texts) earlier) front w all
+    → length earlier + n ≡ most + 1 → IsOctets w → Spells (until n (next_block most part texts) earlier) front w all
     → Known most part all
 unfolding until next_block
-until-legal zero most part texts front w earlier all are full s =
-    absurd (none-follows most part earlier s.4.2 are (omega arith) (block-legal most part texts _ _ _ _ s.4.2 s.4.4))
-until-legal (suc n) most part texts front w earlier all are full s =
+until-legal zero most part texts front w earlier all are full fits s =
+    absurd (none-follows most part earlier s.4.2 are (omega arith)
+    (block-legal most part texts _ _ _ _ s.4.2 (block-octets (s.0) s.4.0 s.4.1 s.4.3 (octets-parts w s.0 s.1 s.3 fits).0) s.4.4))
+until-legal (suc n) most part texts front w earlier all are full fits s =
     let x = s.4.2 in
-    let is = block-legal most part texts _ _ _ _ x s.4.4 in
+    let parts = octets-parts w s.0 s.1 s.3 fits in
+    let is = block-legal most part texts _ _ _ _ x (block-octets s.0 s.4.0 s.4.1 s.4.3 parts.0) s.4.4 in
     let more = blocks-push most part earlier x are is in
     let long : length (earlier ++ x.0 ∷ []) ≡ length earlier + 1 = length-append earlier (x.0 ∷ []) in
     ends-legal n most part texts _ _ earlier all x x.1 more is refl (rw s.4.5.1 at s.5)
-    (λ rest. until-legal n most part texts _ _ (earlier ++ x.0 ∷ []) all more (omega arith) rest)
+    (λ rest. until-legal n most part texts _ _ (earlier ++ x.0 ∷ []) all more (omega arith) parts.1 rest)
 
-pub spelled-legal : (w : List ℕ) (b : Bundle6) → Spells (bundle 64) [] w b → IsLegal b
+pub spelled-legal : (w : List ℕ) (b : Bundle6) → IsOctets w → Spells (bundle 64) [] w b → IsLegal b
 unfolding bundle Known
-spelled-legal w b s =
-    let blocks = until-legal 65 64 s.2.0.fragment s.2.1 _ _ [] s.5.2 (blocks-none 64 s.2.0.fragment) refl s.5.4 in
+spelled-legal w b fits s =
+    let rest = octets-parts w s.0 s.1 s.3 fits in
+    let blocks = until-legal 65 64 s.2.0.fragment s.2.1 _ _ [] s.5.2 (blocks-none 64 s.2.0.fragment) refl
+    (block-octets s.1 s.5.0 s.5.1 s.5.3 rest.1) s.5.4 in
     rw s.5.5.1 (record {
       primary = primary-legal _ _ s.2 s.4;
       blocks = blocks.0.legal;
@@ -340,9 +371,14 @@ spelled-legal w b s =
       within = blocks.0.within;
     })
 
-pub found-legal : (result : Result (Bundle6 × ℕ) Fail6) (text : List ℕ)
+pub begun-legal : (text : List ℕ) (k : ℕ) (b : Bundle6) → IsOctets text → Begins (bundle 64) text k b → Spells6 b (take k text)
+begun-legal text k b fits begins = record {
+  legal = spelled-legal (take k text) b (octets-parts text (take k text) (drop k text) (sym (take-append-drop k text)) fits).0 begins.spells;
+  spelled = begins.spells;
+}
+
+pub found-legal : (result : Result (Bundle6 × ℕ) Fail6) (text : List ℕ) → IsOctets text
     → IfOk result (λ x. Begins (bundle 64) text x.1 x.0)
     → IfOk result (λ x. (x.1 ≤ length text) × Spells6 x.0 (take x.1 text))
-found-legal (Ok x) text found =
-    (found.within, record { legal = spelled-legal (take x.1 text) x.0 found.spells; spelled = found.spells })
-found-legal (Err e) text found = tt
+found-legal (Ok x) text fits found = (found.within, begun-legal text x.1 x.0 fits found)
+found-legal (Err e) text fits found = tt

@@ -7,3 +7,6 @@ pub mod SpellingLemmas
 pub mod PlacesLemmas
 pub mod NumberingLemmas
 pub mod WritingLemmas
+pub mod JudgeLemmas
+pub mod PassLemmas
+pub mod ReaderLemmas

@@ -13,7 +13,7 @@ use Rattle.bundle6.specs.declared.names.Offsets.{Offsets}
 use Rattle.bundle6.specs.declared.bundle.Bundle6.{Bundle6}
 use Rattle.bundle6.specs.declared.gathering.Gathering.{Gathering}
 use Rattle.bundle6.specs.declared.numbering.Numbering.{Numbering}
-use Rattle.bundle6.specs.Canon.{endpoints_of, is_numbered, has_text, with_name, with_names, texts_of, dictionary_of, numbers_of, places_of, offsets_of}
+use Rattle.bundle6.specs.Spelling.{endpoints_of, is_numbered, has_text, with_name, with_names, texts_of, dictionary_of, numbers_of, places_of, offsets_of}
 use Rattle.bundle6.specs.Gathering.{Shows, Named}
 use Rattle.bundle6.specs.Numbering.{lent_out, IsGathered, IsNumbering}
 use Rattle.bundle6.proofs.GatherLemmas.{grows-name, names-hold, with_names-push, places-kept, texts-none, texts-some}

@@ -16,7 +16,7 @@ use Rattle.std.proofs.lemmas.List.Folds.{list_any-append}
 use Rattle.endpoint.specs.declared.name.Endpoint.{Endpoint}
 use Rattle.endpoint.specs.Endpoints.{scheme_of, ssp_of}
 use Rattle.bundle6.specs.declared.gathering.Gathering.{Gathering}
-use Rattle.bundle6.specs.Canon.{has_text, with_text, dictionary_of, offset_of}
+use Rattle.bundle6.specs.Spelling.{has_text, with_text, dictionary_of, offset_of}
 use Rattle.bundle6.specs.Gathering.{place_of, Shows, Placed, Named}
 use Rattle.bundle6.proofs.GatherLemmas.{has-new, has-kept, grows-text, has-with_text, offset-kept, offset-new, dictionary-new}
 

@@ -24,8 +24,7 @@ use Rattle.bundle6.specs.Bits.{has_bit, without}
 use Rattle.bundle6.specs.Names.{resolves, name_of}
 use Rattle.bundle6.specs.Table.{offsets, four_names, dictionary, fragment, primary, is_payload, has_payload, others, name, references, is_within, block, next_block}
 use Rattle.bundle6.specs.Legal.{IsPart, IsLegalPrimary, IsLegalBlock, IsWithin}
-use Rattle.bundle6.specs.Canon.{dictionary_of, offsets_of, pair_octets, name_octets, names_octets, dictionary_octets, part_octets, rest_octets, primary_octets, marked, refs_octets, block_octets, blocks_octets}
-use Rattle.bundle6.specs.Writing.{Fits}
+use Rattle.bundle6.specs.Spelling.{dictionary_of, offsets_of, pair_octets, name_octets, names_octets, dictionary_octets, part_octets, rest_octets, primary_octets, marked, refs_octets, block_octets, blocks_octets}
 use Rattle.bundle6.proofs.CanonLemmas.{IsNamed}
 use Rattle.bundle6.proofs.LegalLemmas.{blocks-count}
 
@@ -476,8 +475,8 @@ none-counts p (b ∷ more) is =
 
 -- a block of a legal bundle may stand where it stands
 may-follow : (part : Option Fragment) (earlier more : List Block6) (b : Block6) (last : Bool) → IsBundle part (earlier ++ b ∷ more)
-    → Fits b → (last ≡ true → more ≡ []) → MayFollow 64 part (has_payload earlier) (others earlier) last b
-may-follow part earlier more b last is fit ends =
+    → (last ≡ true → more ≡ []) → MayFollow 64 part (has_payload earlier) (others earlier) last b
+may-follow part earlier more b last is ends =
     let at : get_or (earlier ++ b ∷ more) (length earlier) b ≡ b = get_or-append_seam earlier b more b in
     let inside : length earlier < length (earlier ++ b ∷ more) = omega (arith, length-append earlier (b ∷ more)) in
     let payloads : count_by is_payload earlier + (cond (is_payload b) 1 0 + count_by is_payload more) ≡ 1 =
@@ -485,16 +484,17 @@ may-follow part earlier more b last is fit ends =
     ∙ sym (count-join is_payload earlier (b ∷ more)) ∙ is.payloads in
     let few : others earlier + (cond (not (is_payload b)) 1 0 + others more) ≤ 64 =
     omega (arith, is.few, count-join (λ x. not (is_payload x)) earlier (b ∷ more), count-cons (λ x. not (is_payload x)) b more) in
+    let legal : IsLegalBlock b = rw at at (is.legal (length earlier) b inside) in
     record {
-      legal = rw at at (is.legal (length earlier) b inside);
+      legal = legal;
       within = rw at at (is.within (length earlier) b inside);
       one = one_payload (is_payload b) (has_payload earlier) (count_by is_payload earlier) (count_by is_payload more)
           (any-counts is_payload earlier) payloads;
       few = room_left (is_payload b) (others earlier) (others more) few;
       ends = λ is_last. paid (is_payload b) (has_payload earlier) refl (count_by is_payload more)
           (rw (ends is_last) refl) payloads;
-      refs = fit.refs;
-      body = fit.body;
+      refs = legal.count;
+      body = legal.size;
     }
   where
     one_payload : (payload paid : Bool) (n m : ℕ) → cond paid 1 0 ≤ n → n + (cond payload 1 0 + m) ≡ 1 → (payload && paid) ≡ false
@@ -515,13 +515,13 @@ may-follow part earlier more b last is fit ends =
 -- the blocks that follow others, up to the last
 pub blocks-spell : (n : ℕ) (part : Option Fragment) (texts : List (List ℕ)) (earlier rest : List Block6) (front : List ℕ)
     → 0 < length rest → length earlier + n ≡ 65 → IsBundle part (earlier ++ rest)
-    → AllByRecursion Fits rest → AllByRecursion (λ b. AllByRecursion (IsNamed texts) b.refs) rest
+    → AllByRecursion (λ b. AllByRecursion (IsNamed texts) b.refs) rest
     → Spells (until n (next_block 64 part (dictionary_of texts)) earlier) front (blocks_octets texts rest) (earlier ++ rest)
 unfolding until next_block blocks_octets
-blocks-spell n part texts earlier [] front some room is fit named = absurd (omega arith)
-blocks-spell zero part texts earlier (b ∷ more) front some room is fit named =
+blocks-spell n part texts earlier [] front some room is named = absurd (omega arith)
+blocks-spell zero part texts earlier (b ∷ more) front some room is named =
     absurd (omega (arith, blocks-count (earlier ++ b ∷ more), is.payloads, is.few, length-append earlier (b ∷ more)))
-blocks-spell (suc n) part texts earlier (b ∷ []) front some room is fit named = (
+blocks-spell (suc n) part texts earlier (b ∷ []) front some room is named = (
   block_octets texts true b,
   [],
   (earlier ++ b ∷ [], true),
@@ -532,17 +532,17 @@ blocks-spell (suc n) part texts earlier (b ∷ []) front some room is fit named 
     (b, true),
     sym (append-nil (block_octets texts true b)),
     block-spells 64 part texts (has_payload earlier) (others earlier) true b front
-        (may-follow part earlier [] b true is fit.0 (λ _. refl)) named.0,
+        (may-follow part earlier [] b true is (λ _. refl)) named.0,
     (refl, refl),
   ),
   (refl, refl),
 )
-blocks-spell (suc n) part texts earlier (b ∷ next ∷ more) front some room is fit named =
+blocks-spell (suc n) part texts earlier (b ∷ next ∷ more) front some room is named =
     let follows : eqb (length (next ∷ more)) 0 ≡ false = ne_eqb (length (next ∷ more)) 0 (λ none. omega arith) in
     let joined : (earlier ++ b ∷ []) ++ (next ∷ more) ≡ earlier ++ (b ∷ next ∷ more) = append_assoc earlier (b ∷ []) (next ∷ more) in
     let long : length (earlier ++ b ∷ []) ≡ length earlier + 1 = length-append earlier (b ∷ []) in
     let again = blocks-spell n part texts (earlier ++ b ∷ []) (next ∷ more) (front ++ block_octets texts false b) (omega arith) (omega arith)
-    (subst (IsBundle part) (sym joined) is) fit.1 named.1 in
+    (subst (IsBundle part) (sym joined) is) named.1 in
     rw follows (
       block_octets texts false b,
       blocks_octets texts (next ∷ more),
@@ -554,7 +554,7 @@ blocks-spell (suc n) part texts earlier (b ∷ next ∷ more) front some room is
         (b, false),
         sym (append-nil (block_octets texts false b)),
         block-spells 64 part texts (has_payload earlier) (others earlier) false b front
-            (may-follow part earlier (next ∷ more) b false is fit.0 (λ never. absurd (cc never))) named.0,
+            (may-follow part earlier (next ∷ more) b false is (λ never. absurd (cc never))) named.0,
         (refl, refl),
       ),
       subst (λ all. Spells (until n (next_block 64 part (dictionary_of texts)) (earlier ++ b ∷ []))

@@ -3,11 +3,11 @@
 use Rattle.std.proofs.Common.{◌≡◌, ℕ, ◌+◌, ◌^◌, ◌<◌, ◌≤◌, suc, Bool, eqb}
 use Rattle.std.proofs.Common.{List, [], ◌∷◌, ◌++◌, length, take, drop, get_or, refl, sym, ◌∙◌, ap, subst, arith, length-append, append_assoc, add-one, zero-add, Ok}
 use Rattle.std.specs.Prelude.{map}
-use Rattle.std.specs.List.{All, AllByRecursion, flat_map, count_by}
+use Rattle.std.specs.List.{AllByRecursion, flat_map, count_by}
 use Rattle.std.proofs.lemmas.Bool.{eqb-true, eq-eqb}
 use Rattle.std.proofs.lemmas.Bool.Decides.{same_from_decides, Decides-eqb}
-use Rattle.std.proofs.lemmas.List.{take_more, append-nil, map-append, length-map, length-drop, drop_all}
-use Rattle.std.proofs.lemmas.List.Elements.{All-push, recursion_from_All}
+use Rattle.std.proofs.lemmas.List.{append-nil, map-append, length-map, length-drop, drop_all}
+use Rattle.std.proofs.lemmas.List.Elements.{recursion_from_All}
 use Rattle.std.proofs.Math.Seq.{drop-cons, take-append_seam, drop-append_seam}
 use Rattle.sdnv.specs.Shortest.{spelling}
 use Rattle.endpoint.specs.declared.name.Endpoint.{Endpoint}
@@ -20,8 +20,8 @@ use Rattle.bundle6.specs.declared.block.Block6.{Block6}
 use Rattle.bundle6.specs.declared.bundle.Bundle6.{Bundle6}
 use Rattle.bundle6.specs.Table.{is_payload, bundle}
 use Rattle.bundle6.specs.Legal.{IsLegalBlock, IsLegal, IsReadAgain, Spells6}
-use Rattle.bundle6.specs.Canon.{endpoints_of, texts_of, dictionary_of, offsets_of, name_octets, rest_octets, primary_octets, marked, refs_octets, block_octets, blocks_octets, canon6}
-use Rattle.bundle6.specs.Writing.{pairs_octets, rest_written, primary_written, refs_written, block_written, blocks_written, Fits}
+use Rattle.bundle6.specs.Spelling.{IsCounted, endpoints_of, texts_of, dictionary_of, offsets_of, name_octets, rest_octets, primary_octets, marked, refs_octets, block_octets, blocks_octets, canon6}
+use Rattle.bundle6.specs.Writing.{pairs_octets, rest_written, primary_written, refs_written, block_written, blocks_written}
 use Rattle.bundle6.proofs.CanonLemmas.{IsNamed}
 use Rattle.bundle6.proofs.GatherLemmas.{endpoints-named}
 use Rattle.bundle6.proofs.SpellingLemmas.{AreNamed, primary-spells, blocks-spell}
@@ -69,13 +69,6 @@ pub written-end : (blocks : List Block6) (i : ℕ) (rest : List Offsets) (out al
 unfolding blocks_written
 written-end blocks i rest out all past left =
     sym (append-nil out) ∙ ap (λ bs. out ++ blocks_written bs rest) (sym (drop_all i blocks past)) ∙ left
-
--- one block more that fits
-pub fits-step : (blocks : List Block6) (i : ℕ) (b : Block6) → i < length blocks → b ≡ get_or blocks i b
-    → All Fits (take i blocks) → Fits b → All Fits (take (i + 1) blocks)
-fits-step blocks i b inside is all fits =
-    subst (All Fits) (sym (take_more blocks i b inside))
-    (All-push Fits (take i blocks) (get_or blocks i b) all (subst Fits is fits))
 
 -- ---- what is written is the canonical spelling
 
@@ -179,10 +172,10 @@ some-block : (blocks : List Block6) → count_by is_payload blocks ≡ 1 → 0 <
 some-block [] one = absurd cc
 some-block (b ∷ more) one = omega arith
 
-pub canon-spells : (b : Bundle6) → IsLegal b → All Fits b.blocks → length (rest_octets (texts_of b) b.primary) < 2 ^ 64
+pub canon-spells : (b : Bundle6) → IsLegal b → IsCounted b
     → Spells (bundle 64) [] (canon6 b) b
 unfolding bundle canon6
-canon-spells b legal fits low =
+canon-spells b legal low =
     let texts = texts_of b in
     let p = b.primary in
     let small : length (dictionary_of texts) < 2 ^ 64 = omega (arith, dictionary-within texts p) in
@@ -218,7 +211,7 @@ canon-spells b legal fits low =
         sym (append-nil (blocks_octets texts b.blocks)),
         blocks-spell 65 p.fragment texts [] b.blocks (primary_octets texts p) (some-block b.blocks legal.one_payload) refl
             (record { legal = legal.blocks; within = legal.within; payloads = legal.one_payload; few = legal.others_are_few })
-            (recursion_from_All Fits b.blocks fits) (split-named texts b.blocks named.1.1.1.1),
+            (split-named texts b.blocks named.1.1.1.1),
         (refl, refl),
       ),
     )
@@ -229,10 +222,10 @@ pub record IsWritten (b : Bundle6) (out : List ℕ) : Type 0 where
   pub spelled : Spells6 b out
   pub again : IsReadAgain b out
 
-pub written-is : (b : Bundle6) (out : List ℕ) → IsLegal b → All Fits b.blocks → length (rest_octets (texts_of b) b.primary) < 2 ^ 64
+pub written-is : (b : Bundle6) (out : List ℕ) → IsLegal b → IsCounted b
     → out ≡ canon6 b → IsWritten b out
-written-is b out legal fits low is =
-    let spells : Spells (bundle 64) [] out b = subst (λ w. Spells (bundle 64) [] w b) (sym is) (canon-spells b legal fits low) in
+written-is b out legal low is =
+    let spells : Spells (bundle 64) [] out b = subst (λ w. Spells (bundle 64) [] w b) (sym is) (canon-spells b legal low) in
     record {
       exact = is;
       spelled = record { legal = legal; spelled = spells };

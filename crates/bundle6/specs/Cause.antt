@@ -1,6 +1,6 @@
 -- The names of the causes, and a fault as a refusal.
 
-use Rattle.std.specs.Prelude.{ℕ, List, codes, Option, Some, None}
+use Rattle.std.specs.Prelude.{ℕ, ◌+◌, List, codes, Option, Some, None}
 use Rattle.wire_fields.specs.Refusal.{Stop, truncated, because}
 use Rattle.wire_fields.specs.declared.miss.Miss.{Miss}
 use Rattle.wire_fields.specs.declared.miss.Miss.TheVariants as misses
@@ -8,6 +8,7 @@ use Rattle.bundle6.specs.declared.fault.Cause6.{Cause6}
 use Rattle.bundle6.specs.declared.fault.Cause6.TheVariants.{Version, Number, Names, PrimaryEnd, SecondPayload, TooManyBlocks, NoPayload, BlockRefs, FragmentRange, Truncated, TooLong}
 use Rattle.bundle6.specs.declared.names.Unresolved.{Unresolved}
 use Rattle.bundle6.specs.declared.names.Unresolved.TheVariants as reasons
+use Rattle.bundle6.specs.declared.fault.Refused6.{Refused6}
 use Rattle.bundle6.specs.declared.fault.Fail6.{Fail6}
 use Rattle.bundle6.specs.declared.fault.Fail6.TheVariants.{Refused, Memory}
 
@@ -29,17 +30,38 @@ abbrev pub why : Cause6 → Stop Cause6
 why Truncated = truncated
 why cause = because cause
 
+-- the place and the reason of a refusal
+abbrev pub stop_of : Refused6 → ℕ × Stop Cause6
+stop_of refused = (refused.at, why refused.cause)
+
+-- the same of what may also be want of memory, which is no refusal
+abbrev pub refusal : Fail6 → Option (ℕ × Stop Cause6)
+refusal (Refused at cause) = Some (at, why cause)
+refusal Memory = None
+
+-- ---- what code makes of them
+
+abbrev pub refused : ℕ → Cause6 → Refused6
+refused at cause = record { at = at; cause = cause }
+
 -- a field that isn't there at a place, with its cause
-abbrev pub fault_of : ℕ → Miss → Cause6 → Fail6
-fault_of at misses.Truncated cause = Refused at Truncated
-fault_of at misses.Absent cause = Refused at cause
+abbrev pub missed : ℕ → Miss → Cause6 → Refused6
+missed at misses.Truncated cause = refused at Truncated
+missed at misses.Absent cause = refused at cause
 
 -- two numbers at a place that name no endpoint, with the field's cause
 abbrev pub fault_named : Unresolved → ℕ → Cause6 → Fail6
 fault_named reasons.Unknown at cause = Refused at cause
 fault_named reasons.Memory at cause = Memory
 
--- the refusal that a fault answers: place and reason; want of memory is none
-abbrev pub refusal : Fail6 → Option (ℕ × Stop Cause6)
-refusal (Refused at cause) = Some (at, why cause)
-refusal Memory = None
+abbrev pub refused_at : Refused6 → Option (ℕ × Stop Cause6)
+refused_at refused = Some (stop_of refused)
+
+-- a fault with its place counted from so many octets before
+abbrev pub fail_after : ℕ → Fail6 → Fail6
+fail_after before (Refused at cause) = Refused (before + at) cause
+fail_after before Memory = Memory
+
+abbrev pub place_of : Fail6 → ℕ
+place_of (Refused at cause) = at
+place_of Memory = 0

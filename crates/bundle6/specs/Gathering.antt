@@ -7,7 +7,7 @@ use Rattle.std.specs.Map.{lookup}
 use Rattle.bundle6.specs.declared.gathering.Gathering.{Gathering}
 use Rattle.endpoint.specs.declared.name.Endpoint.{Endpoint}
 use Rattle.bundle6.specs.declared.names.Offsets.{Offsets}
-use Rattle.bundle6.specs.Canon.{has_text, with_text, with_name, dictionary_of, offset_of, places_of}
+use Rattle.bundle6.specs.Spelling.{has_text, with_text, with_name, dictionary_of, offset_of, places_of}
 
 -- where a text stands in the dictionary, if it does
 abbrev pub place_of : List (List ℕ) → List ℕ → Option ℕ

@@ -5,7 +5,7 @@ use Rattle.std.specs.List.{All, count_by}
 use Rattle.endpoint.specs.declared.extent.Fragment.{Fragment}
 use Rattle.endpoint.specs.Endpoints.{IsEndpoint}
 use Rattle.wire_fields.specs.Format.{Spells}
-use Rattle.wire_fields.specs.Reading.{read}
+use Rattle.wire_fields.specs.Reading.{read, IsOctets}
 use Rattle.wire_fields.specs.Refusal.{Stop, Refusal}
 use Rattle.bundle6.specs.declared.fault.Cause6.{Cause6}
 use Rattle.bundle6.specs.declared.primary.Primary6.{Primary6}
@@ -28,23 +28,27 @@ pub record IsLegalPrimary (primary : Primary6) : Type 0 where
   pub seconds : primary.seconds < 2 ^ 64
   pub sequence : primary.sequence < 2 ^ 64
   pub lifetime : primary.lifetime < 2 ^ 64
-  -- bit 0 stands exactly with a fragment
+  -- bit 0 stands if and only if it is a fragment
   pub fragment_bit : has_bit 0 primary.flags ≡ is_some primary.fragment
   pub fragment : IsPart primary.fragment
 
 pub record IsLegalBlock (block : Block6) : Type 0 where
+  pub kind : block.kind < 256
   pub flags : block.flags < 2 ^ 64
   -- the marks of the last block and of references stand in no value
   pub last_bit : has_bit 3 block.flags ≡ false
   pub refs_bit : has_bit 6 block.flags ≡ false
   pub refs : All IsEndpoint block.refs
+  -- numbers say how many references and octets there are
+  pub count : length block.refs < 2 ^ 64
+  pub size : length block.body < 2 ^ 64
 
 -- the block's octets lie within the whole of which it is a fragment
 abbrev pub IsWithin : Option Fragment → Block6 → Type 0
 IsWithin None block = Unit {0}
 IsWithin (Some part) block = is_payload block ≡ true → part.offset + length block.body ≤ part.total
 
--- A legal bundle. Numbers are below 2 ^ 64, as the types have them.
+-- A legal bundle: one that has a spelling.
 pub record IsLegal (b : Bundle6) : Type 0 where
   pub primary : IsLegalPrimary b.primary
   pub blocks : All IsLegalBlock b.blocks
@@ -68,4 +72,4 @@ IsReadAgain b w = (more : List ℕ) → read (bundle 64) (w ++ more) 0 ≡ Ok (b
 
 -- what octets spell is a legal bundle
 abbrev pub OnlyLegal : Type 0
-OnlyLegal = (b : Bundle6) (w : List ℕ) → Spells (bundle 64) [] w b → IsLegal b
+OnlyLegal = (b : Bundle6) (w : List ℕ) → IsOctets w → Spells (bundle 64) [] w b → IsLegal b

@@ -5,7 +5,7 @@ use Rattle.std.specs.Borrow.{Bor}
 use Rattle.endpoint.specs.declared.name.Endpoint.{Endpoint}
 use Rattle.bundle6.specs.declared.bundle.Bundle6.{Bundle6}
 use Rattle.bundle6.specs.declared.numbering.Numbering.{Numbering}
-use Rattle.bundle6.specs.Canon.{endpoints_of, with_names, texts_of, dictionary_of, places_of, offsets_of}
+use Rattle.bundle6.specs.Spelling.{endpoints_of, with_names, texts_of, dictionary_of, places_of, offsets_of}
 
 -- the endpoints that were lent
 abbrev pub lent_out : List (Bor Endpoint) → List Endpoint

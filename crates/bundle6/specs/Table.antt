@@ -129,7 +129,7 @@ is_within (Some part) payload size = not payload || nat_le (part.offset + size) 
 abbrev pub size_field : Option Fragment → Bool → Format Cause6 ℕ
 size_field part payload = such_that (any_number Number) (λ size. needs (is_within part payload size) FragmentRange)
 
--- A block, and whether it is marked as the last. Behind others: whether the payload is among them, and
+-- A block, and whether it is marked as the last. After others: whether the payload is among them, and
 -- how many of another type are. Of octets nothing can be wrong but that the input ends.
 unfoldable pub block : ℕ → Option Fragment → List ℕ → Bool → ℕ → Format Cause6 (Block6 × Bool)
 block most part dictionary paid before = do
@@ -140,7 +140,7 @@ block most part dictionary paid before = do
   body ← any_octets size Truncated
   give (record { kind = kind; flags = without 3 (without 6 flags); refs = refs; body = body }, has_bit 3 flags)
 
--- one block more, behind the earlier ones
+-- one block more, after the earlier ones
 unfoldable pub next_block : ℕ → Option Fragment → List ℕ → ℕ → List Block6 → Format Cause6 (List Block6 × Bool)
 next_block most part dictionary left earlier = do
   next ← block most part dictionary (has_payload earlier) (others earlier)
@@ -149,7 +149,7 @@ next_block most part dictionary left earlier = do
 -- ---- the bundle
 
 -- The primary block, and blocks until the one that is marked as the last: at most so many of another
--- type than the payload, and the payload. Behind as many as that any block is refused by its type, so
+-- type than the payload, and the payload. After as many as that any block is refused by its type, so
 -- the list never ends but with the last block.
 unfoldable pub bundle : ℕ → Format Cause6 Bundle6
 bundle most = do

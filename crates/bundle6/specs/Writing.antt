@@ -1,17 +1,17 @@
 -- What code writes of a bundle whose endpoints' numbers are known.
 
-use Rattle.std.specs.Prelude.{ℕ, ◌^◌, ◌<◌, ◌==◌, Bool, List, [], ◌∷◌, ◌++◌, length, take, drop}
+use Rattle.std.specs.Prelude.{ℕ, ◌==◌, Bool, List, [], ◌∷◌, ◌++◌, length, take, drop}
 use Rattle.std.specs.List.{flat_map}
 use Rattle.sdnv.specs.Shortest.{spelling}
 use Rattle.bundle6.specs.declared.names.Offsets.{Offsets}
 use Rattle.bundle6.specs.declared.primary.Primary6.{Primary6}
 use Rattle.bundle6.specs.declared.block.Block6.{Block6}
-use Rattle.bundle6.specs.Canon.{pair_octets, part_octets, marked}
+use Rattle.bundle6.specs.Spelling.{pair_octets, part_octets, marked}
 
 abbrev pub pairs_octets : List Offsets → List ℕ
 pairs_octets pairs = flat_map pair_octets pairs
 
--- what stands behind a primary block's length field
+-- what stands after a primary block's length field
 abbrev pub rest_written : Primary6 → List Offsets → List ℕ → List ℕ
 rest_written primary pairs dictionary =
     pairs_octets pairs
@@ -36,8 +36,3 @@ blocks_written [] pairs = []
 blocks_written (block ∷ more) pairs =
     block_written (length more == 0) block (take (length block.refs) pairs)
     ++ blocks_written more (drop (length block.refs) pairs)
-
--- lengths that a number spells
-pub record Fits (block : Block6) : Type 0 where
-  pub refs : length block.refs < 2 ^ 64
-  pub body : length block.body < 2 ^ 64

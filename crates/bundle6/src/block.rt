@@ -1,23 +1,23 @@
-//! The blocks behind the primary block.
+//! The blocks after the primary block.
 
 ghost use Rattle.std.specs.Prelude.{◌≡◌, ◌-◌, ◌^◌, ◌<◌, ◌≤◌, [], ◌∷◌, ◌++◌, length, IfOk, OnOk, OnErr};
 ghost use Rattle.wire_fields.specs.Reading.{read};
 ghost use Rattle.wire_fields.specs.Words.{listed};
 ghost use Rattle.wire_fields.specs.Gives.{Gives, IsOn};
 ghost use Rattle.bundle6.specs.Seen.{seen_with, Follows};
-ghost use Rattle.bundle6.specs.Cause.{refusal};
+ghost use Rattle.bundle6.specs.Cause.{refusal, refused_at};
 ghost use Rattle.bundle6.specs.Table.{kind_field, flags_field, count_field, size_field, is_within, name, references, block};
 
-use crate::fault::{Cause6, Fail6};
+use crate::fault::{Cause6, Fail6, Refused6};
+use crate::fields::{number, octet, octets};
 use crate::flags::{LAST, REFS, has_bit, without};
 use crate::names::{Offsets, resolve};
-use crate::reading::{number, octet, octets};
 use endpoint::{Endpoint, Fragment, Octets, Refs};
 use std::alloc::{AllocError, Global};
 use std::marker::Model;
 
 /// The type of the payload block.
-const PAYLOAD: u8 = 1;
+pub(crate) const PAYLOAD: u8 = 1;
 
 /// A block (RFC 5050, section 4.6).
 #[derive(Debug, Drop)]
@@ -108,6 +108,12 @@ pub(crate) struct Seen {
 }
 
 impl Seen {
+    /// No blocks yet.
+    pub(crate) const NONE: Seen = Seen {
+        paid: false,
+        others: 0,
+    };
+
     /// The blocks so far, and one more of this type.
     pub(crate) fn with(self, kind: u8) -> Seen
         requires { self.others < 2 ^ 64 - 1 }
@@ -125,44 +131,40 @@ impl Seen {
 }
 
 /// A block's type.
-fn kind_at(text: &[u8], at: usize, most: u64, seen: Seen) -> Result<(u8, usize), Fail6>
+pub(crate) fn kind_at(
+    text: &[u8],
+    at: usize,
+    most: u64,
+    seen: Seen,
+) -> Result<(u8, usize), Refused6>
     requires place { at ≤ length text.now }
     requires few { seen.others ≤ most }
     ensures within { IfOk result (λ x. IsOn at text.now x.1) }
-    ensures exact { Gives (λ kind. kind) refusal result (read (kind_field most seen.paid seen.others) text.now at) }
+    ensures exact { Gives (λ kind. kind) refused_at result (read (kind_field most seen.paid seen.others) text.now at) }
 
-    ensures follows { IfOk result (λ x. Follows most seen x.0) }
+    ensures follows { IfOk result (λ x. Follows most seen (seen_with seen x.0)) }
 {
-    let (kind, behind) = octet(text, at, Cause6::Number)?;
+    let (kind, after) = octet(text, at, Cause6::Number)?;
     if kind == PAYLOAD && seen.paid {
-        return Err(Fail6::Refused {
-            at,
-            cause: Cause6::SecondPayload,
-        });
+        return Err(Cause6::SecondPayload.at(at));
     }
     if kind != PAYLOAD && seen.others >= most {
-        return Err(Fail6::Refused {
-            at,
-            cause: Cause6::TooManyBlocks,
-        });
+        return Err(Cause6::TooManyBlocks.at(at));
     }
-    Ok((kind, behind))
+    Ok((kind, after))
 }
 
 /// A block's flags. The last block may come once there is a payload block.
-fn flags_at(text: &[u8], at: usize, paid: bool) -> Result<(u64, usize), Fail6>
+pub(crate) fn flags_at(text: &[u8], at: usize, paid: bool) -> Result<(u64, usize), Refused6>
     requires { at ≤ length text.now }
     ensures within { IfOk result (λ x. IsOn at text.now x.1) }
-    ensures exact { Gives (λ flags. flags) refusal result (read (flags_field paid) text.now at) }
+    ensures exact { Gives (λ flags. flags) refused_at result (read (flags_field paid) text.now at) }
 {
-    let (flags, behind) = number(text, at)?;
+    let (flags, after) = number(text, at)?;
     if has_bit(flags, LAST) && !paid {
-        return Err(Fail6::Refused {
-            at,
-            cause: Cause6::NoPayload,
-        });
+        return Err(Cause6::NoPayload.at(at));
     }
-    Ok((flags, behind))
+    Ok((flags, after))
 }
 
 /// An endpoint that a block refers to.
@@ -178,18 +180,18 @@ fn reference_at(
     ensures exact { Gives (λ endpoint. endpoint) refusal result (read (name dictionary.now) text.now at) }
 {
     let (scheme, at) = number(text, at)?;
-    let (ssp, behind) = number(text, at)?;
+    let (ssp, after) = number(text, at)?;
     match resolve(alloc, dictionary, Offsets { scheme, ssp }) {
-        Ok(endpoint) => Ok((endpoint, behind)),
+        Ok(endpoint) => Ok((endpoint, after)),
         Err(unresolved) => Err(unresolved.refused(at, Cause6::BlockRefs)),
     }
 }
 
 /// How many references there are: none where the flags don't say that there are some.
-fn count_at(text: &[u8], at: usize, present: bool) -> Result<(u64, usize), Fail6>
+pub(crate) fn count_at(text: &[u8], at: usize, present: bool) -> Result<(u64, usize), Refused6>
     requires { at ≤ length text.now }
     ensures within { IfOk result (λ x. IsOn at text.now x.1) }
-    ensures exact { Gives (λ count. count) refusal result (read (count_field present) text.now at) }
+    ensures exact { Gives (λ count. count) refused_at result (read (count_field present) text.now at) }
 {
     if present {
         number(text, at)
@@ -212,13 +214,13 @@ fn counted_at(
         (read (listed count (λ earlier. name dictionary.now)) text.now at) }
 {
     let mut refs = Refs::new(alloc);
-    let mut behind = at;
+    let mut after = at;
     'references: for _ in 0..count {
-        let (endpoint, after) = reference_at(alloc, text, behind, dictionary)?;
+        let (endpoint, next) = reference_at(alloc, text, after, dictionary)?;
         refs.push(endpoint)?;
-        behind = after;
+        after = next;
     }
-    Ok((refs, behind))
+    Ok((refs, after))
 }
 
 /// The references, where the flags say that there are some.
@@ -252,24 +254,21 @@ fn is_within(part: Option<Fragment>, payload: bool, size: u64) -> bool
 }
 
 /// How many octets a block has. Those of a payload lie within the whole of which it is a fragment.
-fn size_at(
+pub(crate) fn size_at(
     text: &[u8],
     at: usize,
     part: Option<Fragment>,
     payload: bool,
-) -> Result<(u64, usize), Fail6>
+) -> Result<(u64, usize), Refused6>
     requires { at ≤ length text.now }
     ensures within { IfOk result (λ x. IsOn at text.now x.1) }
-    ensures exact { Gives (λ size. size) refusal result (read (size_field part payload) text.now at) }
+    ensures exact { Gives (λ size. size) refused_at result (read (size_field part payload) text.now at) }
 {
-    let (size, behind) = number(text, at)?;
+    let (size, after) = number(text, at)?;
     if !is_within(part, payload, size) {
-        return Err(Fail6::Refused {
-            at,
-            cause: Cause6::FragmentRange,
-        });
+        return Err(Cause6::FragmentRange.at(at));
     }
-    Ok((size, behind))
+    Ok((size, after))
 }
 
 /// A block, and whether it is marked as the last.
@@ -288,7 +287,7 @@ pub(crate) fn block_at(
     ensures within { IfOk result (λ x. IsOn at text.now x.1) }
     ensures exact { Gives (λ found. found) refusal result
         (read (block most part dictionary.now seen.paid seen.others) text.now at) }
-    ensures follows { IfOk result (λ x. Follows most seen x.0.0.kind) }
+    ensures follows { IfOk result (λ x. Follows most seen (seen_with seen x.0.0.kind)) }
 {
     let (kind, at) = kind_at(text, at, most, seen)?;
     let payload = kind == PAYLOAD;

@@ -1,10 +1,11 @@
 //! Why octets are no version 6 bundle.
 
-ghost use Rattle.std.specs.Prelude.{◌≡◌};
-ghost use Rattle.bundle6.specs.Cause.{word_of};
+ghost use Rattle.std.specs.Prelude.{◌≡◌, ◌+◌, ◌<◌, ◌^◌};
+ghost use Rattle.bundle6.specs.Cause.{word_of, refused, missed, fail_after, place_of};
 
 use std::alloc::AllocError;
 use thiserror::Error;
+use wire_fields::Miss;
 
 /// What isn't as it should be, in the order of the fields.
 #[derive(Clone, Copy, Debug, PartialEq, Eq, Error)]
@@ -63,6 +64,32 @@ impl Cause6 {
             Cause6::TooLong => "TooLong",
         }
     }
+
+    /// The refusal of a field at a place, for this cause.
+    pub(crate) fn at(self, at: usize) -> Refused6
+        ensures { result ≡ refused at self }
+    {
+        Refused6 { at, cause: self }
+    }
+
+    /// The refusal of a field that isn't there: the octets end inside it, or it has this cause.
+    pub(crate) fn missed(self, at: usize, miss: Miss) -> Refused6
+        ensures { result ≡ missed at miss self }
+    {
+        match miss {
+            Miss::Truncated => Cause6::Truncated.at(at),
+            Miss::Absent => self.at(at),
+        }
+    }
+}
+
+/// A refusal: the octets before a place are as they should be, and the field there isn't.
+#[derive(Clone, Copy, Debug, PartialEq, Eq)]
+pub struct Refused6 {
+    /// The place of the field's first octet.
+    pub at: usize,
+    /// What isn't as it should be.
+    pub cause: Cause6,
 }
 
 /// Why no bundle was read.
@@ -88,5 +115,37 @@ impl From<AllocError> for Fail6 {
 
     fn from(_: AllocError) -> Fail6 {
         Fail6::Memory
+    }
+}
+
+impl From<Refused6> for Fail6 {
+    ghost use Rattle.std.specs.Prelude.{◌≡◌};
+    ghost use Rattle.bundle6.specs.declared.fault.Refused6.{Refused6};
+    ghost use Rattle.bundle6.specs.declared.fault.Fail6.{Fail6};
+    ghost use Rattle.bundle6.specs.declared.fault.Fail6.TheVariants as fails;
+
+    ghost from_gives = { λ refused fail. fail ≡ fails.Refused refused.at refused.cause };
+
+    fn from(refused: Refused6) -> Fail6 {
+        Fail6::Refused {
+            at: refused.at,
+            cause: refused.cause,
+        }
+    }
+}
+
+impl Fail6 {
+    /// The same, with its place counted from so many octets before.
+    pub(crate) fn after(self, before: usize) -> Fail6
+        requires { before + place_of self < 2 ^ 64 }
+        ensures { result ≡ fail_after before self }
+    {
+        match self {
+            Fail6::Refused { at, cause } => Fail6::Refused {
+                at: before + at,
+                cause,
+            },
+            Fail6::Memory => Fail6::Memory,
+        }
     }
 }

@@ -2,7 +2,7 @@
 
 ghost use Rattle.std.specs.Prelude.{ℕ, ◌≡◌, List, [], map, length, IfOk};
 ghost use Rattle.endpoint.specs.Endpoints.{ssp_of};
-ghost use Rattle.bundle6.specs.Canon.{with_text, with_name, with_names, offset_of, places_of, numbers_of, is_numbered};
+ghost use Rattle.bundle6.specs.Spelling.{with_text, with_name, with_names, offset_of, places_of, numbers_of, is_numbered};
 ghost use Rattle.bundle6.specs.Gathering.{Shows, Placed, Named};
 
 use crate::names::Offsets;
@@ -13,7 +13,7 @@ use std::collections::BTreeMap;
 /// The texts of a dictionary, each once, in the order of first use.
 #[derive(Drop)]
 pub(crate) struct Gathering {
-    /// The texts, each with a NUL behind it.
+    /// The texts, each with a NUL after it.
     pub(crate) dictionary: Vec<u8>,
     /// Where each text stands.
     pub(crate) places: BTreeMap<Vec<u8>, u64>,

@@ -12,16 +12,25 @@
 mod block;
 mod bundle;
 mod fault;
+mod fields;
 mod flags;
 mod gathering;
+mod judging;
+mod laws;
 mod names;
 mod numbering;
+mod pass;
 mod primary;
+mod reader;
 mod reading;
 mod writing;
 
 pub use block::{Block6, Blocks6};
-pub use bundle::{Bundle6, decode6, exactly_one, only_legal};
-pub use fault::{Cause6, Fail6};
+pub use bundle::Bundle6;
+pub use fault::{Cause6, Fail6, Refused6};
+pub use judging::judge6;
+pub use laws::{canonical_spells, cuts_alike, exactly_one, only_legal};
 pub use primary::Primary6;
+pub use reader::{Fed6, Reader6};
+pub use reading::decode6;
 pub use writing::encode6;

@@ -4,12 +4,12 @@ ghost use Rattle.std.specs.Prelude.{◌≡◌, ◌≤◌, length, IfOk};
 ghost use Rattle.std.specs.List.{position};
 ghost use Rattle.wire_fields.specs.Reading.{read};
 ghost use Rattle.wire_fields.specs.Gives.{Gives, IsOn};
-ghost use Rattle.bundle6.specs.Cause.{refusal, fault_named};
+ghost use Rattle.bundle6.specs.Cause.{refusal, refused_at, fault_named};
 ghost use Rattle.bundle6.specs.Names.{is_nul, Shows, text_at, numbered, Resolves, ResolvesAll};
 ghost use Rattle.bundle6.specs.Table.{offsets, four_names, dictionary};
 
-use crate::fault::{Cause6, Fail6};
-use crate::reading::{number, octets};
+use crate::fault::{Cause6, Fail6, Refused6};
+use crate::fields::{number, octets};
 use endpoint::{Endpoint, named};
 use std::alloc::{AllocError, Global};
 
@@ -79,22 +79,22 @@ const LONGEST_TEXT: usize = 1023;
 
 /// Two numbers.
 #[tactic(auto, unfolding(crate::specs::Table::offsets))]
-pub(crate) fn offsets_at(text: &[u8], at: usize) -> Result<(Offsets, usize), Fail6>
+pub(crate) fn offsets_at(text: &[u8], at: usize) -> Result<(Offsets, usize), Refused6>
     requires { at ≤ length text.now }
     ensures within { IfOk result (λ x. IsOn at text.now x.1) }
-    ensures exact { Gives (λ pair. pair) refusal result (read offsets text.now at) }
+    ensures exact { Gives (λ pair. pair) refused_at result (read offsets text.now at) }
 {
-    let (scheme, behind) = number(text, at)?;
-    let (ssp, after) = number(text, behind)?;
-    Ok((Offsets { scheme, ssp }, after))
+    let (scheme, at) = number(text, at)?;
+    let (ssp, at) = number(text, at)?;
+    Ok((Offsets { scheme, ssp }, at))
 }
 
 /// Destination, source, report-to and custodian.
 #[tactic(auto, unfolding(crate::specs::Table::four_names))]
-pub(crate) fn four_names_at(text: &[u8], at: usize) -> Result<(Pairs, usize), Fail6>
+pub(crate) fn four_names_at(text: &[u8], at: usize) -> Result<(Pairs, usize), Refused6>
     requires { at ≤ length text.now }
     ensures within { IfOk result (λ x. IsOn at text.now x.1) }
-    ensures exact { Gives (λ pairs. pairs) refusal result (read four_names text.now at) }
+    ensures exact { Gives (λ pairs. pairs) refused_at result (read four_names text.now at) }
 {
     let (destination, at) = offsets_at(text, at)?;
     let (source, at) = offsets_at(text, at)?;
@@ -118,7 +118,7 @@ fn nul_in(text: &[u8]) -> Option<usize>
 
 /// The text of the dictionary at an offset, up to the next NUL. The NUL of a text that is too long to
 /// name something isn't looked for.
-fn text_in(dictionary: &[u8], offset: u64) -> Option<&[u8]>
+pub(crate) fn text_in(dictionary: &[u8], offset: u64) -> Option<&[u8]>
     ensures { Shows result (text_at dictionary.now offset) }
 {
     if dictionary.len() as u64 <= offset {
@@ -192,9 +192,9 @@ pub(crate) fn dictionary_at(
     ensures exact { Gives (λ found. (found.0, found.1.now)) refusal result (read (dictionary pairs) text.now at) }
 {
     let (size, at) = number(text, at)?;
-    let (dictionary, behind) = octets(text, at, size)?;
+    let (dictionary, after) = octets(text, at, size)?;
     match four_named(alloc, dictionary, pairs) {
-        Ok(names) => Ok(((names, dictionary), behind)),
+        Ok(names) => Ok(((names, dictionary), after)),
         Err(unresolved) => Err(unresolved.refused(at, Cause6::Names)),
     }
 }

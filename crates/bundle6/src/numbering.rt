@@ -2,7 +2,7 @@
 
 ghost use Rattle.std.specs.Prelude.{◌≡◌, ◌++◌, [], map, IfOk, OnOk};
 ghost use Rattle.std.specs.List.{list_all};
-ghost use Rattle.bundle6.specs.Canon.{endpoints_of, is_numbered, numbers_of};
+ghost use Rattle.bundle6.specs.Spelling.{endpoints_of, is_numbered, numbers_of};
 ghost use Rattle.bundle6.specs.Numbering.{lent_out, IsGathered, IsNumbering};
 
 use crate::bundle::Bundle6;

@@ -6,13 +6,13 @@ ghost use Rattle.wire_fields.specs.Reading.{read};
 ghost use Rattle.wire_fields.specs.Words.{test, optional, exact_octet};
 ghost use Rattle.wire_fields.specs.Gives.{Gives, IsOn};
 ghost use Rattle.bundle6.specs.Bits.{has_bit};
-ghost use Rattle.bundle6.specs.Cause.{refusal};
+ghost use Rattle.bundle6.specs.Cause.{refusal, refused, refused_at};
 ghost use Rattle.bundle6.specs.Table.{fragment, primary};
 
-use crate::fault::{Cause6, Fail6};
+use crate::fault::{Cause6, Fail6, Refused6};
+use crate::fields::{number, octet};
 use crate::flags::{FRAGMENT, has_bit};
 use crate::names::{Named, dictionary_at, four_names_at};
-use crate::reading::{number, octet};
 use endpoint::{Endpoint, Fragment};
 use std::alloc::Global;
 
@@ -37,32 +37,33 @@ pub struct Primary6 {
     pub sequence: u64,
     /// For how many seconds it lives.
     pub lifetime: u64,
-    /// Where its payload lies in the whole, exactly where flag bit 0 is set.
+    /// Where its payload lies in the whole, if and only if flag bit 0 is set.
     pub fragment: Option<Fragment>,
 }
 
 /// The version's octet.
-fn version_at(text: &[u8], at: usize) -> Result<(u8, usize), Fail6>
+pub(crate) fn version_at(text: &[u8], at: usize) -> Result<(u8, usize), Refused6>
     requires { at ≤ length text.now }
     ensures within { IfOk result (λ x. IsOn at text.now x.1) }
-    ensures exact { Gives (λ version. version) refusal result (read (exact_octet 6 Cause6.Version) text.now at) }
+    ensures exact { Gives (λ version. version) refused_at result (read (exact_octet 6 Cause6.Version) text.now at) }
 {
-    let (version, behind) = octet(text, at, Cause6::Version)?;
+    let (version, after) = octet(text, at, Cause6::Version)?;
     if version != 6 {
-        return Err(Fail6::Refused {
-            at,
-            cause: Cause6::Version,
-        });
+        return Err(Cause6::Version.at(at));
     }
-    Ok((version, behind))
+    Ok((version, after))
 }
 
 /// Offset and total of a fragment, where the flags say that the bundle is one.
 #[tactic(auto, unfolding(crate::specs::Table::fragment))]
-fn fragment_at(text: &[u8], at: usize, flags: u64) -> Result<(Option<Fragment>, usize), Fail6>
+pub(crate) fn fragment_at(
+    text: &[u8],
+    at: usize,
+    flags: u64,
+) -> Result<(Option<Fragment>, usize), Refused6>
     requires { at ≤ length text.now }
     ensures within { IfOk result (λ x. IsOn at text.now x.1) }
-    ensures exact { Gives (λ part. part) refusal result (read (optional (has_bit 0 flags) fragment) text.now at) }
+    ensures exact { Gives (λ part. part) refused_at result (read (optional (has_bit 0 flags) fragment) text.now at) }
 {
     if !has_bit(flags, FRAGMENT) {
         return Ok((None, at));
@@ -72,18 +73,15 @@ fn fragment_at(text: &[u8], at: usize, flags: u64) -> Result<(Option<Fragment>, 
     Ok((Some(Fragment { offset, total }), at))
 }
 
-/// The end of the primary block: so many octets stand behind the start of what its length counts.
-fn end_at(start: usize, at: usize, size: u64) -> Result<(), Fail6>
+/// The end of the primary block: so many octets stand after the start of what its length counts.
+pub(crate) fn end_at(start: usize, at: usize, size: u64) -> Result<(), Refused6>
     requires { start ≤ at }
     ensures here { OnOk result ((at - start == size) ≡ true) }
     ensures elsewhere { IfErr result (λ fail.
-        ((at - start == size) ≡ false) × (fail ≡ Fail6.Refused at Cause6.PrimaryEnd)) }
+        ((at - start == size) ≡ false) × (fail ≡ refused at Cause6.PrimaryEnd)) }
 {
     if (at - start) as u64 != size {
-        return Err(Fail6::Refused {
-            at,
-            cause: Cause6::PrimaryEnd,
-        });
+        return Err(Cause6::PrimaryEnd.at(at));
     }
     Ok(())
 }

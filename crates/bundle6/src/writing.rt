@@ -5,8 +5,8 @@ ghost use Rattle.std.specs.List.{All, flat_map};
 ghost use Rattle.sdnv.specs.Shortest.{spelling};
 ghost use Rattle.bundle6.specs.Bits.{has_bit};
 ghost use Rattle.bundle6.specs.Legal.{IsLegal, IsLegalBlock, IsReadAgain, Spells6};
-ghost use Rattle.bundle6.specs.Canon.{pair_octets, part_octets, marked, canon6};
-ghost use Rattle.bundle6.specs.Writing.{Fits, pairs_octets, rest_written, primary_written, refs_written, block_written, blocks_written};
+ghost use Rattle.bundle6.specs.Spelling.{pair_octets, part_octets, marked, canon6};
+ghost use Rattle.bundle6.specs.Writing.{pairs_octets, rest_written, primary_written, refs_written, block_written, blocks_written};
 
 use crate::block::{Block6, Blocks6};
 use crate::bundle::Bundle6;
@@ -53,7 +53,7 @@ fn write_part(out: &mut Vec<u8>, part: Option<Fragment>) -> Result<(), AllocErro
     Ok(())
 }
 
-/// What stands behind the length field of a primary block.
+/// What stands after the length field of a primary block.
 fn rest_of(
     alloc: Global,
     primary: &Primary6,
@@ -114,8 +114,7 @@ fn write_block(
 ) -> Result<(), AllocError>
     requires legal { IsLegalBlock block.now }
     requires counted { length pairs.now ≡ length block.now.refs }
-    ensures written { OnOk result (out.new.items ≡ out.old.items ++ block_written last block.now pairs.now) }
-    ensures fits { OnOk result (Fits block.now) }
+    ensures { OnOk result (out.new.items ≡ out.old.items ++ block_written last block.now pairs.now) }
 {
     out.push(block.kind)?;
     sdnv::write(marked(block, last), out)?;
@@ -129,8 +128,7 @@ fn write_block(
 fn write_blocks(out: &mut Vec<u8>, blocks: &[Block6], pairs: &[Offsets]) -> Result<(), AllocError>
     requires legal { All IsLegalBlock blocks.now }
     requires counted { length pairs.now ≡ length (flat_map (λ block. block.refs) blocks.now) }
-    ensures written { OnOk result (out.new.items ≡ out.old.items ++ blocks_written blocks.now pairs.now) }
-    ensures fits { OnOk result (All Fits blocks.now) }
+    ensures { OnOk result (out.new.items ≡ out.old.items ++ blocks_written blocks.now pairs.now) }
 {
     let mut rest = pairs;
     for (i, block) in blocks.iter().enumerate() {

@@ -1,6 +1,8 @@
 //! What the program says of itself.
 
-/// What `--help` prints.
+/// What `--help` prints. The script `fimdahol` shows it before anything is built, and reads it and
+/// `VERSION` from here: each begins after a line that ends with a backslash, and ends before a line
+/// that is `";`.
 pub const HELP: &str = "\
 fimdahol: a gateway between bundles of BPv6 and of BPv7, over LTP
 
@@ -22,12 +24,14 @@ check and show read the octets of bundles of both versions, end to end, and writ
   {..}                           by show, of each bundle: its values
   refused BUNDLE AT CAUSE        last, where a bundle isn't one, and where in the input
 
+limits: 67108864 octets of input; of receive 1000000 lines, 9000000 octets a line and 64
+        unfinished sessions
+
 status: 0 done, 1 the input was refused, 2 wrong usage, 3 a read failed, 4 a write failed,
-        6 the input passes a limit, 7 memory ran out
+        6 the input passes a limit, 7 memory ran out; standard error says more of 2 to 7
 ";
 
 /// What `--version` prints.
-pub const VERSION: &str = "fimdahol 0.1.0, proved with rattle-kit-13f logic dac8208d650f15bf\n";
-
-/// What is put on standard error where the words name no command.
-pub const USAGE: &str = "fimdahol: these words are no command; 'fimdahol --help' lists them\n";
+pub const VERSION: &str = "\
+fimdahol 0.1.0
+";

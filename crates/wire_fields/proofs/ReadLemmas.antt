@@ -193,8 +193,8 @@ field-refuses : {C : Type 0} (k : Kind) (cause : C) (w : List ℕ) (at : ℕ) (s
 field-refuses k cause w at truncated fits is = rw (look-short k w is) refl
 field-refuses k cause w at (because d) fits is = rw (look-is_absent k w fits is.0, is.1) refl
 
-octets-behind : (front w : List ℕ) → IsOctets (front ++ w) → IsOctets w
-octets-behind front w fits = subst IsOctets (drop-append_seam front w) (octets-drop (length front) (front ++ w) fits)
+pub octets-back : (front w : List ℕ) → IsOctets (front ++ w) → IsOctets w
+octets-back front w fits = subst IsOctets (drop-append_seam front w) (octets-drop (length front) (front ++ w) fits)
 
 pub read-refuses : {C A : Type 0} (f : Format C A) (front w : List ℕ) (p : ℕ) (s : Stop C)
     → IsOctets (front ++ w) → Refusal f front w p s → read f (front ++ w) (length front) ≡ stopped p s
@@ -202,7 +202,7 @@ read-refuses (give x) front w p s fits r = absurd r
 read-refuses place front w p s fits r = absurd r
 read-refuses (since q) front w p s fits r = absurd r
 read-refuses (field k cause) front w p s fits r =
-    rw (drop-append_seam front w, r.0) (field-refuses k cause w (length front) s (octets-behind front w fits) r.1)
+    rw (drop-append_seam front w, r.0) (field-refuses k cause w (length front) s (octets-back front w fits) r.1)
 read-refuses (such_that f conditions) front w p s fits (inl r) =
     let first = read-refuses f front w p s fits r in
     rw first refl

@@ -11,7 +11,7 @@ use Rattle.wire_fields.specs.Reading.{look, ahead, named, judged, go_on, read, I
 use Rattle.wire_fields.proofs.TextLemmas.{octets-drop, since_place}
 use Rattle.wire_fields.proofs.ResultLemmas.{found, found_is, stopped_is}
 use Rattle.wire_fields.proofs.KindLemmas.{look-absent-more, look-found-more}
-use Rattle.wire_fields.proofs.ReadLemmas.{read-only, read-found, read-refused, read-refuses, refusal-place}
+use Rattle.wire_fields.proofs.ReadLemmas.{read-only, read-found, read-refused, read-refuses, refusal-place, octets-back}
 
 -- ---- a settled answer stays
 
@@ -94,10 +94,15 @@ read-within f text more a k fits h e =
 
 -- ---- the same of spellings and refusals, without reading
 
-octets-front : (text more : List ℕ) → IsOctets (text ++ more) → IsOctets text
+pub octets-front : (text more : List ℕ) → IsOctets (text ++ more) → IsOctets text
 octets-front [] more fits i = lit< tt
 octets-front (x ∷ text) more fits zero = fits 0
 octets-front (x ∷ text) more fits (suc i) = octets-front text more (λ j. fits (suc j)) i
+
+-- octets in two parts
+pub octets-parts : (w u v : List ℕ) → w ≡ u ++ v → IsOctets w → IsOctets u × IsOctets v
+octets-parts w u v is fits =
+    let both : IsOctets (u ++ v) = rw is at fits in (octets-front u v both, octets-back u v both)
 
 -- a refusal for a cause stays
 pub refusal-stays : {C A : Type 0} (f : Format C A) (text more : List ℕ) (at : ℕ) (cause : C) → IsOctets (text ++ more)

@@ -14,7 +14,7 @@ returns-in_err-endpoint-clause-exact c =
     let names = λ (earlier : List Endpoint). name c.args.dictionary.now in
     let all = read (listed c.args.count names) c.args.text.now c.args.at in
     gives-fault (λ refs. refs) refusal c.from_residual.result c.in_err-endpoint.field-0.0 all c.from_residual.ensures.1
-    (listed-fails names c.args.text.now c.args.count c.references.counter c.references.refs c.references.behind
+    (listed-fails names c.args.text.now c.args.count c.references.counter c.references.refs c.references.after
     (refusal c.in_err-endpoint.field-0.0) all c.references-test.true c.in_err-endpoint.ensures.exact c.references.invariant.rest)
 
 pub references-preserved : goal.references-preserved
@@ -28,6 +28,6 @@ references-preserved c =
       };
       rest = rw c.in_ok-push.ensures.ok
           (listed-step names c.args.text.now c.args.count c.references.counter c.references.refs c.in_ok-endpoint.endpoint
-          c.references.behind c.in_ok-endpoint.after all c.references-test.true c.in_ok-endpoint.ensures.exact
+          c.references.after c.in_ok-endpoint.next all c.references-test.true c.in_ok-endpoint.ensures.exact
           c.references.invariant.rest);
     }

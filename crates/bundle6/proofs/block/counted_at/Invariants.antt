@@ -8,7 +8,7 @@ use Rattle.bundle6.proofs.block.counted_at.Given as goal
 
 abbrev pub invariant-references : goal.invariant-references
 invariant-references l = record {
-  place : IsOn l.at l.text l.behind;
-  rest : read (repeated (l.count - l.counter) (one_more (λ earlier. name l.dictionary)) l.refs) l.text l.behind
+  place : IsOn l.at l.text l.after;
+  rest : read (repeated (l.count - l.counter) (one_more (λ earlier. name l.dictionary)) l.refs) l.text l.after
       ≡ read (listed l.count (λ earlier. name l.dictionary)) l.text l.at;
 }

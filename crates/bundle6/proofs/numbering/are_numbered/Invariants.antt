@@ -1,6 +1,6 @@
 use Rattle.std.proofs.Common.{◌≡◌, true, take}
 use Rattle.std.specs.List.{list_all}
-use Rattle.bundle6.specs.Canon.{is_numbered}
+use Rattle.bundle6.specs.Spelling.{is_numbered}
 use Rattle.bundle6.specs.Numbering.{lent_out}
 use Rattle.bundle6.proofs.numbering.are_numbered.Given as goal
 

@@ -1,5 +1,5 @@
 use Rattle.std.proofs.Common.{take, []}
-use Rattle.bundle6.specs.Canon.{with_names}
+use Rattle.bundle6.specs.Spelling.{with_names}
 use Rattle.bundle6.specs.Numbering.{lent_out}
 use Rattle.bundle6.proofs.NumberingLemmas.{so_far-start, so_far-more, lent-more}
 use Rattle.bundle6.proofs.numbering.with_dictionary.Goals as goal

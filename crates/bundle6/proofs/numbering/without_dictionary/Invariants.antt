@@ -1,5 +1,5 @@
 use Rattle.std.proofs.Common.{◌≡◌, map, take}
-use Rattle.bundle6.specs.Canon.{numbers_of}
+use Rattle.bundle6.specs.Spelling.{numbers_of}
 use Rattle.bundle6.specs.Numbering.{lent_out}
 use Rattle.bundle6.proofs.numbering.without_dictionary.Given as goal
 

@@ -1,7 +1,6 @@
--- One block more is written, of which the numbers stand in front.
+-- One block more is written, whose numbers stand first.
 use Rattle.std.proofs.Common.{◌≡◌, ap, ◌∙◌, drop, length, take}
-use Rattle.std.proofs.lemmas.List.{take_all}
-use Rattle.bundle6.proofs.WritingLemmas.{counted-step, written-step, written-end, fits-step}
+use Rattle.bundle6.proofs.WritingLemmas.{counted-step, written-step, written-end}
 use Rattle.bundle6.proofs.writing.write_blocks.Goals as goal
 
 pub loop-i-preserved : goal.loop-i-preserved
@@ -17,13 +16,9 @@ loop-i-preserved c =
       counted = rw back (counted-step blocks c.loop-i.i b rest c.loop-i-test.true c.index-blocks-i.is c.loop-i.invariant.counted);
       written = rw back
           (written-step blocks c.loop-i.i b rest c.loop-i.out.items c.write_block.new.out.items _ c.loop-i-test.true c.index-blocks-i.is
-          (rw front at c.in_ok-write_block.ensures.written) c.loop-i.invariant.written);
-      fits = fits-step blocks c.loop-i.i b c.loop-i-test.true c.index-blocks-i.is c.loop-i.invariant.fits c.in_ok-write_block.ensures.fits;
+          (rw front at c.in_ok-write_block.ensures) c.loop-i.invariant.written);
     }
 
-pub returns-clause-written : goal.returns-clause-written
-returns-clause-written c =
+pub returns : goal.returns
+returns c =
     written-end c.args.blocks.now c.loop-i.i c.loop-i.rest.now c.loop-i.out.items _ c.loop-i-test.false c.loop-i.invariant.written
-
-pub returns-clause-fits : goal.returns-clause-fits
-returns-clause-fits c = rw (take_all c.loop-i.i c.args.blocks.now c.loop-i-test.false) at c.loop-i.invariant.fits

@@ -1,5 +1,5 @@
 use Rattle.endpoint.specs.Endpoints.{scheme_of}
-use Rattle.bundle6.specs.Canon.{with_text}
+use Rattle.bundle6.specs.Spelling.{with_text}
 use Rattle.bundle6.proofs.PlacesLemmas.{named-placed}
 use Rattle.bundle6.proofs.gathering.Gathering.name.Goals as goal
 

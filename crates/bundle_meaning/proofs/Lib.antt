@@ -1,0 +1,5 @@
+pub mod BodyLemmas
+pub mod NamesLemmas
+pub mod FieldLemmas
+pub mod SpellingLemmas
+pub mod RecordLemmas

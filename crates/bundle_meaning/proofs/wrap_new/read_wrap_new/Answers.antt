@@ -1,0 +1,14 @@
+-- Each clause follows from the exact one.
+use Rattle.std.proofs.Common.{arith, length}
+use Rattle.bundle_meaning.specs.Wrap.{wrap_new}
+use Rattle.bundle_meaning.proofs.BodyLemmas.{body-found, body-only, body-bad}
+use Rattle.bundle_meaning.proofs.wrap_new.read_wrap_new.Goals as goal
+
+pub returns-clause-found : goal.returns-clause-found
+returns-clause-found c = body-found (wrap_new (length c.args.body.now)) c.whole_wrap.result c.args.body.now (λ i. omega (arith, c.type_inv.body i)) c.whole_wrap.ensures
+
+pub returns-clause-only : goal.returns-clause-only
+returns-clause-only c = body-only (wrap_new (length c.args.body.now)) c.whole_wrap.result c.args.body.now c.whole_wrap.ensures
+
+pub returns-clause-bad : goal.returns-clause-bad
+returns-clause-bad c = body-bad (wrap_new (length c.args.body.now)) c.whole_wrap.result c.args.body.now (λ i. omega (arith, c.type_inv.body i)) c.whole_wrap.ensures

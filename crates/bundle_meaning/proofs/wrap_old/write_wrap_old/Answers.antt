@@ -1,0 +1,9 @@
+use Rattle.std.proofs.Common.{◌∙◌}
+use Rattle.bundle_meaning.proofs.SpellingLemmas.{wrap_old-written}
+use Rattle.bundle_meaning.proofs.wrap_old.write_wrap_old.Goals as goal
+
+pub returns : goal.returns
+returns c =
+    wrap_old-written c.args.block.now c.from_vec.result c.in_ok-out.out.items c.write_numbers.new.out.items c.requires
+    c.in_ok-out.ensures (rw c.from.ensures at c.in_ok-write_numbers.ensures)
+    (c.from_vec.ensures ∙ rw c.as_slice.ensures at c.in_ok-extend_from_slice.ensures.items)

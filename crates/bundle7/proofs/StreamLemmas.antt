@@ -1,5 +1,5 @@
 -- How a stream is cut makes no difference.
-use Rattle.std.proofs.Common.{◌≡◌, ℕ, ◌+◌, ◌-◌, ◌≤◌, nat_lt, Bool, true, false, List, ◌++◌, length, take, length-append, append_assoc, take_all, inl, inr, arith, Result, Ok, Err, refl, sym, ap, ◌∙◌}
+use Rattle.std.proofs.Common.{◌≡◌, ℕ, ◌+◌, ◌-◌, ◌≤◌, nat_lt, Bool, true, false, List, [], ◌++◌, length, take, Option, Some, None, length-append, append_assoc, take_all, inl, inr, arith, Result, Ok, Err, refl, sym, ap, ◌∙◌}
 use Rattle.std.proofs.lemmas.Bool.{lt-ltb, le-ltb, cases_lt}
 use Rattle.std.proofs.lemmas.List.{take-append-le}
 use Rattle.std.proofs.Math.Seq.{take-append-add}
@@ -7,11 +7,15 @@ use Rattle.wire_fields.specs.Refusal.{Stop, truncated, because}
 use Rattle.wire_fields.specs.Reading.{read, IsSettled, IsOctets}
 use Rattle.wire_fields.proofs.StayLemmas.{read-stays, read-within}
 use Rattle.bundle7.specs.declared.fault.Cause7.{Cause7}
+use Rattle.bundle7.specs.declared.fault.Refused7.{Refused7}
+use Rattle.bundle7.specs.declared.fault.Fail7.{Fail7}
+use Rattle.bundle7.specs.declared.fault.Fail7.TheVariants as fails
 use Rattle.bundle7.specs.declared.bundle.Bundle7.{Bundle7}
+use Rattle.bundle7.specs.declared.told.Fed7.{Fed7}
 use Rattle.bundle7.specs.declared.told.Told.{Told}
 use Rattle.bundle7.specs.declared.told.Told.TheVariants.{Open, Whole, Stopped}
 use Rattle.bundle7.specs.Table.{bundle}
-use Rattle.bundle7.specs.Stream.{Stream, told_of, octets_with, is_longer, told, kept_with, IsTold}
+use Rattle.bundle7.specs.Stream.{Stream, told_of, octets_with, is_longer, told, kept_with, IsTold, Turns, FeedsBy, Feeds, IsUnfinished}
 
 abbrev bundle_or : Bundle7 → Told → Bundle7
 bundle_or other Open = other
@@ -122,3 +126,43 @@ told-ends most s piece b size fits open_yet is =
           absurd (not-told s.before (read (bundle 64) s.kept 0) b size open_yet kept)
       | inr late ↦ late
     ]
+
+-- ---- what is kept is unfinished
+
+pub none-unfinished : (before : ℕ) (refused : Option Refused7) → IsUnfinished (record { kept = []; before = before; refused = refused })
+unfolding bundle
+none-unfinished before refused = refl
+
+-- what came to nothing comes to nothing from any place
+still-open : (before other : ℕ) (longer : Bool) (given : Result (Bundle7 × ℕ) (ℕ × Stop Cause7)) → told_of before longer given ≡ Open
+    → told_of other false given ≡ Open
+still-open before other longer (Ok x) is = absurd (cc)
+still-open before other true (Err (at, truncated)) is = absurd (cc)
+still-open before other false (Err (at, truncated)) is = refl
+still-open before other longer (Err (at, because c)) is = absurd (cc)
+
+turned-unfinished : (old new : Stream) (octets : List ℕ) (come : Told) (result : Result Fed7 Fail7)
+    → (come ≡ Open → told_of old.before false (read (bundle 64) octets 0) ≡ Open) → Turns old octets come result new → IsUnfinished old → IsUnfinished new
+turned-unfinished old new octets Open (Ok fed) open_yet (is, now) before = rw now (open_yet refl)
+turned-unfinished old new octets (Whole b size) (Ok fed) open_yet (is, now) before = rw now (none-unfinished (old.before + size) None)
+turned-unfinished old new octets (Stopped r) (Ok fed) open_yet turns before = absurd turns
+turned-unfinished old new octets Open (Err (fails.Refused at cause)) open_yet turns before = absurd turns
+turned-unfinished old new octets (Whole b size) (Err (fails.Refused at cause)) open_yet turns before = absurd turns
+turned-unfinished old new octets (Stopped r) (Err (fails.Refused at cause)) open_yet (is, now) before = rw now before
+turned-unfinished old new octets Open (Err fails.Memory) open_yet now before = rw now before
+turned-unfinished old new octets (Whole b size) (Err fails.Memory) open_yet now before = rw now before
+turned-unfinished old new octets (Stopped r) (Err fails.Memory) open_yet (now, begun) before = rw now before
+
+fed-by : (o : Option Refused7) (most : ℕ) (old new : Stream) (piece : List ℕ) (result : Result Fed7 Fail7) → FeedsBy o most old piece result new
+    → IsUnfinished old → IsUnfinished new
+unfolding told
+fed-by (Some r) most old new piece result (is, now) before = rw now before
+fed-by None most old new piece result turns before =
+    turned-unfinished old new (octets_with most old piece)
+    (told_of old.before (is_longer most old piece) (read (bundle 64) (octets_with most old piece) 0)) result
+    (still-open old.before old.before (is_longer most old piece) (read (bundle 64) (octets_with most old piece) 0)) turns before
+
+pub fed-unfinished : (most : ℕ) (old new : Stream) (piece : List ℕ) (result : Result Fed7 Fail7) → Feeds most old piece result new
+    → IsUnfinished old → IsUnfinished new
+unfolding Feeds
+fed-unfinished most old new piece result feeds before = fed-by old.refused most old new piece result feeds before

@@ -1,5 +1,5 @@
 -- Bundles out of a stream that comes in pieces: what a reader keeps, and what a piece makes of it.
-use Rattle.std.specs.Prelude.{◌≡◌, ℕ, ◌+◌, ◌-◌, ◌<◌, nat_lt, Bool, if◌then◌else◌, List, [], ◌∷◌, ◌++◌, length, take, Option, Some, None, Result, Ok, Err}
+use Rattle.std.specs.Prelude.{◌≡◌, ℕ, ◌+◌, ◌-◌, ◌<◌, nat_lt, Bool, false, if◌then◌else◌, List, [], ◌∷◌, ◌++◌, length, take, Option, Some, None, Result, Ok, Err}
 use Rattle.wire_fields.specs.Refusal.{Stop, truncated, because}
 use Rattle.wire_fields.specs.Reading.{read}
 use Rattle.bundle7.specs.declared.fault.Cause7.{Cause7}
@@ -27,7 +27,7 @@ abbrev pub refusal_at : ℕ → Cause7 → Refused7
 refusal_at at cause = record { at = at; cause = cause }
 
 -- What the octets since the last bundle come to, which begin at a place and are read so: a bundle and
--- its length, a refusal, or nothing yet. Where no more of them are kept, it is too late for that.
+-- its length, a refusal, or nothing yet. Where more follow than are kept, nothing yet is too long.
 abbrev pub told_of : ℕ → Bool → Result (Bundle7 × ℕ) (ℕ × Stop Cause7) → Told
 told_of before longer (Ok x) = Whole x.0 x.1
 told_of before longer (Err (at, truncated)) =
@@ -122,3 +122,7 @@ abbrev pub IsTold : Told → Type 0
 IsTold Open = ⊥
 IsTold (Whole b size) = Unit {0}
 IsTold (Stopped r) = Unit {0}
+
+-- what is kept is the beginning of a bundle, or nothing
+abbrev pub IsUnfinished : Stream → Type 0
+IsUnfinished stream = told_of stream.before false (read (bundle 64) stream.kept 0) ≡ Open

@@ -36,7 +36,7 @@ pub use bundle::Bundle7;
 pub use eid::{previous_of, read_eid, write_eid};
 pub use fault::{Cause7, EidFault, Fail7, Refused7};
 pub use judging::judge7;
-pub use laws::{any_cut, exactly_one, one_body, one_eid, one_spelling};
+pub use laws::{any_cut, exactly_one, keeps_unfinished, one_body, one_eid, one_spelling};
 pub use primary::Primary7;
 pub use reading::decode7;
 pub use stream::Reader7;

@@ -10,3 +10,4 @@ pub mod WritingLemmas
 pub mod JudgeLemmas
 pub mod PassLemmas
 pub mod ReaderLemmas
+pub mod AnswerLemmas

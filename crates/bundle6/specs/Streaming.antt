@@ -1,8 +1,8 @@
 -- Reading a stream of bundles in pieces.
 
-use Rattle.std.specs.Prelude.{◌≡◌, ℕ, ◌+◌, ◌-◌, ◌<◌, ◌≤◌, Bool, true, false, List, [], ◌++◌, length, take, Option, Some, None, Result, Ok, Err, ◌⊎◌}
-use Rattle.wire_fields.specs.Refusal.{truncated, because}
-use Rattle.wire_fields.specs.Reading.{read}
+use Rattle.std.specs.Prelude.{◌≡◌, ℕ, ◌+◌, ◌-◌, ◌<◌, ◌≤◌, Bool, true, false, nat_lt, if◌then◌else◌, List, [], ◌++◌, length, take, Option, Some, None, Result, Ok, Err, ◌⊎◌}
+use Rattle.wire_fields.specs.Refusal.{Stop, truncated, because}
+use Rattle.wire_fields.specs.Reading.{read, IsOctets}
 use Rattle.bundle6.specs.declared.fault.Cause6.{Cause6}
 use Rattle.bundle6.specs.declared.fault.Cause6.TheVariants.{Truncated, TooLong}
 use Rattle.bundle6.specs.declared.fault.Refused6.{Refused6}
@@ -24,7 +24,7 @@ pub record Reading : Type 0 where
   pub refused : Option Refused6
   pub spent : Bool
 
--- the octets begin a bundle, or are none, and end before it does
+-- the octets end inside a bundle that they begin, or are none
 abbrev pub IsOpen : List ℕ → Type 0
 IsOpen text = (at : ℕ) × (read (bundle 64) text 0 ≡ Err (at, truncated))
 
@@ -91,6 +91,29 @@ pub record AnswersAgain {A : Type 0} (refused : Refused6) (old : Reading)
     (result : Result A Fail6) (new : Reading) : Type 0 where
   pub answer : result ≡ Err (Refused refused.at refused.cause)
   pub kept : new ≡ old
+
+-- ---- one answer
+
+-- the answer to a piece, by what the octets kept and the near ones of the piece are; whether more of it
+-- follow
+abbrev pub answer_of : Stream → List ℕ → Bool → Result (Bundle6 × ℕ) (ℕ × Stop Cause6) → Result Fed6 Fail6
+answer_of old piece more (Ok x) = Ok (record { used = x.1 - length old.kept; bundle = Some x.0 })
+answer_of old piece more (Err (at, truncated)) =
+    if more then Err (Refused old.before TooLong)
+    else Ok (record { used = length piece; bundle = None })
+answer_of old piece more (Err (at, because cause)) = Err (Refused (old.before + at) cause)
+
+abbrev pub answer : ℕ → Stream → List ℕ → Result Fed6 Fail6
+answer longest old piece =
+    answer_of old piece (nat_lt longest (length old.kept + length piece))
+    (read (bundle 64) (old.kept ++ near longest old piece) 0)
+
+-- A piece has one answer, or memory is wanted.
+abbrev pub HaveOneAnswer : ℕ → Type 0
+HaveOneAnswer longest = (old new : Stream) (piece : List ℕ) (result : Result Fed6 Fail6)
+    → length old.kept ≤ longest → IsOctets (old.kept ++ piece)
+    → Feeds longest old piece result new → (result ≡ Err Memory → ⊥)
+    → result ≡ answer longest old piece
 
 -- ---- cutting
 

@@ -92,6 +92,7 @@ impl Reader6 {
             → Feeds 67108864 self.old.stream piece.now result self.new.stream }
         ensures again { IfSome self.old.refused (λ refused. AnswersAgain refused self.old result self.new) }
         ensures remembers { Remembers result self.new }
+        ensures bounded { length self.new.stream.kept ≤ 67108864 }
     {
         if let Some(refused) = self.refused {
             return Err(refused.into());

@@ -8,7 +8,8 @@ use Rattle.ltp_segment.specs.declared.segment.PieceKind.{PieceKind}
 use Rattle.ltp_segment.specs.declared.segment.PieceKind.TheVariants as kinds
 use Rattle.ltp_segment.specs.Values.{PieceValue, ReportValue, ContentValue, a_piece, a_report, a_report_ack, a_sender_cancel, a_sender_cancel_ack, a_receiver_cancel, a_receiver_cancel_ack}
 use Rattle.ltp_segment.specs.Policy.{PolicyValue}
-use Rattle.ltp_session.specs.Timer.{Timer, first_timer, next_timer, is_due, may_repeat, first_serial, is_past_serials}
+use Rattle.ltp_session.specs.declared.timer.Timer.{Timer}
+use Rattle.ltp_session.specs.Timer.{first_timer, next_timer, is_due, may_repeat, first_serial, is_past_serials}
 use Rattle.ltp_session.specs.Cells.{filled, reach_of, stop_of, whole_part, length_after, is_past, is_below, is_misplaced, is_no_part}
 use Rattle.ltp_session.specs.Claims.{report_on, is_whole_claim}
 use Rattle.ltp_session.specs.Step.{Change, stays, keeps, ends, GreenValue, StepValue, sending, noting, note_failed, note_refused, note_cancelled, note_bad_bounds, note_closed, note_history_full, unreachable, sent_too_often, miscoloured, by_system}

@@ -7,7 +7,8 @@ use Rattle.ltp_segment.specs.declared.segment.PieceKind.{PieceKind}
 use Rattle.ltp_segment.specs.declared.segment.PieceKind.TheVariants as kinds
 use Rattle.ltp_segment.specs.Values.{PieceValue, ReportValue, ContentValue, a_piece, a_report, a_report_ack, a_sender_cancel, a_sender_cancel_ack, a_receiver_cancel, a_receiver_cancel_ack}
 use Rattle.ltp_segment.specs.Policy.{PolicyValue}
-use Rattle.ltp_session.specs.Timer.{Timer, first_timer, next_timer, is_due, may_repeat, first_serial, is_past_serials}
+use Rattle.ltp_session.specs.declared.timer.Timer.{Timer}
+use Rattle.ltp_session.specs.Timer.{first_timer, next_timer, is_due, may_repeat, first_serial, is_past_serials}
 use Rattle.ltp_session.specs.Claims.{with_claims}
 use Rattle.ltp_session.specs.Step.{Change, stays, keeps, ends, StepValue, sending, noting, note_sent, note_failed, note_cancelled, note_bad_bounds, sent_too_often, by_system}
 

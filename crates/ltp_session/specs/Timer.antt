@@ -1,12 +1,9 @@
 -- How often a segment that waits for an answer was sent, and until when it waits (RFC 5326,
--- sections 6.5 to 6.8). The serial numbers of such segments.
+-- sections 6.7, 6.8 and 6.16). The serial numbers of such segments.
 
 use Rattle.std.specs.Prelude.{ℕ, ◌+◌, ◌%◌, ◌^◌, Bool, ◌==◌, nat_lt, nat_le}
 use Rattle.ltp_segment.specs.Policy.{PolicyValue, wait_after}
-
-pub record Timer : Type 0 where
-  pub times : ℕ
-  pub deadline : ℕ
+use Rattle.ltp_session.specs.declared.timer.Timer.{Timer}
 
 -- a segment was sent for the first time at this moment
 abbrev pub first_timer : PolicyValue → ℕ → Timer

@@ -7,10 +7,13 @@
 //! on a link that may lose, repeat and reorder what they send.
 //!
 //! The contracts of the sessions and of all that stands on them cite these definitions, and the
-//! laws over whole runs are proved about them. [`examples`] computes short runs.
+//! laws over whole runs are proved about them. [`examples`] computes short runs. What both kinds of
+//! session need as code, a session's name and a timer, stands here too.
 #![tactic(auto)]
 
 pub mod examples;
 mod name;
+mod timer;
 
 pub use name::SessionName;
+pub use timer::{Timer, first_serial};

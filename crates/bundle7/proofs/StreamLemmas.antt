@@ -15,7 +15,7 @@ use Rattle.bundle7.specs.declared.told.Fed7.{Fed7}
 use Rattle.bundle7.specs.declared.told.Told.{Told}
 use Rattle.bundle7.specs.declared.told.Told.TheVariants.{Open, Whole, Stopped}
 use Rattle.bundle7.specs.Table.{bundle}
-use Rattle.bundle7.specs.Stream.{Stream, told_of, octets_with, is_longer, told, kept_with, IsTold, Turns, FeedsBy, Feeds, IsUnfinished}
+use Rattle.bundle7.specs.Streaming.{Stream, told_of, octets_with, is_longer, told, kept_with, IsTold, Turns, FeedsBy, Feeds, IsUnfinished}
 
 abbrev bundle_or : Bundle7 → Told → Bundle7
 bundle_or other Open = other

@@ -7,7 +7,7 @@ pub mod Table
 pub mod Legal
 pub mod Spelling
 pub mod Calls
-pub mod Stream
+pub mod Streaming
 -- What follows only ties code to the definitions.
 pub mod Lent
 pub mod Seen

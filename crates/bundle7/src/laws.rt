@@ -16,7 +16,7 @@ ghost use Rattle.bundle7.specs.Body.{IsBody, is_body};
 ghost use Rattle.bundle7.specs.Table.{bundle};
 ghost use Rattle.bundle7.specs.Spelling.{eid_octets, octets7};
 ghost use Rattle.bundle7.specs.Legal.{IsLegal7, Spells7};
-ghost use Rattle.bundle7.specs.Stream.{Stream, octets_with, told, kept_with, IsTold, Feeds, IsUnfinished};
+ghost use Rattle.bundle7.specs.Streaming.{Stream, octets_with, told, kept_with, IsTold, Feeds, IsUnfinished};
 
 /// Of each text of octets exactly one holds: one front of it spells a bundle, with one value, or it is
 /// refused at one place for one reason.
@@ -47,7 +47,7 @@ pub fn one_body()
 {}
 
 /// How a stream is cut makes no difference to what its octets come to.
-pub fn any_cut()
+pub fn cuts_alike()
     // What a piece doesn't settle is as if it came with the next.
     ensures later { (most : ℕ) (stream : Stream) (piece next : List ℕ)
         → length stream.kept + length piece ≤ most

@@ -1,5 +1,5 @@
 use Rattle.bundle7.proofs.StreamLemmas.{told-later, told-stays}
-use Rattle.bundle7.proofs.laws.any_cut.Goals as goal
+use Rattle.bundle7.proofs.laws.cuts_alike.Goals as goal
 
 pub returns-clause-later : goal.returns-clause-later
 returns-clause-later c = told-later

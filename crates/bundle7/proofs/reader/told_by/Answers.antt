@@ -3,7 +3,7 @@ use Rattle.wire_fields.proofs.StayLemmas.{refusal-within}
 use Rattle.bundle7.specs.Cause.{why}
 use Rattle.bundle7.specs.Table.{bundle}
 use Rattle.bundle7.proofs.JudgingLemmas.{spelled-ok}
-use Rattle.bundle7.proofs.stream.told_by.Goals as goal
+use Rattle.bundle7.proofs.reader.told_by.Goals as goal
 
 pub stopped-requires : goal.stopped-requires
 stopped-requires c =

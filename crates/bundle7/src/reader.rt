@@ -4,7 +4,7 @@ ghost use Rattle.std.specs.Prelude.{◌≡◌, ◌+◌, ◌<◌, ◌^◌, length
 ghost use Rattle.wire_fields.specs.Reading.{read};
 ghost use Rattle.bundle7.specs.Cause.{why};
 ghost use Rattle.bundle7.specs.Table.{bundle};
-ghost use Rattle.bundle7.specs.Stream.{told_of, refused_of};
+ghost use Rattle.bundle7.specs.Streaming.{told_of, refused_of};
 ghost use Rattle.bundle7.specs.Told.{IsWithin};
 
 use crate::fault::{Cause7, Fail7, Refused7};
@@ -14,8 +14,8 @@ use crate::told::{Fed7, Told};
 use std::alloc::{AllocError, Global};
 use std::marker::Model;
 
-/// The most octets of an unfinished bundle that a reader keeps: 64 MiB. Own rule.
-const MOST_KEPT: usize = 67_108_864;
+/// The most octets of a bundle of a stream: 64 MiB. Own rule.
+const LONGEST: usize = 67_108_864;
 
 /// A reader of bundles that stand one after another in a stream. It keeps the octets of the one
 /// unfinished bundle, at most 64 MiB.
@@ -29,10 +29,11 @@ pub struct Reader7 {
     kept: Vec<u8>,
     before: usize,
     refused: Option<Refused7>,
+    alloc: Global,
 }
 
 impl Model for Reader7 {
-    ghost use Rattle.bundle7.specs.Stream.{Stream};
+    ghost use Rattle.bundle7.specs.Streaming.{Stream};
 
     ghost Value = { Stream };
 
@@ -43,7 +44,7 @@ impl Reader7 {
     ghost use Rattle.std.specs.Prelude.{◌≡◌, ◌+◌, ◌<◌, ◌≤◌, ◌^◌, ◌++◌, [], length, IfOk, None};
     ghost use Rattle.wire_fields.specs.Reading.{read};
     ghost use Rattle.bundle7.specs.Table.{bundle};
-    ghost use Rattle.bundle7.specs.Stream.{told_of, Turns, Feeds, Ends};
+    ghost use Rattle.bundle7.specs.Streaming.{told_of, Turns, Feeds, Ends};
 
     /// A reader that has taken nothing yet. It takes no memory.
     pub fn new(alloc: Global) -> Reader7
@@ -53,6 +54,7 @@ impl Reader7 {
             kept: Vec::new(alloc),
             before: 0,
             refused: None,
+            alloc,
         }
     }
 
@@ -61,18 +63,18 @@ impl Reader7 {
     ///
     /// Places count from the first octet of the stream. After a refusal each call answers it again.
     /// Where memory runs out nothing is taken.
-    pub fn feed(&mut self, alloc: Global, piece: &[u8]) -> Result<Fed7, Fail7>
+    pub fn feed(&mut self, piece: &[u8]) -> Result<Fed7, Fail7>
         requires { self.old.before + length self.old.kept + length piece.now < 2 ^ 64 }
         ensures fed { Feeds 67108864 self.old piece.now result self.new }
         ensures within { IfOk result (λ fed. fed.used ≤ length piece.now) }
         ensures few { length self.old.kept ≤ 67108864 → length self.new.kept ≤ 67108864 }
     {
-        self.feed_within(alloc, piece, MOST_KEPT)
+        self.feed_within(piece, LONGEST)
     }
 
     /// The same, where at most so many octets of a bundle count.
-    #[tactic(auto, unfolding(crate::specs::Stream::Feeds, crate::specs::Stream::told))]
-    fn feed_within(&mut self, alloc: Global, piece: &[u8], most: usize) -> Result<Fed7, Fail7>
+    #[tactic(auto, unfolding(crate::specs::Streaming::Feeds, crate::specs::Streaming::told))]
+    fn feed_within(&mut self, piece: &[u8], most: usize) -> Result<Fed7, Fail7>
         requires { self.old.before + length self.old.kept + length piece.now < 2 ^ 64 }
         ensures fed { Feeds most self.old piece.now result self.new }
         ensures within { IfOk result (λ fed. fed.used ≤ length piece.now) }
@@ -85,14 +87,14 @@ impl Reader7 {
         let longer = room < piece.len();
         let front = if longer { &piece[..room] } else { piece };
         if self.kept.is_empty() {
-            self.begin(alloc, front, longer)
+            self.begin(front, longer)
         } else {
-            self.go_on(alloc, front, longer)
+            self.go_on(front, longer)
         }
     }
 
     /// The octets of a bundle that begins with them.
-    fn begin(&mut self, alloc: Global, octets: &[u8], longer: bool) -> Result<Fed7, Fail7>
+    fn begin(&mut self, octets: &[u8], longer: bool) -> Result<Fed7, Fail7>
         requires open { self.old.refused ≡ None }
         requires none { self.old.kept ≡ [] }
         requires place { self.old.before + length octets.now < 2 ^ 64 }
@@ -101,7 +103,7 @@ impl Reader7 {
         ensures within { IfOk result (λ fed. fed.used ≤ length octets.now) }
         ensures few { length self.new.kept ≤ length octets.now }
     {
-        match told_by(alloc, octets, self.before, longer)? {
+        match told_by(self.alloc, octets, self.before, longer)? {
             Told::Open => {
                 self.kept.extend_from_slice(octets)?;
                 Ok(Fed7 {
@@ -124,7 +126,7 @@ impl Reader7 {
     }
 
     /// The octets that follow those that are kept.
-    fn go_on(&mut self, alloc: Global, octets: &[u8], longer: bool) -> Result<Fed7, Fail7>
+    fn go_on(&mut self, octets: &[u8], longer: bool) -> Result<Fed7, Fail7>
         requires open { self.old.refused ≡ None }
         requires place { self.old.before + length self.old.kept + length octets.now < 2 ^ 64 }
         requires begun { 0 < length self.old.kept }
@@ -135,7 +137,7 @@ impl Reader7 {
     {
         let kept = self.kept.len();
         self.kept.extend_from_slice(octets)?;
-        match told_late(alloc, &self.kept, self.before, longer) {
+        match told_late(self.alloc, &self.kept, self.before, longer) {
             Ok(Told::Open) => Ok(Fed7 {
                 used: octets.len(),
                 bundle: None,
@@ -162,7 +164,7 @@ impl Reader7 {
 
     /// Says that the stream has ended: `Truncated` at the unfinished field, if and only if a bundle has
     /// begun and isn't complete. After a refusal each call answers it again.
-    #[tactic(auto, unfolding(crate::specs::Stream::Ends))]
+    #[tactic(auto, unfolding(crate::specs::Streaming::Ends))]
     pub fn finish(&mut self) -> Result<(), Fail7>
         requires { self.old.before + length self.old.kept < 2 ^ 64 }
         ensures { Ends self.old result self.new }

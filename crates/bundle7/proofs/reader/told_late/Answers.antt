@@ -2,7 +2,7 @@ use Rattle.std.proofs.Common.{arith}
 use Rattle.wire_fields.proofs.StayLemmas.{refusal-within}
 use Rattle.bundle7.specs.Cause.{why}
 use Rattle.bundle7.specs.Table.{bundle}
-use Rattle.bundle7.proofs.stream.told_late.Goals as goal
+use Rattle.bundle7.proofs.reader.told_late.Goals as goal
 
 pub stopped-requires : goal.stopped-requires
 stopped-requires c =

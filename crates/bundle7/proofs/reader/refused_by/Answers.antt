@@ -2,7 +2,7 @@ use Rattle.std.proofs.Common.{arith}
 use Rattle.wire_fields.proofs.StayLemmas.{refusal-within}
 use Rattle.bundle7.specs.Cause.{why}
 use Rattle.bundle7.specs.Table.{bundle}
-use Rattle.bundle7.proofs.stream.refused_by.Goals as goal
+use Rattle.bundle7.proofs.reader.refused_by.Goals as goal
 
 pub overflow_add-before : goal.overflow_add-before
 overflow_add-before c =

@@ -6,7 +6,7 @@ use Rattle.std.proofs.Math.Seq.{take-append-add}
 use Rattle.edge_traits.specs.declared.status.Status.{Status}
 use Rattle.edge_traits.specs.declared.status.Status.TheVariants as statuses
 use Rattle.edge_traits.specs.Settled.{Ends, at_end, goes_on, Settled, put_before, GoesOnAs, IsFrontOf, EarliestDecides}
-use Rattle.gateway_run.specs.InputLines.{is_line_feed, before_first_line, lines_of, before_ended, ended_part}
+use Rattle.gateway_run.specs.InputLines.{is_line_feed, before_first_line, lines_of, before_ended, ended_part, open_part}
 use Rattle.gateway_run.specs.KeptSessions.{Kept}
 use Rattle.gateway_run.specs.Receive.{Limits, Turn, passes, ends_run, turn_of, after_turn, lines_settle, opens_past, open_ending, settles_within, settles}
 
@@ -20,10 +20,6 @@ front-text text earlier later front = by_end earlier.ends refl front
     by_end (Some status) is front = rw is (let same = rw is at front in ap (put_before text) same)
 
 -- ---- lines
-
--- the octets after the last line feed
-abbrev pub open_part : List ℕ → List ℕ
-open_part text = drop (length (ended_part text)) text
 
 before_more : (octet : ℕ) (lines more : List (List ℕ)) → (lines ≡ [] → ⊥) → before_first_line octet (lines ++ more) ≡ before_first_line octet lines ++ more
 before_more octet [] more some = absurd (some refl)
@@ -121,7 +117,7 @@ pub record Begins (begun : List ℕ) (lines : List (List ℕ)) : Type 0 where
   pub lines_are : lines ≡ line ∷ later
   pub longer : length begun ≤ length line
 
-plain-first : (octet : ℕ) (text : List ℕ) → ended_part (octet ∷ text) ≡ [] → (is_line_feed octet ≡ false) × (ended_part text ≡ [])
+pub plain-first : (octet : ℕ) (text : List ℕ) → ended_part (octet ∷ text) ≡ [] → (is_line_feed octet ≡ false) × (ended_part text ≡ [])
 unfolding ended_part
 plain-first octet text none = by_front (ended_part text) none
   where
@@ -202,7 +198,7 @@ past-longer : (limits : Limits) (ended : ℕ) (first longer : List ℕ) → open
     → opens_past limits ended longer ≡ true
 past-longer limits ended first longer past more = grind (arith, nat_tests)
 
-front-same : (settled : Settled) → IsFrontOf settled settled
+pub front-same : (settled : Settled) → IsFrontOf settled settled
 front-same settled = by_end settled.ends
   where
     by_end : (e : Option Status) → GoesOnAs e settled settled
@@ -261,14 +257,14 @@ module _ (limits : Limits) (taken more : List ℕ) where
       (ended-front limits (lines_of (ended_part taken)) (lines_of (open_part taken ++ more)) (open_part taken) (Some statuses.Done)
       (λ past. inl (open-begins (open_part taken) more (past-some limits _ (open_part taken) past) (open-none taken))))
 
-  ended-parts : ended_part (taken ++ more) ≡ ended_part taken ++ ended_part (open_part taken ++ more)
+  pub ended-parts : ended_part (taken ++ more) ≡ ended_part taken ++ ended_part (open_part taken ++ more)
   ended-parts =
       let parts : taken ++ more ≡ ended_part taken ++ (open_part taken ++ more) =
       ap (λ (v : List ℕ). v ++ more) (text-parts taken) ∙ append_assoc (ended_part taken) (open_part taken) more in
       ap ended_part parts ∙ ended-after taken (open_part taken ++ more)
 
   -- of the lines that end within more octets
-  lines-front-of : (ending : Option Status)
+  pub lines-front-of : (ending : Option Status)
       → (opens_past limits (length (lines_of (ended_part taken))) (open_part taken) ≡ true → ended_part (open_part taken ++ more) ≡ [] → ending ≡ Some statuses.Limit)
       → IsFrontOf (settles_within limits goes_on taken) (lines_settle limits 1 [] (lines_of (ended_part (taken ++ more))) ending)
   unfolding settles_within lines_of
@@ -285,7 +281,7 @@ module _ (limits : Limits) (taken more : List ℕ) where
           by_ended (inl none) = inr (ap lines_of none, last past none)
           by_ended (inr is) = inl (rw is (open-begins (open_part taken) (ended_part more) (past-some limits _ (open_part taken) past) (open-none taken)))
 
-  goes_on-front : IsFrontOf (settles_within limits goes_on taken) (settles_within limits goes_on (taken ++ more))
+  pub goes_on-front : IsFrontOf (settles_within limits goes_on taken) (settles_within limits goes_on (taken ++ more))
   unfolding settles_within
   goes_on-front = lines-front-of _ last
     where

@@ -1,11 +1,11 @@
 -- What `receive` writes: each line of the input is one datagram in hex, and each red part is
 -- handed up when it is whole.
-use Rattle.std.specs.Prelude.{ℕ, ◌+◌, ◌&&◌, ◌||◌, nat_lt, nat_le, List, [], ◌∷◌, length, take, drop, Option, None, Some, if◌then◌else◌, Bool}
+use Rattle.std.specs.Prelude.{ℕ, ◌+◌, ◌&&◌, ◌||◌, nat_lt, nat_le, List, [], ◌∷◌, length, take, Option, None, Some, if◌then◌else◌, Bool}
 use Rattle.edge_traits.specs.declared.status.Status.{Status}
 use Rattle.edge_traits.specs.declared.status.Status.TheVariants as statuses
 use Rattle.edge_traits.specs.Settled.{Ends, at_end, goes_on, Settled, put_before}
 use Rattle.ltp_segment.specs.declared.session.TheConstants.{BLOCK_MAX}
-use Rattle.gateway_run.specs.InputLines.{lines_of, ended_part}
+use Rattle.gateway_run.specs.InputLines.{lines_of, ended_part, open_part}
 use Rattle.gateway_run.specs.LineContent.{RedPiece, LineContent, no_hex, no_segment, other, red, content_of}
 use Rattle.gateway_run.specs.Session.{Session, Reply, meets}
 use Rattle.gateway_run.specs.KeptSessions.{Kept, session_in, with_session, unfinished}
@@ -82,7 +82,7 @@ unfoldable pub settles_within : Limits → Ends → List ℕ → Settled
 settles_within limits at_end input = lines_settle limits 1 [] (lines_of input) (Some statuses.Done)
 settles_within limits goes_on taken =
     lines_settle limits 1 [] (lines_of (ended_part taken))
-    (open_ending limits (length (lines_of (ended_part taken))) (drop (length (ended_part taken)) taken))
+    (open_ending limits (length (lines_of (ended_part taken))) (open_part taken))
 
 -- what octets settle: of more than so many, the lines that end within those are answered, and the
 -- run ends with the limit

@@ -146,21 +146,24 @@ place_of p e n = record {
 
 -- ---- a segment arrives
 
--- a segment that is neither for a session of this engine nor from its peer has no reply
+-- a segment of a session that the engine began
+abbrev pub to_sender : Party → Engine → SegmentValue → ℕ → Option Reply
+to_sender p e s now =
+    sender_replies e s.session
+    (sender_answers p.policy (find s.session e.senders) s.content now)
+
+-- a segment of a session that its peer began
+abbrev pub to_receiver : Party → Engine → SegmentValue → ℕ → Option Reply
+to_receiver p e s now =
+    receiver_replies e s.session
+    (receiver_answers p.policy (place_of p e s.session) (find s.session e.receivers) s.content now)
+
+-- a segment of a number that the engine didn't use, or of another originator, has no reply
 unfoldable pub arrives : Party → Engine → SegmentValue → ℕ → Option Reply
 arrives p e s now =
     if s.originator == p.own
-    then
-    (if is_used p e s.session
-    then
-    sender_replies e s.session
-    (sender_answers p.policy (find s.session e.senders) s.content now)
-    else None)
-    else if s.originator == p.peer
-    then
-    receiver_replies e s.session
-    (receiver_answers p.policy (place_of p e s.session) (find s.session e.receivers)
-    s.content now)
+    then (if is_used p e s.session then to_sender p e s now else None)
+    else if s.originator == p.peer then to_receiver p e s now
     else None
 
 -- ---- a block is submitted

@@ -150,14 +150,16 @@ reports policy r report now = record {
   note = None;
 }
 
+abbrev pub takes_checkpoint : PolicyValue → Receiving → PieceValue → ℕ → StepValue Receiving
+takes_checkpoint policy r piece now =
+    if is_past_serials r.serial
+    then rejects policy (with_handed_up r) by_system now (red_part r)
+    else reports policy r (report_of r piece) now
+
 -- rules 5 and 6, once the piece's octets are there
 abbrev pub takes_red : PolicyValue → Receiving → PieceValue → ℕ → StepValue Receiving
 takes_red policy r piece now =
-    if is_checkpoint piece.kind
-    then
-    (if is_past_serials r.serial
-    then rejects policy (with_handed_up r) by_system now (red_part r)
-    else reports policy r (report_of r piece) now)
+    if is_checkpoint piece.kind then takes_checkpoint policy r piece now
     else record {
       next = keeps (with_handed_up r);
       out = [];

@@ -106,7 +106,7 @@ all_notes (first ∷ others) = first.notes ++ all_notes others
 
 -- ---- a sending session
 
--- two octets of two segments, of which none is claimed; its checkpoint has this serial
+-- three octets in two segments, of which none is claimed; its checkpoint has this serial
 abbrev pub sending_with : ℕ → Sending
 sending_with serial = record {
   block = 97 ∷ 98 ∷ 99 ∷ [];

@@ -80,8 +80,8 @@ abbrev pub is_outside : Receiving → PieceValue → Bool
 is_outside r piece = is_red piece.kind
     && is_misplaced (reach_of r.cells) r.length (ends_red_part piece.kind) (piece_stop piece)
 
--- 2. red octets that come after green ones in the block, or green ones before red ones
--- (section 6.21)
+-- 2. a red piece that stops past the lowest green offset, or a green one that begins below the end of
+-- the red octets that came or below the known length (section 6.21)
 abbrev pub is_miscoloured : Receiving → PieceValue → Bool
 is_miscoloured r piece =
     if is_red piece.kind then is_past r.green (piece_stop piece)

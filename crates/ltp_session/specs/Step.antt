@@ -4,7 +4,7 @@
 use Rattle.std.specs.Prelude.{◌≢◌, ℕ, Bool, List, [], Option, None, Some}
 use Rattle.ltp_segment.specs.Values.{ContentValue}
 
--- what is to be noted: the block was sent and its red part claimed whole; the session was given
+-- what is to be noted: the block was sent and its red part, if it has one, claimed whole; the session was given
 -- up, for a reason; a block for a client service that isn't there came; the other end gave the
 -- session up, for a reason; a piece or a report doesn't fit the block; a piece for a session that
 -- is over came; there is no room in the record of earlier sessions

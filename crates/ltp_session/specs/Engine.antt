@@ -1,4 +1,4 @@
--- An engine of a link: all sessions that it sends and receives (RFC 5326, section 7). What it does
+-- An engine of a link: all sessions that it sends and receives. What it does
 -- about a session is what the session does; the rest is keeping.
 
 use Rattle.std.specs.Prelude.{ℕ, pred, ◌+◌, ◌^◌, Bool, not, ◌==◌, ◌&&◌, ◌||◌, nat_lt, nat_le, min, List, [], ◌∷◌, ◌++◌, length, Option, None, Some, Result, Ok, Err, if◌then◌else◌}

@@ -66,7 +66,8 @@ Gains text cut (Err Memory) = IsSpared text
 abbrev pub Took : Stream → List ℕ → Bool → ℕ → Option Bundle6 → Stream → Type 0
 Took old piece cut used (Some b) new =
     (used ≤ length piece)
-    × ((more : List ℕ) → read (bundle 64) ((old.kept ++ piece) ++ more) 0 ≡ Ok (b, length old.kept + used))
+    × ((more : List ℕ)
+    → read (bundle 64) ((old.kept ++ piece) ++ more) 0 ≡ Ok (b, length old.kept + used))
     × IsLegal b
     × (new ≡ record { before = old.before + (length old.kept + used); kept = [] })
 Took old piece cut used None new =
@@ -84,4 +85,5 @@ abbrev pub Ends : Stream → Option Refused6 → Type 0
 Ends stream None = stream.kept ≡ []
 Ends stream (Some refused) =
     ((stream.kept ≡ []) → ⊥) × (refused.cause ≡ Truncated)
-    × ((p : ℕ) × (read (bundle 64) stream.kept 0 ≡ Err (p, truncated)) × (refused.at ≡ stream.before + p))
+    × ((p : ℕ) × (read (bundle 64) stream.kept 0 ≡ Err (p, truncated))
+    × (refused.at ≡ stream.before + p))

@@ -54,7 +54,8 @@ pub record HasRefusal (old : Stream) (piece : List ℕ) (at : ℕ) (cause : Caus
   pub spot : at ≡ old.before + place
 
 -- the unfinished bundle is open where the longest has ended, and another octet follows
-pub record IsTooLong (longest : ℕ) (old : Stream) (piece : List ℕ) (at : ℕ) (cause : Cause6) : Type 0 where
+pub record IsTooLong (longest : ℕ) (old : Stream) (piece : List ℕ)
+    (at : ℕ) (cause : Cause6) : Type 0 where
   pub begun : IsOpen (old.kept ++ near longest old piece)
   pub more : longest < length old.kept + length piece
   pub spot : at ≡ old.before
@@ -96,7 +97,8 @@ pub record AnswersAgain {A : Type 0} (refused : Refused6) (old : Reading)
 
 -- the answer to a piece, by what the octets kept and the near ones of the piece are; whether more of it
 -- follow
-abbrev pub answer_of : Stream → List ℕ → Bool → Result (Bundle6 × ℕ) (ℕ × Stop Cause6) → Result Fed6 Fail6
+abbrev pub answer_of : Stream → List ℕ → Bool
+    → Result (Bundle6 × ℕ) (ℕ × Stop Cause6) → Result Fed6 Fail6
 answer_of old piece more (Ok x) = Ok (record { used = x.1 - length old.kept; bundle = Some x.0 })
 answer_of old piece more (Err (at, truncated)) =
     if more then Err (Refused old.before TooLong)

@@ -61,7 +61,8 @@ impl Model for Reader6 {
 
     ghost Value = { Reading };
 
-    ghost view = { λ r. record { stream = stream_of r.held; refused = r.refused; spent = r.spent } };
+    ghost view = { λ r.
+        record { stream = stream_of r.held; refused = r.refused; spent = r.spent } };
 
     ghost invariant = { λ r. IsHeld r.held × (length r.held.kept.items ≤ 67108864) };
 }
@@ -87,10 +88,12 @@ impl Reader6 {
     /// of memory the reader may only be dropped.
     pub fn feed(&mut self, piece: &[u8]) -> Result<Fed6, Fail6>
         requires whole { self.old.spent ≡ false }
-        requires counted { self.old.stream.before + length self.old.stream.kept + length piece.now < 2 ^ 64 }
+        requires counted { self.old.stream.before + length self.old.stream.kept + length piece.now
+            < 2 ^ 64 }
         ensures feeds { self.old.refused ≡ None
             → Feeds 67108864 self.old.stream piece.now result self.new.stream }
-        ensures again { IfSome self.old.refused (λ refused. AnswersAgain refused self.old result self.new) }
+        ensures again { IfSome self.old.refused (λ refused.
+            AnswersAgain refused self.old result self.new) }
         ensures remembers { Remembers result self.new }
         ensures bounded { length self.new.stream.kept ≤ 67108864 }
     {
@@ -110,7 +113,8 @@ impl Reader6 {
     pub fn finish(&mut self) -> Result<(), Fail6>
         requires { self.old.spent ≡ false }
         ensures finishes { self.old.refused ≡ None → Finishes self.old.stream result }
-        ensures again { IfSome self.old.refused (λ refused. AnswersAgain refused self.old result self.new) }
+        ensures again { IfSome self.old.refused (λ refused.
+            AnswersAgain refused self.old result self.new) }
         ensures remembers { Remembers result self.new }
     {
         if let Some(refused) = self.refused {
@@ -143,7 +147,8 @@ impl Held {
     fn feed(&mut self, alloc: Global, piece: &[u8], longest: usize) -> Result<Fed6, Fail6>
         requires held { IsHeld self.old }
         requires small { length self.old.kept.items ≤ longest }
-        requires counted { self.old.before + length self.old.kept.items + length piece.now < 2 ^ 64 }
+        requires counted { self.old.before + length self.old.kept.items + length piece.now
+            < 2 ^ 64 }
         ensures held { IsHeld self.new }
         ensures small { length self.new.kept.items ≤ longest }
         ensures feeds { Feeds longest (stream_of self.old) piece.now result (stream_of self.new) }
@@ -161,7 +166,8 @@ impl Held {
     /// Takes a piece after whole bundles. It is kept only where it leaves a bundle open.
     fn begin(&mut self, alloc: Global, piece: &[u8], cut: bool) -> Result<Fed6, Fail6>
         requires held { IsHeld self.old }
-        requires counted { self.old.before + length self.old.kept.items + length piece.now < 2 ^ 64 }
+        requires counted { self.old.before + length self.old.kept.items + length piece.now
+            < 2 ^ 64 }
         requires empty { self.old.kept.items ≡ [] }
         ensures held { IsHeld self.new }
         ensures tells { Tells (stream_of self.old) piece.now cut result (stream_of self.new) }
@@ -189,7 +195,8 @@ impl Held {
     /// Takes a piece after the beginning of a bundle.
     fn go_on(&mut self, alloc: Global, piece: &[u8], cut: bool) -> Result<Fed6, Fail6>
         requires held { IsHeld self.old }
-        requires counted { self.old.before + length self.old.kept.items + length piece.now < 2 ^ 64 }
+        requires counted { self.old.before + length self.old.kept.items + length piece.now
+            < 2 ^ 64 }
         requires some { self.old.kept.items ≡ [] → ⊥ }
         ensures held { IsHeld self.new }
         ensures tells { Tells (stream_of self.old) piece.now cut result (stream_of self.new) }

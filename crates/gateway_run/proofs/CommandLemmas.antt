@@ -9,6 +9,8 @@ use Rattle.gateway_run.specs.declared.commands.command.Command.{Command}
 use Rattle.gateway_run.specs.declared.commands.command.Command.TheVariants as commands
 use Rattle.gateway_run.specs.Receive.{the_limits, received}
 use Rattle.gateway_run.specs.Words.{settles, KeepsLaw, WritesLawfully}
+use Rattle.edge_traits.specs.Settled.{EarliestDecides}
+use Rattle.gateway_run.proofs.FrontLemmas.{settles-front}
 use Rattle.gateway_run.proofs.DriveLemmas.{fault-front}
 use Rattle.gateway_run.proofs.TranscriptLemmas.{Lawful, received-law}
 
@@ -72,3 +74,9 @@ keeps_law None named command status left before now is wrote = tt
 keeps_law (Some input) named (commands.Bundles command) status left before now is wrote = rw is tt
 keeps_law (Some input) named commands.Receive status left before now is wrote =
     rw is (keeps input (received-law the_limits most_input input) status left before now wrote)
+
+-- ---- fronts
+
+pub command-front : (command : Command) → EarliestDecides (settles command)
+command-front commands.Receive = settles-front the_limits most_input
+command-front (commands.Bundles command) = λ ends taken more. (_, refl)

@@ -130,8 +130,8 @@ fn meet_open<'a>(
     piece: &Piece<'a>,
 ) -> Result<Reply<'a>, AllocError>
     requires { bounds BLOCK_MAX part.value.reach part.value.length (red_piece piece.now) ≡ false }
-    ensures { (kept : List Kept) (cells : List (Option ℕ)) (known : Option ℕ)
-        → LacksOpen sessions.old kept piece.now.name part.value cells known
+    ensures { (kept : List Kept) (cells : List (Option ℕ)) (length : Option ℕ)
+        → LacksOpen sessions.old kept piece.now.name part.value cells length
         → IfOk result (λ reply. Meets kept (red_piece piece.now) reply sessions.new) }
 {
     take(alloc, &mut part, piece)?;

@@ -113,7 +113,7 @@ BUNDLES_6 = [
     # A fragment: 20 octets from the 100th of 1,000.
     bundle6(0x91, [977_000, 64, 2_147_483_647, 1, 2_147_483_647, 0, 0, 0], (817_344_001, 0), 3600,
             [block6(1, 9, counted(20))], fragment=(100, 1000)),
-    # No source, no fragments, an empty payload, and a block behind it.
+    # No source, no fragments, an empty payload, and a block after it.
     bundle6(0x14, [2, 1, 0, 0, 0, 0, 0, 0], (817_344_002, 1), 0, [block6(1, 0, b""), block6(201, 8, b"\xff")]),
 ]
 

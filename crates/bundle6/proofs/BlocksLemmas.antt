@@ -44,7 +44,7 @@ module _ (most : ℕ) (part : Option Fragment) (dictionary : List ℕ) (text : L
   -- one block more, which isn't the last
   pub blocks-step : (earlier : List Block6) (seen : Seen) (b : Block6) (at to : ℕ) (all : Result (List Block6 × ℕ) (ℕ × Stop Cause6))
       → seen.paid ≡ has_payload earlier → seen.others ≡ others earlier → length earlier ≡ how_many seen
-      → Follows most seen b.kind
+      → Follows most seen (seen_with seen b.kind)
       → read (block most part dictionary seen.paid seen.others) text at ≡ Ok ((b, false), to)
       → read (until (most + 1 - length earlier) (next_block most part dictionary) earlier) text at ≡ all
       → read (until (most + 1 - length (earlier ++ b ∷ [])) (next_block most part dictionary) (earlier ++ b ∷ [])) text to ≡ all
@@ -57,7 +57,7 @@ module _ (most : ℕ) (part : Option Fragment) (dictionary : List ℕ) (text : L
   -- the last block
   pub blocks-last : (earlier : List Block6) (seen : Seen) (b : Block6) (at to : ℕ) (all : Result (List Block6 × ℕ) (ℕ × Stop Cause6))
       → seen.paid ≡ has_payload earlier → seen.others ≡ others earlier → length earlier ≡ how_many seen
-      → Follows most seen b.kind
+      → Follows most seen (seen_with seen b.kind)
       → read (block most part dictionary seen.paid seen.others) text at ≡ Ok ((b, true), to)
       → read (until (most + 1 - length earlier) (next_block most part dictionary) earlier) text at ≡ all
       → all ≡ Ok (earlier ++ b ∷ [], to)

@@ -7,3 +7,7 @@ pub mod SpellingLemmas
 pub mod PlacesLemmas
 pub mod NumberingLemmas
 pub mod WritingLemmas
+pub mod JudgeLemmas
+pub mod PassLemmas
+pub mod ReaderLemmas
+pub mod AnswerLemmas

@@ -13,8 +13,8 @@ seen_with seen kind =
 abbrev pub how_many : Seen → ℕ
 how_many seen = seen.others + (if seen.paid then 1 else 0)
 
--- one more block of this type may follow, and is counted
-pub record Follows (most : ℕ) (seen : Seen) (kind : ℕ) : Type 0 where
+-- one more block may follow, and is counted
+pub record Follows (most : ℕ) (seen next : Seen) : Type 0 where
   pub room : how_many seen ≤ most
-  pub counted : how_many (seen_with seen kind) ≡ how_many seen + 1
-  pub few : (seen_with seen kind).others ≤ most
+  pub counted : how_many next ≡ how_many seen + 1
+  pub few : next.others ≤ most

@@ -17,7 +17,7 @@ use std::alloc::{AllocError, Global};
 use std::marker::Model;
 
 /// The type of the payload block.
-const PAYLOAD: u8 = 1;
+pub(crate) const PAYLOAD: u8 = 1;
 
 /// A block (RFC 5050, section 4.6).
 #[derive(Debug, Drop)]
@@ -108,6 +108,12 @@ pub(crate) struct Seen {
 }
 
 impl Seen {
+    /// No blocks yet.
+    pub(crate) const NONE: Seen = Seen {
+        paid: false,
+        others: 0,
+    };
+
     /// The blocks so far, and one more of this type.
     pub(crate) fn with(self, kind: u8) -> Seen
         requires { self.others < 2 ^ 64 - 1 }
@@ -125,13 +131,18 @@ impl Seen {
 }
 
 /// A block's type.
-fn kind_at(text: &[u8], at: usize, most: u64, seen: Seen) -> Result<(u8, usize), Refused6>
+pub(crate) fn kind_at(
+    text: &[u8],
+    at: usize,
+    most: u64,
+    seen: Seen,
+) -> Result<(u8, usize), Refused6>
     requires place { at ≤ length text.now }
     requires few { seen.others ≤ most }
     ensures within { IfOk result (λ x. IsOn at text.now x.1) }
     ensures exact { Gives (λ kind. kind) refused_at result (read (kind_field most seen.paid seen.others) text.now at) }
 
-    ensures follows { IfOk result (λ x. Follows most seen x.0) }
+    ensures follows { IfOk result (λ x. Follows most seen (seen_with seen x.0)) }
 {
     let (kind, after) = octet(text, at, Cause6::Number)?;
     if kind == PAYLOAD && seen.paid {
@@ -144,7 +155,7 @@ fn kind_at(text: &[u8], at: usize, most: u64, seen: Seen) -> Result<(u8, usize),
 }
 
 /// A block's flags. The last block may come once there is a payload block.
-fn flags_at(text: &[u8], at: usize, paid: bool) -> Result<(u64, usize), Refused6>
+pub(crate) fn flags_at(text: &[u8], at: usize, paid: bool) -> Result<(u64, usize), Refused6>
     requires { at ≤ length text.now }
     ensures within { IfOk result (λ x. IsOn at text.now x.1) }
     ensures exact { Gives (λ flags. flags) refused_at result (read (flags_field paid) text.now at) }
@@ -177,7 +188,7 @@ fn reference_at(
 }
 
 /// How many references there are: none where the flags don't say that there are some.
-fn count_at(text: &[u8], at: usize, present: bool) -> Result<(u64, usize), Refused6>
+pub(crate) fn count_at(text: &[u8], at: usize, present: bool) -> Result<(u64, usize), Refused6>
     requires { at ≤ length text.now }
     ensures within { IfOk result (λ x. IsOn at text.now x.1) }
     ensures exact { Gives (λ count. count) refused_at result (read (count_field present) text.now at) }
@@ -243,7 +254,7 @@ fn is_within(part: Option<Fragment>, payload: bool, size: u64) -> bool
 }
 
 /// How many octets a block has. Those of a payload lie within the whole of which it is a fragment.
-fn size_at(
+pub(crate) fn size_at(
     text: &[u8],
     at: usize,
     part: Option<Fragment>,
@@ -276,7 +287,7 @@ pub(crate) fn block_at(
     ensures within { IfOk result (λ x. IsOn at text.now x.1) }
     ensures exact { Gives (λ found. found) refusal result
         (read (block most part dictionary.now seen.paid seen.others) text.now at) }
-    ensures follows { IfOk result (λ x. Follows most seen x.0.0.kind) }
+    ensures follows { IfOk result (λ x. Follows most seen (seen_with seen x.0.0.kind)) }
 {
     let (kind, at) = kind_at(text, at, most, seen)?;
     let payload = kind == PAYLOAD;

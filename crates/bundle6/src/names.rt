@@ -118,7 +118,7 @@ fn nul_in(text: &[u8]) -> Option<usize>
 
 /// The text of the dictionary at an offset, up to the next NUL. The NUL of a text that is too long to
 /// name something isn't looked for.
-fn text_in(dictionary: &[u8], offset: u64) -> Option<&[u8]>
+pub(crate) fn text_in(dictionary: &[u8], offset: u64) -> Option<&[u8]>
     ensures { Shows result (text_at dictionary.now offset) }
 {
     if dictionary.len() as u64 <= offset {

@@ -42,7 +42,7 @@ pub struct Primary6 {
 }
 
 /// The version's octet.
-fn version_at(text: &[u8], at: usize) -> Result<(u8, usize), Refused6>
+pub(crate) fn version_at(text: &[u8], at: usize) -> Result<(u8, usize), Refused6>
     requires { at ≤ length text.now }
     ensures within { IfOk result (λ x. IsOn at text.now x.1) }
     ensures exact { Gives (λ version. version) refused_at result (read (exact_octet 6 Cause6.Version) text.now at) }
@@ -56,7 +56,11 @@ fn version_at(text: &[u8], at: usize) -> Result<(u8, usize), Refused6>
 
 /// Offset and total of a fragment, where the flags say that the bundle is one.
 #[tactic(auto, unfolding(crate::specs::Table::fragment))]
-fn fragment_at(text: &[u8], at: usize, flags: u64) -> Result<(Option<Fragment>, usize), Refused6>
+pub(crate) fn fragment_at(
+    text: &[u8],
+    at: usize,
+    flags: u64,
+) -> Result<(Option<Fragment>, usize), Refused6>
     requires { at ≤ length text.now }
     ensures within { IfOk result (λ x. IsOn at text.now x.1) }
     ensures exact { Gives (λ part. part) refused_at result (read (optional (has_bit 0 flags) fragment) text.now at) }
@@ -70,7 +74,7 @@ fn fragment_at(text: &[u8], at: usize, flags: u64) -> Result<(Option<Fragment>, 
 }
 
 /// The end of the primary block: so many octets stand after the start of what its length counts.
-fn end_at(start: usize, at: usize, size: u64) -> Result<(), Refused6>
+pub(crate) fn end_at(start: usize, at: usize, size: u64) -> Result<(), Refused6>
     requires { start ≤ at }
     ensures here { OnOk result ((at - start == size) ≡ true) }
     ensures elsewhere { IfErr result (λ fail.

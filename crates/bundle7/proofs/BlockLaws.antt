@@ -17,7 +17,8 @@ use Rattle.bundle7.specs.declared.block.Lead.{Lead}
 use Rattle.bundle7.specs.declared.block.Block7.{Block7}
 use Rattle.bundle7.specs.declared.bundle.Bundle7.{Bundle7}
 use Rattle.bundle7.specs.Body.{is_body}
-use Rattle.bundle7.specs.Table.{check_items, is_single, has_kind, is_number, is_within, lead, block, blocks, bundle}
+use Rattle.bundle7.specs.declared.seen.Seen.{Seen}
+use Rattle.bundle7.specs.Table.{check_items, is_single, seen_of, has, is_number, is_within, lead, block, blocks, bundle}
 use Rattle.bundle7.specs.Spelling.{crc_octets, with_check, bare_octets, block_octets, blocks_octets, primary_octets, octets7}
 use Rattle.bundle7.specs.Legal.{IsLegalBlock, AreLegal, IsLegal}
 use Rattle.bundle7.proofs.BodyLemmas.{octets_front, octets_after, octets_in, body-found, body-only}
@@ -36,17 +37,17 @@ five-or-six (suc crc) = rw (ne_eqb (suc crc) 0 (λ h. omega arith)) refl
 lead_octets : Lead → List ℕ
 lead_octets l = head 4 (5 + check_items l.crc) ++ (head 0 l.kind ++ (head 0 l.number ++ (head 0 l.flags ++ head 0 l.crc)))
 
-record LeadIs (left : ℕ) (earlier : List Block7) (w : List ℕ) (l : Lead) : Type 0 where
+record LeadIs (left : ℕ) (earlier : Seen) (w : List ℕ) (l : Lead) : Type 0 where
   kind : l.kind < 2 ^ 64
   may_follow : ((l.kind == 1) || not (left == 0)) ≡ true
-  once : (is_single l.kind && has_kind l.kind earlier) ≡ false
+  once : (is_single l.kind && has l.kind earlier.kinds) ≡ false
   number : is_number l.kind earlier l.number ≡ true
   number_fits : l.number < 2 ^ 64
   flags : l.flags < 2 ^ 64
   crc : l.crc < 3
   octets : w ≡ lead_octets l
 
-lead-spelled : (left : ℕ) (earlier : List Block7) (front w : List ℕ) (l : Lead) → Spells (lead left earlier) front w l → LeadIs left earlier w l
+lead-spelled : (left : ℕ) (earlier : Seen) (front w : List ℕ) (l : Lead) → Spells (lead left earlier) front w l → LeadIs left earlier w l
 unfolding lead lead_octets
 lead-spelled left earlier front w l (
   u,
@@ -88,12 +89,12 @@ lead-spelled left earlier front w l (
           (joined v2 u3 (head 0 flags) v3 (head 0 check) parts3 flags_is.spelt (ended v3 u4 (head 0 check) v4 parts4 check_is.spelt nothing))));
     })
 
-record BlockIs (part : Option Fragment) (left : ℕ) (earlier : List Block7) (w : List ℕ) (b : Block7) : Type 0 where
+record BlockIs (part : Option Fragment) (left : ℕ) (earlier : Seen) (w : List ℕ) (b : Block7) : Type 0 where
   legal : IsOctets w → IsLegalBlock part earlier b
   may_follow : ((b.kind == 1) || not (left == 0)) ≡ true
   octets : w ≡ block_octets b
 
-block-spelled : (part : Option Fragment) (left : ℕ) (earlier : List Block7) (front w : List ℕ) (b : Block7)
+block-spelled : (part : Option Fragment) (left : ℕ) (earlier : Seen) (front w : List ℕ) (b : Block7)
     → Spells (block part left earlier) front w b → BlockIs part left earlier w b
 unfolding block with_check bare_octets lead_octets
 block-spelled part left earlier front w b (
@@ -159,7 +160,7 @@ record BlocksAre (part : Option Fragment) (left : ℕ) (earlier : List Block7) (
   parts : exts ≡ earlier ++ more
   few : length more ≤ left
   legal : IsOctets w → AreLegal part earlier more
-  last : IsOctets w → IsLegalBlock part exts payload
+  last : IsOctets w → IsLegalBlock part (seen_of exts) payload
   kind : payload.kind ≡ 1
   octets : w ≡ blocks_octets more ++ block_octets payload
 
@@ -168,7 +169,7 @@ or-first true b is other = refl
 or-first false b is other = absurd (false≢true (sym other ∙ is))
 
 last-block : (part : Option Fragment) (left : ℕ) (earlier : List Block7) (w : List ℕ) (exts : List Block7) (payload b : Block7)
-    → (IsOctets w → IsLegalBlock part earlier b) → b.kind ≡ 1 → w ≡ block_octets b → exts ≡ earlier → payload ≡ b
+    → (IsOctets w → IsLegalBlock part (seen_of earlier) b) → b.kind ≡ 1 → w ≡ block_octets b → exts ≡ earlier → payload ≡ b
     → BlocksAre part left earlier w exts payload
 unfolding blocks_octets
 last-block part left earlier w exts payload b legal kind octets same is =
@@ -184,7 +185,7 @@ last-block part left earlier w exts payload b legal kind octets same is =
 
 -- a block that was read, and what is read after it
 choice-spelled : (t : Bool) (part : Option Fragment) (left : ℕ) (earlier : List Block7) (front w u v : List ℕ) (b : Block7) (x : List Block7 × Block7)
-    → (b.kind == 1) ≡ t → w ≡ u ++ v → BlockIs part (suc left) earlier u b
+    → (b.kind == 1) ≡ t → w ≡ u ++ v → BlockIs part (suc left) (seen_of earlier) u b
     → Spells (choice t (give (earlier, b)) (blocks part left (earlier ++ b ∷ []))) front v x
     → ((earlier' : List Block7) (front' w' : List ℕ) (x' : List Block7 × Block7) → Spells (blocks part left earlier') front' w' x' → BlocksAre part left earlier' w' x'.0 x'.1)
     → BlocksAre part (suc left) earlier w x.0 x.1
@@ -209,12 +210,12 @@ blocks-spelled : (part : Option Fragment) (left : ℕ) (earlier : List Block7) (
     → Spells (blocks part left earlier) front w x → BlocksAre part left earlier w x.0 x.1
 unfolding blocks
 blocks-spelled part zero earlier front w x (u, v, b, parts, block_is, (nothing, is)) =
-    let one = block-spelled part 0 earlier front u b block_is in
+    let one = block-spelled part 0 (seen_of earlier) front u b block_is in
     last-block part 0 earlier w x.0 x.1 b (λ fits. one.legal (octets_front w u v parts fits)) (eqb-true b.kind 1 (or-first (b.kind == 1) false one.may_follow refl))
     (ended w u (block_octets b) v parts one.octets nothing)
     (ap (λ (p : List Block7 × Block7). p.0) is) (ap (λ (p : List Block7 × Block7). p.1) is)
 blocks-spelled part (suc left) earlier front w x (u, v, b, parts, block_is, rest) =
-    choice-spelled (b.kind == 1) part left earlier (front ++ u) w u v b x refl parts (block-spelled part (suc left) earlier front u b block_is) rest
+    choice-spelled (b.kind == 1) part left earlier (front ++ u) w u v b x refl parts (block-spelled part (suc left) (seen_of earlier) front u b block_is) rest
     (λ earlier' front' w' x' h. blocks-spelled part left earlier' front' w' x' h)
 
 -- ---- the bundle
@@ -248,7 +249,7 @@ bundle-spelled most w b
 
 -- ---- what is legal is spelled
 
-lead-spells : (left : ℕ) (earlier : List Block7) (front : List ℕ) (l : Lead) (part : Option Fragment) (body : List ℕ)
+lead-spells : (left : ℕ) (earlier : Seen) (front : List ℕ) (l : Lead) (part : Option Fragment) (body : List ℕ)
     → IsLegalBlock part earlier (record { kind = l.kind; number = l.number; flags = l.flags; crc = l.crc; body = body })
     → ((l.kind == 1) || not (left == 0)) ≡ true → Spells (lead left earlier) front (lead_octets l) l
 unfolding lead lead_octets
@@ -283,7 +284,7 @@ lead-spells left earlier front l part body legal may_follow =
       ),
     )
 
-block-spells : (part : Option Fragment) (left : ℕ) (earlier : List Block7) (front : List ℕ) (b : Block7) → IsLegalBlock part earlier b
+block-spells : (part : Option Fragment) (left : ℕ) (earlier : Seen) (front : List ℕ) (b : Block7) → IsLegalBlock part earlier b
     → ((b.kind == 1) || not (left == 0)) ≡ true → Spells (block part left earlier) front (block_octets b) b
 unfolding block with_check bare_octets lead_octets
 block-spells part left earlier front b legal may_follow =
@@ -350,7 +351,7 @@ more-follow : (t : Bool) (left : ℕ) → (t || not (suc left == 0)) ≡ true
 more-follow t left = rw (ne_eqb (suc left) 0 (λ h. omega arith)) (or-second t)
 
 blocks-spells : (part : Option Fragment) (left : ℕ) (earlier more exts : List Block7) (front : List ℕ) (payload : Block7) → length more ≤ left
-    → exts ≡ earlier ++ more → AreLegal part earlier more → IsLegalBlock part exts payload → payload.kind ≡ 1
+    → exts ≡ earlier ++ more → AreLegal part earlier more → IsLegalBlock part (seen_of exts) payload → payload.kind ≡ 1
     → Spells (blocks part left earlier) front (blocks_octets more ++ block_octets payload) (exts, payload)
 unfolding blocks blocks_octets pair
 blocks-spells part zero earlier [] exts front payload few same legal last kind =
@@ -359,7 +360,7 @@ blocks-spells part zero earlier [] exts front payload few same legal last kind =
       [],
       payload,
       sym (append-nil (block_octets payload)),
-      block-spells part 0 earlier front payload (subst (λ (xs : List Block7). IsLegalBlock part xs payload) here last) (payload-follows 0 payload kind),
+      block-spells part 0 (seen_of earlier) front payload (subst (λ (xs : List Block7). IsLegalBlock part (seen_of xs) payload) here last) (payload-follows 0 payload kind),
       (refl, ap (λ (xs : List Block7). pair xs payload) here),
     )
 blocks-spells part zero earlier (b ∷ more) exts front payload few same legal last kind = absurd (omega arith)
@@ -369,7 +370,7 @@ blocks-spells part (suc left) earlier [] exts front payload few same legal last 
       [],
       payload,
       sym (append-nil (block_octets payload)),
-      block-spells part (suc left) earlier front payload (subst (λ (xs : List Block7). IsLegalBlock part xs payload) here last) (payload-follows (suc left) payload kind),
+      block-spells part (suc left) (seen_of earlier) front payload (subst (λ (xs : List Block7). IsLegalBlock part (seen_of xs) payload) here last) (payload-follows (suc left) payload kind),
       choice-ends (payload.kind == 1) part left earlier exts (front ++ block_octets payload) payload (eq-eqb payload.kind 1 kind) here,
     )
 blocks-spells part (suc left) earlier (b ∷ more) exts front payload few same (one, (other, legal)) last kind = (
@@ -377,7 +378,7 @@ blocks-spells part (suc left) earlier (b ∷ more) exts front payload few same (
   blocks_octets more ++ block_octets payload,
   b,
   append_assoc (block_octets b) (blocks_octets more) (block_octets payload),
-  block-spells part (suc left) earlier front b one (more-follow (b.kind == 1) left),
+  block-spells part (suc left) (seen_of earlier) front b one (more-follow (b.kind == 1) left),
   choice-goes_on (b.kind == 1) part left earlier (front ++ block_octets b) (blocks_octets more ++ block_octets payload) b (exts, payload) (ne_eqb b.kind 1 other)
       (blocks-spells part left (earlier ++ b ∷ []) more exts (front ++ block_octets b) payload (omega arith)
       (same ∙ sym (append_assoc earlier (b ∷ []) more)) legal last kind),

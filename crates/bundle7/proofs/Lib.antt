@@ -6,3 +6,5 @@ pub mod BodyLemmas
 pub mod SpellingLaws
 pub mod PrimaryLaws
 pub mod BlockLaws
+pub mod JudgingLemmas
+pub mod StreamLemmas

@@ -47,8 +47,11 @@ missed at misses.Truncated cause = record { at = at; cause = Truncated }
 missed at misses.Absent cause = record { at = at; cause = cause }
 
 -- the place and the reason of a refusal
+abbrev pub stop_of : Refused7 → ℕ × Stop Cause7
+stop_of r = (r.at, why r.cause)
+
 abbrev pub refused : Refused7 → Option (ℕ × Stop Cause7)
-refused r = Some (r.at, why r.cause)
+refused r = Some (stop_of r)
 
 -- the refusal that a failure answers; want of memory is none
 abbrev pub refusal : Fail7 → Option (ℕ × Stop Cause7)

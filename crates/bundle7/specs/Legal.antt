@@ -10,7 +10,8 @@ use Rattle.bundle7.specs.declared.primary.Primary7.{Primary7}
 use Rattle.bundle7.specs.declared.block.Block7.{Block7}
 use Rattle.bundle7.specs.declared.bundle.Bundle7.{Bundle7}
 use Rattle.bundle7.specs.Body.{IsBody}
-use Rattle.bundle7.specs.Table.{bundle, is_fragment, is_single, has_kind, is_number, is_within}
+use Rattle.bundle7.specs.declared.seen.Seen.{Seen}
+use Rattle.bundle7.specs.Table.{bundle, is_fragment, is_single, seen_of, has, is_number, is_within}
 
 -- the numbers of a fragment
 abbrev pub IsPart : Option Fragment → Type 0
@@ -31,10 +32,10 @@ pub record IsLegalPrimary (p : Primary7) : Type 0 where
   pub fragment : IsPart p.fragment
 
 -- a block after the earlier ones, in a bundle that may be a fragment
-pub record IsLegalBlock (part : Option Fragment) (earlier : List Block7) (b : Block7) : Type 0 where
+pub record IsLegalBlock (part : Option Fragment) (earlier : Seen) (b : Block7) : Type 0 where
   pub kind : b.kind < 2 ^ 64
   -- previous node, bundle age and hop count stand at most once
-  pub once : (is_single b.kind && has_kind b.kind earlier) ≡ false
+  pub once : (is_single b.kind && has b.kind earlier.kinds) ≡ false
   -- 1 for the payload, and else at least 2 and new
   pub number : is_number b.kind earlier b.number ≡ true
   pub number_fits : b.number < 2 ^ 64
@@ -49,13 +50,13 @@ pub record IsLegalBlock (part : Option Fragment) (earlier : List Block7) (b : Bl
 abbrev pub AreLegal : Option Fragment → List Block7 → List Block7 → Type 0
 AreLegal part earlier [] = Unit {0}
 AreLegal part earlier (b ∷ more) =
-    IsLegalBlock part earlier b × ((b.kind ≡ 1 → ⊥) × AreLegal part (earlier ++ b ∷ []) more)
+    IsLegalBlock part (seen_of earlier) b × ((b.kind ≡ 1 → ⊥) × AreLegal part (earlier ++ b ∷ []) more)
 
 pub record IsLegal (most : ℕ) (b : Bundle7) : Type 0 where
   pub primary : IsLegalPrimary b.primary
   pub few : length b.exts ≤ most
   pub exts : AreLegal b.primary.fragment [] b.exts
-  pub payload : IsLegalBlock b.primary.fragment b.exts b.payload
+  pub payload : IsLegalBlock b.primary.fragment (seen_of b.exts) b.payload
   pub payload_kind : b.payload.kind ≡ 1
 
 -- A legal bundle has at most 64 extension blocks.

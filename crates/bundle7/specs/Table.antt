@@ -1,7 +1,7 @@
 -- The table of a version 7 bundle (RFC 9171, sections 4.1 to 4.4): its fields in order, each with the
 -- cause where it isn't there, and its conditions.
 use Rattle.std.specs.Prelude.{ℕ, zero, suc, ◌+◌, ◌%◌, ◌==◌, nat_lt, nat_le, Bool, true, ◌&&◌, ◌||◌, not, if◌then◌else◌}
-use Rattle.std.specs.Prelude.{List, [], ◌∷◌, ◌++◌, Option, Some, None}
+use Rattle.std.specs.Prelude.{List, [], ◌∷◌, ◌++◌, map, Option, Some, None}
 use Rattle.std.specs.List.{list_any}
 use Rattle.endpoint.specs.declared.extent.Fragment.{Fragment}
 use Rattle.endpoint.specs.declared.name.Endpoint.{Endpoint}
@@ -15,6 +15,7 @@ use Rattle.bundle7.specs.declared.bundle.Bundle7.{Bundle7}
 use Rattle.bundle7.specs.declared.primary.Opening.{Opening}
 use Rattle.bundle7.specs.declared.primary.Creation.{Creation}
 use Rattle.bundle7.specs.declared.block.Lead.{Lead}
+use Rattle.bundle7.specs.declared.seen.Seen.{Seen}
 use Rattle.bundle7.specs.Eid.{eid}
 use Rattle.bundle7.specs.Body.{previous_node, bundle_age, hop_count, is_body}
 use Rattle.bundle7.specs.Check.{crc_field}
@@ -102,30 +103,35 @@ primary = do
 abbrev pub is_single : ℕ → Bool
 is_single kind = kind == previous_node || kind == bundle_age || kind == hop_count
 
-abbrev pub has_kind : ℕ → List Block7 → Bool
-has_kind kind blocks = list_any (λ block. block.kind == kind) blocks
+-- what later blocks ask of the earlier ones: their types and their numbers
+abbrev pub seen_of : List Block7 → Seen
+seen_of blocks = record {
+  kinds = map (λ (block : Block7). block.kind) blocks;
+  numbers = map (λ (block : Block7). block.number) blocks;
+}
 
-abbrev pub has_number : ℕ → List Block7 → Bool
-has_number number blocks = list_any (λ block. block.number == number) blocks
+-- a number is among others
+abbrev pub has : ℕ → List ℕ → Bool
+has number numbers = list_any (λ other. other == number) numbers
 
 abbrev pub block_items : Format Cause7 ℕ
 block_items = such_that (any_array BlockHead) (λ n. needs (n == 5 || n == 6) BlockHead)
 
 -- the type, where so many extension blocks may still stand here
-abbrev pub kind_field : ℕ → List Block7 → Format Cause7 ℕ
+abbrev pub kind_field : ℕ → Seen → Format Cause7 ℕ
 kind_field left earlier = such_that (any_unsigned Number) (λ kind.
     needs (kind == 1 || not (left == 0)) TooManyBlocks
-    also needs (not (is_single kind && has_kind kind earlier)) Repeated)
+    also needs (not (is_single kind && has kind earlier.kinds)) Repeated)
 
 -- a number that a block of the type may have after the earlier ones
-abbrev pub is_number : ℕ → List Block7 → ℕ → Bool
+abbrev pub is_number : ℕ → Seen → ℕ → Bool
 is_number kind earlier n =
-    if kind == 1 then n == 1 else nat_le 2 n && not (has_number n earlier)
+    if kind == 1 then n == 1 else nat_le 2 n && not (has n earlier.numbers)
 
-abbrev pub number_field : ℕ → List Block7 → Format Cause7 ℕ
+abbrev pub number_field : ℕ → Seen → Format Cause7 ℕ
 number_field kind earlier = such_that (any_unsigned Number) (λ n. needs (is_number kind earlier n) BlockNumber)
 
-unfoldable pub lead : ℕ → List Block7 → Format Cause7 Lead
+unfoldable pub lead : ℕ → Seen → Format Cause7 Lead
 lead left earlier = do
   items ← block_items
   kind ← kind_field left earlier
@@ -145,7 +151,7 @@ size_field part kind = such_that (any_byte_string Body) (λ size. needs (is_with
 abbrev pub body_field : ℕ → ℕ → Format Cause7 (List ℕ)
 body_field kind size = such_that (any_octets size Body) (λ octets. needs (is_body kind octets) ExtensionBody)
 
-unfoldable pub block : Option Fragment → ℕ → List Block7 → Format Cause7 Block7
+unfoldable pub block : Option Fragment → ℕ → Seen → Format Cause7 Block7
 block part left earlier = do
   start ← place
   front ← lead left earlier
@@ -157,9 +163,9 @@ block part left earlier = do
 -- Extension blocks and the payload block, which ends them; after the earlier ones at most so many
 -- extension blocks may follow.
 unfoldable pub blocks : Option Fragment → ℕ → List Block7 → Format Cause7 (List Block7 × Block7)
-blocks part zero earlier = block part 0 earlier >>= (λ b. give (earlier, b))
+blocks part zero earlier = block part 0 (seen_of earlier) >>= (λ b. give (earlier, b))
 blocks part (suc left) earlier =
-    block part (suc left) earlier >>= (λ b.
+    block part (suc left) (seen_of earlier) >>= (λ b.
     choice (b.kind == 1) (give (earlier, b)) (blocks part left (earlier ++ b ∷ [])))
 
 -- ---- the bundle

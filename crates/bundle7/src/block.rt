@@ -4,7 +4,7 @@ ghost use Rattle.std.specs.Prelude.{◌≡◌, ◌≤◌, [], length, IfOk};
 ghost use Rattle.wire_fields.specs.Reading.{read};
 ghost use Rattle.wire_fields.specs.Gives.{Gives, IsOn};
 ghost use Rattle.bundle7.specs.Cause.{refused};
-ghost use Rattle.bundle7.specs.Table.{has_kind, has_number, is_single, is_number, is_within, block_items, kind_field, number_field, size_field, body_field, lead, block};
+ghost use Rattle.bundle7.specs.Table.{is_single, is_number, is_within, block_items, kind_field, number_field, size_field, body_field, lead, block};
 ghost use Rattle.bundle7.specs.Lent.{block_of};
 
 use crate::body::{BUNDLE_AGE, HOP_COUNT, PREVIOUS_NODE, is_body};
@@ -12,6 +12,7 @@ use crate::check::crc_at;
 use crate::fault::{Cause7, Refused7};
 use crate::fields::{item, octets, unsigned};
 use crate::primary::crc_type_at;
+use crate::seen::Seen;
 use endpoint::{Fragment, Octets};
 use std::alloc::{AllocError, Global};
 use std::marker::Model;
@@ -130,7 +131,7 @@ pub(crate) fn block_at<'a>(
     at: usize,
     fragment: Option<Fragment>,
     left: u64,
-    earlier: &[Block7],
+    earlier: &Seen,
 ) -> Result<(LentBlock<'a>, usize), Refused7>
     requires { at ≤ length text.now }
     ensures within { IfOk result (λ x. IsOn at text.now x.1) }
@@ -146,7 +147,7 @@ pub(crate) fn block_at<'a>(
 
 /// What a block has before its body.
 #[tactic(auto, unfolding(crate::specs::Table::lead))]
-fn lead_at(text: &[u8], at: usize, left: u64, earlier: &[Block7]) -> Result<(Lead, usize), Refused7>
+fn lead_at(text: &[u8], at: usize, left: u64, earlier: &Seen) -> Result<(Lead, usize), Refused7>
     requires { at ≤ length text.now }
     ensures within { IfOk result (λ x. IsOn at text.now x.1) }
     ensures exact { Gives (λ l. l) refused result (read (lead left earlier.now) text.now at) }
@@ -179,7 +180,7 @@ fn block_items_at(text: &[u8], at: usize) -> Result<(u64, usize), Refused7>
 }
 
 /// The type of a block.
-fn kind_at(text: &[u8], at: usize, left: u64, earlier: &[Block7]) -> Result<(u64, usize), Refused7>
+fn kind_at(text: &[u8], at: usize, left: u64, earlier: &Seen) -> Result<(u64, usize), Refused7>
     requires { at ≤ length text.now }
     ensures within { IfOk result (λ x. IsOn at text.now x.1) }
     ensures exact { Gives (λ n. n) refused result (read (kind_field left earlier.now) text.now at) }
@@ -188,7 +189,7 @@ fn kind_at(text: &[u8], at: usize, left: u64, earlier: &[Block7]) -> Result<(u64
     if kind != PAYLOAD && left == 0 {
         return Err(Cause7::TooManyBlocks.at(at));
     }
-    if is_single(kind) && has_kind(kind, earlier) {
+    if is_single(kind) && earlier.kinds.has(kind) {
         return Err(Cause7::Repeated.at(at));
     }
     Ok((kind, after))
@@ -201,20 +202,8 @@ fn is_single(kind: u64) -> bool
     kind == PREVIOUS_NODE || kind == BUNDLE_AGE || kind == HOP_COUNT
 }
 
-/// Whether a block of this type is among them.
-fn has_kind(kind: u64, blocks: &[Block7]) -> bool
-    ensures { result ≡ has_kind kind blocks.now }
-{
-    blocks.iter().any(|block| block.kind == kind)
-}
-
 /// The number of a block of this type.
-fn number_at(
-    text: &[u8],
-    at: usize,
-    kind: u64,
-    earlier: &[Block7],
-) -> Result<(u64, usize), Refused7>
+fn number_at(text: &[u8], at: usize, kind: u64, earlier: &Seen) -> Result<(u64, usize), Refused7>
     requires { at ≤ length text.now }
     ensures within { IfOk result (λ x. IsOn at text.now x.1) }
     ensures exact { Gives (λ n. n) refused result (read (number_field kind earlier.now) text.now at) }
@@ -227,21 +216,14 @@ fn number_at(
 }
 
 /// Whether a block of this type may have this number after the earlier ones.
-fn is_number(kind: u64, earlier: &[Block7], number: u64) -> bool
+fn is_number(kind: u64, earlier: &Seen, number: u64) -> bool
     ensures { result ≡ is_number kind earlier.now number }
 {
     if kind == PAYLOAD {
         number == 1
     } else {
-        number >= 2 && !has_number(number, earlier)
+        number >= 2 && !earlier.numbers.has(number)
     }
-}
-
-/// Whether a block of this number is among them.
-fn has_number(number: u64, blocks: &[Block7]) -> bool
-    ensures { result ≡ has_number number blocks.now }
-{
-    blocks.iter().any(|block| block.number == number)
 }
 
 /// How many octets a block's body has; those of a fragment's payload lie within the whole.

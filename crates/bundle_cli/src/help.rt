@@ -24,14 +24,14 @@ check and show read the octets of bundles of both versions, end to end, and writ
   {..}                           by show, of each bundle: its values
   refused BUNDLE AT CAUSE        last, where a bundle isn't one, and where in the input
 
+limits: 67108864 octets of input; of receive 1000000 lines, 9000000 octets a line and 64
+        unfinished sessions
+
 status: 0 done, 1 the input was refused, 2 wrong usage, 3 a read failed, 4 a write failed,
-        6 the input passes a limit, 7 memory ran out
+        6 the input passes a limit, 7 memory ran out; standard error says more of 2 to 7
 ";
 
 /// What `--version` prints.
 pub const VERSION: &str = "\
 fimdahol 0.1.0
 ";
-
-/// What is put on standard error where the words name no command.
-pub const USAGE: &str = "fimdahol: these words are no command; 'fimdahol --help' lists them\n";

@@ -1,5 +1,6 @@
 //! The program `fimdahol`: it hands the words of its call, standard input and standard output to
-//! `gateway_run::run`, and ends with the status that `run` answers.
+//! `gateway_run::run`, and ends with the status that `run` answers. Where its output doesn't say
+//! why it ended so, a line on standard error does.
 //!
 //! Two words it answers itself, where each is the only one: `--help` (or `-h`) and `--version`.
 //! It writes nothing where an argument isn't UTF-8 (status 2) or where memory runs out before
@@ -8,11 +9,14 @@
 
 mod help;
 mod outside;
+mod unused;
+mod why;
 
 use edge_traits::Status;
 use help::{HELP, VERSION};
 use outside::{call, words_of};
 use std::process::ExitCode;
+use why::reason;
 
 fn main(rt: HostRuntime) -> ExitCode {
     let words = match words_of(&rt) {
@@ -24,7 +28,13 @@ fn main(rt: HostRuntime) -> ExitCode {
             say(&rt, HELP)
         }
         [word] if word.octets() == b"--version".as_slice() => say(&rt, VERSION),
-        words => ExitCode::from(call(&rt, words).code()),
+        words => {
+            let ended = call(&rt, words);
+            if let Some(line) = reason(words, ended) {
+                let _ = rt.eprint(line);
+            }
+            ExitCode::from(ended.status.code())
+        }
     }
 }
 

@@ -1,11 +1,13 @@
 //! The real outside.
-ghost use Rattle.std.specs.Prelude.{◌≡◌, ◌↔◌, ◌⊎◌, None, IfOk, IfErr};
-ghost use Rattle.gateway_run.specs.Words.{command_of};
+ghost use Rattle.std.specs.Prelude.{◌≡◌, ◌↔◌, ◌⊎◌, ◌-◌, ◌<◌, ◌^◌, None, IfErr, IfSome};
+ghost use Rattle.edge_traits.specs.Outcome.{Ran, source_tells, sink_tells};
+ghost use Rattle.gateway_run.specs.Words.{command_of, settles};
 
-use crate::help::USAGE;
-use edge_traits::{MemClock, MemLink, Reading, Status, Writing};
+use crate::unused::Unused;
+use crate::why::Ended;
+use edge_traits::{Reading, Sink, Source, Status, Writing};
 use gateway_run::{Word, run};
-use std::alloc::{AllocError, Global};
+use std::alloc::Global;
 use std::env;
 use std::io::{self, ErrorKind};
 use std::rt::Env;
@@ -29,39 +31,34 @@ pub fn words_of<R: Env + AllocGlobal>(rt: &R) -> Result<Vec<Word>, Status>
     Ok(words)
 }
 
-/// Runs a command over standard input and standard output. Where the words name none, a line on
-/// standard error says so.
-pub fn call<R: Input + Print + Eprint + AllocGlobal>(rt: &R, words: &[Word]) -> Status
-    ensures usage { result ≡ Status.Usage → command_of words.now ≡ None }
-    ensures named { command_of words.now ≡ None → (result ≡ Status.Usage) ⊎ (result ≡ Status.Memory) }
+/// Runs the command that the words name over standard input and standard output.
+pub fn call<R: Input + Print + AllocGlobal>(rt: &R, words: &[Word]) -> Ended
+    ensures usage { (result.status ≡ Status.Usage) ↔ (command_of words.now ≡ None) }
 {
-    match run_over(rt, words) {
-        Ok(Status::Usage) => {
-            let _ = rt.eprint(USAGE);
-            Status::Usage
-        }
-        Ok(status) => status,
-        Err(AllocError) => Status::Memory,
+    let mut source = Reading::new(rt.reader());
+    let mut sink = Writing::new(io::writer(rt));
+    let status = run_over(rt.alloc(), words, &mut source, &mut sink);
+    Ended {
+        status,
+        reader_gone: sink.is_reader_gone(),
     }
 }
 
-/// The same, without the line.
-fn run_over<R: Input + Print + AllocGlobal>(rt: &R, words: &[Word]) -> Result<Status, AllocError>
-    ensures usage { IfOk result (λ status. (status ≡ Status.Usage) ↔ (command_of words.now ≡ None)) }
+/// Runs it over any source and sink: no link is used, and no clock.
+fn run_over<S: Source, K: Sink>(
+    alloc: Global,
+    words: &[Word],
+    source: &mut S,
+    sink: &mut K,
+) -> Status
+    requires source { S.faults source.old < 2 ^ 64 - 1 }
+    requires sink { K.faults sink.old < 2 ^ 64 - 1 }
+    ensures usage { (result ≡ Status.Usage) ↔ (command_of words.now ≡ None) }
+    ensures untouched { result ≡ Status.Usage → (source.new ≡ source.old) × (sink.new ≡ sink.old) }
+    ensures ran { IfSome (command_of words.now) (λ command. Ran (settles command) result
+        (source_tells S.left S.faults S.failing source.old) (source_tells S.left S.faults S.failing source.new)
+        (sink_tells K.held K.faults K.failing sink.old) (sink_tells K.held K.faults K.failing sink.new)) }
 {
-    let alloc = rt.alloc();
-    let mut old_link = MemLink::new(alloc, 0, &[])?;
-    let mut new_link = MemLink::new(alloc, 0, &[])?;
-    let mut clock = MemClock::new(alloc, &[0])?;
-    let mut source = Reading::new(rt.reader());
-    let mut sink = Writing::new(io::writer(rt));
-    Ok(run(
-        alloc,
-        words,
-        &mut source,
-        &mut sink,
-        &mut old_link,
-        &mut new_link,
-        &mut clock,
-    ))
+    let (mut old, mut new, mut clock) = (Unused, Unused, Unused);
+    run(alloc, words, source, sink, &mut old, &mut new, &mut clock)
 }

@@ -1,5 +1,5 @@
 -- Bundles and refusals at the front of octets, as the run meets them.
-use Rattle.std.proofs.Common.{◌≡◌, ℕ, zero, suc, ◌+◌, ◌<◌, ◌≤◌, Bool, true, false, eqb, List, [], ◌∷◌, ◌++◌, length, take, drop, slice_index, None, refl, ◌∙◌, ap, arith}
+use Rattle.std.proofs.Common.{◌≡◌, ℕ, zero, suc, ◌+◌, ◌<◌, ◌≤◌, Bool, true, false, eqb, List, [], ◌∷◌, ◌++◌, length, take, drop, slice_index, None, refl, ◌∙◌, ap, arith, Some}
 use Rattle.std.proofs.lemmas.Bool.{eqb-true}
 use Rattle.edge_traits.specs.declared.status.Status.TheVariants as statuses
 use Rattle.wire_fields.specs.Format.{Spells}
@@ -16,15 +16,16 @@ use Rattle.bundle7.specs.declared.fault.Cause7.{Cause7}
 use Rattle.bundle7.specs.declared.fault.Cause7.TheVariants as causes7
 use Rattle.bundle7.specs.declared.bundle.Bundle7.{Bundle7}
 use Rattle.bundle7.specs.Table as table7
-use Rattle.bundle_runs.specs.declared.command.Command.{Command}
+use Rattle.bundle_runs.specs.declared.commands.command.Command.{Command}
 use Rattle.bundle_runs.specs.declared.front.Bundle.{Bundle}
 use Rattle.bundle_runs.specs.declared.front.Bundle.TheVariants as bundles
 use Rattle.bundle_runs.specs.declared.front.Cause.{Cause}
 use Rattle.bundle_runs.specs.declared.front.Cause.TheVariants as causes
 use Rattle.bundle_runs.specs.declared.front.Front.TheVariants.{Whole, Refused}
 use Rattle.bundle_runs.specs.Front.{front_of, word_of}
-use Rattle.bundle_runs.specs.Answering.{answers_from, due, line_of, refused_line}
-use Rattle.edge_traits.specs.Outcome.{put_before}
+use Rattle.bundle_runs.specs.Answering.{bundles_settle, due}
+use Rattle.bundle_runs.specs.WrittenLines.{bundle_line, refused_line}
+use Rattle.edge_traits.specs.Settled.{put_before}
 use Rattle.bundle_runs.specs.Laws.{TakesBundle6, TakesBundle7, StopsAt6, StopsAt7}
 use Rattle.bundle_runs.proofs.FrontLemmas.{six-within, seven-within}
 use Rattle.bundle_runs.proofs.AnsweringLemmas.{answers-bundle, answers-stop}
@@ -57,18 +58,18 @@ first7 most k octets b (u, v, start, parts, (one, mark), rest) =
 -- a bundle at the front is answered so
 module _ (command : Command) (longer : Bool) (n at : ℕ) (octets : List ℕ) where
   takes : (bundle : Bundle) (k : ℕ) → 0 < k → k ≤ length octets → front_of octets ≡ Whole bundle k
-      → answers_from command longer 0 n at octets
-      ≡ put_before (line_of command bundle k) (answers_from command longer 0 (n + 1) (at + k) (drop k octets))
+      → bundles_settle command longer 0 n at octets
+      ≡ put_before (bundle_line command bundle k) (bundles_settle command longer 0 (n + 1) (at + k) (drop k octets))
   takes bundle k some within is =
       answers-bundle command longer n at k octets (omega arith) some (rw is refl)
-      ∙ ap (λ front. put_before (due command longer n at front).text (answers_from command longer 0 (n + 1) (at + k) (drop k octets))) is
+      ∙ ap (λ front. put_before (due command longer n at front).text (bundles_settle command longer 0 (n + 1) (at + k) (drop k octets))) is
 
   halts : (place : ℕ) (cause : Cause) → 0 < length octets → front_of octets ≡ Refused place cause
-      → answers_from command longer 0 n at octets
-      ≡ record { text = refused_line n (at + place) (word_of cause); status = statuses.Refused }
+      → bundles_settle command longer 0 n at octets
+      ≡ record { text = refused_line n (at + place) (word_of cause); ends = Some statuses.Refused }
   halts place cause some is =
-      let stop : answers_from command longer 0 n at octets
-      ≡ record { text = (due command longer n at (front_of octets)).text; status = statuses.Refused } =
+      let stop : bundles_settle command longer 0 n at octets
+      ≡ record { text = (due command longer n at (front_of octets)).text; ends = Some statuses.Refused } =
       answers-stop command longer n at statuses.Refused octets some (rw is refl) in
       rw is at stop
 

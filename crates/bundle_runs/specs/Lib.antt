@@ -1,6 +1,8 @@
 pub mod Front
-pub mod Legal
 pub mod Show
+pub mod WrittenLines
 pub mod Answering
-pub mod Turns
 pub mod Laws
+-- what only ties code to these
+pub mod Legal
+pub mod Written

@@ -11,14 +11,13 @@
 #![tactic(auto)]
 
 mod answering;
-mod command;
+mod commands;
 mod front;
 mod laws;
-mod lines;
 mod show;
-mod top;
+mod written_lines;
 
-pub use command::Command;
+pub use commands::bundles::bundles;
+pub use commands::command::Command;
 pub use front::{Bundle, Cause};
 pub use laws::answers_bundle_by_bundle;
-pub use top::bundles;

@@ -37,9 +37,9 @@ HasOtherKind-more kind (first ∷ rest) more other = other
 HasLongHead-more : (kind : ℕ) (w more : List ℕ) → HasLongHead kind w → HasLongHead kind (w ++ more)
 HasLongHead-more kind w more long = record {
   front = long.front;
-  behind = long.behind ++ more;
+  after = long.after ++ more;
   number = long.number;
-  parts = ap (λ (t : List ℕ). t ++ more) long.parts ∙ append_assoc long.front long.behind more;
+  parts = ap (λ (t : List ℕ). t ++ more) long.parts ∙ append_assoc long.front long.after more;
   says = long.says;
   shorter = long.shorter;
 }

@@ -10,7 +10,7 @@ use Rattle.cbor_lite.specs.Head.{first_octet, head, SpellsHead, SaysHead, in_fir
 
 -- ---- what is spelled is found
 
--- octets that stand behind the first one of a head
+-- octets that stand after the first one of a head
 pub number_in-front : (width : Width) (least n : ℕ) (front rest : List ℕ)
     → length front ≡ byte_len width → from_be_bytes width front ≡ n → least ≤ n
     → number_in width least (front ++ rest) ≡ Ok (n, 1 + byte_len width)
@@ -30,7 +30,7 @@ head_at-first kind information rest small =
 
 head_at-wide : (kind information n : ℕ) (width : Width) (least : ℕ) (rest : List ℕ) → information < 32
     → length (to_be_bytes width n) ≡ byte_len width → from_be_bytes width (to_be_bytes width n) ≡ n → least ≤ n
-    → ((behind : List ℕ) → number_at information behind ≡ number_in width least behind)
+    → ((after : List ℕ) → number_at information after ≡ number_in width least after)
     → head_at kind (first_octet kind information ∷ (to_be_bytes width n ++ rest)) ≡ Ok (n, 1 + byte_len width)
 head_at-wide kind information n width least rest small size value high is =
     head_at-first kind information (to_be_bytes width n ++ rest) small
@@ -109,7 +109,7 @@ head-5 kind n d = elim (cases_lt n (2 ^ 16)) [
       rw (le-ltb n 24 a, le-ltb n (2 ^ 8) b, le-ltb n (2 ^ 16) c, lt-ltb n (2 ^ 32) d) (omega arith)
 ]
 
--- a form of the head: these octets behind the first one, and from this number on
+-- a form of the head: these octets after the first one, and from this number on
 record Form (information : ℕ) (width : Width) (least : ℕ) : Type 0 where
   size : byte_len width ≡ 2 ^ (information - 24)
   back : (bs : List ℕ) → length bs ≡ byte_len width → AreOctets bs → to_be_bytes width (from_be_bytes width bs) ≡ bs
@@ -166,7 +166,7 @@ form_64 = record {
 AreOctets-rest : (first : ℕ) (rest : List ℕ) → AreOctets (first ∷ rest) → AreOctets rest
 AreOctets-rest first rest small i = small (suc i)
 
--- a head whose number stands behind its first octet
+-- a head whose number stands after its first octet
 answers-number : (kind information : ℕ) (width : Width) (least : ℕ) → Form information width least
     → (rest : List ℕ) → AreOctets rest → information < 32 → 24 ≤ information → information ≤ 27
     → AnswersHead kind (first_octet kind information ∷ rest) (number_in width least rest)
@@ -174,7 +174,7 @@ answers-number kind information width least form rest small fits low high =
     let is_kind : first_octet kind information / 32 ≡ kind = omega arith in
     let is_information : first_octet kind information % 32 ≡ information = omega arith in
     let octets : List ℕ = take (byte_len width) rest in
-    let behind : List ℕ = drop (byte_len width) rest in
+    let after : List ℕ = drop (byte_len width) rest in
     let number : ℕ = from_be_bytes width octets in
     let small_octets : AreOctets octets = AreOctets-take (byte_len width) rest small in
     let size : 1 + byte_len width ≡ suc (byte_len width) = omega arith in
@@ -186,7 +186,7 @@ answers-number kind information width least form rest small fits low high =
           rw (le-ltb (length rest) (byte_len width) whole) (elim (cases_lt number least) [
             | inl long ↦ rw (lt-ltb number least long) (record {
               front = first_octet kind information ∷ octets;
-              behind = behind;
+              after = after;
               number = number;
               parts = ap (λ (t : List ℕ). first_octet kind information ∷ t) (sym (take-append-drop (byte_len width) rest));
               says = subst (λ (t : List ℕ). SaysHead kind number (first_octet kind information ∷ t)) back (form.says kind octets small_octets);
@@ -328,24 +328,24 @@ from-32 kind n d = let a : 24 ≤ n = omega arith in let b : 2 ^ 8 ≤ n = omega
 below-least : (kind n least size : ℕ) → (least ≤ n → size ≤ length (head kind n)) → length (head kind n) < size → n < least
 below-least kind n least size from shorter = elim (cases_lt n least) [ inl low ↦ low | inr high ↦ absurd (omega (arith, from high)) ]
 
-says-long : (kind n : ℕ) (front behind : List ℕ) → SaysHead kind n front → length (head kind n) < length front
-    → head_at kind (front ++ behind) ≡ Err NotShortest
-says-long kind n _ behind (in_first small) shorter = absurd (omega (arith, head-1 kind n small))
-says-long kind n _ behind (in_one small) shorter =
-    head_at-first kind 24 (to_be_bytes w8 n ++ behind) (omega arith)
-    ∙ number_in-long w8 24 n (to_be_bytes w8 n) behind refl (omega arith) (below-least kind n 24 2 (from-24 kind n) shorter)
-says-long kind n _ behind (in_two small) shorter =
-    head_at-first kind 25 (to_be_bytes w16 n ++ behind) (omega arith)
-    ∙ number_in-long w16 (2 ^ 8) n (to_be_bytes w16 n) behind refl (from_be_bytes-to_be_bytes_2 n small) (below-least kind n (2 ^ 8) 3 (from-8 kind n) shorter)
-says-long kind n _ behind (in_four small) shorter =
-    head_at-first kind 26 (to_be_bytes w32 n ++ behind) (omega arith)
-    ∙ number_in-long w32 (2 ^ 16) n (to_be_bytes w32 n) behind refl (from_be_bytes-to_be_bytes_4 n small) (below-least kind n (2 ^ 16) 5 (from-16 kind n) shorter)
-says-long kind n _ behind (in_eight small) shorter =
-    head_at-first kind 27 (to_be_bytes w64 n ++ behind) (omega arith)
-    ∙ number_in-long w64 (2 ^ 32) n (to_be_bytes w64 n) behind refl (from_be_bytes-to_be_bytes_8 n small) (below-least kind n (2 ^ 32) 9 (from-32 kind n) shorter)
+says-long : (kind n : ℕ) (front after : List ℕ) → SaysHead kind n front → length (head kind n) < length front
+    → head_at kind (front ++ after) ≡ Err NotShortest
+says-long kind n _ after (in_first small) shorter = absurd (omega (arith, head-1 kind n small))
+says-long kind n _ after (in_one small) shorter =
+    head_at-first kind 24 (to_be_bytes w8 n ++ after) (omega arith)
+    ∙ number_in-long w8 24 n (to_be_bytes w8 n) after refl (omega arith) (below-least kind n 24 2 (from-24 kind n) shorter)
+says-long kind n _ after (in_two small) shorter =
+    head_at-first kind 25 (to_be_bytes w16 n ++ after) (omega arith)
+    ∙ number_in-long w16 (2 ^ 8) n (to_be_bytes w16 n) after refl (from_be_bytes-to_be_bytes_2 n small) (below-least kind n (2 ^ 8) 3 (from-8 kind n) shorter)
+says-long kind n _ after (in_four small) shorter =
+    head_at-first kind 26 (to_be_bytes w32 n ++ after) (omega arith)
+    ∙ number_in-long w32 (2 ^ 16) n (to_be_bytes w32 n) after refl (from_be_bytes-to_be_bytes_4 n small) (below-least kind n (2 ^ 16) 5 (from-16 kind n) shorter)
+says-long kind n _ after (in_eight small) shorter =
+    head_at-first kind 27 (to_be_bytes w64 n ++ after) (omega arith)
+    ∙ number_in-long w64 (2 ^ 32) n (to_be_bytes w64 n) after refl (from_be_bytes-to_be_bytes_8 n small) (below-least kind n (2 ^ 32) 9 (from-32 kind n) shorter)
 
 pub head_at-long : (kind : ℕ) (w : List ℕ) → HasLongHead kind w → head_at kind w ≡ Err NotShortest
-head_at-long kind w long = rw long.parts (says-long kind long.number long.front long.behind long.says long.shorter)
+head_at-long kind w long = rw long.parts (says-long kind long.number long.front long.after long.says long.shorter)
 
 -- a head begins with its kind
 pub kind_of-head : (kind n : ℕ) (rest : List ℕ) → kind_of (head kind n ++ rest) ≡ kind

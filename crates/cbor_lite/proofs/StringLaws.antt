@@ -23,7 +23,7 @@ content-answers kind w (Ok x) (within, spells) =
     elim (cases_lt (length w - start) size) [
       | inl ends ↦ rw (lt-ltb (length w - start) size ends) (inr (record {
         front = take start w;
-        behind = drop start w;
+        after = drop start w;
         size = size;
         parts = sym (take-append-drop start w);
         says = spells;
@@ -63,8 +63,8 @@ string_at-only kind u rest body spells =
 
 string_at-ends : (kind : ℕ) (w : List ℕ) → EndsInsideContent kind w → string_at kind w ≡ Err Short
 string_at-ends kind w ends =
-    let short : length (ends.front ++ ends.behind) - length ends.front < ends.size = let few = ends.fewer in omega (arith, length-append ends.front ends.behind) in
-    rw (ends.parts, head_at-only kind ends.front ends.behind ends.size ends.says, lt-ltb (length (ends.front ++ ends.behind) - length ends.front) ends.size short) refl
+    let short : length (ends.front ++ ends.after) - length ends.front < ends.size = let few = ends.fewer in omega (arith, length-append ends.front ends.after) in
+    rw (ends.parts, head_at-only kind ends.front ends.after ends.size ends.says, lt-ltb (length (ends.front ++ ends.after) - length ends.front) ends.size short) refl
 
 string_at-fault : (kind : ℕ) (w : List ℕ) (e : CborFault) → StringFault kind w e → string_at kind w ≡ Err e
 string_at-fault kind w Kind other = ap (content_at w) (head_at-other kind w other)

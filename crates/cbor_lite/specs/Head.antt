@@ -1,7 +1,8 @@
 -- The head of a CBOR item (RFC 8949, section 3): the kind in the high three bits of its first octet,
 -- the additional information in the low five. Where that is below 24 it is the number that the head
--- says; where it is 24 to 27 the number stands in the 1, 2, 4 or 8 octets behind, in network order.
-use Rattle.std.specs.Prelude.{◌≡◌, ◌≢◌, ◌⊎◌, ◌++◌, ℕ, ◌+◌, ◌-◌, ◌*◌, ◌/◌, ◌%◌, ◌^◌, ◌<◌, ◌≤◌, ◌==◌, nat_lt, if◌then◌else◌, List, [], ◌∷◌, length, take, Result, Ok, Err}
+-- says; where it is 24 to 27 the number stands in the 1, 2, 4 or 8 octets after it, in network order.
+use Rattle.std.specs.Prelude.{◌≡◌, ◌≢◌, ◌⊎◌, ◌++◌, ℕ, ◌+◌, ◌-◌, ◌*◌, ◌/◌, ◌%◌, ◌^◌, ◌<◌, ◌≤◌, ◌==◌}
+use Rattle.std.specs.Prelude.{nat_lt, if◌then◌else◌, List, [], ◌∷◌, length, take, Result, Ok, Err}
 use Rattle.std.specs.Int.{Width, w8, w16, w32, w64, byte_len, to_be_bytes, from_be_bytes}
 use Rattle.cbor_lite.specs.declared.fault.CborFault.{CborFault}
 use Rattle.cbor_lite.specs.declared.head.Head.{Head}
@@ -48,9 +49,9 @@ EndsInsideHead kind (first ∷ rest) =
 -- a whole head stands at the front, and a shorter one says the same number
 pub record HasLongHead (kind : ℕ) (w : List ℕ) : Type 0 where
   pub front : List ℕ
-  pub behind : List ℕ
+  pub after : List ℕ
   pub number : ℕ
-  pub parts : w ≡ front ++ behind
+  pub parts : w ≡ front ++ after
   pub says : SaysHead kind number front
   pub shorter : length (head kind number) < length front
 
@@ -67,11 +68,11 @@ AnswersHead kind w (Err e) = HeadFault kind w e
 
 -- ---- what a text has at its front: the number and the octets of the head, or why there is none
 
--- a number that was read behind the first octet has to need its width
+-- a number that was read after the first octet has to need its width
 abbrev pub shortest : ℕ → ℕ → ℕ → Result (ℕ × ℕ) CborFault
 shortest least size n = if nat_lt n least then Err NotShortest else Ok (n, size)
 
--- the number in the octets behind the first one
+-- the number in the octets after the first one
 abbrev pub number_in : Width → ℕ → List ℕ → Result (ℕ × ℕ) CborFault
 number_in width least rest =
     if nat_lt (length rest) (byte_len width) then Err Short

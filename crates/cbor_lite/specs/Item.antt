@@ -1,11 +1,14 @@
 -- The items that bundles are written in (RFC 8949, section 3): a head, and for a string as many octets
--- behind it as it says. Numbers are of kind 0, byte strings of kind 2, text strings of kind 3, and
+-- after it as it says. Numbers are of kind 0, byte strings of kind 2, text strings of kind 3, and
 -- an array's head, of kind 4, says how many items follow.
-use Rattle.std.specs.Prelude.{◌≡◌, ◌≢◌, ◌⊎◌, ◌++◌, ℕ, ◌+◌, ◌-◌, ◌^◌, ◌<◌, ◌≤◌, ◌==◌, nat_lt, if◌then◌else◌, Bool, true, false, List, [], ◌∷◌, length, take, drop, Result, Ok, Err}
+use Rattle.std.specs.Prelude.{◌≡◌, ◌≢◌, ◌⊎◌, ◌++◌, ℕ, ◌+◌, ◌-◌, ◌^◌, ◌<◌, ◌≤◌, ◌==◌, nat_lt}
+use Rattle.std.specs.Prelude.{if◌then◌else◌, Bool, true, false, List, [], ◌∷◌, length, take, drop}
+use Rattle.std.specs.Prelude.{Result, Ok, Err}
 use Rattle.std.specs.Borrow.{Bor}
 use Rattle.cbor_lite.specs.declared.fault.CborFault.{CborFault}
 use Rattle.cbor_lite.specs.declared.fault.CborFault.TheVariants.{Kind, Short, NotShortest}
-use Rattle.cbor_lite.specs.Head.{head, SpellsHead, HasOtherKind, EndsInsideHead, HasLongHead, head_at}
+use Rattle.cbor_lite.specs.Head.{head, SpellsHead, HasOtherKind, EndsInsideHead, HasLongHead}
+use Rattle.cbor_lite.specs.Head.{head_at}
 
 -- ---- strings
 
@@ -18,14 +21,14 @@ pub record SpellsString (kind : ℕ) (w body : List ℕ) : Type 0 where
   pub small : length body < 2 ^ 64
   pub spelt : w ≡ string kind body
 
--- behind a head stand fewer octets than it says
+-- after a head stand fewer octets than it says
 pub record EndsInsideContent (kind : ℕ) (w : List ℕ) : Type 0 where
   pub front : List ℕ
-  pub behind : List ℕ
+  pub after : List ℕ
   pub size : ℕ
-  pub parts : w ≡ front ++ behind
+  pub parts : w ≡ front ++ after
   pub says : SpellsHead kind front size
-  pub fewer : length behind < size
+  pub fewer : length after < size
 
 -- why no string of this kind stands at the front of a text
 abbrev pub StringFault : ℕ → List ℕ → CborFault → Type 0
@@ -38,7 +41,7 @@ abbrev pub AnswersString : ℕ → List ℕ → Result (List ℕ × ℕ) CborFau
 AnswersString kind w (Ok x) = (x.1 ≤ length w) × SpellsString kind (take x.1 w) x.0
 AnswersString kind w (Err e) = StringFault kind w e
 
--- the content behind a head that says its length
+-- the content after a head that says its length
 abbrev pub content_at : List ℕ → Result (ℕ × ℕ) CborFault → Result (List ℕ × ℕ) CborFault
 content_at w (Err e) = Err e
 content_at w (Ok x) =

@@ -1,7 +1,8 @@
 //! Heads: the kind and the number that each item begins with.
 ghost use Rattle.std.specs.Prelude.{◌≡◌, ◌↔◌, ◌≤◌, ◌^◌, ℕ, length, take, IfOk};
 ghost use Rattle.std.specs.Int.{w8, w16, w32, w64};
-ghost use Rattle.cbor_lite.specs.Head.{SpellsHead, HeadFault, kind_of, any_head_at, head_at, number_at, number_in, shortest};
+ghost use Rattle.cbor_lite.specs.Head.{SpellsHead, HeadFault, kind_of, any_head_at, head_at};
+ghost use Rattle.cbor_lite.specs.Head.{number_at, number_in, shortest};
 ghost use Rattle.cbor_lite.specs.declared.fault.CborFault.{CborFault};
 ghost use Rattle.cbor_lite.specs.declared.head.Head.{Head};
 

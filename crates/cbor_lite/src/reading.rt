@@ -1,7 +1,9 @@
 //! Readers of items.
-ghost use Rattle.std.specs.Prelude.{◌≡◌, ◌↔◌, ◌<◌, ◌≤◌, ◌+◌, ◌∷◌, [], ℕ, Bool, List, length, take, IfOk, MatchResult, Err, Ok};
+ghost use Rattle.std.specs.Prelude.{◌≡◌, ◌↔◌, ◌<◌, ◌≤◌, ◌+◌, ◌∷◌, [], ℕ, Bool, List, length, take};
+ghost use Rattle.std.specs.Prelude.{IfOk, MatchResult, Err, Ok};
 ghost use Rattle.cbor_lite.specs.Head.{SpellsHead, HeadFault, head_at};
-ghost use Rattle.cbor_lite.specs.Item.{SpellsString, StringFault, string_at, lent, boolean, break, BooleanFault, BreakFault, boolean_at, break_at};
+ghost use Rattle.cbor_lite.specs.Item.{SpellsString, StringFault, string_at, lent, boolean, break};
+ghost use Rattle.cbor_lite.specs.Item.{BooleanFault, BreakFault, boolean_at, break_at};
 ghost use Rattle.cbor_lite.specs.declared.fault.CborFault.{CborFault};
 
 use crate::fault::CborFault;

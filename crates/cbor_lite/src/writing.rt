@@ -1,5 +1,6 @@
 //! Writers of items.
-ghost use Rattle.std.specs.Prelude.{◌≡◌, ◌<◌, ◌++◌, ◌∷◌, [], length, OnOk, OnErr};
+ghost use Rattle.std.specs.Prelude.{◌≡◌, ◌+◌, ◌<◌, ◌≤◌, ◌++◌, ◌∷◌, [], length, OnOk, OnErr};
+ghost use Rattle.std.specs.Prelude.{vec_len, vec_capacity};
 ghost use Rattle.cbor_lite.specs.Head.{head};
 ghost use Rattle.cbor_lite.specs.Item.{string, boolean};
 
@@ -10,6 +11,8 @@ use std::alloc::AllocError;
 pub fn write_uint(value: u64, out: &mut Vec<u8>) -> Result<(), AllocError>
     ensures written { OnOk result (out.new.items ≡ out.old.items ++ head 0 value) }
     ensures kept { OnErr result (out.new.items ≡ out.old.items) }
+    // Memory is wanted only where there is no room.
+    ensures full { OnErr result (vec_capacity out.old < vec_len out.old + length (head 0 value)) }
 {
     write_head(UNSIGNED, value, out)
 }
@@ -18,6 +21,8 @@ pub fn write_uint(value: u64, out: &mut Vec<u8>) -> Result<(), AllocError>
 pub fn write_array(items: u64, out: &mut Vec<u8>) -> Result<(), AllocError>
     ensures written { OnOk result (out.new.items ≡ out.old.items ++ head 4 items) }
     ensures kept { OnErr result (out.new.items ≡ out.old.items) }
+    // Memory is wanted only where there is no room.
+    ensures full { OnErr result (vec_capacity out.old < vec_len out.old + length (head 4 items)) }
 {
     write_head(ARRAY, items, out)
 }
@@ -26,6 +31,8 @@ pub fn write_array(items: u64, out: &mut Vec<u8>) -> Result<(), AllocError>
 pub fn write_bytes(value: &[u8], out: &mut Vec<u8>) -> Result<(), AllocError>
     ensures written { OnOk result (out.new.items ≡ out.old.items ++ string 2 value.now) }
     ensures kept { OnErr result (out.new.items ≡ out.old.items) }
+    // Memory is wanted only where there is no room.
+    ensures full { OnErr result (vec_capacity out.old < vec_len out.old + length (string 2 value.now)) }
 {
     write_string(BYTES, value, out)
 }
@@ -34,6 +41,8 @@ pub fn write_bytes(value: &[u8], out: &mut Vec<u8>) -> Result<(), AllocError>
 pub fn write_text(value: &[u8], out: &mut Vec<u8>) -> Result<(), AllocError>
     ensures written { OnOk result (out.new.items ≡ out.old.items ++ string 3 value.now) }
     ensures kept { OnErr result (out.new.items ≡ out.old.items) }
+    // Memory is wanted only where there is no room.
+    ensures full { OnErr result (vec_capacity out.old < vec_len out.old + length (string 3 value.now)) }
 {
     write_string(TEXT, value, out)
 }
@@ -42,16 +51,20 @@ pub fn write_text(value: &[u8], out: &mut Vec<u8>) -> Result<(), AllocError>
 pub fn write_bool(value: bool, out: &mut Vec<u8>) -> Result<(), AllocError>
     ensures written { OnOk result (out.new.items ≡ out.old.items ++ boolean value ∷ []) }
     ensures kept { OnErr result (out.new.items ≡ out.old.items) }
+    // Memory is wanted only where there is no room.
+    ensures full { OnErr result (vec_capacity out.old ≤ vec_len out.old) }
 {
     out.push(if value { 0xF5 } else { 0xF4 })?;
     Ok(())
 }
 
-/// Appends a string; where its content doesn't fit behind its head, the head is taken back.
+/// Appends a string; where its content doesn't fit after its head, the head is taken back.
 fn write_string(kind: u8, value: &[u8], out: &mut Vec<u8>) -> Result<(), AllocError>
     requires { kind < 8 }
     ensures written { OnOk result (out.new.items ≡ out.old.items ++ string kind value.now) }
     ensures kept { OnErr result (out.new.items ≡ out.old.items) }
+    // Memory is wanted only where there is no room.
+    ensures full { OnErr result (vec_capacity out.old < vec_len out.old + length (string kind value.now)) }
 {
     let before = out.len();
     write_head(kind, value.len() as u64, out)?;
@@ -67,6 +80,9 @@ pub fn write_head(kind: u8, value: u64, out: &mut Vec<u8>) -> Result<(), AllocEr
     requires { kind < 8 }
     ensures written { OnOk result (out.new.items ≡ out.old.items ++ head kind value) }
     ensures kept { OnErr result (out.new.items ≡ out.old.items) }
+    // Memory is wanted only where there is no room.
+    ensures full { OnErr result (vec_capacity out.old < vec_len out.old + length (head kind value)) }
+    ensures capacity { vec_capacity out.old ≤ vec_capacity out.new }
 {
     let first = kind * 32;
     if value < 24 {

@@ -53,7 +53,7 @@ zero-bit-xor p a b =
       ]
     ]
 
--- a bit 1 or 0 is a bit 0 behind a changed register
+-- a bit 1 or 0 is a bit 0 after a changed register
 bit-zero-bit : (p r b : ℕ) → b < 2 → take_bit p r b ≡ take_bit p (bit_xor r b) 0
 bit-zero-bit p r zero small = ap (λ (x : ℕ). take_bit p x 0) (sym (xor_zero_r r))
 bit-zero-bit p r (suc zero) small =
@@ -178,7 +178,7 @@ octets_value [] = 0
 octets_value (o ∷ w) = octets_value w * 256 + o
 
 -- The register after a text of at least as many octets as it has itself: each octet acts alone, by
--- the zeros that are as many as its own bits and those behind it.
+-- the zeros that are as many as its own bits and those after it.
 pub sliced : ℕ → List ℕ → List ℕ → ℕ
 sliced p rs [] = 0
 sliced p [] (o ∷ w) = bit_xor (after_zeros p (8 * (length w + 1)) o) (sliced p [] w)
@@ -297,9 +297,9 @@ word32 p r rs w a b c d e f g h small_r are size small ha hb hc hd he hf hg hh =
 
 -- ---- steps of the loops
 
-pub words-step : (p r next : ℕ) (rest word behind : List ℕ) → word ≡ take 8 rest → behind ≡ drop 8 rest → next ≡ take_text p r word
-    → take_text p next behind ≡ take_text p r rest
-words-step p r next rest word behind front back taken =
+pub words-step : (p r next : ℕ) (rest word after : List ℕ) → word ≡ take 8 rest → after ≡ drop 8 rest → next ≡ take_text p r word
+    → take_text p next after ≡ take_text p r rest
+words-step p r next rest word after front back taken =
     rw (taken, back, front) (sym (take_text-append p r (take 8 rest) (drop 8 rest)) ∙ ap (take_text p r) (take-append-drop 8 rest))
 
 pub octets-step : (p start r next i : ℕ) (w : List ℕ) → ((k : ℕ) → get_or w k 0 < 256) → i < length w → r ≡ take_text p start (take i w)

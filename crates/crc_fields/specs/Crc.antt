@@ -1,6 +1,7 @@
 -- Cyclic redundancy checks over a text, bit by bit. The bits of the text go into a register one after
 -- another, the low bit of each octet first.
-use Rattle.std.specs.Prelude.{ℕ, ◌+◌, ◌/◌, ◌%◌, ◌==◌, if◌then◌else◌, List, [], ◌∷◌, ◌++◌, take, drop, replicate, bit_xor}
+use Rattle.std.specs.Prelude.{ℕ, ◌+◌, ◌/◌, ◌%◌, ◌==◌, if◌then◌else◌, List, [], ◌∷◌, ◌++◌, take}
+use Rattle.std.specs.Prelude.{drop, replicate, bit_xor}
 
 -- A bit meets the register's lowest bit, which leaves. Where the two differ, the polynomial is added,
 -- without carries, to what stays.

@@ -1,2 +1,4 @@
+-- What public clauses cite.
 pub mod Crc
+-- What only ties code to it.
 pub mod Tables

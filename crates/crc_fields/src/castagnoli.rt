@@ -73,9 +73,9 @@ fn take_words(start: u32, bytes: &[u8]) -> (u32, &[u8])
 {
     let mut register = start;
     let mut rest = bytes;
-    'words: while let Some((word, behind)) = rest.split_first_chunk::<8>() {
+    'words: while let Some((word, after)) = rest.split_first_chunk::<8>() {
         register = take_word(register, word);
-        rest = behind;
+        rest = after;
     }
     (register, rest)
 }

@@ -6,17 +6,17 @@ use Rattle.edge_traits.specs.declared.status.Status.{Status}
 use Rattle.edge_traits.specs.declared.status.Status.TheVariants as statuses
 use Rattle.edge_traits.specs.Content.{read_front}
 use Rattle.edge_traits.specs.Faults.{Calls, NoneFailed, LastFailed}
-use Rattle.edge_traits.specs.Settled.{Answered, put_before, gathered}
+use Rattle.edge_traits.specs.Settled.{Settled, put_before, gathered}
 use Rattle.edge_traits.specs.Outcome.{SourceTells, SinkTells, Wrote, WentReading, WentWriting, Ran, WroteAnswer}
 use Rattle.edge_traits.proofs.ContentLemmas.{Gains-none, GainsFront-none}
 use Rattle.edge_traits.proofs.FaultsLemmas.{NoneFailed-same}
 
-pub put_before-put_before : (first second : List ℕ) (answer : Answered)
+pub put_before-put_before : (first second : List ℕ) (answer : Settled)
     → put_before first (put_before second answer) ≡ put_before (first ++ second) answer
 put_before-put_before first second answer = rw append_assoc refl
 
 -- a read failed, and nothing was written
-pub ran_fault : (answer : List ℕ → Answered) (taken : List ℕ) (source source_now : SourceTells) (sink : SinkTells)
+pub ran_fault : (answer : List ℕ → Settled) (taken : List ℕ) (source source_now : SourceTells) (sink : SinkTells)
     → Consumes source.left source_now.left taken → LastFailed source.calls source_now.calls
     → Ran (gathered answer) statuses.ReadFault source source_now sink sink
 ran_fault answer taken source source_now sink came reads = record {
@@ -33,7 +33,7 @@ ran_fault answer taken source source_now sink came reads = record {
     wrote (Some input) (Some rest) came = (taken, came, refl, Gains-none sink.held)
 
 -- there was no memory for the octets that came, and nothing was written
-pub ran_memory : (answer : List ℕ → Answered) (source source_now : SourceTells) (sink : SinkTells)
+pub ran_memory : (answer : List ℕ → Settled) (source source_now : SourceTells) (sink : SinkTells)
     → IfSome source.left (λ input. 0 < length input) → NoneFailed source.calls source_now.calls
     → Ran (gathered answer) statuses.Memory source source_now sink sink
 ran_memory answer source source_now sink some reads = record {
@@ -50,18 +50,15 @@ ran_memory answer source source_now sink some reads = record {
 
 -- what was read was answered: its answer is that to the input, and no answer to an input past the
 -- limit is Done
-module _ (answer : List ℕ → Answered) (most : ℕ) (front : (all : List ℕ) → answer (read_front most all) ≡ answer all)
-    (within : (all : List ℕ) → (answer all).status ≡ statuses.Done → length all ≤ most) where
+module _ (answer : List ℕ → Settled) (most : ℕ) (front : (all : List ℕ) → answer (read_front most all) ≡ answer all)
+    (within : (all : List ℕ) → (answer all).ends ≡ Some statuses.Done → length all ≤ most) where
   wrote_all : (left now : Option (List ℕ)) (input : List ℕ) (status : Status) (before after : Option (List ℕ))
       → IfSome left (λ all. input ≡ read_front most all) → WroteAnswer (answer input) status before after
       → IfSome left (λ all. Wrote (gathered answer) status all now before after)
   wrote_all None now input status before after read wrote = tt
-  wrote_all (Some all) now input statuses.Done before after read wrote =
-      let due = rw (read, front all) at wrote in (ap Some due.0, due.1)
-  wrote_all (Some all) now input statuses.Refused before after read wrote =
-      let due = rw (read, front all) at wrote in (ap Some due.0, due.1)
-  wrote_all (Some all) now input statuses.Limit before after read wrote =
-      let due = rw (read, front all) at wrote in (ap Some due.0, due.1)
+  wrote_all (Some all) now input statuses.Done before after read wrote = rw (read, front all) at wrote
+  wrote_all (Some all) now input statuses.Refused before after read wrote = rw (read, front all) at wrote
+  wrote_all (Some all) now input statuses.Limit before after read wrote = rw (read, front all) at wrote
   wrote_all (Some all) now input statuses.WriteFault before after read wrote = rw (read, front all) at wrote
   wrote_all (Some all) now input statuses.Usage before after read wrote = absurd wrote
   wrote_all (Some all) now input statuses.ReadFault before after read wrote = absurd wrote
@@ -73,7 +70,7 @@ module _ (answer : List ℕ → Answered) (most : ℕ) (front : (all : List ℕ)
   no_fault input statuses.Refused a b x y wrote reads = reads
   no_fault input statuses.Limit a b x y wrote reads = reads
   no_fault input statuses.WriteFault a b x y wrote reads = reads
-  no_fault input statuses.Usage a b x y wrote reads = reads
+  no_fault input statuses.Usage a b x y wrote reads = absurd wrote
   no_fault input statuses.ReadFault a b x y wrote reads = absurd wrote
   no_fault input statuses.Memory a b x y wrote reads = reads
 

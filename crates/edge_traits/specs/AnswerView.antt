@@ -1,7 +1,8 @@
--- A command's answer as a value.
+-- A command's answer as what it settles.
+use Rattle.std.specs.Prelude.{Some}
 use Rattle.std.specs.String.{string_bytes}
 use Rattle.edge_traits.specs.declared.answer.Answer.{Answer}
-use Rattle.edge_traits.specs.Settled.{Answered}
+use Rattle.edge_traits.specs.Settled.{Settled}
 
-abbrev pub answered : Answer → Answered
-answered a = record { text = string_bytes a.text; status = a.status }
+abbrev pub answered : Answer → Settled
+answered a = record { text = string_bytes a.text; ends = Some a.status }

@@ -7,7 +7,7 @@ use Rattle.edge_traits.specs.declared.input.ReadRefused.{ReadRefused}
 use Rattle.edge_traits.specs.declared.input.ReadRefused.TheVariants.{Fault, NoMemory}
 use Rattle.edge_traits.specs.Content.{Gains, GainsFront}
 use Rattle.edge_traits.specs.Faults.{Calls, calls_of, NoneFailed, LastFailed}
-use Rattle.edge_traits.specs.Settled.{Ends, at_end, goes_on, Settled, Answered}
+use Rattle.edge_traits.specs.Settled.{Ends, at_end, goes_on, Settled}
 
 -- the program's exit status
 abbrev pub code_of : Status → ℕ
@@ -69,12 +69,12 @@ Wrote settles WriteFault input left before now = GainsFront before now (settles 
 Wrote settles Memory input left before now = (0 < length input) × GainsFront before now (settles at_end input).text
 Wrote settles Usage input left before now = ⊥
 
--- the reads of a run that ended so
+-- the reads of a run that ended so; no command's run ends as wrong usage
 abbrev pub WentReading : Status → Calls → Calls → Type 0
 WentReading ReadFault before now = LastFailed before now
 WentReading Done before now = NoneFailed before now
 WentReading Refused before now = NoneFailed before now
-WentReading Usage before now = NoneFailed before now
+WentReading Usage before now = ⊥
 WentReading WriteFault before now = NoneFailed before now
 WentReading Limit before now = NoneFailed before now
 WentReading Memory before now = NoneFailed before now
@@ -84,7 +84,7 @@ abbrev pub WentWriting : Status → Calls → Calls → Type 0
 WentWriting WriteFault before now = LastFailed before now
 WentWriting Done before now = NoneFailed before now
 WentWriting Refused before now = NoneFailed before now
-WentWriting Usage before now = NoneFailed before now
+WentWriting Usage before now = ⊥
 WentWriting ReadFault before now = NoneFailed before now
 WentWriting Limit before now = NoneFailed before now
 WentWriting Memory before now = NoneFailed before now
@@ -106,10 +106,10 @@ WentTo (Err Fault) before now = LastFailed before now
 WentTo (Err NoMemory) before now = NoneFailed before now
 
 -- what was written of an answer by a call that ended so
-abbrev pub WroteAnswer : Answered → Status → Option (List ℕ) → Option (List ℕ) → Type 0
-WroteAnswer due Done before now = (due.status ≡ Done) × Gains before now due.text
-WroteAnswer due Refused before now = (due.status ≡ Refused) × Gains before now due.text
-WroteAnswer due Limit before now = (due.status ≡ Limit) × Gains before now due.text
+abbrev pub WroteAnswer : Settled → Status → Option (List ℕ) → Option (List ℕ) → Type 0
+WroteAnswer due Done before now = EndsAs due Done before now
+WroteAnswer due Refused before now = EndsAs due Refused before now
+WroteAnswer due Limit before now = EndsAs due Limit before now
 WroteAnswer due WriteFault before now = GainsFront before now due.text
 WroteAnswer due Usage before now = ⊥
 WroteAnswer due ReadFault before now = ⊥

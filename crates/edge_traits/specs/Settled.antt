@@ -1,5 +1,5 @@
 -- What octets settle of a command's answer: the text that is to be written, and how the run ends.
-use Rattle.std.specs.Prelude.{ℕ, List, [], ◌++◌, Option, None, Some}
+use Rattle.std.specs.Prelude.{◌≡◌, ℕ, List, [], ◌++◌, Option, None, Some}
 use Rattle.edge_traits.specs.declared.status.Status.{Status}
 
 -- some octets are the whole input, or the input goes on after them
@@ -16,20 +16,26 @@ abbrev pub nothing_yet : Settled
 nothing_yet = record { text = []; ends = None }
 
 -- a text before what is settled
-abbrev pub after_text : List ℕ → Settled → Settled
-after_text text settled = record { text = text ++ settled.text; ends = settled.ends }
+abbrev pub put_before : List ℕ → Settled → Settled
+put_before text settled = record { text = text ++ settled.text; ends = settled.ends }
 
--- ---- a command that answers nothing before its input ends
+-- ---- fronts
 
--- the answer to a whole input: the text to write, and how the run is to end
-pub record Answered : Type 0 where
-  pub text : List ℕ
-  pub status : Status
+-- What is settled of the octets taken, `earlier`, is a front of what is settled later: its text goes
+-- on; and once it settles how the run ends, nothing that follows changes it.
+abbrev pub GoesOnAs : Option Status → Settled → Settled → Type 0
+GoesOnAs None earlier later = (rest : List ℕ) × (later.text ≡ earlier.text ++ rest)
+GoesOnAs (Some status) earlier later = later ≡ earlier
 
--- a text before an answer's
-abbrev pub put_before : List ℕ → Answered → Answered
-put_before text answer = record { text = text ++ answer.text; status = answer.status }
+abbrev pub IsFrontOf : Settled → Settled → Type 0
+IsFrontOf earlier later = GoesOnAs earlier.ends earlier later
 
-abbrev pub gathered : (List ℕ → Answered) → Ends → List ℕ → Settled
-gathered answer at_end input = record { text = (answer input).text; ends = Some (answer input).status }
+-- The earliest place decides: what octets settle while the input goes on is a front of what they
+-- settle with any octets after them.
+abbrev pub EarliestDecides : (Ends → List ℕ → Settled) → Type 0
+EarliestDecides settles = (ends : Ends) (taken more : List ℕ) → IsFrontOf (settles goes_on taken) (settles ends (taken ++ more))
+
+-- a command that answers nothing before its input ends, by its answer to a whole input
+abbrev pub gathered : (List ℕ → Settled) → Ends → List ℕ → Settled
+gathered answer at_end input = answer input
 gathered answer goes_on taken = nothing_yet

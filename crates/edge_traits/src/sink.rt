@@ -10,7 +10,7 @@ ghost use Rattle.edge_traits.specs.InMemory.{Keeping, MemSinkNow, unless_lost, a
 use crate::failing::{Failed, Failing};
 use crate::kept::Kept;
 use std::alloc::{AllocError, Global};
-use std::io::Write;
+use std::io::{ErrorKind, Write};
 use std::marker::Model;
 
 /// Where octets go: a file, a pipe, or memory.
@@ -150,12 +150,13 @@ impl Sink for SureSink {
     }
 }
 
-/// A sink over std's writer. It counts a fault at each error, and at each write that takes
-/// nothing of a piece that has an octet. What it takes goes to the writer.
+/// A sink over std's writer. Each write calls the writer once, and counts a fault where that is an
+/// error, or takes nothing of a piece that has an octet. What it takes goes to the writer.
 #[derive(Drop)]
 pub struct Writing<W: Drop> {
     writer: W,
     faults: u64,
+    reader_gone: bool,
 }
 
 impl<W: Write + Drop> Writing<W> {
@@ -164,7 +165,19 @@ impl<W: Write + Drop> Writing<W> {
         ensures holds { writer_holds W.contents result ≡ W.contents writer }
         ensures faults { ⟦<Writing<W> as Sink>⟧.faults result ≡ 0 }
     {
-        Writing { writer, faults: 0 }
+        Writing {
+            writer,
+            faults: 0,
+            reader_gone: false,
+        }
+    }
+
+    /// Whether a write failed since the reader of the pipe has gone away. No clause can see why a
+    /// write of std's writer failed, so that is only tested.
+    pub fn is_reader_gone(&self) -> bool
+        ensures { result ≡ self.now.reader_gone }
+    {
+        self.reader_gone
     }
 }
 
@@ -186,11 +199,11 @@ impl<W: Write + Drop> Sink for Writing<W> {
             (writer_holds W.contents self.new) result piece.now }
     {
         match self.writer.write(piece) {
-            Ok(n) if n > 0 || piece.is_empty() => Ok(n),
-            _ => {
-                self.faults = self.faults.saturating_add(1);
-                Err(Failed)
-            }
+            Ok(n) if n > 0 || piece.is_empty() => return Ok(n),
+            Ok(_) => {}
+            Err(e) => self.reader_gone = e.kind() == ErrorKind::BrokenPipe,
         }
+        self.faults = self.faults.saturating_add(1);
+        Err(Failed)
     }
 }

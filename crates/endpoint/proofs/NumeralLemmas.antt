@@ -38,7 +38,7 @@ no_number true true true n never = absurd (never refl refl)
 a_number : (s d l : Bool) (n : ℕ) → s ≡ true → d ≡ true → l ≡ true → cond ((s && d) && l) (Some n) None ≡ Some n
 a_number s d l n begins digits low = rw (begins, digits, low) refl
 
--- an octet that the number so far cannot take behind it
+-- an octet that the number so far cannot take after it
 pub number_of-stops : (text : List ℕ) (i : ℕ) → i < length text
     → (TakesDigit (digits_value 10 (take i text)) (get_or text i 0) → ⊥) → number_of text ≡ None
 unfolding number_of
@@ -113,7 +113,7 @@ pub pair_of-no_first : (text : List ℕ) (dot : ℕ) → Some dot ≡ position i
     → None ≡ number_of (take dot text) → pair_of text ≡ None
 pair_of-no_first text dot is one = pair_of-dot text dot (sym is) ∙ rw (← one) (none_both (number_of (drop (dot + 1) text)))
 
--- what stands behind it is no number
+-- what stands after it is no number
 pub pair_of-no_second : (text : List ℕ) (dot : ℕ) → Some dot ≡ position is_dot text
     → None ≡ number_of (take (length text - (dot + 1)) (drop (dot + 1) text)) → pair_of text ≡ None
 pair_of-no_second text dot is other =

@@ -3,7 +3,7 @@
 use Rattle.std.proofs.Common.{◌≡◌, ℕ, ◌<◌, ◌⊎◌, inl, inr, Bool, true, false, ◌&&◌, ◌||◌, not, cond, leb}
 use Rattle.std.proofs.Common.{List, ◌∷◌, ◌++◌, length, take, drop, refl, sym, ◌∙◌, ap, ◌+◌, ◌-◌, get_or, eqb, add-one}
 use Rattle.std.proofs.Common.{Option, None, Some, Result, Ok, Err}
-use Rattle.std.specs.Prelude.{codes, IfOk, IfErr}
+use Rattle.std.specs.Prelude.{codes, IfOk, IfErr, IsOkAnd}
 use Rattle.std.specs.List.{list_all, starts_with}
 use Rattle.std.specs.Option.{ok_or}
 use Rattle.std.specs.Str.{bytes_eq}
@@ -16,8 +16,8 @@ use Rattle.endpoint.specs.declared.name.Endpoint.TheVariants.{Null, Ipn, Dtn}
 use Rattle.endpoint.specs.declared.fault.EndpointFault.{EndpointFault}
 use Rattle.endpoint.specs.declared.fault.EndpointFault.TheVariants.{Scheme, Ssp, Number, Memory}
 use Rattle.endpoint.specs.Numeral.{pair_of}
-use Rattle.endpoint.specs.Endpoints.{IsEndpoint, scheme_of, ssp_of, is_visible, is_ssp, begins, names_group}
-use Rattle.endpoint.specs.Reading.{Spells, SpellsNone, Lacks, Misses, dtn_named, ipn_named, named, read_text, Reads}
+use Rattle.endpoint.specs.Endpoints.{IsEndpoint, IsDtn, scheme_of, ssp_of, is_visible, is_ssp, begins, names_group}
+use Rattle.endpoint.specs.Reading.{Spells, SpellsNone, SpellsDtn, Lacks, Misses, dtn_named, ipn_named, named, read_text, Reads}
 use Rattle.endpoint.proofs.NumeralLemmas.{pair_of-spelled, pair_of-decimal}
 
 -- ---- fronts of texts
@@ -46,7 +46,7 @@ starts-begins text front =
 either : (here more : Bool) → here ≡ false → (here || more) ≡ more
 either here more is = rw is refl
 
--- a group's mark that doesn't stand at a place stands behind it, if at all
+-- a group's mark that doesn't stand at a place stands after it, if at all
 pub names_group-more : (ssp mark : List ℕ) (i : ℕ) (here : Bool) → i < length ssp → mark ≡ codes "/~"
     → here ≡ starts_with eqb (take (length ssp - i) (drop i ssp)) mark → here ≡ false
     → names_group (drop (i + 1) ssp) ≡ names_group (drop i ssp)
@@ -164,6 +164,13 @@ fault_by true d None other fault is = inr (inl (refl, cc))
 fault_by false true one (Some x) fault is = cc
 fault_by false true one None fault is = inr (inr (refl, cc))
 fault_by false false one other fault is = inl (refl, refl, cc)
+
+-- what reads as a dtn name spells one
+pub spells_dtn : (text : List ℕ) (r : Result Endpoint EndpointFault) → read_text text ≡ r → IsOkAnd r IsDtn → SpellsDtn text
+spells_dtn text (Ok (Dtn ssp)) is dtn = (ssp, read_text-found text (Dtn ssp) is)
+spells_dtn text (Ok Null) is dtn = absurd dtn
+spells_dtn text (Ok (Ipn node service)) is dtn = absurd dtn
+spells_dtn text (Err fault) is dtn = absurd dtn
 
 -- each fault comes where it holds
 pub read_text-fault : (text : List ℕ) (fault : EndpointFault) → read_text text ≡ Err fault → Misses fault text

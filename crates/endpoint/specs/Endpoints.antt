@@ -24,6 +24,12 @@ IsEndpoint Null = Unit {0}
 IsEndpoint (Ipn node service) = (node < 2 ^ 64) × (service < 2 ^ 64)
 IsEndpoint (Dtn ssp) = is_ssp ssp ≡ true
 
+-- a dtn name other than the null endpoint: the one kind whose value takes memory
+abbrev pub IsDtn : Endpoint → Type 0
+IsDtn Null = ⊥
+IsDtn (Ipn node service) = ⊥
+IsDtn (Dtn ssp) = Unit {0}
+
 abbrev pub scheme_of : Endpoint → List ℕ
 scheme_of Null = codes "dtn"
 scheme_of (Ipn node service) = codes "ipn"

@@ -1,4 +1,7 @@
-pub mod Fault
-pub mod Numeral
+-- What public clauses cite, in reading order.
 pub mod Endpoints
+pub mod Numeral
 pub mod Reading
+pub mod Fault
+-- What only ties code to it.
+pub mod Lent

@@ -1,6 +1,7 @@
 -- Decimal numbers below 2 ^ 64, without leading zeros.
 
-use Rattle.std.specs.Prelude.{◌≡◌, ℕ, ◌+◌, ◌*◌, ◌^◌, ◌<◌, Bool, true, false, ◌&&◌, ◌||◌, not, ◌==◌, nat_lt}
+use Rattle.std.specs.Prelude.{◌≡◌, ℕ, ◌+◌, ◌*◌, ◌^◌, ◌<◌, Bool, true, false, ◌&&◌, ◌||◌, not, ◌==◌}
+use Rattle.std.specs.Prelude.{nat_lt}
 use Rattle.std.specs.Prelude.{List, [], ◌∷◌, length, Option, None, Some, if◌then◌else◌}
 use Rattle.std.specs.Char.{is_ascii_digit, digit_value}
 use Rattle.std.specs.List.{list_all, before_first, after_first}
@@ -22,7 +23,7 @@ number_of text =
     then Some (digits_value 10 text)
     else None
 
--- the octet is a digit that the number so far can take behind it
+-- the octet is a digit that the number so far can take after it
 abbrev pub TakesDigit : ℕ → ℕ → Type 0
 TakesDigit value octet =
     (is_ascii_digit octet ≡ true) × (value * 10 + digit_value octet < 2 ^ 64)

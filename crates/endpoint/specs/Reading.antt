@@ -24,6 +24,10 @@ HaveOneText = (one other : Endpoint) (text : List ℕ) → Spells one text → S
 abbrev pub SpellsNone : List ℕ → Type 0
 SpellsNone text = (endpoint : Endpoint) → Spells endpoint text → ⊥
 
+-- the text spells a dtn name
+abbrev pub SpellsDtn : List ℕ → Type 0
+SpellsDtn text = (ssp : List ℕ) × Spells (Dtn ssp) text
+
 -- no text follows the scheme's, since the scheme doesn't stand at the front
 abbrev pub Lacks : List ℕ → List ℕ → Type 0
 Lacks scheme text = (ssp : List ℕ) → text ≢ scheme ++ ssp

@@ -13,6 +13,7 @@
 
 mod extent;
 mod fault;
+mod lent;
 mod lists;
 mod name;
 mod numeral;

@@ -1,10 +1,13 @@
 //! Endpoints, and their texts.
 
-ghost use Rattle.std.specs.Prelude.{◌≡◌, ◌⊎◌, IfOk, IfErr, Ok, Err};
-ghost use Rattle.endpoint.specs.Endpoints.{text_of, scheme_of, ssp_of, is_singleton};
-ghost use Rattle.endpoint.specs.Reading.{Spells, Misses, Reads, HaveOneText};
+ghost use Rattle.std.specs.Prelude.{◌≡◌, ◌≢◌, ◌⊎◌, IfOk, IfErr, IsOkAnd, OnErr, Ok, Err};
+ghost use Rattle.endpoint.specs.Endpoints.{IsDtn, text_of, scheme_of, ssp_of, is_singleton};
+ghost use Rattle.endpoint.specs.Reading.{Spells, SpellsDtn, Misses, Reads, read_text};
+ghost use Rattle.endpoint.specs.Reading.{HaveOneText};
+ghost use Rattle.endpoint.specs.Lent.{seen};
 
-use super::text::{dtn_named, ipn_named, names_group};
+use super::lent::Name;
+use super::text::{dtn_name, ipn_name, names_group};
 use super::{EndpointFault, Octets};
 use std::alloc::{AllocError, Global};
 
@@ -36,6 +39,8 @@ impl Endpoint {
             → (result ≡ Ok endpoint) ⊎ (result ≡ Err EndpointFault.Memory) }
         // Each fault comes only where it holds of the text; no two hold of one text.
         ensures fault { IfErr result (λ fault. Misses fault text.now) }
+        // The text is judged before memory is taken, which only a dtn name needs.
+        ensures memory { result ≡ Err EndpointFault.Memory → SpellsDtn text.now }
         ensures exact { Reads result text.now }
     {
         read(alloc, text)
@@ -63,7 +68,7 @@ impl Endpoint {
         }
     }
 
-    /// The scheme-specific part: what stands behind scheme and colon in the text.
+    /// The scheme-specific part: what stands after scheme and colon in the text.
     pub fn ssp(&self, alloc: Global) -> Result<Octets, AllocError>
         ensures { IfOk result (λ ssp. ssp ≡ ssp_of self.now) }
     {
@@ -91,7 +96,9 @@ impl Endpoint {
 
     /// An equal endpoint.
     pub fn copy(&self, alloc: Global) -> Result<Endpoint, AllocError>
-        ensures { IfOk result (λ copied. copied ≡ self.now) }
+        ensures copied { IfOk result (λ copied. copied ≡ self.now) }
+        // Only a dtn name takes memory.
+        ensures memory { OnErr result (IsDtn self.now) }
     {
         Ok(match self {
             Endpoint::Null => Endpoint::Null,
@@ -105,15 +112,24 @@ impl Endpoint {
 }
 
 /// The endpoint that a text names.
-#[tactic(auto, unfolding(crate::specs::Reading::read_text))]
 fn read(alloc: Global, text: &[u8]) -> Result<Endpoint, EndpointFault>
-    ensures { Reads result text.now }
+    ensures reads { Reads result text.now }
+    ensures memory { result ≡ Err EndpointFault.Memory → IsOkAnd (read_text text.now) IsDtn }
+{
+    Ok(judged(text)?.owned(alloc)?)
+}
+
+/// The same, with octets that are lent.
+#[tactic(auto, unfolding(crate::specs::Reading::read_text))]
+fn judged(text: &[u8]) -> Result<Name<'_>, EndpointFault>
+    ensures exact { seen result ≡ read_text text.now }
+    ensures told { IfErr result (λ fault. fault ≢ EndpointFault.Memory) }
 {
     if let Some(ssp) = text.strip_prefix(b"dtn:".as_slice()) {
-        return dtn_named(alloc, ssp)?.ok_or(EndpointFault::Ssp);
+        return dtn_name(ssp).ok_or(EndpointFault::Ssp);
     }
     if let Some(ssp) = text.strip_prefix(b"ipn:".as_slice()) {
-        return ipn_named(ssp).ok_or(EndpointFault::Number);
+        return ipn_name(ssp).ok_or(EndpointFault::Number);
     }
     Err(EndpointFault::Scheme)
 }

@@ -5,7 +5,7 @@ ghost use Rattle.std.specs.Char.{digit_value};
 ghost use Rattle.std.specs.List.{position};
 ghost use Rattle.endpoint.specs.Numeral.{begins_as_numeral, number_of, pair_of, is_dot, TakesDigit};
 
-/// The number that the digits write with one more behind them, where that is a digit and the number
+/// The number that the digits write with one more after them, where that is a digit and the number
 /// stays below 2^64.
 fn with_digit(value: u64, digit: u8) -> Option<u64>
     ensures { SomeIff result (TakesDigit value digit) (value * 10 + digit_value digit) }

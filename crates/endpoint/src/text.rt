@@ -1,12 +1,14 @@
 //! The two halves of an endpoint's text: scheme and scheme-specific part.
 
-ghost use Rattle.std.specs.Prelude.{◌≡◌, IfOk};
+ghost use Rattle.std.specs.Prelude.{◌≡◌, IfOk, OnErr, IsSomeAnd};
 ghost use Rattle.std.specs.List.{list_all};
-ghost use Rattle.endpoint.specs.Endpoints.{is_ssp, is_visible, names_group};
+ghost use Rattle.endpoint.specs.Endpoints.{is_ssp, is_visible, names_group, IsDtn};
 ghost use Rattle.endpoint.specs.Reading.{named, dtn_named, ipn_named};
+ghost use Rattle.endpoint.specs.Lent.{if_named};
 
+use super::Endpoint;
+use super::lent::Name;
 use super::numeral::pair;
-use super::{Endpoint, Octets};
 use std::alloc::{AllocError, Global};
 
 /// The most octets that the scheme-specific part of a dtn name has. Own rule.
@@ -28,18 +30,25 @@ pub fn is_ssp(ssp: &[u8]) -> bool
     !ssp.is_empty() && ssp.len() <= LONGEST_SSP && are_visible(ssp) && ssp != b"none".as_slice()
 }
 
-/// The endpoint of the scheme `dtn` with this scheme-specific part.
-pub(crate) fn dtn_named(alloc: Global, ssp: &[u8]) -> Result<Option<Endpoint>, AllocError>
-    ensures { IfOk result (λ endpoint. endpoint ≡ dtn_named ssp.now) }
+/// The name of the scheme `dtn` with this scheme-specific part.
+pub(crate) fn dtn_name(ssp: &[u8]) -> Option<Name<'_>>
+    ensures { if_named result ≡ dtn_named ssp.now }
 {
     if ssp == b"none".as_slice() {
-        return Ok(Some(Endpoint::Null));
+        return Some(Name::Null);
     }
     if !is_ssp(ssp) {
-        return Ok(None);
+        return None;
     }
-    let ssp = Octets::from_slice(alloc, ssp)?;
-    Ok(Some(Endpoint::Dtn(ssp)))
+    Some(Name::Dtn(ssp))
+}
+
+/// The name of the scheme `ipn` with this scheme-specific part.
+pub(crate) fn ipn_name(ssp: &[u8]) -> Option<Name<'_>>
+    ensures { if_named result ≡ ipn_named ssp.now }
+{
+    let (node, service) = pair(ssp)?;
+    Some(Name::Ipn { node, service })
 }
 
 /// The endpoint of the scheme `ipn` with this scheme-specific part: two decimal numbers below 2^64
@@ -53,16 +62,28 @@ pub fn ipn_named(ssp: &[u8]) -> Option<Endpoint>
 
 /// The endpoint with this scheme and this scheme-specific part, as a version 6 dictionary holds
 /// them (RFC 5050, section 4.4). `dtn` with `none` is the null endpoint.
-#[tactic(auto, unfolding(crate::specs::Reading::named))]
 pub fn named(alloc: Global, scheme: &[u8], ssp: &[u8]) -> Result<Option<Endpoint>, AllocError>
-    ensures { IfOk result (λ endpoint. endpoint ≡ named scheme.now ssp.now) }
+    ensures named { IfOk result (λ endpoint. endpoint ≡ named scheme.now ssp.now) }
+    // Memory is wanted only for a dtn name.
+    ensures memory { OnErr result (IsSomeAnd (named scheme.now ssp.now) IsDtn) }
+{
+    match name(scheme, ssp) {
+        Some(name) => Ok(Some(name.owned(alloc)?)),
+        None => Ok(None),
+    }
+}
+
+/// The same, with octets that are lent.
+#[tactic(auto, unfolding(crate::specs::Reading::named))]
+fn name<'a>(scheme: &[u8], ssp: &'a [u8]) -> Option<Name<'a>>
+    ensures { if_named result ≡ named scheme.now ssp.now }
 {
     if scheme == b"dtn".as_slice() {
-        dtn_named(alloc, ssp)
+        dtn_name(ssp)
     } else if scheme == b"ipn".as_slice() {
-        Ok(ipn_named(ssp))
+        ipn_name(ssp)
     } else {
-        Ok(None)
+        None
     }
 }
 

@@ -5,8 +5,10 @@ use Rattle.std.proofs.lemmas.Bool.{ltb-true, leb-true}
 use Rattle.std.proofs.lemmas.Grind.{same_number_lists}
 use Rattle.std.proofs.lemmas.List.{get_or-take, length-take-le}
 use Rattle.std.proofs.lemmas.List.Elements.{All-head, All-tail}
-use Rattle.gateway_run.specs.Session.{RedPiece}
-use Rattle.gateway_run.specs.RedPart.{or_else, octet_in, first_octet, IsOfBlock, IsFrontOfBlock}
+use Rattle.gateway_run.specs.LineContent.{RedPiece}
+use Rattle.ltp_session.specs.Cells.{octet_in}
+use Rattle.gateway_run.specs.RedPart.{or_else, first_octet}
+use Rattle.gateway_run.specs.ReceiverLaw.{IsOfBlock, IsFrontOfBlock}
 
 -- an octet of the block at a place
 abbrev IsAt : List ℕ → ℕ → ℕ → Type 0

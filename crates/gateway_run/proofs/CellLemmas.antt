@@ -2,8 +2,8 @@
 use Rattle.std.proofs.Common.{◌≡◌, ℕ, zero, suc, ◌+◌, ◌-◌, ◌<◌, max, true, false, ◌&&◌, List, [], ◌∷◌, length, get_or, Option, None, Some, is_some, refl, sym, ap, arith, nat_lt, nat_le}
 use Rattle.std.proofs.lemmas.Bool.Decides.{nat_tests}
 use Rattle.std.specs.Option.{option_map}
-use Rattle.gateway_run.specs.Session.{laid_over, filled, all_octets}
-use Rattle.gateway_run.specs.RedPart.{or_else, octet_in}
+use Rattle.ltp_session.specs.Cells.{octet_in, laid_over, filled, all_octets}
+use Rattle.gateway_run.specs.RedPart.{or_else}
 
 -- the octet of a place, if it has one
 abbrev pub cell : List (Option ℕ) → ℕ → Option ℕ
@@ -83,7 +83,7 @@ length-filled (c ∷ cells) (suc offset) body = omega (arith, length-filled cell
 
 -- ---- all octets
 
--- the octets of some cells, taken apart behind the first
+-- the octets of some cells, taken apart after the first
 record Taken (first : ℕ) (rest : Option (List ℕ)) (body : List ℕ) : Type 0 where
   tail : List ℕ
   later : rest ≡ Some tail

@@ -1,86 +1,85 @@
 -- What a run wrote, by its command.
-use Rattle.std.proofs.Common.{◌≡◌, ℕ, List, [], ◌++◌, Option, None, Some, IfSome, IsSomeAnd, refl, sym}
+use Rattle.std.proofs.Common.{◌≡◌, ℕ, List, [], ◌++◌, Option, None, Some, IfSome, IsSomeAnd, refl, sym, ◌∙◌}
 use Rattle.std.proofs.lemmas.List.{append-nil}
 use Rattle.edge_traits.specs.declared.status.Status.{Status}
 use Rattle.edge_traits.specs.declared.status.Status.TheVariants as statuses
 use Rattle.edge_traits.specs.Content.{Gains, GainsFront, most_input}
-use Rattle.edge_traits.specs.Outcome.{Answered, Answers, IsAnswer}
-use Rattle.ltp_segment.specs.declared.session.TheConstants.{BLOCK_MAX}
-use Rattle.gateway_run.specs.declared.command.Command.{Command}
-use Rattle.gateway_run.specs.declared.command.Command.TheVariants as commands
-use Rattle.gateway_run.specs.Lines.{lines_within}
-use Rattle.gateway_run.specs.Receive.{the_limits}
-use Rattle.gateway_run.specs.RedPart.{KeepsReceiverLaw}
-use Rattle.gateway_run.specs.Words.{answer_to, KeepsLaw, WritesLawfully}
-use Rattle.gateway_run.proofs.TranscriptLemmas.{received-law}
+use Rattle.edge_traits.specs.Outcome.{EndsAs, Wrote, IsAnswer}
+use Rattle.gateway_run.specs.declared.commands.command.Command.{Command}
+use Rattle.gateway_run.specs.declared.commands.command.Command.TheVariants as commands
+use Rattle.gateway_run.specs.Receive.{the_limits, received}
+use Rattle.gateway_run.specs.Words.{settles, KeepsLaw, WritesLawfully}
+use Rattle.gateway_run.proofs.TranscriptLemmas.{Lawful, received-law}
 
 -- ---- the receiver's law
 
-module _ (input : List ℕ) (due : Answered) (law : KeepsReceiverLaw BLOCK_MAX (lines_within most_input input) due.text due.status) where
-  whole_text : (status : Status) (held after : List ℕ) → due.status ≡ status → after ≡ held ++ due.text → WritesLawfully input status held after
+module _ (input : List ℕ) (lawful : Lawful the_limits most_input input) where
+  whole_text : (status : Status) (held after : List ℕ) → (received the_limits most_input input).ends ≡ Some status
+      → after ≡ held ++ (received the_limits most_input input).text → WritesLawfully input status held after
   whole_text status held after is gained = record {
-    text = due.text;
-    ending = due.status;
-    law = law;
-    written = due.text;
+    text = (received the_limits most_input input).text;
+    ending = lawful.status;
+    law = lawful.law;
+    written = (received the_limits most_input input).text;
     rest = [];
-    front = sym (append-nil due.text);
+    front = sym (append-nil (received the_limits most_input input).text);
     after_is = gained;
-    whole = λ answer. (refl, is);
+    whole = λ answer. let same : Some lawful.status ≡ Some status = sym lawful.is ∙ is in (refl, cc);
   }
 
-  whole_gains : (status : Status) (before now : Option (List ℕ)) → due.status ≡ status → Gains before now due.text
-      → IfSome now (λ after. IsSomeAnd before (λ held. WritesLawfully input status held after))
-  whole_gains status before None is gains = tt
-  whole_gains status None (Some after) is gains = absurd gains
-  whole_gains status (Some held) (Some after) is gains = whole_text status held after is gains
+  front_text : (status : Status) (held after written rest : List ℕ) → (IsAnswer status → ⊥)
+      → (received the_limits most_input input).text ≡ written ++ rest → after ≡ held ++ written → WritesLawfully input status held after
+  front_text status held after written rest early parts is = record {
+    text = (received the_limits most_input input).text;
+    ending = lawful.status;
+    law = lawful.law;
+    written = written;
+    rest = rest;
+    front = parts;
+    after_is = is;
+    whole = λ answer. absurd (early answer);
+  }
 
-  front_gains : (status : Status) (before now : Option (List ℕ)) → (IsAnswer status → ⊥) → GainsFront before now due.text
+  whole_gains : (status : Status) (before now : Option (List ℕ)) → EndsAs (received the_limits most_input input) status before now
+      → IfSome now (λ after. IsSomeAnd before (λ held. WritesLawfully input status held after))
+  whole_gains status before None ends = tt
+  whole_gains status None (Some after) ends = absurd ends.1
+  whole_gains status (Some held) (Some after) ends = whole_text status held after ends.0 ends.1
+
+  front_gains : (status : Status) (before now : Option (List ℕ)) → (IsAnswer status → ⊥) → GainsFront before now (received the_limits most_input input).text
       → IfSome now (λ after. IsSomeAnd before (λ held. WritesLawfully input status held after))
   front_gains status before None early gains = tt
   front_gains status None (Some after) early gains = absurd gains
   front_gains status (Some held) (Some after) early gains =
-      let (written, rest, parts, is) = gains in
-      record {
-        text = due.text;
-        ending = due.status;
-        law = law;
-        written = written;
-        rest = rest;
-        front = parts;
-        after_is = is;
-        whole = λ answer. absurd (early answer);
-      }
+      let (written, rest, parts, is) = gains in front_text status held after written rest early parts is
 
   no_gains : (status : Status) (before now : Option (List ℕ)) → (IsAnswer status → ⊥) → Gains before now []
       → IfSome now (λ after. IsSomeAnd before (λ held. WritesLawfully input status held after))
   no_gains status before None early gains = tt
   no_gains status None (Some after) early gains = absurd gains
-  no_gains status (Some held) (Some after) early gains = record {
-    text = due.text;
-    ending = due.status;
-    law = law;
-    written = [];
-    rest = due.text;
-    front = refl;
-    after_is = gains;
-    whole = λ answer. absurd (early answer);
-  }
+  no_gains status (Some held) (Some after) early gains =
+      front_text status held after [] (received the_limits most_input input).text early refl gains
 
-  lawful : (status : Status) (before now : Option (List ℕ)) → Answers due status before now
+  no_read : (left before now : Option (List ℕ)) → Wrote (settles commands.Receive) statuses.ReadFault input left before now
+      → Gains before now []
+  no_read None before now wrote = absurd wrote
+  no_read (Some rest) before now (taken, parts, open_end, gains) = gains
+
+  keeps : (status : Status) (left before now : Option (List ℕ)) → Wrote (settles commands.Receive) status input left before now
       → IfSome now (λ after. IsSomeAnd before (λ held. WritesLawfully input status held after))
-  lawful statuses.Done before now answers = whole_gains statuses.Done before now answers.0 answers.1
-  lawful statuses.Refused before now answers = whole_gains statuses.Refused before now answers.0 answers.1
-  lawful statuses.Limit before now answers = whole_gains statuses.Limit before now answers.0 answers.1
-  lawful statuses.Usage before now answers = no_gains statuses.Usage before now (λ no_answer. no_answer) answers
-  lawful statuses.ReadFault before now answers = no_gains statuses.ReadFault before now (λ no_answer. no_answer) answers
-  lawful statuses.WriteFault before now answers = front_gains statuses.WriteFault before now (λ no_answer. no_answer) answers
-  lawful statuses.Memory before now answers = front_gains statuses.Memory before now (λ no_answer. no_answer) answers
+  keeps statuses.Done left before now wrote = whole_gains statuses.Done before now wrote
+  keeps statuses.Refused left before now wrote = whole_gains statuses.Refused before now wrote
+  keeps statuses.Limit left before now wrote = whole_gains statuses.Limit before now wrote
+  keeps statuses.Usage left before now wrote = absurd wrote
+  keeps statuses.ReadFault left before now wrote =
+      no_gains statuses.ReadFault before now (λ no_answer. no_answer) (no_read left before now wrote)
+  keeps statuses.WriteFault left before now wrote = front_gains statuses.WriteFault before now (λ no_answer. no_answer) wrote
+  keeps statuses.Memory left before now wrote = front_gains statuses.Memory before now (λ no_answer. no_answer) wrote.1
 
-pub keeps_law : (left : Option (List ℕ)) (named : Option Command) (command : Command) (status : Status) (before now : Option (List ℕ))
-    → named ≡ Some command → IfSome left (λ input. Answers (answer_to command input) status before now)
-    → IfSome left (λ input. KeepsLaw named input status before now)
-keeps_law None named command status before now is answers = tt
-keeps_law (Some input) named (commands.Bundles command) status before now is answers = rw is tt
-keeps_law (Some input) named commands.Receive status before now is answers =
-    rw is (lawful input (answer_to commands.Receive input) (received-law the_limits most_input input) status before now answers)
+pub keeps_law : (input : Option (List ℕ)) (named : Option Command) (command : Command) (status : Status) (left before now : Option (List ℕ))
+    → named ≡ Some command → IfSome input (λ all. Wrote (settles command) status all left before now)
+    → IfSome input (λ all. KeepsLaw named all status before now)
+keeps_law None named command status left before now is wrote = tt
+keeps_law (Some input) named (commands.Bundles command) status left before now is wrote = rw is tt
+keeps_law (Some input) named commands.Receive status left before now is wrote =
+    rw is (keeps input (received-law the_limits most_input input) status left before now wrote)

@@ -1,11 +1,13 @@
-pub mod LinesLemmas
+pub mod BlockLemmas
 pub mod CellLemmas
+pub mod InputLinesLemmas
 pub mod LawLemmas
 pub mod TableLemmas
+pub mod CountLemmas
 pub mod TranscriptLemmas
-pub mod SessionsLemmas
 pub mod OpenPartLemmas
+pub mod SessionsLemmas
 pub mod ReceiveLemmas
 pub mod CommandLemmas
-pub mod BlockLemmas
-pub mod EndLemmas
+pub mod HexLemmas
+pub mod FrontLemmas

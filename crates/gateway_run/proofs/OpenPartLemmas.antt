@@ -9,9 +9,9 @@ use Rattle.spans.specs.Places.{is_covered, is_in, uncovered, with_covered, all_c
 use Rattle.spans.proofs.Covering.{same_truth}
 use Rattle.spans.proofs.Places.{is_covered-with_covered, all_covered-true, all_covered-from}
 use Rattle.gateway_run.specs.declared.part.Held.{Held}
-use Rattle.gateway_run.specs.Session.{RedPiece, stop_of, filled, all_octets, known_after, whole_part}
-use Rattle.gateway_run.specs.RedPart.{or_else, octet_in}
-use Rattle.gateway_run.specs.OpenPart.{laid, StandsBehind, length_after}
+use Rattle.ltp_session.specs.Cells.{octet_in, filled, all_octets, whole_part}
+use Rattle.gateway_run.specs.RedPart.{or_else}
+use Rattle.gateway_run.specs.OpenPart.{laid, ShowsThrough}
 use Rattle.gateway_run.proofs.CellLemmas.{cell, cell-filled, length-filled, all_octets-only, all_octets-some, all_octets-cell, all_octets-length}
 
 -- ---- octets laid one after the other
@@ -49,10 +49,6 @@ pub reach-more : (cells : List (Option ℕ)) (offset : ℕ) (body : List ℕ) (r
     → max reach (offset + length body) ≡ length (filled cells offset body)
 reach-more cells offset body reach is = omega (arith, length-filled cells offset body)
 
-pub known-more : (known : Option ℕ) (p : RedPiece) → length_after known p.ends (stop_of p) ≡ known_after known p
-known-more None p = refl
-known-more (Some end) p = refl
-
 -- ---- laying octets into a buffer
 
 or_else-assoc : (a b c : Option ℕ) → or_else (or_else a b) c ≡ or_else a (or_else b c)
@@ -76,7 +72,7 @@ length-laid_into buffer offset body fits =
 
 laid_into-place : (buffer : List ℕ) (offset : ℕ) (body : List ℕ) (k : ℕ) → offset + length body ≤ length buffer
     → or_else (octet_in offset body k) (Some (get_or buffer k 0)) ≡ Some (get_or (laid_into buffer offset body) k 0)
-laid_into-place buffer offset body k fits = ⊎_elim before (λ from. ⊎_elim (inside from) behind (cases_lt k (offset + length body))) (cases_lt k offset)
+laid_into-place buffer offset body k fits = ⊎_elim before (λ from. ⊎_elim (inside from) after (cases_lt k (offset + length body))) (cases_lt k offset)
   where
     front : length (take offset buffer) ≡ offset
     front = length-take-le offset buffer (omega arith)
@@ -95,8 +91,8 @@ laid_into-place buffer offset body k fits = ⊎_elim before (λ from. ⊎_elim (
           get_or_append_left body (drop (offset + length body) buffer) 0 (k - offset) (omega arith),
         ) refl
 
-    behind : offset + length body ≤ k → or_else (octet_in offset body k) (Some (get_or buffer k 0)) ≡ Some (get_or (laid_into buffer offset body) k 0)
-    behind from =
+    after : offset + length body ≤ k → or_else (octet_in offset body k) (Some (get_or buffer k 0)) ≡ Some (get_or (laid_into buffer offset body) k 0)
+    after from =
         let outside : is_in offset (offset + length body) k ≡ false = grind (arith, nat_tests) in
         let place : offset + length body + (k - offset - length body) ≡ k = omega arith in
         rw (
@@ -113,8 +109,8 @@ pub laying-step : (pieces : List Held) (at : ℕ) (held : Held) (buffer now : Li
     → 0 < at → at ≤ length pieces → held ≡ get_or pieces (at - 1) held
     → held.offset + length held.body.items ≤ length buffer
     → now ≡ laid_into buffer held.offset held.body.items
-    → StandsBehind (laid [] (take at pieces)) buffer (laid [] pieces)
-    → StandsBehind (laid [] (take (at - 1) pieces)) now (laid [] pieces)
+    → ShowsThrough (laid [] (take at pieces)) buffer (laid [] pieces)
+    → ShowsThrough (laid [] (take (at - 1) pieces)) now (laid [] pieces)
 laying-step pieces at held buffer now some within is fits laid_now stands = record {
   each = λ k low.
       let inside : k < length buffer = omega (arith, ap length laid_now, length-laid_into buffer held.offset held.body.items fits) in
@@ -137,7 +133,7 @@ laying-step pieces at held buffer now some within is fits laid_now stands = reco
 
 pub stands-whole : (pieces : List Held) (body : List ℕ) (cells : List (Option ℕ)) (reach : ℕ)
     → laid [] pieces ≡ cells → reach ≡ length cells → length body ≡ reach
-    → StandsBehind [] body (laid [] pieces)
+    → ShowsThrough [] body (laid [] pieces)
     → ((k : ℕ) → k < reach → is_some (cell cells k) ≡ true)
     → all_octets cells ≡ Some body
 stands-whole pieces body cells reach came size length_is stands whole =
@@ -146,8 +142,8 @@ stands-whole pieces body cells reach came size length_is stands whole =
   where
     found : (k : ℕ) (c : Option ℕ) → cell cells k ≡ c → is_some c ≡ true → Some (get_or body k 0) ≡ or_else (cell cells k) (Some 0)
         → cell cells k ≡ Some (get_or body k 0)
-    found k None is none behind = absurd (cc)
-    found k (Some octet) is some behind = sym (behind ∙ rw is refl)
+    found k None is none after = absurd (cc)
+    found k (Some octet) is some after = sym (after ∙ rw is refl)
 
 pub is_covered-uncovered : (limit k : ℕ) → is_covered (uncovered limit) k ≡ false
 unfolding uncovered
@@ -180,7 +176,7 @@ is_whole-same end reach places cells (Some n) same size within covered = rw (sam
 
 pub whole-body : (pieces : List Held) (body : List ℕ) (cells : List (Option ℕ)) (known : Option ℕ) (reach : ℕ)
     → laid [] pieces ≡ cells → reach ≡ length cells → length body ≡ reach
-    → StandsBehind [] body (laid [] pieces)
+    → ShowsThrough [] body (laid [] pieces)
     → is_some (whole_part cells known) ≡ true → Some body ≡ whole_part cells known
 whole-body pieces body cells None reach came size length_is stands some = absurd (cc)
 whole-body pieces body cells (Some n) reach came size length_is stands some = by_test (n == length cells) some
@@ -194,9 +190,9 @@ pub none_of : {X : Type 0} (o : Option X) → is_some o ≡ false → None ≡ o
 none_of None none = refl
 none_of (Some x) none = absurd (cc)
 
--- before any is laid, behind all of them stands 0
+-- before any is laid, after all of them stands 0
 pub stands-start : (pieces : List Held) (n at : ℕ) → length pieces ≤ at
-    → StandsBehind (laid [] (take at pieces)) (replicate n 0) (laid [] pieces)
+    → ShowsThrough (laid [] (take at pieces)) (replicate n 0) (laid [] pieces)
 stands-start pieces n at all = record {
   each = λ k low.
       let octet : (let zero_octet : ℕ = 0 in get_or (replicate n zero_octet) k 0) ≡ (let zero_octet : ℕ = 0 in zero_octet) = get_or-replicate n k 0 0 (omega (arith, length-replicate {A = ℕ}, low)) in
@@ -204,7 +200,7 @@ stands-start pieces n at all = record {
 }
 
 pub stands-end : (pieces : List Held) (buffer : List ℕ) (at : ℕ) → at ≡ 0
-    → StandsBehind (laid [] (take at pieces)) buffer (laid [] pieces) → StandsBehind [] buffer (laid [] pieces)
+    → ShowsThrough (laid [] (take at pieces)) buffer (laid [] pieces) → ShowsThrough [] buffer (laid [] pieces)
 unfolding laid
 stands-end pieces buffer at none stands = rw none at stands
 

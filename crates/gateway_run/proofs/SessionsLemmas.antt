@@ -1,6 +1,6 @@
 -- The table of the code, entry by entry.
-use Rattle.std.proofs.Common.{◌≡◌, ℕ, zero, suc, ◌+◌, Bool, true, false, ◌&&◌, ◌==◌, List, [], ◌∷◌, length, Option, None, Some, refl, sym, ◌∙◌, ap, arith, subst, ⊎_elim, if◌then◌else◌}
-use Rattle.std.proofs.lemmas.Bool.{eqb-true, eq-eqb, cases_lt}
+use Rattle.std.proofs.Common.{◌≡◌, ℕ, zero, suc, ◌+◌, ◌≤◌, Bool, true, false, ◌&&◌, ◌==◌, List, [], ◌∷◌, length, Option, None, Some, refl, sym, ◌∙◌, ap, arith, subst, ⊎_elim, if◌then◌else◌, nat_lt, nat_le, Result, Ok, Err, OnErr, not}
+use Rattle.std.proofs.lemmas.Bool.{eqb-true, eq-eqb, cases_lt, lt-ltb, le-ltb, leb-true, leb-false}
 use Rattle.std.proofs.lemmas.Bool.Decides.{nat_tests}
 use Rattle.std.specs.Cmp.{nat_cmp_is}
 use Rattle.std.specs.declared.cmp.Ordering.{Ordering}
@@ -8,14 +8,16 @@ use Rattle.std.specs.declared.cmp.Ordering.TheVariants as orderings
 use Rattle.std.specs.Ordering.{nat_cmp, ordering_then, is_eq}
 use Rattle.std.specs.BTreeMap.{get}
 use Rattle.ltp_segment.specs.declared.session.TheConstants.{BLOCK_MAX}
+use Rattle.ltp_session.specs.declared.name.SessionName.{SessionName}
+use Rattle.ltp_session.specs.Cells.{laid_over, filled, all_octets, length_after, whole_part}
 use Rattle.gateway_run.specs.declared.table.Standing.{Standing}
 use Rattle.gateway_run.specs.declared.table.Standing.TheVariants as standings
 use Rattle.gateway_run.specs.declared.table.Found.TheVariants as founds
 use Rattle.gateway_run.specs.declared.table.Sessions.{Sessions}
-use Rattle.gateway_run.specs.Session.{RedPiece, Session, fresh, open_part, handed_up, nothing, up, out_of_bounds, passed_over, laid_over, filled, all_octets, known_after, whole_part, handing_up, meets}
-use Rattle.gateway_run.specs.Receive.{Kept, session_in, with_session, is_unfinished, same_name}
-use Rattle.gateway_run.specs.OpenPart.{is_outside_of}
-use Rattle.gateway_run.specs.Sessions.{key_cmp, StandsFor, Shows, ShowsOthers, LacksFirst, Puts, found_at}
+use Rattle.gateway_run.specs.LineContent.{RedPiece, stop}
+use Rattle.gateway_run.specs.Session.{Session, fresh, open_part, handed_up, nothing, up, note, skip, is_out_of_bounds, handing_up, meets}
+use Rattle.gateway_run.specs.KeptSessions.{Kept, session_in, with_session, is_unfinished, unfinished, same_name}
+use Rattle.gateway_run.specs.Table.{key_cmp, key, StandsFor, Shows, ShowsOthers, LacksFirst, Puts, found_at, IsTaken}
 use Rattle.gateway_run.proofs.CellLemmas.{length-laid_over}
 use Rattle.gateway_run.proofs.TableLemmas.{session_in-with, unfinished-with, count, same_name-is, both}
 
@@ -40,48 +42,47 @@ cmp-is a b = ⊎_elim
     (cases_lt b a))
     (cases_lt a b)
 
-pub key_cmp-is : (a b c d : ℕ) → is_eq (key_cmp (a, b) (c, d)) ≡ same_name a b c d
-key_cmp-is a b c d = rw (then-is, cmp-is, cmp-is) refl
+pub key_cmp-is : (one name : SessionName) → is_eq (key_cmp (key one) (key name)) ≡ same_name one name
+key_cmp-is one name = rw (then-is, cmp-is, cmp-is) refl
 
 -- ---- an entry is put
 
-pub shows_put : (old put new : Sessions) (kept : List Kept) (o s : ℕ) (standing : Standing) (state : Session)
-    → ShowsOthers old kept o s → Puts old put o s standing → StandsFor (Some standing) state
+pub shows_put : (old put new : Sessions) (kept : List Kept) (one : SessionName) (standing : Standing) (state : Session)
+    → ShowsOthers old kept one → Puts old put one standing → StandsFor (Some standing) state
     → new.table ≡ put.table
-    → new.unfinished + count (is_unfinished (session_in o s kept)) ≡ put.unfinished + count (is_unfinished state)
-    → Shows new (with_session o s state kept)
-shows_put old put new kept o s standing state others puts stands same counted = record {
-  each = λ p q. each p q (same_name o s p q) refl;
-  count = omega (arith, unfinished-with o s state kept, others.count, puts.count);
+    → new.unfinished + count (is_unfinished (session_in one kept)) ≡ put.unfinished + count (is_unfinished state)
+    → Shows new (with_session one state kept)
+shows_put old put new kept one standing state others puts stands same counted = record {
+  each = λ name. each name (same_name one name) refl;
+  count = omega (arith, unfinished-with one state kept, others.count, puts.count);
 }
   where
-    each : (p q : ℕ) (t : Bool) → same_name o s p q ≡ t
-        → StandsFor (get key_cmp new.table (p, q)) (session_in p q (with_session o s state kept))
-    each p q true here = rw (same, puts.here p q here, session_in-with o s p q state kept, here) stands
-    each p q false apart = rw (same, puts.others p q apart, session_in-with o s p q state kept, apart) (others.each p q apart)
+    each : (name : SessionName) (t : Bool) → same_name one name ≡ t
+        → StandsFor (get key_cmp new.table (key name)) (session_in name (with_session one state kept))
+    each name true here = rw (same, puts.here name here, session_in-with one name state kept, here) stands
+    each name false apart = rw (same, puts.others name apart, session_in-with one name state kept, apart) (others.each name apart)
 
-pub shows_absent : (sessions : Sessions) (kept : List Kept) (o s : ℕ)
-    → LacksFirst sessions kept o s → Shows sessions (with_session o s fresh kept)
-shows_absent sessions kept o s lacks = record {
-  each = λ p q. each p q (same_name o s p q) refl;
+pub shows_absent : (sessions : Sessions) (kept : List Kept) (one : SessionName)
+    → LacksFirst sessions kept one → Shows sessions (with_session one fresh kept)
+shows_absent sessions kept one lacks = record {
+  each = λ name. each name (same_name one name) refl;
   count =
-      let same : count (is_unfinished (session_in o s kept)) ≡ 0 = rw lacks.first refl in
-      omega (arith, unfinished-with o s fresh kept, lacks.others.count);
+      let same : count (is_unfinished (session_in one kept)) ≡ 0 = rw lacks.first refl in
+      omega (arith, unfinished-with one fresh kept, lacks.others.count);
 }
   where
-    each : (p q : ℕ) (t : Bool) → same_name o s p q ≡ t
-        → StandsFor (get key_cmp sessions.table (p, q)) (session_in p q (with_session o s fresh kept))
-    each p q true here =
-        let names = same_name-is o s p q here in
-        rw (session_in-with o s p q fresh kept, here, ← names.0, ← names.1, lacks.absent) refl
-    each p q false apart = rw (session_in-with o s p q fresh kept, apart) (lacks.others.each p q apart)
+    each : (name : SessionName) (t : Bool) → same_name one name ≡ t
+        → StandsFor (get key_cmp sessions.table (key name)) (session_in name (with_session one fresh kept))
+    each name true here =
+        rw (session_in-with one name fresh kept, here, ← same_name-is one name here, lacks.absent) refl
+    each name false apart = rw (session_in-with one name fresh kept, apart) (lacks.others.each name apart)
 
 -- ---- how a piece is met
 
-pub first-outside : (session : Session) (p : RedPiece) → session ≡ fresh → is_outside_of 0 None p ≡ true
-    → meets BLOCK_MAX session p ≡ (out_of_bounds, fresh)
+pub first-out : (session : Session) (p : RedPiece) → session ≡ fresh → is_out_of_bounds BLOCK_MAX 0 None p ≡ true
+    → meets BLOCK_MAX session p ≡ (note, fresh)
 unfolding meets
-first-outside session p is outside = rw (is, outside) refl
+first-out session p is out = rw (is, out) refl
 
 all_octets-laid : (body : List ℕ) → all_octets (laid_over [] body) ≡ Some body
 unfolding all_octets
@@ -93,8 +94,8 @@ alone_whole body =
     let size : 0 + length body ≡ length (laid_over [] body) = omega (arith, length-laid_over [] body) in
     rw (eq-eqb (0 + length body) (length (laid_over [] body)) size) (all_octets-laid body)
 
-pub first-alone : (session : Session) (p : RedPiece) → session ≡ fresh → is_outside_of 0 None p ≡ false
-    → (p.ends && (p.offset == 0)) ≡ true → meets BLOCK_MAX session p ≡ (up p.body, handed_up)
+pub first-alone : (session : Session) (p : RedPiece) → session ≡ fresh → is_out_of_bounds BLOCK_MAX 0 None p ≡ false
+    → (p.ends && (p.offset == 0)) ≡ true → meets BLOCK_MAX session p ≡ (up p.name p.body, handed_up)
 unfolding meets filled
 first-alone session p is inside alone =
     let parts = both p.ends (p.offset == 0) alone in
@@ -112,67 +113,66 @@ gap offset false body several = refl
 gap zero true body several = absurd (cc)
 gap (suc offset) true body several = either _
 
-pub first-open : (session : Session) (p : RedPiece) → session ≡ fresh → is_outside_of 0 None p ≡ false
+pub first-open : (session : Session) (p : RedPiece) → session ≡ fresh → is_out_of_bounds BLOCK_MAX 0 None p ≡ false
     → (p.ends && (p.offset == 0)) ≡ false
-    → meets BLOCK_MAX session p ≡ (nothing, open_part (filled [] p.offset p.body) (known_after None p))
+    → meets BLOCK_MAX session p ≡ (nothing, open_part (filled [] p.offset p.body) (length_after None p.ends (stop p)))
 unfolding meets filled all_octets
 first-open session p is inside several = rw (is, inside, gap p.offset p.ends p.body several) refl
 
-pub open-outside : (session : Session) (p : RedPiece) (cells : List (Option ℕ)) (known : Option ℕ) → session ≡ open_part cells known
-    → is_outside_of (length cells) known p ≡ true → meets BLOCK_MAX session p ≡ (out_of_bounds, open_part cells known)
+pub open-out : (session : Session) (p : RedPiece) (cells : List (Option ℕ)) (known : Option ℕ) → session ≡ open_part cells known
+    → is_out_of_bounds BLOCK_MAX (length cells) known p ≡ true → meets BLOCK_MAX session p ≡ (note, open_part cells known)
 unfolding meets
-open-outside session p cells known is outside = rw (is, outside) refl
+open-out session p cells known is out = rw (is, out) refl
 
 pub open-inside : (session : Session) (p : RedPiece) (cells : List (Option ℕ)) (known : Option ℕ) (w : Option (List ℕ)) → session ≡ open_part cells known
-    → is_outside_of (length cells) known p ≡ false → w ≡ whole_part (filled cells p.offset p.body) (known_after known p)
-    → meets BLOCK_MAX session p ≡ handing_up w (filled cells p.offset p.body) (known_after known p)
+    → is_out_of_bounds BLOCK_MAX (length cells) known p ≡ false → w ≡ whole_part (filled cells p.offset p.body) (length_after known p.ends (stop p))
+    → meets BLOCK_MAX session p ≡ handing_up p.name w (filled cells p.offset p.body) (length_after known p.ends (stop p))
 unfolding meets
 open-inside session p cells known w is inside whole = rw (is, inside, whole) refl
 
-pub puts_of : (old new : Sessions) (o s : ℕ) (standing : Standing)
-    → ((q : ℕ × ℕ) → get key_cmp new.table q ≡ (if is_eq (key_cmp (o, s) q) then Some standing else get key_cmp old.table q))
-    → new.unfinished ≡ old.unfinished → Puts old new o s standing
-puts_of old new o s standing updates counted = record {
-  here = λ p q same. updates (p, q) ∙ rw (key_cmp-is o s p q, same) refl;
-  others = λ p q apart. updates (p, q) ∙ rw (key_cmp-is o s p q, apart) refl;
+pub puts_of : (old new : Sessions) (one : SessionName) (standing : Standing)
+    → ((q : ℕ × ℕ) → get key_cmp new.table q ≡ (if is_eq (key_cmp (key one) q) then Some standing else get key_cmp old.table q))
+    → new.unfinished ≡ old.unfinished → Puts old new one standing
+puts_of old new one standing updates counted = record {
+  here = λ name same. updates (key name) ∙ rw (key_cmp-is one name, same) refl;
+  others = λ name apart. updates (key name) ∙ rw (key_cmp-is one name, apart) refl;
   count = counted;
 }
 
 -- ---- an entry is found
 
 pub found_handed_up : (entry : Option Standing) (session : Session) (most : ℕ) (p : RedPiece) → StandsFor entry session
-    → found_at entry ≡ founds.HandedUp → meets most session p ≡ (passed_over, handed_up)
+    → found_at entry ≡ founds.HandedUp → meets most session p ≡ (skip, handed_up)
 unfolding meets
 found_handed_up None session most p stands is = absurd (cc)
 found_handed_up (Some (standings.Open part)) session most p stands is = absurd (cc)
 found_handed_up (Some standings.HandedUp) session most p stands is = rw stands refl
 
 -- a session that was handed up stays so
-pub shows_same : (sessions : Sessions) (kept : List Kept) (o s : ℕ) (state : Session)
-    → Shows sessions kept → session_in o s kept ≡ state → Shows sessions (with_session o s state kept)
-shows_same sessions kept o s state shows is = record {
-  each = λ p q. each p q (same_name o s p q) refl;
+pub shows_same : (sessions : Sessions) (kept : List Kept) (one : SessionName) (state : Session)
+    → Shows sessions kept → session_in one kept ≡ state → Shows sessions (with_session one state kept)
+shows_same sessions kept one state shows is = record {
+  each = λ name. each name (same_name one name) refl;
   count =
-      let same : count (is_unfinished (session_in o s kept)) ≡ count (is_unfinished state) = ap (λ (x : Session). count (is_unfinished x)) is in
-      omega (arith, unfinished-with o s state kept, shows.count);
+      let same : count (is_unfinished (session_in one kept)) ≡ count (is_unfinished state) = ap (λ (x : Session). count (is_unfinished x)) is in
+      omega (arith, unfinished-with one state kept, shows.count);
 }
   where
-    each : (p q : ℕ) (t : Bool) → same_name o s p q ≡ t
-        → StandsFor (get key_cmp sessions.table (p, q)) (session_in p q (with_session o s state kept))
-    each p q true here =
-        let names = same_name-is o s p q here in
-        rw (session_in-with o s p q state kept, here, ← names.0, ← names.1, ← is) (shows.each o s)
-    each p q false apart = rw (session_in-with o s p q state kept, apart) (shows.each p q)
+    each : (name : SessionName) (t : Bool) → same_name one name ≡ t
+        → StandsFor (get key_cmp sessions.table (key name)) (session_in name (with_session one state kept))
+    each name true here =
+        rw (session_in-with one name state kept, here, ← same_name-is one name here, ← is) (shows.each one)
+    each name false apart = rw (session_in-with one name state kept, apart) (shows.each name)
 
 -- an entry is taken out
-pub others_of : (old new : Sessions) (kept : List Kept) (o s : ℕ)
-    → ((q : ℕ × ℕ) → get key_cmp new.table q ≡ (if is_eq (key_cmp (o, s) q) then None else get key_cmp old.table q))
-    → new.unfinished ≡ old.unfinished → Shows old kept → ShowsOthers new kept o s
-others_of old new kept o s updates counted shows = record {
-  each = λ p q apart.
-      let same : get key_cmp new.table (p, q) ≡ get key_cmp old.table (p, q) =
-      updates (p, q) ∙ rw (key_cmp-is o s p q, apart) refl in
-      rw same (shows.each p q);
+pub others_of : (old new : Sessions) (kept : List Kept) (one : SessionName)
+    → ((q : ℕ × ℕ) → get key_cmp new.table q ≡ (if is_eq (key_cmp (key one) q) then None else get key_cmp old.table q))
+    → new.unfinished ≡ old.unfinished → Shows old kept → ShowsOthers new kept one
+others_of old new kept one updates counted shows = record {
+  each = λ name apart.
+      let same : get key_cmp new.table (key name) ≡ get key_cmp old.table (key name) =
+      updates (key name) ∙ rw (key_cmp-is one name, apart) refl in
+      rw same (shows.each name);
   count = counted ∙ shows.count;
 }
 
@@ -187,16 +187,110 @@ pub found_entry : (entry : Option Standing) (standing : Standing) (session : Ses
 found_entry entry standing session is stands = subst (λ (e : Option Standing). StandsFor e session) is stands
 
 -- no entry is found where none came
-pub lacks_first : (sessions : Sessions) (kept : List Kept) (o s : ℕ) → Shows sessions kept
-    → found_at (get key_cmp sessions.table (o, s)) ≡ founds.Nothing → LacksFirst sessions kept o s
-lacks_first sessions kept o s shows is = by_entry (get key_cmp sessions.table (o, s)) refl is (shows.each o s)
+pub lacks_first : (sessions : Sessions) (kept : List Kept) (one : SessionName) → Shows sessions kept
+    → found_at (get key_cmp sessions.table (key one)) ≡ founds.Fresh → LacksFirst sessions kept one
+lacks_first sessions kept one shows is = by_entry (get key_cmp sessions.table (key one)) refl is (shows.each one)
   where
-    by_entry : (entry : Option Standing) → get key_cmp sessions.table (o, s) ≡ entry → found_at entry ≡ founds.Nothing
-        → StandsFor entry (session_in o s kept) → LacksFirst sessions kept o s
+    by_entry : (entry : Option Standing) → get key_cmp sessions.table (key one) ≡ entry → found_at entry ≡ founds.Fresh
+        → StandsFor entry (session_in one kept) → LacksFirst sessions kept one
     by_entry None at nothing_found stands = record {
-      others = record { each = λ p q apart. shows.each p q; count = shows.count };
+      others = record { each = λ name apart. shows.each name; count = shows.count };
       absent = at;
       first = stands;
     }
     by_entry (Some standings.HandedUp) at nothing_found stands = absurd (cc)
     by_entry (Some (standings.Open part)) at nothing_found stands = absurd (cc)
+
+-- ---- one session too many
+
+-- a session that is unfinished no more than before leaves no more unfinished
+pub none_too_many : (most : ℕ) (kept : List Kept) (one : SessionName) (state : Session) → unfinished kept ≤ most
+    → count (is_unfinished state) ≤ count (is_unfinished (session_in one kept))
+    → nat_lt most (unfinished (with_session one state kept)) ≡ false
+none_too_many most kept one state few no_more =
+    le-ltb most (unfinished (with_session one state kept)) (omega (arith, unfinished-with one state kept, few, no_more))
+
+-- of a session of which nothing came
+pub fresh_too_many : (most : ℕ) (kept : List Kept) (one : SessionName) (state : Session) → unfinished kept ≤ most
+    → session_in one kept ≡ fresh
+    → nat_lt most (unfinished (with_session one state kept)) ≡ (nat_le most (unfinished kept) && is_unfinished state)
+fresh_too_many most kept one state few first = by_test (is_unfinished state) refl (nat_le most (unfinished kept)) refl
+  where
+    none : count (is_unfinished (session_in one kept)) ≡ 0
+    none = rw first refl
+
+    by_test : (t : Bool) → is_unfinished state ≡ t → (u : Bool) → nat_le most (unfinished kept) ≡ u
+        → nat_lt most (unfinished (with_session one state kept)) ≡ (u && t)
+    by_test false is true full = le-ltb most (unfinished (with_session one state kept)) (omega (arith, unfinished-with one state kept, none, few, ap count is))
+    by_test false is false full = le-ltb most (unfinished (with_session one state kept)) (omega (arith, unfinished-with one state kept, none, few, ap count is))
+    by_test true is true full = lt-ltb most (unfinished (with_session one state kept)) (omega (arith, unfinished-with one state kept, none, leb-true most (unfinished kept) full, ap count is))
+    by_test true is false full = le-ltb most (unfinished (with_session one state kept)) (omega (arith, unfinished-with one state kept, none, leb-false most (unfinished kept) full, ap count is))
+
+-- an open session that meets a piece is unfinished or not, so no more than before
+pub open_too_many : (most : ℕ) (kept : List Kept) (one : SessionName) (state : Session) → unfinished kept ≤ most
+    → is_unfinished (session_in one kept) ≡ true → nat_lt most (unfinished (with_session one state kept)) ≡ false
+open_too_many most kept one state few is = none_too_many most kept one state few (at_most (is_unfinished state))
+  where
+    at_most : (t : Bool) → count t ≤ count (is_unfinished (session_in one kept))
+    at_most true = rw is (omega arith)
+    at_most false = omega arith
+
+-- ---- an open session is found
+
+pub record FoundOpen (session : Session) (reach : ℕ) (end : Option ℕ) : Type 0 where
+  pub cells : List (Option ℕ)
+  pub known : Option ℕ
+  pub is_open : session ≡ open_part cells known
+  pub reach_is : reach ≡ length cells
+  pub length_is : end ≡ known
+
+pub found_open : (entry : Option Standing) (session : Session) (reach : ℕ) (end : Option ℕ) → StandsFor entry session
+    → found_at entry ≡ founds.Open reach end → FoundOpen session reach end
+found_open None session reach end stands is = absurd (cc)
+found_open (Some standings.HandedUp) session reach end stands is = absurd (cc)
+found_open (Some (standings.Open part)) session reach end (cells, known, open_is, stands) is =
+    let same_reach : part.value.reach ≡ reach = cc in
+    let same_length : part.value.length ≡ end = cc in
+    record {
+      cells = cells;
+      known = known;
+      is_open = open_is;
+      reach_is = sym same_reach ∙ stands.reach;
+      length_is = sym same_length ∙ stands.length_is;
+    }
+
+-- ---- memory is wanted only for a piece that is taken
+
+handing-taken : (name : SessionName) (w : Option (List ℕ)) (cells : List (Option ℕ)) (known : Option ℕ) → IsTaken (handing_up name w cells known).0
+handing-taken name None cells known = tt
+handing-taken name (Some body) cells known = tt
+
+pub first-taken : (session : Session) (p : RedPiece) → session ≡ fresh → is_out_of_bounds BLOCK_MAX 0 None p ≡ false
+    → IsTaken (meets BLOCK_MAX session p).0
+unfolding meets
+first-taken session p is inside = rw (is, inside) (handing-taken p.name _ _ _)
+
+pub open-taken : (session : Session) (p : RedPiece) (reach : ℕ) (end : Option ℕ) → FoundOpen session reach end
+    → is_out_of_bounds BLOCK_MAX reach end p ≡ false → IsTaken (meets BLOCK_MAX session p).0
+unfolding meets
+open-taken session p reach end found inside =
+    let test : is_out_of_bounds BLOCK_MAX (length found.cells) found.known p ≡ false = rw (found.reach_is, found.length_is) at inside in
+    rw (found.is_open, test) (handing-taken p.name _ _ _)
+
+pub OnErr-by : {T E A B : Type 0} (r : Result T E) → (A → B) → OnErr r A → OnErr r B
+OnErr-by (Ok x) f h = tt
+OnErr-by (Err e) f h = f h
+
+pub OnErr-always : {T E A : Type 0} (r : Result T E) → A → OnErr r A
+OnErr-always (Ok x) h = tt
+OnErr-always (Err e) h = h
+
+-- ---- a first piece
+
+pub opens-out : (p : RedPiece) → is_out_of_bounds BLOCK_MAX 0 None p ≡ true → is_unfinished (meets BLOCK_MAX fresh p).1 ≡ false
+opens-out p out = rw (first-out fresh p refl out) refl
+
+pub opens-inside : (p : RedPiece) → is_out_of_bounds BLOCK_MAX 0 None p ≡ false → (alone : Bool) → (p.ends && (p.offset == 0)) ≡ alone
+    → is_unfinished (meets BLOCK_MAX fresh p).1 ≡ not alone
+opens-inside p inside true is = rw (first-alone fresh p refl inside is) refl
+opens-inside p inside false is = rw (first-open fresh p refl inside is) refl

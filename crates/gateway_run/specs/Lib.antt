@@ -1,9 +1,14 @@
-pub mod Lines
-pub mod Session
-pub mod RedPart
-pub mod Receive
-pub mod Views
 pub mod Words
-pub mod Sessions
-pub mod Turns
+pub mod InputLines
+pub mod LineContent
+pub mod Session
+pub mod KeptSessions
+pub mod WrittenLines
+pub mod Receive
+pub mod RedPart
+pub mod ReceiverLaw
+-- what only ties code to these
+pub mod Views
 pub mod OpenPart
+pub mod Table
+pub mod Turns

@@ -1,20 +1,27 @@
 -- What the code's values stand for.
 use Rattle.gateway_run.specs.declared.piece.Piece.{Piece}
-use Rattle.gateway_run.specs.declared.hearing.Hearing.{Hearing}
-use Rattle.gateway_run.specs.declared.hearing.Hearing.TheVariants as hearings
-use Rattle.gateway_run.specs.Session.{RedPiece}
-use Rattle.gateway_run.specs.Receive.{Heard, malformed, other, red}
+use Rattle.gateway_run.specs.declared.line_content.LineContent.{LineContent}
+use Rattle.gateway_run.specs.declared.line_content.LineContent.TheVariants as contents
+use Rattle.gateway_run.specs.declared.table.Whole.TheVariants as wholes
+use Rattle.gateway_run.specs.declared.table.Reply.{Reply}
+use Rattle.gateway_run.specs.declared.table.Reply.TheVariants as replies
+use Rattle.ltp_session.specs.declared.name.SessionName.{SessionName}
+use Rattle.gateway_run.specs.LineContent as lines
+use Rattle.gateway_run.specs.Session as session
 
-abbrev pub red_piece : Piece → RedPiece
-red_piece p = record {
-  originator = p.originator;
-  session = p.session;
-  offset = p.offset;
-  ends = p.ends;
-  body = p.body.now;
-}
+abbrev pub red_piece : Piece → lines.RedPiece
+red_piece p = record { name = p.name; offset = p.offset; ends = p.ends; body = p.body.now }
 
-abbrev pub heard : Hearing → Heard
-heard (hearings.Malformed fault) = malformed fault.at fault.cause
-heard hearings.Other = other
-heard (hearings.Red p) = red (red_piece p)
+-- the content of a line of hex
+abbrev pub content : LineContent → lines.LineContent
+content (contents.NoSegment fault) = lines.no_segment fault.at fault.cause
+content contents.Other = lines.other
+content (contents.Red p) = lines.red (red_piece p)
+
+-- what a piece of this session brings about
+abbrev pub reply : SessionName → Reply → session.Reply
+reply name replies.Nothing = session.nothing
+reply name (replies.Up (wholes.Lent body)) = session.up name body.now
+reply name (replies.Up (wholes.Built body)) = session.up name body.items
+reply name replies.Note = session.note
+reply name replies.Skip = session.skip

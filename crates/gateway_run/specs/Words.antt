@@ -3,16 +3,15 @@ use Rattle.std.specs.Prelude.{ℕ, Bool, List, [], ◌∷◌, codes, Option, Non
 use Rattle.std.specs.Cmp.Lexicographic.{pointwise}
 use Rattle.edge_traits.specs.declared.status.Status.{Status}
 use Rattle.edge_traits.specs.declared.status.Status.TheVariants as statuses
-use Rattle.edge_traits.specs.Content.{Gains, most_input}
-use Rattle.edge_traits.specs.Outcome.{Answered, Answers, IsAnswer}
-use Rattle.bundle_runs.specs.declared.command.Command.TheVariants.{Check, Show}
+use Rattle.edge_traits.specs.Content.{most_input}
+use Rattle.edge_traits.specs.Settled.{Ends, at_end, Settled, gathered}
+use Rattle.edge_traits.specs.Outcome.{IsAnswer}
+use Rattle.bundle_runs.specs.declared.commands.command.Command.TheVariants.{Check, Show}
 use Rattle.bundle_runs.specs.Answering as bundles
-use Rattle.ltp_segment.specs.declared.session.TheConstants.{BLOCK_MAX}
-use Rattle.gateway_run.specs.declared.command.Command.{Command}
-use Rattle.gateway_run.specs.declared.command.Command.TheVariants as commands
+use Rattle.gateway_run.specs.declared.commands.command.Command.{Command}
+use Rattle.gateway_run.specs.declared.commands.command.Command.TheVariants as commands
 use Rattle.gateway_run.specs.Receive.{received, the_limits}
-use Rattle.gateway_run.specs.Lines.{lines_within}
-use Rattle.gateway_run.specs.RedPart.{KeepsReceiverLaw}
+use Rattle.gateway_run.specs.ReceiverLaw.{KeepsReceiverLaw}
 
 abbrev pub is_word : List ℕ → List ℕ → Bool
 is_word word text = pointwise nat_eq word text
@@ -33,30 +32,25 @@ command_of (word ∷ second ∷ words) = None
 
 -- ---- what a command answers
 
--- what a command answers to an input
-abbrev pub answer_to : Command → List ℕ → Answered
-answer_to commands.Receive input = received the_limits most_input input
-answer_to (commands.Bundles command) input = bundles.answer_to command input
-
--- a run ended so with this answer due for the command; words that name none get nothing written
-abbrev pub AnswersCommand : Option Command → List ℕ → Status → Option (List ℕ) → Option (List ℕ) → Type 0
-AnswersCommand None input status before now = Gains before now []
-AnswersCommand (Some command) input status before now = Answers (answer_to command input) status before now
+-- what octets settle of a command's answer
+abbrev pub settles : Command → Ends → List ℕ → Settled
+settles commands.Receive = gathered (received the_limits most_input)
+settles (commands.Bundles command) = bundles.settles command
 
 -- the run of a command ends as its answer has it, or for want of memory
 abbrev pub CompletesCommand : Option Command → List ℕ → Status → Type 0
 CompletesCommand None input status = Unit {0}
 CompletesCommand (Some command) input status =
-    (status ≡ (answer_to command input).status) ⊎ (status ≡ statuses.Memory)
+    ((settles command at_end input).ends ≡ Some status) ⊎ (status ≡ statuses.Memory)
 
 -- ---- the receiver's law
 
--- behind what was held stands a text that keeps the law, whole where the run answered the input,
+-- after what was held stands a text that keeps the law, whole where the run answered the input,
 -- and else a front of one
 pub record WritesLawfully (input : List ℕ) (status : Status) (held after : List ℕ) : Type 0 where
   pub text : List ℕ
   pub ending : Status
-  pub law : KeepsReceiverLaw BLOCK_MAX (lines_within most_input input) text ending
+  pub law : KeepsReceiverLaw the_limits most_input input text ending
   pub written : List ℕ
   pub rest : List ℕ
   pub front : text ≡ written ++ rest

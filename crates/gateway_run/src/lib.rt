@@ -9,20 +9,17 @@
 //! The links and the clock are for commands to come, and stay untouched.
 #![tactic(auto)]
 
-mod command;
-mod hearing;
+mod commands;
+mod input_lines;
 mod laws;
-mod lines;
+mod line_content;
 mod open_part;
 mod part;
 mod piece;
-mod receive;
 mod sessions;
 mod table;
-mod text;
-mod top;
-mod word;
+mod written_lines;
 
-pub use laws::red_part_is_front_of_block;
-pub use top::run;
-pub use word::Word;
+pub use commands::run::run;
+pub use commands::word::Word;
+pub use laws::{earliest_place_decides, red_part_is_front_of_block};

@@ -1,9 +1,11 @@
 //! Pieces that come for an open red part, until it is whole.
 ghost use Rattle.std.specs.Prelude.{◌≡◌, ℕ, ◌+◌, ◌-◌, ◌≤◌, ◌<◌, List, [], ◌++◌, ◌∷◌, Option, None, is_some, take, drop, length, replicate, OnOk, IfOk};
 ghost use Rattle.std.specs.Option.{option_map};
-ghost use Rattle.gateway_run.specs.Session.{is_out_of_bounds, filled, known_after, whole_part, stop_of};
+ghost use Rattle.ltp_session.specs.Cells.{filled, whole_part, length_after as after};
+ghost use Rattle.gateway_run.specs.LineContent.{stop};
+ghost use Rattle.gateway_run.specs.Session.{is_out_of_bounds as bounds};
 ghost use Rattle.gateway_run.specs.Views.{red_piece};
-ghost use Rattle.gateway_run.specs.OpenPart.{Stands, StandsBehind, is_outside_of, length_after, laid};
+ghost use Rattle.gateway_run.specs.OpenPart.{Stands, ShowsThrough, laid};
 
 use crate::part::{Held, OpenPart};
 use crate::piece::Piece;
@@ -19,15 +21,15 @@ pub fn empty_part(alloc: Global) -> OpenPart
         pieces: Vec::new(alloc),
         covered: Spans::new(alloc, BLOCK_MAX),
         reach: 0,
-        end: None,
+        length: None,
     }
 }
 
 /// Whether the piece can't be one of a red part of which octets came up to `reach`, and whose
 /// length is known or not: it is empty, or ends past the greatest block or past the red part; or
 /// the red part ends with it elsewhere than before, or below an octet that came.
-pub fn is_outside(reach: u64, length: Option<u64>, piece: &Piece<'_>) -> bool
-    ensures { result ≡ is_outside_of reach length (red_piece piece.now) }
+pub fn is_out_of_bounds(reach: u64, length: Option<u64>, piece: &Piece<'_>) -> bool
+    ensures { result ≡ bounds BLOCK_MAX reach length (red_piece piece.now) }
 {
     let size = piece.body.len() as u64;
     if size == 0 || size > BLOCK_MAX || piece.offset > BLOCK_MAX - size {
@@ -35,16 +37,17 @@ pub fn is_outside(reach: u64, length: Option<u64>, piece: &Piece<'_>) -> bool
     }
     let stop = piece.offset + size;
     match length {
-        Some(end) => end < stop || (piece.ends && (end != stop || stop < reach)),
+        Some(length) => length < stop || (piece.ends && (length != stop || stop < reach)),
         None => piece.ends && stop < reach,
     }
 }
 
 /// Takes a piece that can be one of the red part.
 pub fn take(alloc: Global, part: &mut OpenPart, piece: &Piece<'_>) -> Result<(), AllocError>
-    requires { stop_of (red_piece piece.now) ≤ BLOCK_MAX }
+    requires { stop (red_piece piece.now) ≤ BLOCK_MAX }
     ensures { (cells : List (Option ℕ)) (known : Option ℕ) → Stands part.old cells known
-        → OnOk result (Stands part.new (filled cells piece.now.offset piece.now.body.now) (known_after known (red_piece piece.now))) }
+        → OnOk result (Stands part.new (filled cells piece.now.offset piece.now.body.now)
+        (after known piece.now.ends (stop (red_piece piece.now)))) }
 {
     let stop = piece.offset + piece.body.len() as u64;
     let body = Vec::from_slice(alloc, piece.body)?;
@@ -54,13 +57,13 @@ pub fn take(alloc: Global, part: &mut OpenPart, piece: &Piece<'_>) -> Result<(),
         offset: piece.offset,
         body,
     })?;
-    part.end = length_after(part.end, piece.ends, stop);
+    part.length = length_after(part.length, piece.ends, stop);
     Ok(())
 }
 
 /// The length of the red part, once a piece that ends here came.
 fn length_after(length: Option<u64>, ends: bool, stop: u64) -> Option<u64>
-    ensures { result ≡ length_after length ends stop }
+    ensures { result ≡ after length ends stop }
 {
     match length {
         None if ends => Some(stop),
@@ -84,14 +87,14 @@ fn is_whole(part: &OpenPart) -> bool
     ensures { (cells : List (Option ℕ)) (known : Option ℕ) → Stands part.now cells known
         → result ≡ is_some (whole_part cells known) }
 {
-    part.end == Some(part.reach) && part.covered.is_whole(part.reach)
+    part.length == Some(part.reach) && part.covered.is_whole(part.reach)
 }
 
 /// The octets of a red part up to its reach, and 0 for each place for which none came: what came
 /// first is laid last.
 fn body_of(alloc: Global, part: &OpenPart) -> Result<Vec<u8>, AllocError>
     ensures { IfOk result (λ body. (length body.items ≡ part.now.reach)
-        × StandsBehind [] body.items (laid [] part.now.pieces.items)) }
+        × ShowsThrough [] body.items (laid [] part.now.pieces.items)) }
 {
     let mut body = zeros(alloc, part.reach as usize)?;
     let mut at = part.pieces.len();

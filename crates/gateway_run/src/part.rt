@@ -1,5 +1,5 @@
 //! What is kept of a red part that isn't whole.
-ghost use Rattle.std.specs.Prelude.{◌≡◌, ◌+◌, ◌≤◌, length, All};
+ghost use Rattle.std.specs.Prelude.{◌≡◌, ◌+◌, ◌≤◌, length as size, All};
 ghost use Rattle.ltp_segment.specs.declared.session.TheConstants.{BLOCK_MAX};
 
 use spans::Spans;
@@ -20,11 +20,11 @@ pub struct OpenPart {
     pub pieces: Vec<Held>,
     /// The places for which an octet came, of those of the greatest block.
     pub covered: Spans,
-    /// The place behind the last octet that came.
+    /// The place after the last octet that came.
     pub reach: u64,
     /// The length of the red part, once an end of it came.
-    pub end: Option<u64>,
-    ghost limit: { length covered ≡ BLOCK_MAX },
+    pub length: Option<u64>,
+    ghost limit: { size covered ≡ BLOCK_MAX },
     ghost near: { reach ≤ BLOCK_MAX },
-    ghost within: { All (λ held. held.offset + length held.body.items ≤ reach) pieces.items },
+    ghost within: { All (λ held. held.offset + size held.body.items ≤ reach) pieces.items },
 }

@@ -1,15 +1,16 @@
 //! The sessions of `receive`, by originator and number.
-ghost use Rattle.std.specs.Prelude.{◌≡◌, ◌&&◌, ◌==◌, ℕ, ◌+◌, ◌<◌, ◌^◌, List, [], Option, OnOk, IfOk};
-ghost use Rattle.gateway_run.specs.Receive.{Kept};
+ghost use Rattle.std.specs.Prelude.{◌≡◌, ◌&&◌, ◌==◌, ℕ, ◌+◌, ◌<◌, ◌≤◌, ◌^◌, List, [], Option, None, true, false, nat_lt, nat_le, OnOk, OnErr, IfOk};
+ghost use Rattle.ltp_segment.specs.declared.session.TheConstants.{BLOCK_MAX};
+ghost use Rattle.gateway_run.specs.KeptSessions.{Kept, session_in, with_session, is_unfinished, unfinished};
+ghost use Rattle.gateway_run.specs.Session.{meets, fresh, is_out_of_bounds as bounds};
 ghost use Rattle.gateway_run.specs.Views.{red_piece};
-ghost use Rattle.gateway_run.specs.Sessions.{Shows, LacksFirst, LacksOpen, Puts, Meets, key_cmp, found_at};
+ghost use Rattle.gateway_run.specs.Table.{Shows, LacksFirst, LacksOpen, Puts, Meets, IsTaken, key_cmp, found_at};
 ghost use Rattle.std.specs.BTreeMap.{get};
 
-use crate::open_part::{empty_part, is_outside, take, whole};
+use crate::open_part::{empty_part, is_out_of_bounds, take, whole};
 use crate::part::OpenPart;
 use crate::piece::Piece;
-use crate::table::{Found, Reply, Sessions, Standing};
-use ltp_segment::BLOCK_MAX;
+use crate::table::{Found, Reply, Sessions, Standing, Whole};
 use std::alloc::{AllocError, Global};
 use std::collections::BTreeMap;
 
@@ -23,20 +24,60 @@ pub fn no_sessions(alloc: Global) -> Sessions
     }
 }
 
-/// A piece meets its session.
-pub fn meet(alloc: Global, sessions: &mut Sessions, piece: &Piece<'_>) -> Result<Reply, AllocError>
-    requires { sessions.old.unfinished < 2 ^ 32 }
-    ensures { (kept : List Kept) → Shows sessions.old kept
-        → IfOk result (λ reply. Meets kept (red_piece piece.now) reply sessions.new) }
+/// Whether the piece would leave more than `most` sessions unfinished, of which there are no more
+/// yet. No memory is taken.
+pub fn is_one_too_many(sessions: &Sessions, piece: &Piece<'_>, most: usize) -> bool
+    requires { sessions.now.unfinished ≤ most }
+    ensures { (kept : List Kept) → Shows sessions.now kept → result ≡ nat_lt most (unfinished
+        (with_session piece.now.name (meets BLOCK_MAX (session_in piece.now.name kept) (red_piece piece.now)).1 kept)) }
 {
-    let key = (piece.originator, piece.session);
+    match find(sessions, (piece.name.originator, piece.name.number)) {
+        Found::Fresh => exceeds(sessions.unfinished, most, piece),
+        Found::Open(..) => false,
+        Found::HandedUp => false,
+    }
+}
+
+/// Whether the first piece of its session leaves more than `most` sessions unfinished, where so
+/// many are.
+fn exceeds(unfinished: usize, most: usize, piece: &Piece<'_>) -> bool
+    ensures { result ≡ (nat_le most unfinished && is_unfinished (meets BLOCK_MAX fresh (red_piece piece.now)).1) }
+{
+    unfinished >= most && opens(piece)
+}
+
+/// Whether a session of which nothing came is unfinished after the piece.
+fn opens(piece: &Piece<'_>) -> bool
+    ensures { result ≡ is_unfinished (meets BLOCK_MAX fresh (red_piece piece.now)).1 }
+{
+    !is_out_of_bounds(0, None, piece) && !is_alone(piece)
+}
+
+/// A piece meets its session. Memory is wanted only where the piece is one of the red part.
+pub fn meet<'a>(
+    alloc: Global,
+    sessions: &mut Sessions,
+    piece: &Piece<'a>,
+) -> Result<Reply<'a>, AllocError>
+    requires { sessions.old.unfinished < 2 ^ 32 }
+    ensures met { (kept : List Kept) → Shows sessions.old kept
+        → IfOk result (λ reply. Meets kept (red_piece piece.now) reply sessions.new) }
+    ensures memory { (kept : List Kept) → Shows sessions.old kept
+        → OnErr result (IsTaken (meets BLOCK_MAX (session_in piece.now.name kept) (red_piece piece.now)).0) }
+{
+    let key = (piece.name.originator, piece.name.number);
     match find(sessions, key) {
-        Found::HandedUp => Ok(Reply::PassedOver),
-        Found::Nothing => meet_first(alloc, sessions, piece),
-        Found::Open => match sessions.table.remove(&key) {
-            Some(Standing::Open(part)) => meet_open(alloc, sessions, part, piece),
-            _ => meet_first(alloc, sessions, piece),
-        },
+        Found::HandedUp => Ok(Reply::Skip),
+        Found::Fresh => meet_first(alloc, sessions, piece),
+        Found::Open(reach, length) => {
+            if is_out_of_bounds(reach, length, piece) {
+                return Ok(Reply::Note);
+            }
+            match sessions.table.remove(&key) {
+                Some(Standing::Open(part)) => meet_open(alloc, sessions, part, piece),
+                _ => Ok(Reply::Nothing),
+            }
+        }
     }
 }
 
@@ -45,28 +86,29 @@ fn find(sessions: &Sessions, key: (u64, u64)) -> Found
     ensures { result ≡ found_at (get key_cmp sessions.now.table key) }
 {
     match sessions.table.get(&key) {
-        Some(Standing::Open(_)) => Found::Open,
+        Some(Standing::Open(part)) => Found::Open(part.reach, part.length),
         Some(Standing::HandedUp) => Found::HandedUp,
-        None => Found::Nothing,
+        None => Found::Fresh,
     }
 }
 
 /// The first piece of its session, which the table doesn't have.
-fn meet_first(
+fn meet_first<'a>(
     alloc: Global,
     sessions: &mut Sessions,
-    piece: &Piece<'_>,
-) -> Result<Reply, AllocError>
+    piece: &Piece<'a>,
+) -> Result<Reply<'a>, AllocError>
     requires { sessions.old.unfinished < 2 ^ 32 }
-    ensures { (kept : List Kept) → LacksFirst sessions.old kept piece.now.originator piece.now.session
+    ensures met { (kept : List Kept) → LacksFirst sessions.old kept piece.now.name
         → IfOk result (λ reply. Meets kept (red_piece piece.now) reply sessions.new) }
+    ensures memory { OnErr result (bounds BLOCK_MAX 0 None (red_piece piece.now) ≡ false) }
 {
-    if is_outside(0, None, piece) {
-        return Ok(Reply::OutOfBounds);
+    if is_out_of_bounds(0, None, piece) {
+        return Ok(Reply::Note);
     }
     if is_alone(piece) {
         put(sessions, piece, Standing::HandedUp)?;
-        return Ok(Reply::UpAlone);
+        return Ok(Reply::Up(Whole::Lent(piece.body)));
     }
     let mut part = empty_part(alloc);
     take(alloc, &mut part, piece)?;
@@ -83,27 +125,24 @@ fn is_alone(piece: &Piece<'_>) -> bool
     piece.ends && piece.offset == 0
 }
 
-/// A piece of an open session, which was taken out of the table.
-fn meet_open(
+/// A piece within the bounds of an open session, which was taken out of the table.
+fn meet_open<'a>(
     alloc: Global,
     sessions: &mut Sessions,
     mut part: Box<OpenPart>,
-    piece: &Piece<'_>,
-) -> Result<Reply, AllocError>
+    piece: &Piece<'a>,
+) -> Result<Reply<'a>, AllocError>
+    requires { bounds BLOCK_MAX part.value.reach part.value.length (red_piece piece.now) ≡ false }
     ensures { (kept : List Kept) (cells : List (Option ℕ)) (known : Option ℕ)
-        → LacksOpen sessions.old kept piece.now.originator piece.now.session part.value cells known
+        → LacksOpen sessions.old kept piece.now.name part.value cells known
         → IfOk result (λ reply. Meets kept (red_piece piece.now) reply sessions.new) }
 {
-    if is_outside(part.reach, part.end, piece) {
-        put(sessions, piece, Standing::Open(part))?;
-        return Ok(Reply::OutOfBounds);
-    }
     take(alloc, &mut part, piece)?;
     match whole(alloc, &part)? {
         Some(body) => {
             put(sessions, piece, Standing::HandedUp)?;
             sessions.unfinished = sessions.unfinished.saturating_sub(1);
-            Ok(Reply::Up(body))
+            Ok(Reply::Up(Whole::Built(body)))
         }
         None => {
             put(sessions, piece, Standing::Open(part))?;
@@ -114,10 +153,10 @@ fn meet_open(
 
 /// Puts how the piece's session stands.
 fn put(sessions: &mut Sessions, piece: &Piece<'_>, standing: Standing) -> Result<(), AllocError>
-    ensures { OnOk result (Puts sessions.old sessions.new piece.now.originator piece.now.session standing) }
+    ensures { OnOk result (Puts sessions.old sessions.new piece.now.name standing) }
 {
     sessions
         .table
-        .insert((piece.originator, piece.session), standing)?;
+        .insert((piece.name.originator, piece.name.number), standing)?;
     Ok(())
 }

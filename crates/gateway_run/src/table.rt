@@ -16,9 +16,10 @@ pub enum Standing {
 #[derive(Clone, Copy, Debug, PartialEq, Eq, Drop)]
 pub enum Found {
     /// No piece of it came.
-    Nothing,
-    /// Its red part isn't whole.
-    Open,
+    Fresh,
+    /// Its red part isn't whole: the place after the last octet that came, and the length, once an
+    /// end of it came.
+    Open(u64, Option<u64>),
     /// Its red part was handed up.
     HandedUp,
 }
@@ -32,17 +33,24 @@ pub struct Sessions {
     pub unfinished: usize,
 }
 
-/// What is said to a piece.
+/// Octets of a red part, lent by the piece that is all of it, or put together.
 #[derive(Drop)]
-pub enum Reply {
+pub enum Whole<'a> {
+    /// Of one piece.
+    Lent(&'a [u8]),
+    /// Of several.
+    Built(Vec<u8>),
+}
+
+/// What a piece brings about.
+#[derive(Drop)]
+pub enum Reply<'a> {
     /// Nothing yet.
     Nothing,
-    /// The piece is the whole red part.
-    UpAlone,
-    /// The red part, which is whole with the piece.
-    Up(Vec<u8>),
-    /// The piece can't be one of the red part.
-    OutOfBounds,
-    /// The red part was handed up before.
-    PassedOver,
+    /// Its session's red part, now whole, is handed up.
+    Up(Whole<'a>),
+    /// A note: it is out of bounds.
+    Note,
+    /// It is skipped: the red part was handed up before.
+    Skip,
 }

@@ -142,7 +142,7 @@ spelling-least number (x ∷ other) spells =
 
 -- ---- no other is as short
 
--- an octet with others behind it goes on, and what is behind it ends once
+-- an octet with others after it goes on, and what is after it ends once
 ends-cons : (x y : ℕ) (text : List ℕ) → EndsOnce (x ∷ y ∷ text) → (128 ≤ x) × EndsOnce (y ∷ text)
 ends-cons x y text ends =
     elim (cases_lt x 128) [

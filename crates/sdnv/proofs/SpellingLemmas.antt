@@ -20,7 +20,7 @@ high_count-take zero text = omega arith
 high_count-take (suc n) [] = omega arith
 high_count-take (suc n) (x ∷ text) = cons_count (goes_on x) n (high_count text) (high_count (take n text)) (high_count-take n text)
 
--- the sum of two texts, one behind the other
+-- the sum of two texts, one after the other
 pub sum_of-append : (xs ys : List ℕ) → sum_of (xs ++ ys) ≡ sum_of xs * 128 ^ length ys + sum_of ys
 unfolding sum_of
 sum_of-append [] ys = omega arith

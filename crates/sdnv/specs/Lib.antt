@@ -1,3 +1,4 @@
+-- What public clauses cite, in reading order.
 pub mod Spelling
 pub mod Reading
 pub mod Shortest

@@ -1,6 +1,7 @@
 -- The shortest text that spells a number.
 
-use Rattle.std.specs.Prelude.{◌≡◌, ℕ, zero, suc, ◌+◌, ◌/◌, ◌%◌, ◌<◌, ◌≤◌, List, [], ◌∷◌, ◌++◌, length, ◌==◌, if◌then◌else◌, Ok, slice_index}
+use Rattle.std.specs.Prelude.{◌≡◌, ℕ, zero, suc, ◌+◌, ◌/◌, ◌%◌, ◌<◌, ◌≤◌, List, [], ◌∷◌, ◌++◌}
+use Rattle.std.specs.Prelude.{length, ◌==◌, if◌then◌else◌, Ok, slice_index}
 use Rattle.sdnv.specs.Spelling.{Spells}
 use Rattle.sdnv.specs.Reading.{read_of}
 

@@ -1,6 +1,7 @@
 -- The texts that spell a number (RFC 5050, section 4.1).
 
-use Rattle.std.specs.Prelude.{◌≡◌, ℕ, ◌+◌, ◌*◌, ◌%◌, ◌^◌, ◌<◌, ◌≤◌, Bool, List, [], ◌∷◌, length, nat_le}
+use Rattle.std.specs.Prelude.{◌≡◌, ℕ, ◌+◌, ◌*◌, ◌%◌, ◌^◌, ◌<◌, ◌≤◌, Bool, List, [], ◌∷◌, length}
+use Rattle.std.specs.Prelude.{nat_le}
 use Rattle.std.specs.List.{prefix_len}
 
 -- another octet of the number follows this one: its high bit is set
@@ -19,7 +20,7 @@ IsUnended text = high_count text ≡ length text
 abbrev pub EndsOnce : List ℕ → Type 0
 EndsOnce text = high_count text + 1 ≡ length text
 
--- the sum of the octets' lower seven bits, an octet's with 128 to the number of octets behind it
+-- the sum of the octets' lower seven bits, an octet's with 128 to the number of octets after it
 unfoldable pub sum_of : List ℕ → ℕ
 sum_of [] = 0
 sum_of (octet ∷ text) = (octet % 128) * 128 ^ length text + sum_of text

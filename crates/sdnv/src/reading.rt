@@ -15,7 +15,7 @@ pub fn read(bytes: &[u8]) -> Result<(u64, usize), SdnvFault>
     // What is spelled so is read, whatever follows it.
     ensures only { (n k : ℕ) → k ≤ length bytes.now → Spells (take k bytes.now) n
         → result ≡ Ok (n, k) }
-    // Each fault comes exactly where it is true.
+    // Each fault comes if and only if it is true.
     ensures short { (result ≡ Err SdnvFault.Short) ↔ IsShort bytes.now }
     ensures too_long { (result ≡ Err SdnvFault.TooLong) ↔ IsTooLong bytes.now }
     ensures too_large { (result ≡ Err SdnvFault.TooLarge) ↔ IsTooLarge bytes.now }
@@ -44,7 +44,7 @@ fn first_number(bytes: &[u8]) -> Result<(u64, usize), SdnvFault>
     tenth(value, bytes[MOST - 1])
 }
 
-/// The number that the tenth octet ends, if it does, behind nine groups of this value.
+/// The number that the tenth octet ends, if it does, after nine groups of this value.
 fn tenth(value: u64, octet: u8) -> Result<(u64, usize), SdnvFault>
     requires { value < 2 ^ 63 }
     ensures goes_on { 128 ≤ octet → result ≡ Err SdnvFault.TooLong }

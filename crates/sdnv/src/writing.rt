@@ -1,16 +1,20 @@
 //! The shortest spelling of a number.
 
-ghost use Rattle.std.specs.Prelude.{◌≡◌, ℕ, ◌+◌, ◌^◌, ◌<◌, ◌++◌, length, drop, OnOk, OnErr};
+ghost use Rattle.std.specs.Prelude.{◌≡◌, ℕ, ◌+◌, ◌^◌, ◌<◌, ◌≤◌, ◌++◌, length, drop, OnOk, OnErr};
+ghost use Rattle.std.specs.Prelude.{vec_len, vec_capacity};
 ghost use Rattle.sdnv.specs.Shortest.{spelling, IsShortest, ReadsBack};
 
 use crate::MOST;
 use std::alloc::AllocError;
 
-/// Appends the shortest spelling of a number (RFC 5050, section 4.1). Where memory runs out, all is
-/// as before.
+/// Appends the shortest spelling of a number (RFC 5050, section 4.1). Memory is wanted only where
+/// there is no room for it; where it runs out, all is as before.
 pub fn write(value: u64, out: &mut Vec<u8>) -> Result<(), AllocError>
     ensures ok { OnOk result (out.new.items ≡ out.old.items ++ spelling value) }
     ensures err { OnErr result (out.new.items ≡ out.old.items) }
+    // Memory is wanted only where there is no room.
+    ensures full { OnErr result (vec_capacity out.old < vec_len out.old + length (spelling value)) }
+    ensures capacity { vec_capacity out.old ≤ vec_capacity out.new }
 {
     let (octets, at) = spell(value);
     out.extend_from_slice(&octets[at..])?;

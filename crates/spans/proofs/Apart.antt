@@ -112,11 +112,11 @@ pub AreApart-after : (e : ℕ) (xs ys : List Run) → AreApart (e + 1) (xs ++ ys
 AreApart-after e [] ys apart = apart
 AreApart-after e (x ∷ xs) ys apart = AreApart-after x.to xs ys apart.2
 
-pub AreApart-behind : (low e : ℕ) (xs ys : List Run) → 0 < length xs → AreApart low (xs ++ ys) → AreApart (end_after e xs + 1) ys
-AreApart-behind low e [] ys some apart = absurd (omega arith)
-AreApart-behind low e (x ∷ xs) ys some apart = AreApart-after x.to xs ys apart.2
+pub AreApart-past : (low e : ℕ) (xs ys : List Run) → 0 < length xs → AreApart low (xs ++ ys) → AreApart (end_after e xs + 1) ys
+AreApart-past low e [] ys some apart = absurd (omega arith)
+AreApart-past low e (x ∷ xs) ys some apart = AreApart-after x.to xs ys apart.2
 
--- the end of a chunk at or behind a place
+-- the end of a chunk at or after a place
 pub le-end_after-low : (low e : ℕ) (runs : List Run) → 0 < length runs → AreApart low runs → low ≤ end_after e runs
 le-end_after-low low e [] some apart = absurd (omega arith)
 le-end_after-low low e (r ∷ rs) some apart =

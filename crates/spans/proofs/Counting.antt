@@ -10,7 +10,7 @@ use Rattle.std.specs.List.Sorted.{IsNonDecreasingBy, IsPartitionedBy, IsPartitio
 use Rattle.spans.specs.declared.range.Run.{Run}
 use Rattle.spans.specs.Chunks.{AreFilled, joined}
 use Rattle.spans.specs.Runs.{AreApart, AreWithin, end_after, last_begin}
-use Rattle.spans.proofs.Apart.{AreApart-lower, AreApart-left, AreApart-right, AreApart-behind, le-last_begin}
+use Rattle.spans.proofs.Apart.{AreApart-lower, AreApart-left, AreApart-right, AreApart-past, le-last_begin}
 
 unfoldable pub below : ℕ → List Run → ℕ
 below to runs = count_by (λ r. ltb r.from to) runs
@@ -108,7 +108,7 @@ IsNonDecreasingBy-last_begins low [] apart filled i j d le inside = absurd (omeg
 IsNonDecreasingBy-last_begins low (k ∷ ks) apart filled zero zero d le inside = omega arith
 IsNonDecreasingBy-last_begins low (k ∷ ks) apart filled zero (suc j) d le inside =
     let ends = last_begin-le 0 0 k low filled.0 (AreApart-left low k (joined ks) apart) in
-    let rest = le-last_begin-at (end_after 0 k + 1) ks j d (AreApart-behind low 0 k (joined ks) filled.0 apart) filled.1 (omega arith) in
+    let rest = le-last_begin-at (end_after 0 k + 1) ks j d (AreApart-past low 0 k (joined ks) filled.0 apart) filled.1 (omega arith) in
     omega (arith, ends, rest)
 IsNonDecreasingBy-last_begins low (k ∷ ks) apart filled (suc i) zero d le inside = absurd (omega arith)
 IsNonDecreasingBy-last_begins low (k ∷ ks) apart filled (suc i) (suc j) d le inside =
@@ -126,7 +126,7 @@ below-chunks low to [] zero apart filled under past = omega (arith, below-nil to
 below-chunks low to [] (suc c) apart filled under past = omega (arith, below-nil to)
 below-chunks low to (k ∷ ks) zero apart filled under past =
     let ends = last_begin-le 0 0 k low filled.0 (AreApart-left low k (joined ks) apart) in
-    let far = below-far to (end_after 0 k + 1) (joined ks) (omega (arith, ends, past (omega arith))) (AreApart-behind low 0 k (joined ks) filled.0 apart) in
+    let far = below-far to (end_after 0 k + 1) (joined ks) (omega (arith, ends, past (omega arith))) (AreApart-past low 0 k (joined ks) filled.0 apart) in
     omega (arith, below-append to k (joined ks), far)
 below-chunks low to (k ∷ ks) (suc c) apart filled under past =
     let near = below-near to 0 low k (AreApart-left low k (joined ks) apart) (under 0 [] (omega arith) (omega arith)) in

@@ -80,14 +80,14 @@ pub AreWithin-joined : (limit : ℕ) (xs ys zs : List Run) → AreWithin limit (
 AreWithin-joined limit [] ys zs within f = f within
 AreWithin-joined limit (x ∷ xs) ys zs within f = (within.0, AreWithin-joined limit xs ys zs within.1 f)
 
--- what is covered behind a front is covered
-pub Covers-behind : (from to : ℕ) (xs ys zs : List Run) (n : ℕ) → AreApart 0 (xs ++ ys) → EndBefore from xs
+-- what is covered after a front is covered
+pub Covers-past : (from to : ℕ) (xs ys zs : List Run) (n : ℕ) → AreApart 0 (xs ++ ys) → EndBefore from xs
     → ((l : ℕ) → l ≤ from → AreApart l ys → AreApart l zs)
     → ((limit : ℕ) → to ≤ limit → AreWithin limit ys → AreWithin limit zs)
     → ((k : ℕ) → has_place zs k ≡ (has_place ys k || is_in from to k))
     → n + places_in ys ≡ places_in zs
     → Covers from to (xs ++ ys) (xs ++ zs) n
-Covers-behind from to xs ys zs n apart ends above within places count = record {
+Covers-past from to xs ys zs n apart ends above within places count = record {
   apart = AreApart-joined 0 from xs ys zs (omega arith) apart ends above;
   within = λ limit le old. AreWithin-joined limit xs ys zs old (within limit le);
   places = λ k.
@@ -112,7 +112,7 @@ AreApart-front to low (y ∷ ys) apart begins = (omega (arith, begins), apart.1,
 pub Covers-added : (from to : ℕ) (xs ys : List Run) → from < to → AreApart 0 (xs ++ ys) → EndBefore from xs → FirstBeginsAfter to ys
     → Covers from to (xs ++ ys) (xs ++ (record { from = from; to = to } ∷ ys)) (to - from)
 Covers-added from to xs ys some apart ends begins =
-    Covers-behind from to xs ys (record { from = from; to = to } ∷ ys) (to - from) apart ends
+    Covers-past from to xs ys (record { from = from; to = to } ∷ ys) (to - from) apart ends
     (λ l le rest. (le, some, AreApart-front to l ys rest begins))
     (λ limit le within. (le, within))
     (λ k. or_comm (is_in from to k) (has_place ys k))
@@ -173,7 +173,7 @@ Covers-widened from to xs (r ∷ rs) some apart ends reaches begins =
     let there = AreApart-right 0 xs (r ∷ rs) apart in
     let g : Growth = record { end = r.to; fresh = r.from - from } in
     let count = left_after-count to g rs there.2 in
-    Covers-behind from to xs (r ∷ rs) (widened from to (r ∷ rs)) (widening from to (r ∷ rs)) apart ends
+    Covers-past from to xs (r ∷ rs) (widened from to (r ∷ rs)) (widening from to (r ∷ rs)) apart ends
     (λ l le rest. (omega (arith, rest.0), omega arith, left_after-apart to g rs there.2))
     (λ limit le within. let w = left_after-within limit to g rs within.0 within.1 in (omega (arith, w.0), w.1))
     (λ k.

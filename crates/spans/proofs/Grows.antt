@@ -25,9 +25,9 @@ left_after-append to low [] ys apart = refl
 left_after-append to low (x ∷ xs) ys apart =
     elim (cases_lt to x.from) [
       | inl far ↦
-          let behind = AreApart-right (x.to + 1) xs ys apart.2 in
+          let after = AreApart-right (x.to + 1) xs ys apart.2 in
           left_after-no to x (xs ++ ys) far
-          ∙ (ap (λ zs. (x ∷ xs) ++ zs) (sym (left_after-far to (x.to + 1) ys (omega (arith, far, apart.1)) behind))
+          ∙ (ap (λ zs. (x ∷ xs) ++ zs) (sym (left_after-far to (x.to + 1) ys (omega (arith, far, apart.1)) after))
           ∙ ap (λ zs. zs ++ left_after to ys) (sym (left_after-no to x xs far)))
       | inr near ↦
           left_after-yes to x (xs ++ ys) near
@@ -40,9 +40,9 @@ grown_over-append to low g [] ys apart = refl
 grown_over-append to low g (x ∷ xs) ys apart =
     elim (cases_lt to x.from) [
       | inl far ↦
-          let behind = AreApart-right (x.to + 1) xs ys apart.2 in
+          let after = AreApart-right (x.to + 1) xs ys apart.2 in
           grown_over-no to g x (xs ++ ys) far
-          ∙ (sym (grown_over-far to (x.to + 1) g ys (omega (arith, far, apart.1)) behind)
+          ∙ (sym (grown_over-far to (x.to + 1) g ys (omega (arith, far, apart.1)) after)
           ∙ ap (λ h. grown_over to h ys) (sym (grown_over-no to g x xs far)))
       | inr near ↦
           grown_over-yes to g x (xs ++ ys) near

@@ -33,7 +33,7 @@ slice_get-right [] ys i j is = let e : i ≡ j = omega arith in ap (slice_get ys
 slice_get-right (x ∷ xs) ys zero j is = absurd (omega arith)
 slice_get-right (x ∷ xs) ys (suc i) j is = slice_get-right xs ys i j (omega arith)
 
--- the run at i stands at `left` behind the first n chunks
+-- the run at i stands at `left` after the first n chunks
 pub record Walking (chunks : List (List Run)) (i n left : ℕ) : Type 0 where
   pub same : slice_get (joined chunks) i ≡ slice_get (joined (drop n chunks)) left
 

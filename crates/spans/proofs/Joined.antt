@@ -8,7 +8,7 @@ use Rattle.std.specs.List.Sorted.{IsNonDecreasingBy, IsPartitionedBy, IsPartitio
 use Rattle.spans.specs.declared.range.Run.{Run}
 use Rattle.spans.specs.Chunks.{AreFilled, joined, before, from_there}
 use Rattle.spans.specs.Runs.{AreApart, EndBefore, FirstReaches, end_after}
-use Rattle.spans.proofs.Apart.{AreApart-left, AreApart-right, AreApart-behind, le-end_after-low, EndBefore-append, EndBefore-end, end_after-EndBefore, FirstReaches-append}
+use Rattle.spans.proofs.Apart.{AreApart-left, AreApart-right, AreApart-past, le-end_after-low, EndBefore-append, EndBefore-end, end_after-EndBefore, FirstReaches-append}
 
 pub joined-append : (xs ys : List (List Run)) → joined (xs ++ ys) ≡ joined xs ++ joined ys
 joined-append [] ys = refl
@@ -89,7 +89,7 @@ pub IsNonDecreasingBy-ends : (low : ℕ) (chunks : List (List Run)) → AreApart
 IsNonDecreasingBy-ends low [] apart filled i j d le below = absurd (omega arith)
 IsNonDecreasingBy-ends low (k ∷ ks) apart filled zero zero d le below = omega arith
 IsNonDecreasingBy-ends low (k ∷ ks) apart filled zero (suc j) d le below =
-    let rest = le-end_at (end_after 0 k + 1) ks j d (AreApart-behind low 0 k (joined ks) filled.0 apart) filled.1 (omega arith) in
+    let rest = le-end_at (end_after 0 k + 1) ks j d (AreApart-past low 0 k (joined ks) filled.0 apart) filled.1 (omega arith) in
     omega (arith, rest)
 IsNonDecreasingBy-ends low (k ∷ ks) apart filled (suc i) zero d le below = absurd (omega arith)
 IsNonDecreasingBy-ends low (k ∷ ks) apart filled (suc i) (suc j) d le below =

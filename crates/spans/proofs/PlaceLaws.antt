@@ -132,7 +132,7 @@ beside-found low (x ∷ xs) zero r k apart found beside =
     ]
 beside-found low (x ∷ xs) (suc i) r k apart found beside =
     let far = le-found (x.to + 1) xs i r apart.2 found in
-    let behind : x.to ≤ k = elim beside [ inl before ↦ omega (arith, before, far.0) | inr after ↦ omega (arith, after, far.0, far.1) ] in
+    let after : x.to ≤ k = elim beside [ inl before ↦ omega (arith, before, far.0) | inr after ↦ omega (arith, after, far.0, far.1) ] in
     or_from (is_in x.from x.to k) (has_place xs k) (is_in-false x.from x.to k (λ a b. omega arith))
     (beside-found (x.to + 1) xs i r k apart.2 found beside)
 

@@ -321,7 +321,7 @@ grown_by-alone k m [] is begins = ap (λ n. run_between k n ∷ []) is
 grown_by-alone k m (r ∷ rs) is begins =
     rw (ne_eqb r.from (k + 1) (λ e. omega (arith, e, begins))) (ap (λ n. run_between k n ∷ (r ∷ rs)) is)
 
--- one before a run that begins behind it lengthens it
+-- one before a run that begins after it lengthens it
 grown_by-joined : (k m : ℕ) (rs : List Run) → grown_by k (run_between (k + 1) m ∷ rs) ≡ run_between k m ∷ rs
 unfolding run_between
 grown_by-joined k m rs = rw (eq-eqb (k + 1) (k + 1) refl) refl

@@ -1,6 +1,6 @@
 -- A chunk cut in two, and a run added, over plain variables.
 
-use Rattle.std.proofs.Common.{◌≡◌, ℕ, zero, suc, ◌+◌, ◌<◌, ◌≤◌, List, [], ◌∷◌, ◌++◌, length, take, drop, get_or, set, leb, ltb, true, refl, sym, ap, ◌∙◌, subst, arith, append_assoc, add-one, inl, inr}
+use Rattle.std.proofs.Common.{◌≡◌, ℕ, zero, suc, ◌+◌, ◌<◌, ◌≤◌, List, [], ◌∷◌, ◌++◌, length, take, drop, get_or, set, leb, ltb, true, refl, sym, ap, ◌∙◌, subst, arith, append_assoc, add-one, inl, inr, length-append, ◌-◌}
 use Rattle.std.proofs.lemmas.Bool.{cases_lt, le-leb, leb-true, ltb-true}
 use Rattle.spans.specs.declared.pieces.Place.{Place}
 use Rattle.std.proofs.lemmas.List.{take-append-drop, append-nil, take-take, take_all, drop-append-le, drop-drop, length-take-le, length-drop, drop_all, get_or_read}
@@ -116,7 +116,7 @@ joined-insert chunks c i r k below is =
     ∙ (joined-set chunks c i (r ∷ drop i (get_or chunks c [])) below
     ∙ ap (λ xs. before chunks c i ++ (r ∷ xs)) (sym (from_there-split chunks c i below)))
 
--- the place behind the last run
+-- the place after the last run
 pub before-last : (chunks : List (List Run)) (c i : ℕ) → c + 1 ≡ length chunks → i ≡ length (get_or chunks c []) → before chunks c i ≡ joined chunks
 before-last [] c i last is = refl
 before-last (x ∷ []) zero i last is = take_all i x (omega arith) ∙ sym (append-nil x)
@@ -129,11 +129,11 @@ from_there-last (x ∷ []) zero i last is = append-nil (drop i x) ∙ drop_all i
 from_there-last (x ∷ (y ∷ xs)) zero i last is = absurd (omega arith)
 from_there-last (x ∷ xs) (suc c) i last is = from_there-last xs c i (omega arith) is
 
--- a chunk read once the rest of it stands behind it
-pub get_or-behind : (chunks : List (List Run)) (c : ℕ) (rest d : List Run) → c < length chunks → get_or (insert chunks (suc c) rest) c d ≡ get_or chunks c d
-get_or-behind [] c rest d below = absurd (omega arith)
-get_or-behind (x ∷ xs) zero rest d below = refl
-get_or-behind (x ∷ xs) (suc c) rest d below = get_or-behind xs c rest d (omega arith)
+-- a chunk read once the rest of it stands after it
+pub get_or-before : (chunks : List (List Run)) (c : ℕ) (rest d : List Run) → c < length chunks → get_or (insert chunks (suc c) rest) c d ≡ get_or chunks c d
+get_or-before [] c rest d below = absurd (omega arith)
+get_or-before (x ∷ xs) zero rest d below = refl
+get_or-before (x ∷ xs) (suc c) rest d below = get_or-before xs c rest d (omega arith)
 
 pub split_at-made : (chunks now : List (List Run)) (c keep : ℕ) (k rest m n : List Run) → c < length chunks
     → k ≡ get_or chunks c k → rest ≡ drop keep k → now ≡ insert chunks (c + 1) rest → m ≡ get_or now c m → n ≡ take keep m
@@ -141,7 +141,7 @@ pub split_at-made : (chunks now : List (List Run)) (c keep : ℕ) (k rest m n : 
 split_at-made chunks now c keep k rest m n below read cut made again kept =
     let k-is : k ≡ get_or chunks c [] = get_or_read chunks c k below read [] in
     let now-is : now ≡ insert chunks (suc c) (drop keep k) = made ∙ (ap (λ i. insert chunks i rest) (add-one c) ∙ ap (insert chunks (suc c)) cut) in
-    let m-is : m ≡ k = again ∙ (ap (λ xs. get_or xs c m) now-is ∙ (get_or-behind chunks c (drop keep k) m below ∙ sym (get_or_read chunks c k below read m))) in
+    let m-is : m ≡ k = again ∙ (ap (λ xs. get_or xs c m) now-is ∙ (get_or-before chunks c (drop keep k) m below ∙ sym (get_or_read chunks c k below read m))) in
     ap (λ xs. set xs c n) now-is
     ∙ (ap (set (insert chunks (suc c) (drop keep k)) c) (kept ∙ ap (take keep) m-is)
     ∙ split_at-is chunks c keep k below k-is)
@@ -188,3 +188,36 @@ FirstHasAll-read chunks c i from to k r below read here at =
     let within = subst (λ (xs : List Run). i < length xs) (sym (get_or_read chunks c k below read [])) here in
     let e = from_there-read chunks c i k r below read within at in
     (λ h. subst (λ (xs : List Run). FirstHasAll from to xs) (sym e) h, λ h. subst (λ (xs : List Run). FirstHasAll from to xs) e h)
+
+-- ---- how much the chunks hold
+
+-- no chunk holds more than all
+pub length-chunk : (chunks : List (List Run)) (c : ℕ) → c < length chunks → length (get_or chunks c []) ≤ length (joined chunks)
+length-chunk [] c below = absurd (omega arith)
+length-chunk (k ∷ ks) zero below = omega (arith, length-append k (joined ks))
+length-chunk (k ∷ ks) (suc c) below = omega (arith, length-append k (joined ks), length-chunk ks c (omega arith))
+
+-- a half of a chunk that was cut in two
+pub length-first : (chunks : List (List Run)) (c keep : ℕ) → c < length chunks → keep ≤ length (get_or chunks c [])
+    → length (get_or (split_at c keep chunks) c []) ≡ keep
+length-first [] c keep below within = absurd (omega arith)
+length-first (k ∷ ks) zero keep below within = length-take-le keep k within
+length-first (k ∷ ks) (suc c) keep below within = length-first ks c keep (omega arith) within
+
+pub length-second : (chunks : List (List Run)) (c keep : ℕ) → c < length chunks
+    → length (get_or (split_at c keep chunks) (suc c) []) ≡ length (get_or chunks c []) - keep
+length-second [] c keep below = absurd (omega arith)
+length-second (k ∷ ks) zero keep below = length-drop keep k
+length-second (k ∷ ks) (suc c) keep below = length-second ks c keep (omega arith)
+
+-- the chunk to which a place has moved has room, where both halves have
+pub length-moved : (most : ℕ) (chunks now : List (List Run)) (p q : Place) (keep : ℕ) → p.chunk < length chunks
+    → keep ≤ length (get_or chunks p.chunk []) → keep < most → length (get_or chunks p.chunk []) < keep + most → now ≡ split_at p.chunk keep chunks
+    → (p.at ≤ keep → q ≡ p) → (keep < p.at → (q.chunk ≡ p.chunk + 1) × (q.at + keep ≡ p.at)) → length (get_or now q.chunk []) < most
+length-moved most chunks now p q keep below within few others is low high =
+    elim (cases_lt keep p.at) [
+      | inl above ↦
+          let there : q.chunk ≡ suc p.chunk = (high above).0 ∙ add-one p.chunk in
+          rw (is, there) (omega (arith, length-second chunks p.chunk keep below))
+      | inr le ↦ rw (is, low le) (omega (arith, length-first chunks p.chunk keep below within))
+    ]

@@ -1,4 +1,4 @@
--- A run that grows over those behind a place, over plain variables.
+-- A run that grows over those after a place, over plain variables.
 
 use Rattle.std.proofs.Common.{◌≡◌, ℕ, zero, suc, ◌+◌, ◌-◌, ◌<◌, ◌≤◌, List, [], ◌∷◌, ◌++◌, length, take, drop, get_or, set, min, max, sym, ap, ◌∙◌, subst, arith, append_assoc, add-one}
 use Rattle.std.proofs.lemmas.List.{get_or_read, drop-set-lt, drop_at, take_at, length-take-le, length-append, take_more, same_from_push, set_split}
@@ -12,7 +12,7 @@ use Rattle.spans.proofs.Grows.{left_after-append, grown_over-append, AreApart-gr
 use Rattle.spans.proofs.Joined.{joined-place, from_there-split, joined-set, AreFilled-set}
 use Rattle.spans.proofs.Split.{from_there-read}
 
--- ---- the chunk of the place, and those behind it
+-- ---- the chunk of the place, and those after it
 
 pub from_there-at : (chunks : List (List Run)) (c i : ℕ) (k : List Run) → c < length chunks → k ≡ get_or chunks c k → from_there chunks c i ≡ drop i k ++ joined (drop (c + 1) chunks)
 from_there-at chunks c i k below read =
@@ -20,8 +20,8 @@ from_there-at chunks c i k below read =
     ∙ (ap (λ xs. drop i xs ++ joined (drop (suc c) chunks)) (sym (get_or_read chunks c k below read []))
     ∙ ap (λ n. drop i k ++ joined (drop n chunks)) (sym (add-one c)))
 
-pub drop-behind : (chunks : List (List Run)) (c : ℕ) (k : List Run) → drop (c + 1) (set chunks c k) ≡ drop (c + 1) chunks
-drop-behind chunks c k = drop-set-lt (c + 1) chunks c k (omega arith)
+pub drop-past : (chunks : List (List Run)) (c : ℕ) (k : List Run) → drop (c + 1) (set chunks c k) ≡ drop (c + 1) chunks
+drop-past chunks c k = drop-set-lt (c + 1) chunks c k (omega arith)
 
 pub before-like : (now chunks : List (List Run)) (c i : ℕ) (k : List Run) → c < length chunks
     → take (suc c) now ≡ take (suc c) (set chunks c k) → take i k ≡ take i (get_or chunks c []) → before now c i ≡ before chunks c i
@@ -69,7 +69,7 @@ Absorbed-made to first mid last old now c i k made below read within apart made-
     let len = length-take-le i k within in
     let front : take i made ≡ take i k = ap (take i) made-is ∙ take_at (take i k) (left_after to (drop i k)) i len in
     let back : drop i made ≡ left_after to (drop i k) = ap (drop i) made-is ∙ drop_at (take i k) (left_after to (drop i k)) i len in
-    let behind : joined (drop (c + 1) (set old c made)) ≡ rest = ap joined (drop-behind old c made) in
+    let after : joined (drop (c + 1) (set old c made)) ≡ rest = ap joined (drop-past old c made) in
     record {
       within = like.0;
       at = omega (arith, ap (λ (xs : List Run). length xs) like.1, ap (λ (xs : List Run). length xs) made-is, length-append (take i k) (left_after to (drop i k)), len);
@@ -78,10 +78,10 @@ Absorbed-made to first mid last old now c i k made below read within apart made-
           ∙ (ap (λ xs. drop i xs ++ joined (drop (suc c) now)) like.1
           ∙ (ap (λ n. drop i made ++ joined (drop n now)) (sym (add-one c))
           ∙ (ap (λ xs. xs ++ joined (drop (c + 1) now)) back
-          ∙ (ap (λ xs. left_after to (drop i k) ++ xs) (left-is ∙ ap (left_after to) behind)
+          ∙ (ap (λ xs. left_after to (drop i k) ++ xs) (left-is ∙ ap (left_after to) after)
           ∙ (sym (left_after-append to (first.end + 1) (drop i k) rest ahead) ∙ ap (left_after to) (sym e))))));
       grown = last-is
-          ∙ (ap (grown_over to mid) behind
+          ∙ (ap (grown_over to mid) after
           ∙ (ap (λ g. grown_over to g rest) mid-is
           ∙ (sym (grown_over-append to (first.end + 1) first (drop i k) rest ahead) ∙ ap (grown_over to first) (sym e))));
     }
@@ -92,13 +92,13 @@ pub apart-here : (e c i : ℕ) (chunks : List (List Run)) (k : List Run) → c <
 apart-here e c i chunks k below read apart =
     AreApart-left e (drop i k) (joined (drop (c + 1) chunks)) (subst (λ (xs : List Run). AreApart e xs) (from_there-at chunks c i k below read) apart)
 
-pub apart-behind : (to c i : ℕ) (g mid : Growth) (chunks : List (List Run)) (k made : List Run) → c < length chunks → k ≡ get_or chunks c k
+pub apart-past : (to c i : ℕ) (g mid : Growth) (chunks : List (List Run)) (k made : List Run) → c < length chunks → k ≡ get_or chunks c k
     → AreApart (g.end + 1) (from_there chunks c i) → mid ≡ grown_over to g (drop i k) → AreApart (mid.end + 1) (joined (drop (c + 1) (set chunks c made)))
-apart-behind to c i g mid chunks k made below read apart is =
+apart-past to c i g mid chunks k made below read apart is =
     let ahead = subst (λ (xs : List Run). AreApart (g.end + 1) xs) (from_there-at chunks c i k below read) apart in
     let rest = AreApart-grown to g (drop i k) (joined (drop (c + 1) chunks)) ahead in
     let there = subst (λ (h : Growth). AreApart (h.end + 1) (joined (drop (c + 1) chunks))) (sym is) rest in
-    subst (λ (xs : List Run). AreApart (mid.end + 1) xs) (sym (ap joined (drop-behind chunks c made))) there
+    subst (λ (xs : List Run). AreApart (mid.end + 1) xs) (sym (ap joined (drop-past chunks c made))) there
 
 pub filled-made : (to c i : ℕ) (chunks : List (List Run)) (k made : List Run) → 0 < i → i ≤ length k → made ≡ take i k ++ left_after to (drop i k) → AreFilled chunks → AreFilled (set chunks c made)
 filled-made to c i chunks k made some within is filled =

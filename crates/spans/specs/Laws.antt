@@ -30,7 +30,7 @@ CountsTheFresh =
     → uncovered_in from to places + covered_count places
     ≡ covered_count (with_covered from to places)
 
--- all are covered exactly where each is
+-- all are covered if and only if each is
 abbrev pub AllIsEach : Type 0
 AllIsEach =
     (from to : ℕ) (places : List Bool) → to ≤ length places
@@ -52,7 +52,7 @@ RunsAreMaximal =
     × AreApart 0 (runs_of places)
     × ((k : ℕ) → has_place (runs_of places) k ≡ is_covered places k)
 
--- all places below `to` are covered exactly where the first run begins at 0 and reaches `to`
+-- all places below `to` are covered if and only if the first run begins at 0 and reaches `to`
 abbrev pub WholeIsOneRun : Type 0
 WholeIsOneRun =
     (to : ℕ) (places : List Bool) → 0 < to → to ≤ length places

@@ -2,9 +2,10 @@
 
 use Rattle.std.specs.Prelude.{◌≡◌, ℕ, ◌+◌, ◌-◌, ◌<◌, ◌≤◌, Bool, true, false, not, ◌&&◌, List, []}
 use Rattle.std.specs.Prelude.{◌∷◌, ◌++◌, take, drop, replicate, slice_index_or, slice_range}
-use Rattle.std.specs.Prelude.{if◌then◌else◌, ◌==◌, nat_lt, nat_le}
+use Rattle.std.specs.Prelude.{if◌then◌else◌, ◌==◌, nat_lt, nat_le, length, ◌⊎◌}
 use Rattle.std.specs.List.{list_all, count_by}
 use Rattle.spans.specs.declared.range.Run.{Run}
+use Rattle.spans.specs.declared.chunk.TheConstants.{MOST}
 
 -- whether place k is covered; no place at or past the limit is
 abbrev pub is_covered : List Bool → ℕ → Bool
@@ -64,3 +65,7 @@ runs_of places = runs_from 0 places
 -- how many of the maximal covered ranges begin below `to`
 unfoldable pub runs_below : ℕ → List Bool → ℕ
 runs_below to places = count_by (λ r. nat_lt r.from to) (runs_of places)
+
+-- a run more may want memory: there is none yet, or there are as many as a chunk holds, or more
+abbrev pub MayWant : List Run → Type 0
+MayWant runs = (length runs ≡ 0) ⊎ (MOST ≤ length runs)

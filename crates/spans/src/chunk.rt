@@ -1,7 +1,7 @@
 //! A chunk: a bounded number of runs, in order.
 
 ghost use Rattle.std.specs.Prelude.{◌≡◌, ℕ, ◌+◌, ◌^◌, ◌<◌, ◌≤◌, ◌++◌, ◌∷◌, [], length, take};
-ghost use Rattle.std.specs.Prelude.{drop, slice_index_or, slice_set, IfOk, OnOk, OnErr, IsTrue};
+ghost use Rattle.std.specs.Prelude.{drop, slice_index_or, slice_set, IfOk, IsTrue};
 ghost use Rattle.std.specs.Prelude.{◌↔◌, nat_lt, count_by};
 ghost use Rattle.std.specs.List.{insert};
 ghost use Rattle.spans.specs.Growing.{grown_over, left_after};
@@ -13,25 +13,28 @@ use std::alloc::{AllocError, Global};
 use std::marker::Model;
 
 /// How many runs a chunk holds at the most.
-const MOST: usize = 128;
+pub(crate) const MOST: usize = 128;
 
-/// Some runs that follow one another.
+/// Some runs that follow one another, and room for as many as a chunk may hold.
 #[derive(Debug, Drop)]
 pub(crate) struct Chunk {
     runs: Vec<Run>,
 }
 
 impl Model for Chunk {
-    ghost use Rattle.std.specs.Prelude.{List};
+    ghost use Rattle.std.specs.Prelude.{List, ◌≤◌, length, vec_capacity};
     ghost use Rattle.spans.specs.declared.range.Run.{Run};
+    ghost use Rattle.spans.specs.declared.chunk.TheConstants.{MOST};
 
     ghost Value = { List Run };
 
     ghost view = { λ c. c.runs.items };
+
+    ghost invariant = { λ c. (length c.runs.items ≤ MOST) × (MOST ≤ vec_capacity c.runs) };
 }
 
 impl Chunk {
-    /// A chunk of one run, with room for as many as it may hold.
+    /// A chunk of one run.
     pub fn of(alloc: Global, run: Run) -> Result<Chunk, AllocError>
         ensures { IfOk result (λ c. c ≡ run ∷ []) }
     {
@@ -40,7 +43,7 @@ impl Chunk {
         Ok(Chunk { runs })
     }
 
-    /// A chunk of the runs from `at` on, with room for as many as it may hold.
+    /// A chunk of the runs from `at` on.
     pub fn rest(&self, alloc: Global, at: usize) -> Result<Chunk, AllocError>
         requires { at ≤ length self.now }
         ensures { IfOk result (λ c. c ≡ drop at self.now) }
@@ -50,8 +53,10 @@ impl Chunk {
         Ok(Chunk { runs })
     }
 
+    /// How many runs it holds.
     pub fn len(&self) -> usize
-        ensures { result ≡ length self.now }
+        ensures len { result ≡ length self.now }
+        ensures most { result ≤ MOST }
     {
         self.runs.len()
     }
@@ -111,16 +116,16 @@ impl Chunk {
         self.runs.partition_point(|run| run.from < to)
     }
 
-    pub fn insert(&mut self, at: usize, run: Run) -> Result<(), AllocError>
-        requires { at ≤ length self.old }
-        ensures ok { OnOk result (self.new ≡ insert self.old at run) }
-        ensures err { OnErr result (self.new ≡ self.old) }
-        ensures len { length self.old ≤ length self.new }
+    /// Adds a run at an index. There is room for it, so no memory is wanted.
+    pub fn insert(&mut self, at: usize, run: Run)
+        requires at { at ≤ length self.old }
+        requires room { length self.old < MOST }
+        ensures { self.new ≡ insert self.old at run }
     {
-        self.runs.insert(at, run)?;
-        Ok(())
+        let _never_refused = self.runs.insert(at, run);
     }
 
+    /// Puts another run in the place of that at an index.
     pub fn set(&mut self, at: usize, run: Run)
         requires { at < length self.old }
         ensures { self.new ≡ slice_set self.old at run }

@@ -4,6 +4,7 @@ ghost use Rattle.std.specs.Prelude.{◌≡◌, ℕ, ◌+◌, ◌-◌, ◌<◌, �
 ghost use Rattle.std.specs.Prelude.{OnErr, IsTrue, slice_get};
 ghost use Rattle.spans.specs.Places.{uncovered, with_covered, uncovered_in, all_covered, AddsRun};
 ghost use Rattle.spans.specs.Places.{runs_of, runs_below};
+ghost use Rattle.spans.specs.Places.{MayWant};
 
 use crate::chunk::Chunk;
 use crate::range::Run;
@@ -49,14 +50,16 @@ impl Spans {
     /// Covers the places from `from` to before `to`, and tells how many of them were not
     /// covered before.
     ///
-    /// Only a range that has a place, and neither overlaps nor touches a covered one, needs
-    /// memory. A refusal leaves all as before.
+    /// Only a range that has a place, and neither overlaps nor touches a covered one, may want
+    /// memory: the first one, and each once there are 128. A refusal leaves all as before.
     pub fn cover(&mut self, from: u64, to: u64) -> Result<u64, AllocError>
         requires order { from ≤ to }
         requires within { to ≤ length self.old }
         ensures covered { OnOk result (self.new ≡ with_covered from to self.old) }
         ensures fresh { IfOk result (λ n. n ≡ uncovered_in from to self.old) }
         ensures refused { OnErr result (AddsRun from to self.old) }
+        // Memory may be wanted for the first run, and once there are as many as a chunk holds.
+        ensures wants { OnErr result (MayWant (runs_of self.old)) }
         ensures kept { OnErr result (self.new ≡ self.old) }
         ensures limit { length self.new ≡ length self.old }
     {

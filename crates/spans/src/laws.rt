@@ -19,7 +19,7 @@ pub fn counts_the_fresh()
     ensures { CountsTheFresh }
 {}
 
-/// All places of a range are covered exactly where each of them is.
+/// All places of a range are covered if and only if each of them is.
 pub fn all_is_each()
     ensures { AllIsEach }
 {}
@@ -29,7 +29,7 @@ pub fn runs_are_maximal()
     ensures { RunsAreMaximal }
 {}
 
-/// All places below another are covered exactly where one run has them all.
+/// All places below another are covered if and only if one run has them all.
 pub fn whole_is_one_run()
     ensures { WholeIsOneRun }
 {}

@@ -133,11 +133,11 @@ pub(crate) fn widen(chunks: &mut Vec<Chunk>, place: Place, from: u64, to: u64) -
         end: first.to,
         fresh: first.from - begin,
     };
-    let behind = Place {
+    let after = Place {
         chunk: place.chunk,
         at: place.at + 1,
     };
-    let growth = absorb_from(chunks, behind, to, growth);
+    let growth = absorb_from(chunks, after, to, growth);
     let end = to.max(growth.end);
     set(
         chunks,

@@ -1,12 +1,14 @@
 //! The chunks of a `Spans`: the search for a place, and a run that is added.
 
 ghost use Rattle.std.specs.Prelude.{◌≡◌, ◌+◌, ◌^◌, ◌<◌, ◌≤◌, ◌++◌, ◌∷◌, [], length};
-ghost use Rattle.std.specs.Prelude.{slice_index_or, IfOk, OnOk, OnErr, IsTrue, ◌↔◌};
+ghost use Rattle.std.specs.Prelude.{slice_index_or, IfOk, IfSome, IfNone, OnOk, OnErr, IsTrue, ◌↔◌};
+ghost use Rattle.spans.specs.declared.chunk.TheConstants.{MOST};
 ghost use Rattle.spans.specs.Chunks.{joined, AreFilled, before, from_there, split_at};
+ghost use Rattle.spans.specs.Places.{MayWant};
 ghost use Rattle.spans.specs.Runs.{AreApart, EndBefore, FirstReaches, BeginsBy, Covers};
 ghost use Rattle.spans.specs.Runs.{IsApartFrom};
 
-use crate::chunk::Chunk;
+use crate::chunk::{Chunk, MOST};
 use crate::merge::widen;
 use crate::range::Run;
 use std::alloc::{AllocError, Global};
@@ -77,6 +79,8 @@ fn make_room(chunks: &mut Vec<Chunk>, alloc: Global, place: Place) -> Result<Pla
         ≡ before chunks.old.items place.chunk place.at) }
     ensures rest { IfOk result (λ p. from_there chunks.new.items p.chunk p.at
         ≡ from_there chunks.old.items place.chunk place.at) }
+    ensures room { IfOk result (λ p. length (slice_index_or chunks.new.items p.chunk []) < MOST) }
+    ensures wants { OnErr result (MayWant (joined chunks.old.items)) }
     ensures err { OnErr result (joined chunks.new.items ≡ joined chunks.old.items) }
 {
     if !chunks[place.chunk].is_full() {
@@ -104,33 +108,45 @@ fn moved(place: Place, keep: usize) -> Place
     }
 }
 
-/// Adds a run at a place in a chunk.
-fn insert(chunks: &mut Vec<Chunk>, place: Place, run: Run) -> Result<(), AllocError>
+/// Adds a run at a place in a chunk with room for it.
+fn insert(chunks: &mut Vec<Chunk>, place: Place, run: Run)
     requires within { place.chunk < length chunks.old.items }
     requires at { place.at ≤ length (slice_index_or chunks.old.items place.chunk []) }
+    requires room { length (slice_index_or chunks.old.items place.chunk []) < MOST }
     requires filled { AreFilled chunks.old.items }
     ensures filled { AreFilled chunks.new.items }
-    ensures ok { OnOk result (joined chunks.new.items ≡ before chunks.old.items place.chunk place.at
-        ++ run ∷ from_there chunks.old.items place.chunk place.at) }
-    ensures err { OnErr result (chunks.new.items ≡ chunks.old.items) }
+    ensures runs { joined chunks.new.items ≡ before chunks.old.items place.chunk place.at
+        ++ run ∷ from_there chunks.old.items place.chunk place.at }
 {
-    chunks[place.chunk].insert(place.at, run)
+    chunks[place.chunk].insert(place.at, run);
 }
 
-/// Adds a run behind all others.
+/// The place after all runs, where the last chunk has room.
+fn end_with_room(chunks: &[Chunk]) -> Option<Place>
+    ensures last { IfSome result (λ p. p.chunk + 1 ≡ length chunks.now) }
+    ensures at { IfSome result (λ p. p.at ≡ length (slice_index_or chunks.now p.chunk [])) }
+    ensures room { IfSome result (λ p. p.at < MOST) }
+    ensures wants { IfNone result (MayWant (joined chunks.now)) }
+{
+    let chunk = chunks.len().checked_sub(1)?;
+    let at = chunks[chunk].len();
+    if at >= MOST {
+        return None;
+    }
+    Some(Place { chunk, at })
+}
+
+/// Adds a run after all others.
 fn append(chunks: &mut Vec<Chunk>, alloc: Global, run: Run) -> Result<(), AllocError>
     requires filled { AreFilled chunks.old.items }
     ensures filled { AreFilled chunks.new.items }
     ensures ok { OnOk result (joined chunks.new.items ≡ joined chunks.old.items ++ run ∷ []) }
+    ensures wants { OnErr result (MayWant (joined chunks.old.items)) }
     ensures err { OnErr result (joined chunks.new.items ≡ joined chunks.old.items) }
 {
-    let len = chunks.len();
-    if len > 0 && !chunks[len - 1].is_full() {
-        let last = Place {
-            chunk: len - 1,
-            at: chunks[len - 1].len(),
-        };
-        return insert(chunks, last, run);
+    if let Some(place) = end_with_room(chunks) {
+        insert(chunks, place, run);
+        return Ok(());
     }
     let chunk = Chunk::of(alloc, run)?;
     chunks.push(chunk)?;
@@ -150,13 +166,15 @@ pub(crate) fn add(
     ensures filled { AreFilled chunks.new.items }
     ensures ok { OnOk result (joined chunks.new.items ≡ before chunks.old.items place.chunk place.at
         ++ run ∷ from_there chunks.old.items place.chunk place.at) }
+    ensures wants { OnErr result (MayWant (joined chunks.old.items)) }
     ensures err { OnErr result (joined chunks.new.items ≡ joined chunks.old.items) }
 {
     if place.chunk == chunks.len() {
         return append(chunks, alloc, run);
     }
     let place = make_room(chunks, alloc, place)?;
-    insert(chunks, place, run)
+    insert(chunks, place, run);
+    Ok(())
 }
 
 /// Covers a range, and tells how many of its places are new. Where a run is added there may be
@@ -173,6 +191,7 @@ pub(crate) fn cover(
     ensures filled { AreFilled chunks.new.items }
     ensures ok { IfOk result (Covers from to (joined chunks.old.items) (joined chunks.new.items)) }
     ensures refused { OnErr result (IsApartFrom from to (joined chunks.old.items)) }
+    ensures wants { OnErr result (MayWant (joined chunks.old.items)) }
     ensures err { OnErr result (joined chunks.new.items ≡ joined chunks.old.items) }
 {
     let place = reaching(chunks, from);

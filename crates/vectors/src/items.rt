@@ -8,7 +8,7 @@ use cbor_lite::{
 use std::alloc::Global;
 use std::test::Fail;
 
-/// A number, the octets behind the first one of its shortest head, and the head.
+/// A number, the octets after the first one of its shortest head, and the head.
 const NUMBERS: &[(u64, usize, &str)] = &[
     (0, 0, "00"),
     (1, 0, "01"),
@@ -29,7 +29,7 @@ const NUMBERS: &[(u64, usize, &str)] = &[
     (18_446_744_073_709_551_615, 8, "1bffffffffffffffff"),
 ];
 
-/// Whether a number is written as this head, and read again with more behind it.
+/// Whether a number is written as this head, and read again with more after it.
 fn is_spelled(alloc: Global, value: u64, head: &[u8]) -> Result<bool, Fail> {
     let mut out = Vec::new(alloc);
     write_uint(value, &mut out)?;

@@ -1,9 +1,9 @@
-//! The project's tables of tests, over the public calls of the crates below.
+//! The formats' tables of tests, over the public calls of the crates below.
 //!
 //! Each module has the tables of one crate, a test for each subject and a row for each case. What
 //! octets mean and where they are refused comes from the formats' own documents and from outside,
 //! never from what the program printed. docs/vectors.md says for each table where its values come
-//! from.
+//! from. What a command shows as well, in bulk and at the limits, is in the folder rows/.
 //!
 //! They stand here so that the crates below are proved once, without tests of their own. Nothing
 //! is offered to other crates.
@@ -11,8 +11,6 @@
 
 #[cfg(test)]
 mod checks;
-#[cfg(test)]
-mod commands;
 #[cfg(test)]
 mod fields;
 #[cfg(test)]
@@ -26,11 +24,7 @@ mod numbers;
 #[cfg(test)]
 mod old_bundles;
 #[cfg(test)]
-mod outside;
-#[cfg(test)]
 mod ranges;
-#[cfg(test)]
-mod recorded;
 #[cfg(test)]
 mod rows;
 #[cfg(test)]

@@ -16,7 +16,7 @@ const SHORTEST: &[(u64, &str)] = &[
     (18446744073709551615, "81FFFFFFFFFFFFFFFF7F"),
 ];
 
-/// Whether a number is written so, and read again with more behind it.
+/// Whether a number is written so, and read again with more after it.
 fn is_spelled(alloc: Global, value: u64, text: &str) -> Result<bool, Fail> {
     let spelling = octets(alloc, text)?;
     let mut out = Vec::new(alloc);

@@ -166,16 +166,16 @@ fn says(alloc: Global, datagram: &[u8], wanted: &str) -> Result<bool, AllocError
     Ok(told(alloc, datagram)?.as_str() == wanted)
 }
 
-/// Whether octets, with some of one kind behind them, are refused so.
+/// Whether octets, with some of one kind after them, are refused so.
 fn is_refused(
     alloc: Global,
     front: &[u8],
-    behind: &[u8],
+    after: &[u8],
     at: usize,
     cause: SegmentCause,
 ) -> Result<bool, AllocError> {
     let mut datagram = Vec::from_slice(alloc, front)?;
-    datagram.extend_from_slice(behind)?;
+    datagram.extend_from_slice(after)?;
     Ok(decode(&datagram).err() == Some(SegmentFault { at, cause }))
 }
 
@@ -212,7 +212,7 @@ fn numbers_are_refused(
 }
 
 /// Whether a datagram says what it is to say, and its cuts and its numbers are refused, and an
-/// octet behind it.
+/// octet after it.
 fn type_holds(alloc: Global, row: (&str, &[usize], &[usize], &str)) -> Result<bool, Fail> {
     let datagram = octets(alloc, row.0)?;
     let said = says(alloc, &datagram, row.3)?;

@@ -1,5 +1,5 @@
 -- A table that keeps less of the values than another is read to the same places, and refused alike.
-use Rattle.std.proofs.Common.{◌≡◌, ℕ, zero, suc, Bool, true, false, List, Result, Ok, Err, refl, ap, ◌∙◌}
+use Rattle.std.proofs.Common.{◌≡◌, ℕ, zero, suc, Bool, true, false, List, Result, Ok, Err, refl, sym, ap, ◌∙◌}
 use Rattle.wire_fields.specs.Format.{Format, give, and_then}
 use Rattle.wire_fields.specs.Refusal.{Stop}
 use Rattle.wire_fields.specs.Reading.{go_on, read}
@@ -76,3 +76,28 @@ keeps-until h f g one (suc n) s =
     keeps-then (state_kept h) h (f (suc n) s) (g (suc n) (h s))
     (λ t. choice t.1 (give t.0) (until n f t.0)) (λ t. choice t.1 (give t.0) (until n g t.0)) (one (suc n) s)
     (λ t. keeps-choice h t.1 t.0 (until n f t.0) (until n g (h t.0)) (more t.0))
+
+-- ---- groups in groups, on either side
+
+go_on-on : {A B D E : Type 0} (r : Result A E) (f : A → Result B E) (g : B → Result D E)
+    → go_on (go_on r f) g ≡ go_on r (λ x. go_on (f x) g)
+go_on-on (Ok x) f g = refl
+go_on-on (Err e) f g = refl
+
+pub keeps-flat_left : {C A B D X : Type 0} (h : D → X) (f : Format C A) (g : A → Format C B) (k : B → Format C D) (r : Format C X)
+    → Keeps h (and_then f (λ x. and_then (g x) k)) r → Keeps h (and_then (and_then f g) k) r
+keeps-flat_left h f g k r keeps = record {
+  reads = λ text at.
+      ap (kept h) (go_on-on (read f text at) (λ x. read (g x.0) text x.1) (λ y. read (k y.0) text y.1)) ∙ keeps.reads text at;
+}
+
+pub keeps-flat_right : {C A B D X : Type 0} (h : X → D) (r : Format C X) (f : Format C A) (g : A → Format C B) (k : B → Format C D)
+    → Keeps h r (and_then f (λ x. and_then (g x) k)) → Keeps h r (and_then (and_then f g) k)
+keeps-flat_right h r f g k keeps = record {
+  reads = λ text at.
+      keeps.reads text at ∙ sym (go_on-on (read f text at) (λ x. read (g x.0) text x.1) (λ y. read (k y.0) text y.1));
+}
+
+pub keeps-given_right : {C A D X : Type 0} (h : X → D) (r : Format C X) (a : A) (k : A → Format C D)
+    → Keeps h r (k a) → Keeps h r (and_then (give a) k)
+keeps-given_right h r a k keeps = record { reads = λ text at. keeps.reads text at }

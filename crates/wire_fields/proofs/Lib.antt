@@ -8,3 +8,4 @@ pub mod FrontLemmas
 pub mod GroupLemmas
 pub mod KeepsLemmas
 pub mod JudgeLemmas
+pub mod ContinueLemmas

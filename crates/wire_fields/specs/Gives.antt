@@ -1,6 +1,8 @@
 -- What code returned beside what reading gives.
-use Rattle.std.specs.Prelude.{◌≡◌, ℕ, ◌≤◌, List, length, Option, Some, None, Result, Ok, Err, IfErr, IsOk}
+use Rattle.std.specs.Prelude.{◌≡◌, ℕ, ◌≤◌, List, ◌++◌, length, Option, Some, None, Result, Ok, Err, IfErr, IsOk}
+use Rattle.wire_fields.specs.Format.{Format}
 use Rattle.wire_fields.specs.Refusal.{Stop}
+use Rattle.wire_fields.specs.Reading.{read}
 use Rattle.wire_fields.specs.declared.miss.Miss.{Miss}
 
 -- a place in a text, no earlier than another one
@@ -46,3 +48,7 @@ Judges fault (Err e) given = given ≡ Err (fault e)
 abbrev pub WantsOnlySpelled : {C X A E : Type 0}
     → (E → Option (ℕ × Stop C)) → Result X E → Result (A × ℕ) (ℕ × Stop C) → Type 0
 WantsOnlySpelled fault result given = IfErr result (λ e. fault e ≡ None → IsOk given)
+
+-- However the octets go on after the text, what f is from one place on is what g is from another.
+abbrev pub Continues : {C A : Type 0} → Format C A → ℕ → Format C A → ℕ → List ℕ → Type 0
+Continues f at g to text = (more : List ℕ) → read f (text ++ more) at ≡ read g (text ++ more) to

@@ -5,19 +5,19 @@ use Rattle.bundle_runs.proofs.answering.answer_bundles.Goals as goal
 
 pub bundles-preserved : goal.bundles-preserved
 bundles-preserved c =
-    let says = rw (c.in-GoesOn.is, take_rest c.args.octets.now c.bundles.place.at) at c.in_ok-size.ensures.says in
-    let step = rw (c.in-GoesOn.is, take_rest c.args.octets.now c.bundles.place.at) at c.in_ok-size.ensures.within in
+    let says = rw (c.in-After.is, take_rest c.args.octets.now c.bundles.place.at) at c.in_ok-size.ensures.says in
+    let step = rw (c.in-After.is, take_rest c.args.octets.now c.bundles.place.at) at c.in_ok-size.ensures.within in
     record {
-      so_far = loop-more c.args.command c.args.longer c.bundles.place.number c.bundles.place.at c.in-GoesOn.size _ _ c.args.octets.now _
+      so_far = loop-more c.args.command c.args.longer c.bundles.place.number c.bundles.place.at c.in-After.size _ _ c.args.octets.now _
           c.bundles-test.true step.0 c.bundles.invariant.so_far says;
       within = omega (arith, step.1, c.bundles.invariant.within, length-drop c.bundles.place.at c.args.octets.now);
       counted = omega (arith, step.0, c.bundles.invariant.counted);
     }
 
-pub returns-in-Stops-clause-answer : goal.returns-in-Stops-clause-answer
-returns-in-Stops-clause-answer c =
-    let says = rw (c.in-Stops.is, take_rest c.args.octets.now c.bundles.place.at) at c.in_ok-size.ensures.says in
-    loop-stop c.args.command c.args.longer c.bundles.place.number c.bundles.place.at c.in-Stops.status _ _ c.args.octets.now _
+pub returns-in-End-clause-answer : goal.returns-in-End-clause-answer
+returns-in-End-clause-answer c =
+    let says = rw (c.in-End.is, take_rest c.args.octets.now c.bundles.place.at) at c.in_ok-size.ensures.says in
+    loop-stop c.args.command c.args.longer c.bundles.place.number c.bundles.place.at c.in-End.status _ _ c.args.octets.now _
     c.bundles-test.true c.bundles.invariant.so_far says
 
 pub returns-clause-answer : goal.returns-clause-answer

@@ -8,7 +8,8 @@ use Rattle.bundle_runs.proofs.front.seven.Goals as goal
 
 pub returns-in-Ok-clause-within : goal.returns-in-Ok-clause-within
 returns-in-Ok-clause-within c =
-    seven-within c.args.octets.now c.in-Ok.bundle c.in-Ok.size c.in-Ok.ensures.found
+    seven-within c.args.octets.now c.in-Ok.bundle c.in-Ok.size
+    (record { within = c.in-Ok.ensures.found.0; spells = c.in-Ok.ensures.found.1 })
 
 pub returns-in-Err-Refused-clause-within : goal.returns-in-Err-Refused-clause-within
 returns-in-Err-Refused-clause-within c =
@@ -18,7 +19,9 @@ returns-in-Err-Refused-clause-within c =
     (rw c.in-Err-Refused.field-0-is at c.in-Err-Refused.ensures.refused)))
 
 pub returns-in-Ok-clause-legal : goal.returns-in-Ok-clause-legal
-returns-in-Ok-clause-legal c = seven-legal c.args.octets.now c.in-Ok.bundle c.in-Ok.size c.in-Ok.ensures.found
+returns-in-Ok-clause-legal c =
+    seven-legal c.args.octets.now c.in-Ok.bundle c.in-Ok.size
+    (record { within = c.in-Ok.ensures.found.0; spells = c.in-Ok.ensures.found.1 })
 
 pub returns-in-Err-Refused-clause-legal : goal.returns-in-Err-Refused-clause-legal
 returns-in-Err-Refused-clause-legal c =

@@ -16,6 +16,6 @@ unfolding laid
 returns c = record {
   came = rw c.new.ensures.items refl;
   reach = refl;
-  known_is = refl;
+  length_is = refl;
   covered = λ k. rw c.new-2.ensures.uncovered (is_covered-uncovered BLOCK_MAX k);
 }

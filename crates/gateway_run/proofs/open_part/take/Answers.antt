@@ -1,8 +1,7 @@
 use Rattle.std.proofs.Common.{◌≤◌, ◌<◌, ◌+◌, ◌∙◌, get_or, ℕ, refl, length, arith, ap}
 use Rattle.ltp_segment.specs.declared.session.TheConstants.{BLOCK_MAX}
 use Rattle.gateway_run.specs.declared.part.Held.{Held}
-use Rattle.gateway_run.specs.Views.{red_piece}
-use Rattle.gateway_run.proofs.OpenPartLemmas.{laid-push, covered-more, reach-more, known-more, within-more, within-push}
+use Rattle.gateway_run.proofs.OpenPartLemmas.{laid-push, covered-more, reach-more, within-more, within-push}
 use Rattle.gateway_run.proofs.open_part.take.Goals as goal
 
 pub invariant_of-part-in-Break-branch-3 : goal.invariant_of-part-in-Break-branch-3
@@ -38,7 +37,7 @@ pub returns : goal.returns
 returns c = λ cells known stands. record {
   came = rw (c.in_ok-push.ensures.items, laid-push, stands.came, c.in_ok-body.ensures.items) refl;
   reach = c.max-part.ensures ∙ reach-more cells c.args.piece.now.offset c.args.piece.now.body.now _ stands.reach;
-  known_is = c.length_after-part.ensures ∙ rw stands.known_is (known-more known (red_piece c.args.piece.now));
+  length_is = c.length_after-part.ensures ∙ rw stands.length_is refl;
   covered = rw c.in_ok-cover.ensures.covered
       (covered-more c.args.part.now.covered cells c.args.piece.now.offset c.args.piece.now.body.now
       (omega (arith, c.requires, c.args.part.now.limit)) stands.covered);

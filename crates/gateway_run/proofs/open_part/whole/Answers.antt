@@ -1,5 +1,5 @@
 use Rattle.std.proofs.Common.{◌∙◌, sym}
-use Rattle.gateway_run.specs.Session.{whole_part}
+use Rattle.ltp_session.specs.Cells.{whole_part}
 use Rattle.gateway_run.proofs.OpenPartLemmas.{whole-body, none_of}
 use Rattle.gateway_run.proofs.open_part.whole.Goals as goal
 

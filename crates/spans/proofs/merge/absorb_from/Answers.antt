@@ -1,7 +1,7 @@
 use Rattle.std.proofs.Common.{◌+◌, ◌≤◌, List, [], length, subst, sym}
 use Rattle.std.proofs.lemmas.List.{get_or_read}
 use Rattle.spans.specs.declared.range.Run.{Run}
-use Rattle.spans.proofs.Widening.{Absorbed, Absorbed-made, apart-here, apart-behind, filled-made}
+use Rattle.spans.proofs.Widening.{Absorbed, Absorbed-made, apart-here, apart-past, filled-made}
 use Rattle.spans.proofs.merge.absorb_from.Goals as goal
 
 pub absorb-growth-requires-clause-apart : goal.absorb-growth-requires-clause-apart
@@ -15,7 +15,7 @@ within c =
 
 pub absorb-requires-clause-apart : goal.absorb-requires-clause-apart
 absorb-requires-clause-apart c =
-    apart-behind c.args.to c.args.place.chunk c.args.place.at c.args.growth c.absorb-growth.result c.args.chunks.now.items c.index_mut.result.now c.absorb-growth.new.self
+    apart-past c.args.to c.args.place.chunk c.args.place.at c.args.growth c.absorb-growth.result c.args.chunks.now.items c.index_mut.result.now c.absorb-growth.new.self
     c.requires.within c.index_mut.ensures.value c.requires.apart c.absorb-growth.ensures.grown
 
 pub absorb-requires-clause-filled : goal.absorb-requires-clause-filled

@@ -1,7 +1,7 @@
 use Rattle.std.proofs.Common.{◌≤◌, [], ◌∷◌, ◌++◌, length, arith, ap, sym, ◌∙◌}
-use Rattle.std.proofs.lemmas.Result.{on_ok_weaker, on_err_weaker}
-use Rattle.spans.specs.Chunks.{joined, before, from_there}
-use Rattle.spans.proofs.Joined.{joined-place, before-past, from_there-past}
+use Rattle.std.proofs.lemmas.Result.{on_ok_weaker}
+use Rattle.spans.specs.Chunks.{before, from_there}
+use Rattle.spans.proofs.Joined.{before-past, from_there-past}
 use Rattle.spans.proofs.pieces.add.Goals as goal
 
 pub returns-then-place-len-clause-ok : goal.returns-then-place-len-clause-ok
@@ -15,19 +15,6 @@ returns-then-place-len-clause-ok c =
 
 pub returns-clause-ok : goal.returns-clause-ok
 returns-clause-ok c =
-    on_ok_weaker c.insert.result
-    (λ h. h ∙ (ap (λ xs. xs ++ c.args.run ∷ from_there c.make_room.new.chunks.items c.in_ok-place.place.chunk c.in_ok-place.place.at) c.in_ok-place.ensures.before
-    ∙ ap (λ xs. before c.args.chunks.now.items c.args.place.chunk c.args.place.at ++ c.args.run ∷ xs) c.in_ok-place.ensures.rest))
-    c.insert.ensures.ok
-
-pub returns-clause-err : goal.returns-clause-err
-returns-clause-err c =
-    let now = c.make_room.new.chunks.items in
-    let old = c.args.chunks.now.items in
-    let p = c.in_ok-place.place in
-    on_err_weaker c.insert.result
-    (λ h. ap joined h ∙ (joined-place now p.chunk p.at
-    ∙ (ap (λ xs. xs ++ from_there now p.chunk p.at) c.in_ok-place.ensures.before
-    ∙ (ap (λ xs. before old c.args.place.chunk c.args.place.at ++ xs) c.in_ok-place.ensures.rest
-    ∙ sym (joined-place old c.args.place.chunk c.args.place.at)))))
-    c.insert.ensures.err
+    c.insert.ensures.runs
+    ∙ (ap (λ xs. xs ++ c.args.run ∷ from_there c.make_room.new.chunks.items c.in_ok-place.place.chunk c.in_ok-place.place.at) c.in_ok-place.ensures.before
+    ∙ ap (λ xs. before c.args.chunks.now.items c.args.place.chunk c.args.place.at ++ c.args.run ∷ xs) c.in_ok-place.ensures.rest)

@@ -1,6 +1,8 @@
-use Rattle.std.proofs.Common.{sym}
+use Rattle.std.proofs.Common.{List, OnErr, subst, sym}
+use Rattle.spans.specs.declared.range.Run.{Run}
+use Rattle.spans.specs.Places.{MayWant}
 use Rattle.spans.proofs.Places.{with_covered-empty, uncovered_in-empty}
-use Rattle.spans.proofs.Kept.{StandFor, IsKept-covered, view-covered, fresh-covered, refused-covered, length-covered}
+use Rattle.spans.proofs.Kept.{StandFor, IsKept-covered, view-covered, fresh-covered, refused-covered, length-covered, runs_of-kept}
 use Rattle.spans.proofs.covered.Spans.cover.Goals as goal
 
 pub returns-then-from-to-clause-covered : goal.returns-then-from-to-clause-covered
@@ -38,3 +40,9 @@ returns-clause-limit c =
     let kept = IsKept-covered c.self.inside.limit c.args.from c.args.to c.self.inside.chunks.items c.cover.new.chunks.items c.args.self.now c.cover.result
     old c.requires.within c.cover.ensures.filled c.cover.ensures.ok c.cover.ensures.err in
     length-covered c.self.inside.limit c.self.inside.chunks.items c.cover.new.chunks.items c.args.self.now old kept
+
+pub returns-clause-wants : goal.returns-clause-wants
+returns-clause-wants c =
+    let old : StandFor c.self.inside.limit c.self.inside.chunks.items c.args.self.now = record { kept = c.self.invariant; view = c.self.view_is } in
+    subst (λ (xs : List Run). OnErr c.cover.result (MayWant xs))
+    (runs_of-kept c.self.inside.limit c.self.inside.chunks.items c.args.self.now old) c.cover.ensures.wants

@@ -1,0 +1,51 @@
+//! Why a run ended, in a line for standard error.
+ghost use Rattle.std.specs.Prelude.{◌≡◌, is_some};
+ghost use Rattle.bundle_cli.specs.Why.{wants_line};
+
+use edge_traits::Status;
+use gateway_run::Word;
+
+/// How a run ended, and whether that was since the reader of standard output has gone away.
+#[derive(Clone, Copy, Debug, Drop)]
+pub struct Ended {
+    /// How it ended.
+    pub status: Status,
+    /// A write failed since nobody reads any more.
+    pub reader_gone: bool,
+}
+
+/// The line for words that name no command.
+const USAGE: &str = "fimdahol: these words are no command; 'fimdahol --help' lists them\n";
+
+/// The line for standard error, where the run of these words ended otherwise than its output shows.
+pub fn reason(words: &[Word], ended: Ended) -> Option<&'static str>
+    ensures { is_some result ≡ wants_line ended.status ended.reader_gone }
+{
+    match ended.status {
+        Status::Done => None,
+        Status::Refused => None,
+        Status::Usage => Some(usage(words)),
+        Status::ReadFault => Some("fimdahol: a read of standard input failed\n"),
+        Status::WriteFault if ended.reader_gone => None,
+        Status::WriteFault => Some("fimdahol: a write to standard output failed\n"),
+        Status::Limit => Some("fimdahol: the input passes a limit; 'fimdahol --help' lists them\n"),
+        Status::Memory => Some("fimdahol: memory ran out\n"),
+    }
+}
+
+/// What to do about words that name no command. A command and a file is a slip of its own.
+fn usage(words: &[Word]) -> &'static str {
+    match words {
+        [_, option] if option.octets().starts_with(b"-") => USAGE,
+        [word, _file] if word.octets() == b"receive".as_slice() => {
+            "fimdahol: receive reads standard input: fimdahol receive < FILE\n"
+        }
+        [word, _file] if word.octets() == b"check".as_slice() => {
+            "fimdahol: check reads standard input: fimdahol check < FILE\n"
+        }
+        [word, _file] if word.octets() == b"show".as_slice() => {
+            "fimdahol: show reads standard input: fimdahol show < FILE\n"
+        }
+        _ => USAGE,
+    }
+}

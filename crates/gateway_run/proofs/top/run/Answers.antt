@@ -1,7 +1,0 @@
-use Rattle.std.proofs.Common.{sym}
-use Rattle.gateway_run.proofs.CommandLemmas.{keeps_law}
-use Rattle.gateway_run.proofs.top.run.Goals as goal
-
-pub returns-in-Some-clause-red_parts : goal.returns-in-Some-clause-red_parts
-returns-in-Some-clause-red_parts g c =
-    keeps_law _ _ c.in-Some.command _ _ _ (sym c.in-Some.ensures) c.run_command.ensures.answers

@@ -1,0 +1,95 @@
+//! The program's one call.
+ghost use Rattle.std.specs.Prelude.{◌≡◌, ◌↔◌, ◌-◌, ◌<◌, ◌^◌, None, IfSome};
+ghost use Rattle.edge_traits.specs.Outcome.{Ran, source_tells, sink_tells};
+ghost use Rattle.gateway_run.specs.Words.{command_of, settles, CompletesCommand, KeepsLaw};
+
+use crate::commands::command::{Command, command_named};
+use crate::commands::receive::receive;
+use crate::commands::word::Word;
+use bundle_runs::bundles;
+use edge_traits::{
+    Clock, Link, MOST_INPUT, ReadRefused, Sink, Source, Status, read_all, write_answer,
+};
+use std::alloc::{AllocError, Global};
+
+/// Answers the command that the words name: reads the source to its end, and writes the answer
+/// to the sink. The links and the clock are for commands to come.
+pub fn run<S: Source, K: Sink, L: Link, C: Clock>(
+    alloc: Global,
+    words: &[Word],
+    source: &mut S,
+    sink: &mut K,
+    old_link: &mut L,
+    new_link: &mut L,
+    clock: &mut C,
+) -> Status
+    requires source { S.faults source.old < 2 ^ 64 - 1 }
+    requires sink { K.faults sink.old < 2 ^ 64 - 1 }
+
+    // Words that name no command are answered as such, and nothing is read or written.
+    ensures usage { (result ≡ Status.Usage) ↔ (command_of words.now ≡ None) }
+    ensures untouched { result ≡ Status.Usage → (source.new ≡ source.old) × (sink.new ≡ sink.old) }
+
+    // What is written, how the run ends, and how its reads and writes went, by what the octets of
+    // the input settle of the command's answer.
+    ensures ran { IfSome (command_of words.now) (λ command. Ran (settles command) result
+        (source_tells S.left S.faults S.failing source.old) (source_tells S.left S.faults S.failing source.new)
+        (sink_tells K.held K.faults K.failing sink.old) (sink_tells K.held K.faults K.failing sink.new)) }
+
+    // No write follows a failed read.
+    ensures read_fault { result ≡ Status.ReadFault → sink.new ≡ sink.old }
+
+    // Where no count rose, the run ends as the input has it, or for want of memory.
+    ensures complete { S.faults source.new ≡ S.faults source.old → K.faults sink.new ≡ K.faults sink.old
+        → IfSome (S.left source.old) (λ input. CompletesCommand (command_of words.now) input result) }
+
+    // `receive` hands up exactly the red parts that become whole, and ends where a line is refused
+    // or a limit is passed.
+    ensures red_parts { IfSome (S.left source.old) (λ input.
+        KeepsLaw (command_of words.now) input result (K.held sink.old) (K.held sink.new)) }
+
+    ensures old_link { old_link.new ≡ old_link.old }
+    ensures new_link { new_link.new ≡ new_link.old }
+    ensures clock { clock.new ≡ clock.old }
+{
+    match command_named(words) {
+        None => Status::Usage,
+        Some(command) => run_command(alloc, command, source, sink),
+    }
+}
+
+/// Runs a command.
+fn run_command<S: Source, K: Sink>(
+    alloc: Global,
+    command: Command,
+    source: &mut S,
+    sink: &mut K,
+) -> Status
+    ensures ran { Ran (settles command) result
+        (source_tells S.left S.faults S.failing source.old) (source_tells S.left S.faults S.failing source.new)
+        (sink_tells K.held K.faults K.failing sink.old) (sink_tells K.held K.faults K.failing sink.new) }
+    ensures read_fault { result ≡ Status.ReadFault → sink.new ≡ sink.old }
+{
+    match command {
+        Command::Receive => run_receive(alloc, source, sink),
+        Command::Bundles(command) => bundles(alloc, command, source, sink),
+    }
+}
+
+/// Runs `receive`.
+fn run_receive<S: Source, K: Sink>(alloc: Global, source: &mut S, sink: &mut K) -> Status
+    ensures ran { Ran (settles Command.Receive) result
+        (source_tells S.left S.faults S.failing source.old) (source_tells S.left S.faults S.failing source.new)
+        (sink_tells K.held K.faults K.failing sink.old) (sink_tells K.held K.faults K.failing sink.new) }
+    ensures read_fault { result ≡ Status.ReadFault → sink.new ≡ sink.old }
+{
+    let input = match read_all(alloc, source, MOST_INPUT) {
+        Ok(input) => input,
+        Err(ReadRefused::Fault) => return Status::ReadFault,
+        Err(ReadRefused::NoMemory) => return Status::Memory,
+    };
+    match receive(alloc, &input, MOST_INPUT) {
+        Ok(answer) => write_answer(sink, &answer),
+        Err(AllocError) => Status::Memory,
+    }
+}

@@ -1,0 +1,91 @@
+//! What a line says.
+ghost use Rattle.std.specs.Prelude.{◌≡◌, true, is_ok, Ok, IfOk};
+ghost use Rattle.hex.specs.Hex.{decode_of, is_hex_digit};
+ghost use Rattle.ltp_segment.specs.Reading.{segment_of};
+ghost use Rattle.ltp_segment.specs.Views.{segment_value};
+ghost use Rattle.gateway_run.specs.LineContent.{segment_content};
+ghost use Rattle.gateway_run.specs.Views.{content};
+
+use crate::piece::Piece;
+use ltp_segment::{Content, Segment, SegmentFault, decode};
+use ltp_session::SessionName;
+use std::alloc::{AllocError, Global};
+
+/// The content of a line whose datagram was decoded from hex.
+#[derive(Clone, Copy, Debug)]
+pub enum LineContent<'a> {
+    /// The datagram is no segment.
+    NoSegment(SegmentFault),
+    /// A segment that is no red piece of service 1.
+    Other,
+    /// A red piece of service 1.
+    Red(Piece<'a>),
+}
+
+/// The content of a datagram. No memory is taken.
+pub fn content_of(datagram: &[u8]) -> LineContent<'_>
+    ensures { content result ≡ segment_content (segment_of datagram.now) }
+{
+    match decode(datagram) {
+        Ok(segment) => piece_in(segment),
+        Err(fault) => LineContent::NoSegment(fault),
+    }
+}
+
+/// The red piece of service 1 that the segment is, if it is one.
+fn piece_in(segment: Segment<'_>) -> LineContent<'_>
+    ensures { content result ≡ segment_content (Ok (segment_value segment.entry)) }
+{
+    match segment.content {
+        Content::Piece {
+            kind,
+            service,
+            offset,
+            checkpoint: _,
+            report: _,
+            body,
+        } if service == 1 && kind.is_red() => LineContent::Red(Piece {
+            name: SessionName {
+                originator: segment.originator,
+                number: segment.session,
+            },
+            offset,
+            ends: kind.ends_red_part(),
+            body,
+        }),
+        _ => LineContent::Other,
+    }
+}
+
+/// Whether the line is hex: an even number of digits. No memory is taken.
+pub fn is_hex(line: &[u8]) -> bool
+    ensures { result ≡ is_ok (decode_of line.now) }
+{
+    if line.len() % 2 != 0 {
+        return false;
+    }
+    'digits: for octet in line {
+        if !is_digit(*octet) {
+            return false;
+        }
+    }
+    true
+}
+
+/// Whether the octet is a hex digit, of either case.
+fn is_digit(octet: u8) -> bool
+    ensures { result ≡ is_hex_digit octet }
+{
+    matches!(octet, b'0'..=b'9' | b'a'..=b'f' | b'A'..=b'F')
+}
+
+/// The datagram that a line of hex has. It fails only for want of memory.
+pub fn datagram_of(alloc: Global, line: &[u8]) -> Result<Vec<u8>, AllocError>
+    requires { is_ok (decode_of line.now) ≡ true }
+    ensures { IfOk result (λ datagram. decode_of line.now ≡ Ok datagram.items) }
+{
+    match hex::decode(alloc, line) {
+        Ok(datagram) => Ok(datagram),
+        Err(_) => Err(AllocError),
+    }
+}

@@ -1,6 +1,6 @@
--- The receiver's law, place by place (RFC 5326, section 6.9): which pieces count, when the red part
--- is whole, and which octets it has. No cells stand here; that the steps of a session agree with it
--- is proved.
+-- The receiver's law, place by place (RFC 5326, section 6.9): which octets the red part has, when it
+-- is whole, and with which event it is handed up. Its octets and its length are said by the pieces
+-- alone, without cells. Which pieces count is said by the steps of a session.
 
 use Rattle.std.specs.Prelude.{◌≡◌, ℕ, zero, suc, ◌+◌, ◌<◌, ◌↔◌, All, Bool, true, false, not, ◌&&◌}
 use Rattle.std.specs.Prelude.{List, [], ◌∷◌, length, take, slice_index, Option, None, Some}

@@ -401,7 +401,7 @@ def vectors(path):
     passed = failed = 0
     for number, line in enumerate(open(path), 1):
         row = json.loads(line)
-        if row["since"] != "R4":
+        if not row["since"].endswith("4"):     # those that came later have reports
             continue
         lines, status = answer(bytes.fromhex(row["input_hex"]), translated)
         if ("".join(text + "\n" for text in lines), status) == (row["output"], row["status"]):

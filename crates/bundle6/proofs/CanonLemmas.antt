@@ -46,7 +46,7 @@ list_all-weaker p q (x ∷ xs) weaker all =
 
 -- ---- where a text stands
 
--- behind its offset stand the text and a NUL
+-- after its offset stand the text and a NUL
 pub record Stands (texts : List (List ℕ)) (text : List ℕ) : Type 0 where
   pub rest : List ℕ
   pub there : drop (offset_of texts text) (dictionary_of texts) ≡ text ++ (0 ∷ rest)
@@ -55,15 +55,15 @@ pub record Stands (texts : List (List ℕ)) (text : List ℕ) : Type 0 where
 stands-step : (first : List ℕ) (more : List (List ℕ)) (text : List ℕ) (t : Bool) → bytes_eq text first ≡ t
     → (bytes_eq text first ≡ false → Stands more text) → Stands (first ∷ more) text
 unfolding offset_of dictionary_of
-stands-step first more text true is behind =
+stands-step first more text true is after =
     let same : text ≡ first = (bytes_eq-Decides text first).0 is in
     record {
       rest = dictionary_of more;
       there = rw (is, append_assoc first (0 ∷ []) (dictionary_of more), same) refl;
       inside = rw is (omega (arith, length-append (first ++ 0 ∷ []) (dictionary_of more), length-append first (0 ∷ [])));
     }
-stands-step first more text false is behind =
-    let rest = behind is in
+stands-step first more text false is after =
+    let rest = after is in
     let long : length (first ++ 0 ∷ []) ≡ length first + 1 = length-append first (0 ∷ []) in
     record {
       rest = rest.rest;

@@ -29,7 +29,7 @@ has-new texts text =
 pub has-kept : (texts more : List (List ℕ)) (text : List ℕ) → has_text texts text ≡ true → has_text (texts ++ more) text ≡ true
 has-kept texts more text has = list_any-append (bytes_eq text) texts more ∙ rw has refl
 
--- it keeps its place whatever is put behind it
+-- it keeps its place whatever is put after it
 pub offset-kept : (texts more : List (List ℕ)) (text : List ℕ) → has_text texts text ≡ true
     → offset_of (texts ++ more) text ≡ offset_of texts text
 unfolding offset_of

@@ -213,7 +213,7 @@ without-bits n low =
         by true is = rw is (omega arith, omega (arith, eqb-true _ _ is), omega (arith, eqb-true _ _ is))
         by false is = rw is (low, omega (arith, eqb-false _ _ is), refl)
 
--- what is known of a block that was read behind others
+-- what is known of a block that was read after others
 record IsBlock (most : ℕ) (part : Option Fragment) (paid : Bool) (other : ℕ) (x : Block6 × Bool) : Type 0 where
   legal : IsLegalBlock x.0
   within : IsWithin part x.0

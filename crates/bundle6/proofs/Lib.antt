@@ -9,3 +9,5 @@ pub mod NumberingLemmas
 pub mod WritingLemmas
 pub mod JudgeLemmas
 pub mod PassLemmas
+pub mod ReaderLemmas
+pub mod AnswerLemmas

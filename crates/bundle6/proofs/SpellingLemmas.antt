@@ -368,7 +368,7 @@ references-spell front texts (first ∷ more) named low =
       names-spell (front ++ spelling count) texts [] (first ∷ more) named,
     )
 
--- what must hold of the next block behind others
+-- what must hold of the next block after others
 record MayFollow (most : ℕ) (part : Option Fragment) (paid : Bool) (other : ℕ) (last : Bool) (b : Block6) : Type 0 where
   legal : IsLegalBlock b
   within : IsWithin part b

@@ -117,7 +117,7 @@ rest-names : (texts : List (List ℕ)) (p : Primary6)
 unfolding rest_octets
 rest-names texts p = rw (append-nil (name_octets texts p.custodian)) refl
 
--- the numbers of a bundle's endpoints, cut behind the four names
+-- the numbers of a bundle's endpoints, cut after the four names
 pub canon-written : (b : Bundle6) (pairs names refs : List Offsets) (words rest out : List ℕ)
     → pairs ≡ map (offsets_of (texts_of b)) (endpoints_of b) → words ≡ dictionary_of (texts_of b)
     → names ≡ take 4 pairs → refs ≡ drop 4 pairs → rest ≡ rest_written b.primary names words

@@ -66,7 +66,12 @@ judged_head most seen = do
   kind ← kind_field most seen.paid seen.others
   flags ← flags_field (kind == 1 || seen.paid)
   count ← count_field (has_bit 6 flags)
-  give (record { seen = seen_with seen kind; payload = kind == 1; last = has_bit 3 flags; count = count })
+  give (record {
+    seen = seen_with seen kind;
+    payload = kind == 1;
+    last = has_bit 3 flags;
+    count = count;
+  })
 
 -- the octets of a block, and how many there are
 unfoldable pub judged_body : Option Fragment → Bool → Format Cause6 (Unit {0})
@@ -76,7 +81,8 @@ judged_body part payload = do
   give tt
 
 -- so many references more, and the octets: the blocks so far, and whether the block is the last
-abbrev pub judged_tail : ℕ → Option Fragment → List ℕ → Bool → Bool → Seen → Format Cause6 (Seen × Bool)
+abbrev pub judged_tail :
+    ℕ → Option Fragment → List ℕ → Bool → Bool → Seen → Format Cause6 (Seen × Bool)
 judged_tail count part dictionary payload last seen = do
   names ← judged_names count dictionary
   body ← judged_body part payload

@@ -5,10 +5,12 @@ pub mod Table
 pub mod Spelling
 pub mod Legal
 pub mod Cause
+pub mod Streaming
 -- What ties code to them.
 pub mod Seen
 pub mod Judging
 pub mod Passing
+pub mod Holding
 pub mod Gathering
 pub mod Numbering
 pub mod Writing

@@ -63,13 +63,15 @@ Steps most text pass stage (Ok next) =
     Continues (left_at most pass.part (texts_in pass.texts text) pass.seen stage) pass.at
     (left_of most text next) next.at text
 Steps most text pass stage (Err e) =
-    read (left_at most pass.part (texts_in pass.texts text) pass.seen stage) text pass.at ≡ Err (stop_of e)
+    read (left_at most pass.part (texts_in pass.texts text) pass.seen stage) text pass.at
+    ≡ Err (stop_of e)
 
 -- how many more steps there can be
 abbrev pub steps_left : ℕ → Seen → Stage → ℕ
 steps_left most seen stages.Primary = (most + 3) * 2 ^ 65
 steps_left most seen stages.Block = (most + 2 - how_many seen) * 2 ^ 65
-steps_left most seen (stages.References left payload last) = (most + 2 - how_many seen) * 2 ^ 65 + 1 + left
+steps_left most seen (stages.References left payload last) =
+    (most + 2 - how_many seen) * 2 ^ 65 + 1 + left
 steps_left most seen stages.Ended = 0
 
 -- where a pass ended or stopped, with the refusal

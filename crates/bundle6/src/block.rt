@@ -140,7 +140,8 @@ pub(crate) fn kind_at(
     requires place { at ≤ length text.now }
     requires few { seen.others ≤ most }
     ensures within { IfOk result (λ x. IsOn at text.now x.1) }
-    ensures exact { Gives (λ kind. kind) refused_at result (read (kind_field most seen.paid seen.others) text.now at) }
+    ensures exact { Gives (λ kind. kind) refused_at result
+        (read (kind_field most seen.paid seen.others) text.now at) }
 
     ensures follows { IfOk result (λ x. Follows most seen (seen_with seen x.0)) }
 {
@@ -177,7 +178,8 @@ fn reference_at(
 ) -> Result<(Endpoint, usize), Fail6>
     requires { at ≤ length text.now }
     ensures within { IfOk result (λ x. IsOn at text.now x.1) }
-    ensures exact { Gives (λ endpoint. endpoint) refusal result (read (name dictionary.now) text.now at) }
+    ensures exact { Gives (λ endpoint. endpoint) refusal result
+        (read (name dictionary.now) text.now at) }
 {
     let (scheme, at) = number(text, at)?;
     let (ssp, after) = number(text, at)?;
@@ -191,7 +193,8 @@ fn reference_at(
 pub(crate) fn count_at(text: &[u8], at: usize, present: bool) -> Result<(u64, usize), Refused6>
     requires { at ≤ length text.now }
     ensures within { IfOk result (λ x. IsOn at text.now x.1) }
-    ensures exact { Gives (λ count. count) refused_at result (read (count_field present) text.now at) }
+    ensures exact { Gives (λ count. count) refused_at result
+        (read (count_field present) text.now at) }
 {
     if present {
         number(text, at)
@@ -234,7 +237,8 @@ fn references_at(
 ) -> Result<(Refs, usize), Fail6>
     requires { at ≤ length text.now }
     ensures within { IfOk result (λ x. IsOn at text.now x.1) }
-    ensures exact { Gives (λ refs. refs) refusal result (read (references present dictionary.now) text.now at) }
+    ensures exact { Gives (λ refs. refs) refusal result
+        (read (references present dictionary.now) text.now at) }
 {
     let (count, at) = count_at(text, at, present)?;
     counted_at(alloc, text, at, count, dictionary)
@@ -262,7 +266,8 @@ pub(crate) fn size_at(
 ) -> Result<(u64, usize), Refused6>
     requires { at ≤ length text.now }
     ensures within { IfOk result (λ x. IsOn at text.now x.1) }
-    ensures exact { Gives (λ size. size) refused_at result (read (size_field part payload) text.now at) }
+    ensures exact { Gives (λ size. size) refused_at result
+        (read (size_field part payload) text.now at) }
 {
     let (size, after) = number(text, at)?;
     if !is_within(part, payload, size) {

@@ -19,7 +19,8 @@ use crate::reading::MOST_OTHERS;
 /// A refusal names the first octet of the first field that isn't there as it should be, and the cause.
 pub fn judge6(bytes: &[u8]) -> Result<usize, Refused6>
     // So many octets spell a legal bundle.
-    ensures found { IfOk result (λ k. (b : Bundle6) × (k ≤ length bytes.now) × Spells6 b (take k bytes.now)) }
+    ensures found { IfOk result (λ k. (b : Bundle6)
+        × (k ≤ length bytes.now) × Spells6 b (take k bytes.now)) }
 
     // What is spelled is found.
     ensures only { (b : Bundle6) (k : ℕ) → k ≤ length bytes.now → Spells6 b (take k bytes.now)

@@ -6,6 +6,7 @@ ghost use Rattle.wire_fields.specs.Reading.{IsOctets};
 ghost use Rattle.bundle6.specs.declared.bundle.Bundle6.{Bundle6};
 ghost use Rattle.bundle6.specs.Table.{bundle};
 ghost use Rattle.bundle6.specs.Spelling.{canon6, IsCounted};
+ghost use Rattle.bundle6.specs.Streaming.{HaveOneAnswer, CutsAlike};
 ghost use Rattle.bundle6.specs.Legal.{IsLegal, Spells6, IsReadAgain, OnlyLegal};
 
 /// Of each text of octets exactly one holds: one front of it spells a bundle, with one value, or it is
@@ -25,4 +26,14 @@ pub fn only_legal()
 pub fn canonical_spells()
     ensures spelled { (b : Bundle6) → IsLegal b → IsCounted b → Spells6 b (canon6 b) }
     ensures again { (b : Bundle6) → IsLegal b → IsCounted b → IsReadAgain b (canon6 b) }
+{}
+
+/// How a stream is cut into pieces makes no difference. What a piece gives is said by
+/// [`crate::Reader6::feed`].
+pub fn cuts_alike()
+    // A piece has one answer, or memory is wanted.
+    ensures one { HaveOneAnswer 67108864 }
+
+    // A piece that completes nothing and another after it give what both give as one piece.
+    ensures alike { CutsAlike 67108864 }
 {}

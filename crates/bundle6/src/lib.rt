@@ -1,9 +1,13 @@
 //! Bundles of version 6: their octets, read and written (RFC 5050, RFC 6260).
 //!
-//! [`decode6`] reads the bundle at the front of some octets and says how many it took. Names are
-//! spelled as offsets into a dictionary, or, where that is empty, as numbers of the scheme `ipn`.
-//! Octets that spell no bundle are refused at the first octet of the field that isn't there as it
-//! should be, with the cause. [`encode6`] writes a legal bundle in its canonical spelling.
+//! [`decode6`] reads the bundle at the front of some octets and says how many it took; [`judge6`]
+//! says only that, and takes no memory. [`Reader6`] reads a stream of bundles in whatever pieces it
+//! comes. Names are spelled as offsets into a dictionary, or, where that is empty, as numbers of the
+//! scheme `ipn`. Octets that spell no bundle are refused at the first octet of the field that isn't
+//! there as it should be, with the cause. [`encode6`] writes a legal bundle in its canonical spelling.
+//!
+//! The laws of the definitions are [`exactly_one`], [`only_legal`], [`canonical_spells`] and
+//! [`cuts_alike`].
 //!
 //! The blocks end with the first that is marked as the last. Blocks of other types than the payload
 //! are carried unread; custody, security and the age block have no meaning here.
@@ -21,6 +25,7 @@ mod names;
 mod numbering;
 mod pass;
 mod primary;
+mod reader;
 mod reading;
 mod writing;
 
@@ -28,7 +33,8 @@ pub use block::{Block6, Blocks6};
 pub use bundle::Bundle6;
 pub use fault::{Cause6, Fail6, Refused6};
 pub use judging::judge6;
-pub use laws::{canonical_spells, exactly_one, only_legal};
+pub use laws::{canonical_spells, cuts_alike, exactly_one, only_legal};
 pub use primary::Primary6;
+pub use reader::{Fed6, Reader6};
 pub use reading::decode6;
 pub use writing::encode6;

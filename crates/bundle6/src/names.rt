@@ -189,7 +189,8 @@ pub(crate) fn dictionary_at(
 ) -> Result<((Named, &[u8]), usize), Fail6>
     requires { at ≤ length text.now }
     ensures within { IfOk result (λ x. IsOn at text.now x.1) }
-    ensures exact { Gives (λ found. (found.0, found.1.now)) refusal result (read (dictionary pairs) text.now at) }
+    ensures exact { Gives (λ found. (found.0, found.1.now)) refusal result
+        (read (dictionary pairs) text.now at) }
 {
     let (size, at) = number(text, at)?;
     let (dictionary, after) = octets(text, at, size)?;

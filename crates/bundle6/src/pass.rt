@@ -263,7 +263,8 @@ fn head_judged(text: &[u8], at: usize, most: u64, seen: Seen) -> Result<(Head, u
     requires few { seen.others ≤ most }
     requires small { most < 2 ^ 64 - 1 }
     ensures within { IfOk result (λ x. IsOn at text.now x.1) }
-    ensures exact { Gives (λ head. head) refused_at result (read (judged_head most seen) text.now at) }
+    ensures exact { Gives (λ head. head) refused_at result
+        (read (judged_head most seen) text.now at) }
     ensures follows { IfOk result (λ x. Follows most seen x.0.seen) }
 {
     let (kind, at) = kind_at(text, at, most, seen)?;
@@ -289,7 +290,8 @@ fn body_judged(
 ) -> Result<((), usize), Refused6>
     requires { at ≤ length text.now }
     ensures within { IfOk result (λ x. IsOn at text.now x.1) }
-    ensures exact { Gives (λ _. tt) refused_at result (read (judged_body part payload) text.now at) }
+    ensures exact { Gives (λ _. tt) refused_at result
+        (read (judged_body part payload) text.now at) }
 {
     let (size, at) = size_at(text, at, part, payload)?;
     let (_, at) = octets(text, at, size)?;

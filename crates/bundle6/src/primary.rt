@@ -45,7 +45,8 @@ pub struct Primary6 {
 pub(crate) fn version_at(text: &[u8], at: usize) -> Result<(u8, usize), Refused6>
     requires { at ≤ length text.now }
     ensures within { IfOk result (λ x. IsOn at text.now x.1) }
-    ensures exact { Gives (λ version. version) refused_at result (read (exact_octet 6 Cause6.Version) text.now at) }
+    ensures exact { Gives (λ version. version) refused_at result
+        (read (exact_octet 6 Cause6.Version) text.now at) }
 {
     let (version, after) = octet(text, at, Cause6::Version)?;
     if version != 6 {
@@ -63,7 +64,8 @@ pub(crate) fn fragment_at(
 ) -> Result<(Option<Fragment>, usize), Refused6>
     requires { at ≤ length text.now }
     ensures within { IfOk result (λ x. IsOn at text.now x.1) }
-    ensures exact { Gives (λ part. part) refused_at result (read (optional (has_bit 0 flags) fragment) text.now at) }
+    ensures exact { Gives (λ part. part) refused_at result
+        (read (optional (has_bit 0 flags) fragment) text.now at) }
 {
     if !has_bit(flags, FRAGMENT) {
         return Ok((None, at));
@@ -95,7 +97,8 @@ pub(crate) fn primary_at(
 ) -> Result<((Primary6, &[u8]), usize), Fail6>
     requires { at ≤ length text.now }
     ensures within { IfOk result (λ x. IsOn at text.now x.1) }
-    ensures exact { Gives (λ found. (found.0, found.1.now)) refusal result (read primary text.now at) }
+    ensures exact { Gives (λ found. (found.0, found.1.now)) refusal result
+        (read primary text.now at) }
 {
     let (_, at) = version_at(text, at)?;
     let (flags, at) = number(text, at)?;

@@ -71,7 +71,12 @@ fn decoded(alloc: Global, text: &[u8], most: u64) -> Result<(Bundle6, usize), Fa
 
 /// The bundle at a place, with at most so many blocks of another type than the payload.
 #[tactic(auto, unfolding(crate::specs::Table::bundle))]
-fn bundle_at(alloc: Global, text: &[u8], at: usize, most: u64) -> Result<(Bundle6, usize), Fail6>
+pub(crate) fn bundle_at(
+    alloc: Global,
+    text: &[u8],
+    at: usize,
+    most: u64,
+) -> Result<(Bundle6, usize), Fail6>
     requires place { at ≤ length text.now }
     requires few { most < 2 ^ 64 - 1 }
     ensures within { IfOk result (λ x. IsOn at text.now x.1) }

@@ -1,10 +1,11 @@
 -- Judging: the loop over blocks, whose values code doesn't keep, and the whole bundle.
-use Rattle.std.proofs.Common.{◌≡◌, ℕ, ◌+◌, ◌-◌, ◌<◌, ◌≤◌, ◌==◌, true, false, List, [], ◌∷◌, ◌++◌, length, length-append, Option, Some, None, Result, Ok, Err, IfOk, IfErr, IsErrAnd, take, refl, sym, ap, ◌∙◌}
+use Rattle.std.proofs.Common.{◌≡◌, ℕ, ◌+◌, ◌-◌, ◌<◌, ◌≤◌, ◌==◌, true, false, List, [], ◌∷◌, ◌++◌, length, length-append, Option, Some, None, Result, Ok, Err, IfOk, IfErr, IsErrAnd, take, refl, sym, ap, ◌∙◌, IsOk}
 use Rattle.endpoint.specs.declared.extent.Fragment.{Fragment}
 use Rattle.wire_fields.specs.Format.{Spells}
 use Rattle.wire_fields.specs.Refusal.{Stop, Begins}
 use Rattle.wire_fields.specs.Reading.{read}
 use Rattle.wire_fields.specs.Gives.{Judges}
+use Rattle.wire_fields.proofs.StayLemmas.{begins-read}
 use Rattle.bundle7.specs.declared.fault.Cause7.{Cause7}
 use Rattle.bundle7.specs.declared.fault.Refused7.{Refused7}
 use Rattle.bundle7.specs.declared.block.Block7.{Block7}
@@ -84,3 +85,8 @@ pub decoded-memory : {T : Type 0} (text : List ℕ) (result : Result T Fail7)
 decoded-memory text result wants is =
     let wanted : refusal Memory ≡ None → (b : Bundle7) × (k : ℕ) × Begins (bundle 64) text k b = rw is at wants in
     let (b, k, begins) = wanted refl in (b, k, begins.within, begins.spells)
+
+pub spelled-ok : (text : List ℕ) → (b : Bundle7) × (k : ℕ) × (k ≤ length text) × Spells (bundle 64) [] (take k text) b
+    → IsOk (read (bundle 64) text 0)
+spelled-ok text (b, k, within, spells) =
+    rw (begins-read (bundle 64) text k b (record { within = within; spells = spells })) refl

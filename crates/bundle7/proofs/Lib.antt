@@ -7,3 +7,4 @@ pub mod SpellingLaws
 pub mod PrimaryLaws
 pub mod BlockLaws
 pub mod JudgingLemmas
+pub mod StreamLemmas

@@ -4,9 +4,11 @@ pub mod Eid
 pub mod Body
 pub mod Check
 pub mod Table
-pub mod Spelling
 pub mod Legal
+pub mod Spelling
 pub mod Calls
+pub mod Streaming
 -- What follows only ties code to the definitions.
 pub mod Lent
 pub mod Seen
+pub mod Told

@@ -2,11 +2,12 @@
 //!
 //! [`decode7`] reads the bundle at the front of some octets and says how many it took. Octets that
 //! spell no bundle are refused at the first octet of the field that isn't there as it should be,
-//! with the cause. [`judge7`] answers the same without the bundle, and takes no memory. [`encode7`]
-//! writes a legal bundle: each has one spelling, since heads are the shortest and only the outer
-//! array is without a length. [`read_eid`] and [`write_eid`] do the same for an endpoint alone, and
-//! [`hop_of`], [`age_of`] and [`previous_of`] read the bodies of the three extension blocks that are
-//! known here: hop count, bundle age and previous node.
+//! with the cause. [`judge7`] answers the same without the bundle, and takes no memory. [`Reader7`]
+//! reads bundles out of a stream that comes in pieces. [`encode7`] writes a legal bundle: each has
+//! one spelling, since heads are the shortest and only the outer array is without a length.
+//! [`read_eid`] and [`write_eid`] do the same for an endpoint alone, and [`hop_of`], [`age_of`] and
+//! [`previous_of`] read the bodies of the three extension blocks that are known here: hop count,
+//! bundle age and previous node.
 //!
 //! The payload is the last block, as the standard has it. A check of type 0, which is none, is
 //! accepted on every block, the primary too (own rule). Security, administrative records and other
@@ -23,8 +24,10 @@ mod fields;
 mod judging;
 mod laws;
 mod primary;
+mod reader;
 mod reading;
 mod seen;
+mod told;
 mod writing;
 
 pub use block::{Block7, Blocks7};
@@ -33,7 +36,9 @@ pub use bundle::Bundle7;
 pub use eid::{previous_of, read_eid, write_eid};
 pub use fault::{Cause7, EidFault, Fail7, Refused7};
 pub use judging::judge7;
-pub use laws::{exactly_one, one_body, one_eid, one_spelling};
+pub use laws::{cuts_alike, exactly_one, keeps_unfinished, one_body, one_eid, one_spelling};
 pub use primary::Primary7;
+pub use reader::Reader7;
 pub use reading::decode7;
+pub use told::Fed7;
 pub use writing::encode7;

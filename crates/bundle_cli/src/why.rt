@@ -14,6 +14,9 @@ pub struct Ended {
     pub reader_gone: bool,
 }
 
+/// The line for words that name no command.
+const USAGE: &str = "fimdahol: these words are no command; 'fimdahol --help' lists them\n";
+
 /// The line for standard error, where the run of these words ended otherwise than its output shows.
 pub fn reason(words: &[Word], ended: Ended) -> Option<&'static str>
     ensures { is_some result ≡ wants_line ended.status ended.reader_gone }
@@ -33,6 +36,7 @@ pub fn reason(words: &[Word], ended: Ended) -> Option<&'static str>
 /// What to do about words that name no command. A command and a file is a slip of its own.
 fn usage(words: &[Word]) -> &'static str {
     match words {
+        [_, option] if option.octets().starts_with(b"-") => USAGE,
         [word, _file] if word.octets() == b"receive".as_slice() => {
             "fimdahol: receive reads standard input: fimdahol receive < FILE\n"
         }
@@ -42,6 +46,6 @@ fn usage(words: &[Word]) -> &'static str {
         [word, _file] if word.octets() == b"show".as_slice() => {
             "fimdahol: show reads standard input: fimdahol show < FILE\n"
         }
-        _ => "fimdahol: these words are no command; 'fimdahol --help' lists them\n",
+        _ => USAGE,
     }
 }

@@ -3,3 +3,4 @@ pub mod NamesLemmas
 pub mod FieldLemmas
 pub mod SpellingLemmas
 pub mod RecordLemmas
+pub mod FactLemmas

@@ -25,7 +25,7 @@ common = 0x74027
 abbrev pub block_common : ℕ
 block_common = 0x17
 
--- flags of a version 6 bundle that its own part hasn't: the common ones, and 3, custody asked
+-- flags that never stand in a record's version 6 part: the common ones, and 3, custody asked
 abbrev pub not_own6 : ℕ
 not_own6 = 0x7402F
 
@@ -33,7 +33,7 @@ not_own6 = 0x7402F
 abbrev pub block_marks : ℕ
 block_marks = 0x48
 
--- flags of a version 6 payload block that its own part hasn't
+-- flags of a payload block that never stand in a record's version 6 part: the common ones, 3 and 6
 abbrev pub block_not_own6 : ℕ
 block_not_own6 = 0x5F
 

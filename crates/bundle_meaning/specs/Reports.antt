@@ -1,6 +1,7 @@
 -- What a report says that only one version has a place for.
 
 use Rattle.std.specs.Prelude.{◌≡◌, ℕ, ◌+◌, ◌^◌, ◌<◌, Bool, true, false, ◌&&◌, ◌||◌, ◌==◌, nat_lt, List, [], ◌∷◌, length, get_or, Option, Some, None}
+use Rattle.std.specs.List.{All}
 use Rattle.endpoint.specs.Endpoints.{IsEndpoint}
 use Rattle.bundle_meaning.specs.declared.report.Stamp.{Stamp}
 use Rattle.bundle_meaning.specs.declared.report.Stamp.TheVariants.{No, Yes, At}
@@ -71,6 +72,8 @@ pub record IsReport (report : Report) : Type 0 where
   pub counterpart : (id6_of report.millis report.sequence).sequence < 2 ^ 64
   pub four_stamps : length report.stamps ≡ 4
   pub four_rests : length report.rests ≡ 4
+  -- each time is a number of milliseconds
+  pub stamps : All IsStamp report.stamps
   pub rests : are_rests report.stamps report.rests ≡ true
   pub reason : report.reason < 256
   pub fragment : IsReportPart report.fragment

@@ -1,4 +1,5 @@
--- Residues: what the other version says alone, or can't be said in whole seconds or milliseconds (own).
+-- Residues (own): what only the other version has a field for, and the parts of a second or of a
+-- millisecond that this version's numbers drop.
 
 use Rattle.std.specs.Prelude.{ℕ, List, [], ◌∷◌, ◌++◌}
 use Rattle.sdnv.specs.Shortest.{spelling}

@@ -7,11 +7,13 @@ ghost use Rattle.bundle_meaning.specs.Bits.{is_within, is_without};
 pub(crate) const COMMON: u64 = 0x74027;
 /// The block flags that mean the same in both versions: bits 0, 1, 2 and 4.
 pub(crate) const BLOCK_COMMON: u64 = 0x17;
-/// The bundle flags that version 6's own part hasn't: the common ones, and bit 3, custody.
+/// The bundle flags that never stand in a record's version 6 part: the common ones, and bit 3,
+/// custody.
 pub(crate) const NOT_OWN6: u64 = 0x7402F;
 /// The block flags that no value of version 6 has: bit 3, last block, and bit 6, has references.
 pub(crate) const BLOCK_MARKS: u64 = 0x48;
-/// The block flags that the own part of a version 6 payload hasn't.
+/// The block flags that never stand in the version 6 part of a record's payload: the common ones, and
+/// bits 3 and 6.
 pub(crate) const BLOCK_NOT_OWN6: u64 = 0x5F;
 /// The statuses of a report, by bit: 0 received, 2 forwarded, 3 delivered, 4 deleted.
 pub(crate) const STATUSES: u64 = 0x1D;

@@ -22,7 +22,7 @@ pub struct Shared {
     /// not be fragmented, 5 acknowledgement asked, 14, 16, 17 and 18 reports on reception, forwarding,
     /// delivery and deletion.
     pub flags: u64,
-    /// Where the payload lies in the whole, exactly where flag bit 0 is set.
+    /// Where the payload lies in the whole, if and only if flag bit 0 is set.
     pub fragment: Option<Fragment>,
     /// The payload block's flags that mean the same in both versions, by bit: 0 replicate in every
     /// fragment, 1 report if unprocessable, 2 delete bundle if unprocessable, 4 discard if

@@ -1,6 +1,6 @@
 //! The wrap in a version 7 bundle: a block of version 6.
 
-ghost use Rattle.std.specs.Prelude.{◌≡◌, ◌⊎◌, ◌↔◌, ◌++◌, ◌≤◌, ◌<◌, [], length, IfOk, IfErr, OnOk};
+ghost use Rattle.std.specs.Prelude.{◌≡◌, ◌⊎◌, ◌↔◌, ◌++◌, ◌≤◌, ◌<◌, [], length, false, IfOk, IfErr, OnOk};
 ghost use Rattle.std.specs.List.{flat_map};
 ghost use Rattle.wire_fields.specs.Format.{Spells};
 ghost use Rattle.wire_fields.specs.Reading.{read};
@@ -8,7 +8,7 @@ ghost use Rattle.wire_fields.specs.Words.{listed};
 ghost use Rattle.wire_fields.specs.Whole.{read_whole};
 ghost use Rattle.wire_fields.specs.Gives.{Gives, IsOn};
 ghost use Rattle.bundle_meaning.specs.Body.{refusal, name, name_octets, GivesBody, LendsBody, SpellsNone, IsWritten};
-ghost use Rattle.bundle_meaning.specs.Blocks.{IsBlock6};
+ghost use Rattle.bundle_meaning.specs.Blocks.{IsBlock6, is_marked};
 ghost use Rattle.bundle_meaning.specs.Wrap.{kind6, references, wrap_new, wrap_new_octets};
 ghost use Rattle.bundle_meaning.specs.Views.{names_lent, block6_lent};
 
@@ -78,6 +78,8 @@ pub fn read_wrap_new(alloc: Global, body: &[u8]) -> Result<Block6Like, BlockFaul
         → (result ≡ Ok block) ⊎ (result ≡ Err BlockFault.Memory) }
     // All else is refused, for one reason.
     ensures bad { (result ≡ Err BlockFault.Bad) ↔ SpellsNone (wrap_new (length body.now)) body.now }
+    // What is held is an extension block, where it isn't marked itself.
+    ensures block { IfOk result (λ block. is_marked block.kind block.body ≡ false → IsBlock6 block) }
     ensures exact { GivesBody result (read_whole (wrap_new (length body.now)) BlockFault.Bad body.now) }
 {
     whole_wrap(alloc, body)

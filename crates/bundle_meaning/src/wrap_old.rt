@@ -1,12 +1,12 @@
 //! The wrap in a version 6 bundle: a block of version 7.
 
-ghost use Rattle.std.specs.Prelude.{◌≡◌, ◌⊎◌, ◌↔◌, ◌≤◌, ◌<◌, [], length, IfOk};
+ghost use Rattle.std.specs.Prelude.{◌≡◌, ◌⊎◌, ◌↔◌, ◌≤◌, ◌<◌, [], length, false, IfOk};
 ghost use Rattle.wire_fields.specs.Format.{Spells};
 ghost use Rattle.wire_fields.specs.Reading.{read};
 ghost use Rattle.wire_fields.specs.Whole.{read_whole};
 ghost use Rattle.wire_fields.specs.Gives.{Gives, IsOn};
 ghost use Rattle.bundle_meaning.specs.Body.{refusal, GivesBody, LendsBody, SpellsNone, IsWritten};
-ghost use Rattle.bundle_meaning.specs.Blocks.{IsBlock7};
+ghost use Rattle.bundle_meaning.specs.Blocks.{IsBlock7, is_marked};
 ghost use Rattle.bundle_meaning.specs.Wrap.{kind7, number7, wrap_old, wrap_old_octets};
 ghost use Rattle.bundle_meaning.specs.Views.{block7_lent};
 
@@ -58,6 +58,8 @@ pub fn read_wrap_old(alloc: Global, body: &[u8]) -> Result<Block7Like, BlockFaul
         → (result ≡ Ok block) ⊎ (result ≡ Err BlockFault.Memory) }
     // All else is refused, for one reason.
     ensures bad { (result ≡ Err BlockFault.Bad) ↔ SpellsNone (wrap_old (length body.now)) body.now }
+    // What is held is an extension block, where it isn't marked itself.
+    ensures block { IfOk result (λ block. is_marked block.kind block.body ≡ false → IsBlock7 block) }
     ensures exact { GivesBody result (read_whole (wrap_old (length body.now)) BlockFault.Bad body.now) }
 {
     whole_wrap(alloc, body)

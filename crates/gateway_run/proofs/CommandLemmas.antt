@@ -3,12 +3,15 @@ use Rattle.std.proofs.Common.{◌≡◌, ℕ, List, [], ◌++◌, Option, None, 
 use Rattle.std.proofs.lemmas.List.{append-nil}
 use Rattle.edge_traits.specs.declared.status.Status.{Status}
 use Rattle.edge_traits.specs.declared.status.Status.TheVariants as statuses
-use Rattle.edge_traits.specs.Content.{Gains, GainsFront, most_input}
+use Rattle.edge_traits.specs.Content.{GainsFront, most_input}
 use Rattle.edge_traits.specs.Outcome.{EndsAs, Wrote, IsAnswer}
 use Rattle.gateway_run.specs.declared.commands.command.Command.{Command}
 use Rattle.gateway_run.specs.declared.commands.command.Command.TheVariants as commands
 use Rattle.gateway_run.specs.Receive.{the_limits, received}
 use Rattle.gateway_run.specs.Words.{settles, KeepsLaw, WritesLawfully}
+use Rattle.edge_traits.specs.Settled.{EarliestDecides}
+use Rattle.gateway_run.proofs.FrontLemmas.{settles-front}
+use Rattle.gateway_run.proofs.DriveLemmas.{fault-front}
 use Rattle.gateway_run.proofs.TranscriptLemmas.{Lawful, received-law}
 
 -- ---- the receiver's law
@@ -53,18 +56,6 @@ module _ (input : List ℕ) (lawful : Lawful the_limits most_input input) where
   front_gains status (Some held) (Some after) early gains =
       let (written, rest, parts, is) = gains in front_text status held after written rest early parts is
 
-  no_gains : (status : Status) (before now : Option (List ℕ)) → (IsAnswer status → ⊥) → Gains before now []
-      → IfSome now (λ after. IsSomeAnd before (λ held. WritesLawfully input status held after))
-  no_gains status before None early gains = tt
-  no_gains status None (Some after) early gains = absurd gains
-  no_gains status (Some held) (Some after) early gains =
-      front_text status held after [] (received the_limits most_input input).text early refl gains
-
-  no_read : (left before now : Option (List ℕ)) → Wrote (settles commands.Receive) statuses.ReadFault input left before now
-      → Gains before now []
-  no_read None before now wrote = absurd wrote
-  no_read (Some rest) before now (taken, parts, open_end, gains) = gains
-
   keeps : (status : Status) (left before now : Option (List ℕ)) → Wrote (settles commands.Receive) status input left before now
       → IfSome now (λ after. IsSomeAnd before (λ held. WritesLawfully input status held after))
   keeps statuses.Done left before now wrote = whole_gains statuses.Done before now wrote
@@ -72,7 +63,7 @@ module _ (input : List ℕ) (lawful : Lawful the_limits most_input input) where
   keeps statuses.Limit left before now wrote = whole_gains statuses.Limit before now wrote
   keeps statuses.Usage left before now wrote = absurd wrote
   keeps statuses.ReadFault left before now wrote =
-      no_gains statuses.ReadFault before now (λ no_answer. no_answer) (no_read left before now wrote)
+      front_gains statuses.ReadFault before now (λ no_answer. no_answer) (fault-front most_input input left before now wrote)
   keeps statuses.WriteFault left before now wrote = front_gains statuses.WriteFault before now (λ no_answer. no_answer) wrote
   keeps statuses.Memory left before now wrote = front_gains statuses.Memory before now (λ no_answer. no_answer) wrote.1
 
@@ -83,3 +74,9 @@ keeps_law None named command status left before now is wrote = tt
 keeps_law (Some input) named (commands.Bundles command) status left before now is wrote = rw is tt
 keeps_law (Some input) named commands.Receive status left before now is wrote =
     rw is (keeps input (received-law the_limits most_input input) status left before now wrote)
+
+-- ---- fronts
+
+pub command-front : (command : Command) → EarliestDecides (settles command)
+command-front commands.Receive = settles-front the_limits most_input
+command-front (commands.Bundles command) = λ ends taken more. (_, refl)

@@ -7,6 +7,8 @@ pub mod CountLemmas
 pub mod TranscriptLemmas
 pub mod OpenPartLemmas
 pub mod SessionsLemmas
-pub mod ReceiveLemmas
 pub mod CommandLemmas
 pub mod HexLemmas
+pub mod FrontLemmas
+pub mod LiveLemmas
+pub mod DriveLemmas

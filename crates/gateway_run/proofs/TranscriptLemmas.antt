@@ -1,5 +1,5 @@
 -- The text that `receive` writes keeps the receiver's law.
-use Rattle.std.proofs.Common.{◌≡◌, ℕ, zero, suc, ◌+◌, ◌<◌, ◌≤◌, Bool, true, false, ◌&&◌, ◌||◌, ◌↔◌, ◌⊎◌, inl, inr, List, [], ◌∷◌, ◌++◌, length, take, get_or, Option, None, Some, refl, sym, ◌∙◌, ap, arith, append_assoc, if◌then◌else◌, nat_lt, ltb-false}
+use Rattle.std.proofs.Common.{◌≡◌, ℕ, zero, suc, ◌+◌, ◌<◌, Bool, true, false, ◌&&◌, ◌||◌, ◌↔◌, ◌⊎◌, inl, inr, List, [], ◌∷◌, ◌++◌, length, take, get_or, Option, None, Some, refl, sym, ◌∙◌, ap, arith, append_assoc, if◌then◌else◌, nat_lt}
 use Rattle.std.proofs.lemmas.List.{append-nil}
 use Rattle.edge_traits.specs.declared.status.Status.{Status}
 use Rattle.edge_traits.specs.declared.status.Status.TheVariants as statuses
@@ -409,16 +409,3 @@ received-law limits most input =
         law = keeps.law;
       };
     }
-
--- an input whose answer is Done is within the limit
-done-within : (limits : Limits) (longer : Bool) (lines : List (List ℕ)) (status : Status) (replied : ℕ) (closing : List ℕ)
-    → EndsSo limits longer lines status replied closing → status ≡ statuses.Done → longer ≡ false
-done-within limits longer lines status replied closing ends is =
-    let done = rw is at ends in done.2
-
-pub received-done : (limits : Limits) (most : ℕ) (input : List ℕ) → (received limits most input).ends ≡ Some statuses.Done → length input ≤ most
-received-done limits most input done =
-    let lawful = received-law limits most input in
-    let is : Some lawful.status ≡ Some statuses.Done = sym lawful.is ∙ done in
-    let same : lawful.status ≡ statuses.Done = cc in
-    ltb-false most (length input) (done-within limits (nat_lt most (length input)) (lines_within most input) lawful.status (length lawful.law.replies) lawful.law.closing lawful.law.ends same)

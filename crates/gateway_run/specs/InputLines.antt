@@ -1,6 +1,6 @@
 -- The lines of an input. A line ends with a line feed; the last one may lack it, and an input
 -- that ends with a line feed has no empty line after it.
-use Rattle.std.specs.Prelude.{ℕ, Bool, List, [], ◌∷◌, ◌==◌, nat_lt, length, take, if◌then◌else◌}
+use Rattle.std.specs.Prelude.{ℕ, Bool, List, [], ◌∷◌, ◌==◌, nat_lt, length, take, drop, if◌then◌else◌}
 
 -- an octet that ends a line
 abbrev pub is_line_feed : ℕ → Bool
@@ -26,6 +26,10 @@ before_ended octet (first ∷ ended) = octet ∷ first ∷ ended
 unfoldable pub ended_part : List ℕ → List ℕ
 ended_part [] = []
 ended_part (octet ∷ text) = before_ended octet (ended_part text)
+
+-- the octets after the last line feed
+abbrev pub open_part : List ℕ → List ℕ
+open_part text = drop (length (ended_part text)) text
 
 -- the lines of an input of at most so many octets; of a longer one those that end within them
 unfoldable pub lines_within : ℕ → List ℕ → List (List ℕ)

@@ -12,3 +12,5 @@ pub mod Views
 pub mod OpenPart
 pub mod Table
 pub mod Turns
+pub mod Stops
+pub mod Live

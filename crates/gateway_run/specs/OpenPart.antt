@@ -4,7 +4,7 @@ use Rattle.spans.specs.Places.{is_covered}
 use Rattle.gateway_run.specs.declared.part.Held.{Held}
 use Rattle.gateway_run.specs.declared.part.OpenPart.{OpenPart}
 use Rattle.gateway_run.specs.RedPart.{or_else}
-use Rattle.ltp_session.specs.Cells.{filled}
+use Rattle.ltp_session.specs.Cells.{reach_of, filled}
 
 -- the cells, once these octets came after them, in this order
 unfoldable pub laid : List (Option ℕ) → List Held → List (Option ℕ)
@@ -12,10 +12,10 @@ laid cells [] = cells
 laid cells (held ∷ later) = laid (filled cells held.offset held.body.items) later
 
 -- an open part stands for these cells, and for a red part of this length where it is known
-pub record Stands (part : OpenPart) (cells : List (Option ℕ)) (known : Option ℕ) : Type 0 where
+pub record Stands (part : OpenPart) (cells : List (Option ℕ)) (length : Option ℕ) : Type 0 where
   pub came : laid [] part.pieces.items ≡ cells
-  pub reach : part.reach ≡ length cells
-  pub length_is : part.length ≡ known
+  pub reach : part.reach ≡ reach_of cells
+  pub length_is : part.length ≡ length
   pub covered : (k : ℕ) → is_covered part.covered k ≡ is_some (slice_index_or cells k None)
 
 -- an octet of a buffer shows through where the cells have none

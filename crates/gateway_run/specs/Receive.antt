@@ -1,11 +1,11 @@
 -- What `receive` writes: each line of the input is one datagram in hex, and each red part is
 -- handed up when it is whole.
-use Rattle.std.specs.Prelude.{ℕ, ◌+◌, ◌&&◌, ◌||◌, nat_lt, nat_le, List, [], ◌∷◌, length, take, drop, Option, None, Some, if◌then◌else◌}
+use Rattle.std.specs.Prelude.{ℕ, ◌+◌, ◌&&◌, ◌||◌, nat_lt, nat_le, List, [], ◌∷◌, length, take, Option, None, Some, if◌then◌else◌, Bool}
 use Rattle.edge_traits.specs.declared.status.Status.{Status}
 use Rattle.edge_traits.specs.declared.status.Status.TheVariants as statuses
 use Rattle.edge_traits.specs.Settled.{Ends, at_end, goes_on, Settled, put_before}
 use Rattle.ltp_segment.specs.declared.session.TheConstants.{BLOCK_MAX}
-use Rattle.gateway_run.specs.InputLines.{lines_of, ended_part}
+use Rattle.gateway_run.specs.InputLines.{lines_of, ended_part, open_part}
 use Rattle.gateway_run.specs.LineContent.{RedPiece, LineContent, no_hex, no_segment, other, red, content_of}
 use Rattle.gateway_run.specs.Session.{Session, Reply, meets}
 use Rattle.gateway_run.specs.KeptSessions.{Kept, session_in, with_session, unfinished}
@@ -67,11 +67,14 @@ lines_settle limits n kept [] ending = record { text = []; ends = ending }
 lines_settle limits n kept (line ∷ lines) ending =
     after_turn (turn_of limits n kept line) (λ now. lines_settle limits (n + 1) now lines ending)
 
--- a line whose first octets came: it passes a limit by them, or nothing is settled of it yet
+-- the first octets of a line that hasn't ended pass a limit: it is one line too many, or too long
+abbrev pub opens_past : Limits → ℕ → List ℕ → Bool
+opens_past limits ended first =
+    (nat_le limits.lines ended && nat_lt 0 (length first)) || nat_lt limits.octets (length first)
+
+-- the end that they settle, after so many lines that have ended
 abbrev pub open_ending : Limits → ℕ → List ℕ → Option Status
-open_ending limits ended first =
-    if (nat_le limits.lines ended && nat_lt 0 (length first)) || nat_lt limits.octets (length first)
-    then Some statuses.Limit else None
+open_ending limits ended first = if opens_past limits ended first then Some statuses.Limit else None
 
 -- what octets settle that are within the size limit: each line that has ended, and at the end of
 -- the input the last one, which may lack its line feed
@@ -79,7 +82,7 @@ unfoldable pub settles_within : Limits → Ends → List ℕ → Settled
 settles_within limits at_end input = lines_settle limits 1 [] (lines_of input) (Some statuses.Done)
 settles_within limits goes_on taken =
     lines_settle limits 1 [] (lines_of (ended_part taken))
-    (open_ending limits (length (lines_of (ended_part taken))) (drop (length (ended_part taken)) taken))
+    (open_ending limits (length (lines_of (ended_part taken))) (open_part taken))
 
 -- what octets settle: of more than so many, the lines that end within those are answered, and the
 -- run ends with the limit

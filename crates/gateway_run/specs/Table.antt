@@ -30,7 +30,7 @@ abbrev pub StandsFor : Option Standing → Session → Type 0
 StandsFor None session = session ≡ fresh
 StandsFor (Some standings.HandedUp) session = session ≡ handed_up
 StandsFor (Some (standings.Open part)) session =
-    (cells : List (Option ℕ)) × (known : Option ℕ) × (session ≡ open_part cells known) × Stands part.value cells known
+    (cells : List (Option ℕ)) × (length : Option ℕ) × (session ≡ open_part cells length) × Stands part.value cells length
 
 -- the table stands for the list of sessions
 pub record Shows (sessions : Sessions) (kept : List Kept) : Type 0 where
@@ -50,10 +50,10 @@ pub record LacksFirst (sessions : Sessions) (kept : List Kept) (name : SessionNa
   pub first : session_in name kept ≡ fresh
 
 -- the table lacks an open session, for which this part stands
-pub record LacksOpen (sessions : Sessions) (kept : List Kept) (name : SessionName) (part : OpenPart) (cells : List (Option ℕ)) (known : Option ℕ) : Type 0 where
+pub record LacksOpen (sessions : Sessions) (kept : List Kept) (name : SessionName) (part : OpenPart) (cells : List (Option ℕ)) (length : Option ℕ) : Type 0 where
   pub others : ShowsOthers sessions kept name
-  pub is_open : session_in name kept ≡ open_part cells known
-  pub stands : Stands part cells known
+  pub is_open : session_in name kept ≡ open_part cells length
+  pub stands : Stands part cells length
 
 -- the table has an entry more, or in the place of another; nothing else is changed
 pub record Puts (old new : Sessions) (one : SessionName) (standing : Standing) : Type 0 where

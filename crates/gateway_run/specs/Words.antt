@@ -4,13 +4,14 @@ use Rattle.std.specs.Cmp.Lexicographic.{pointwise}
 use Rattle.edge_traits.specs.declared.status.Status.{Status}
 use Rattle.edge_traits.specs.declared.status.Status.TheVariants as statuses
 use Rattle.edge_traits.specs.Content.{most_input}
-use Rattle.edge_traits.specs.Settled.{Ends, at_end, Settled, gathered}
+use Rattle.edge_traits.specs.Settled.{Ends, at_end, Settled}
 use Rattle.edge_traits.specs.Outcome.{IsAnswer}
 use Rattle.bundle_runs.specs.declared.commands.command.Command.TheVariants.{Check, Show}
 use Rattle.bundle_runs.specs.Answering as bundles
 use Rattle.gateway_run.specs.declared.commands.command.Command.{Command}
 use Rattle.gateway_run.specs.declared.commands.command.Command.TheVariants as commands
-use Rattle.gateway_run.specs.Receive.{received, the_limits}
+use Rattle.gateway_run.specs.Receive as receive
+use Rattle.gateway_run.specs.Receive.{the_limits}
 use Rattle.gateway_run.specs.ReceiverLaw.{KeepsReceiverLaw}
 
 abbrev pub is_word : List ℕ → List ℕ → Bool
@@ -34,7 +35,7 @@ command_of (word ∷ second ∷ words) = None
 
 -- what octets settle of a command's answer
 abbrev pub settles : Command → Ends → List ℕ → Settled
-settles commands.Receive = gathered (received the_limits most_input)
+settles commands.Receive = receive.settles the_limits most_input
 settles (commands.Bundles command) = bundles.settles command
 
 -- the run of a command ends as its answer has it, or for want of memory

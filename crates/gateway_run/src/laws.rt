@@ -1,12 +1,22 @@
-//! What the receiver's law says of a block. The law is the contract of a function that does
-//! nothing.
+//! Laws about what `receive` answers, each the contract of a function that does nothing.
 
 ghost use Rattle.std.specs.Prelude.{ℕ, List};
 ghost use Rattle.gateway_run.specs.LineContent.{RedPiece};
 ghost use Rattle.gateway_run.specs.ReceiverLaw.{IsFrontOfBlock};
+ghost use Rattle.edge_traits.specs.Settled.{EarliestDecides};
+ghost use Rattle.gateway_run.specs.Receive.{Limits, settles};
+ghost use Rattle.gateway_run.specs.Words.{settles as command_settles};
+ghost use Rattle.gateway_run.specs.declared.commands.command.Command.{Command};
 
 /// Where every piece of a session is of one block, its red part is the front of that block: it
 /// is handed up as it was sent.
 pub fn red_part_is_front_of_block()
     ensures { (block : List ℕ) (pieces : List RedPiece) (body : List ℕ) → IsFrontOfBlock block pieces body }
+{}
+
+/// The earliest place decides: what octets settle while the input goes on is a front of what they
+/// settle with any octets after them, and once they settle how the run ends, nothing changes it.
+pub fn earliest_place_decides()
+    ensures receive { (limits : Limits) (most : ℕ) → EarliestDecides (settles limits most) }
+    ensures commands { (command : Command) → EarliestDecides (command_settles command) }
 {}

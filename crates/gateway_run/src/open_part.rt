@@ -45,9 +45,9 @@ pub fn is_out_of_bounds(reach: u64, length: Option<u64>, piece: &Piece<'_>) -> b
 /// Takes a piece that can be one of the red part.
 pub fn take(alloc: Global, part: &mut OpenPart, piece: &Piece<'_>) -> Result<(), AllocError>
     requires { stop (red_piece piece.now) ≤ BLOCK_MAX }
-    ensures { (cells : List (Option ℕ)) (known : Option ℕ) → Stands part.old cells known
+    ensures { (cells : List (Option ℕ)) (length : Option ℕ) → Stands part.old cells length
         → OnOk result (Stands part.new (filled cells piece.now.offset piece.now.body.now)
-        (after known piece.now.ends (stop (red_piece piece.now)))) }
+        (after length piece.now.ends (stop (red_piece piece.now)))) }
 {
     let stop = piece.offset + piece.body.len() as u64;
     let body = Vec::from_slice(alloc, piece.body)?;
@@ -73,8 +73,8 @@ fn length_after(length: Option<u64>, ends: bool, stop: u64) -> Option<u64>
 
 /// The red part, if it is whole.
 pub fn whole(alloc: Global, part: &OpenPart) -> Result<Option<Vec<u8>>, AllocError>
-    ensures { (cells : List (Option ℕ)) (known : Option ℕ) → Stands part.now cells known
-        → IfOk result (λ body. option_map (λ v. v.items) body ≡ whole_part cells known) }
+    ensures { (cells : List (Option ℕ)) (length : Option ℕ) → Stands part.now cells length
+        → IfOk result (λ body. option_map (λ v. v.items) body ≡ whole_part cells length) }
 {
     if is_whole(part) {
         return Ok(Some(body_of(alloc, part)?));
@@ -84,8 +84,8 @@ pub fn whole(alloc: Global, part: &OpenPart) -> Result<Option<Vec<u8>>, AllocErr
 
 /// Whether the red part is whole: its length is known, and every place below it is covered.
 fn is_whole(part: &OpenPart) -> bool
-    ensures { (cells : List (Option ℕ)) (known : Option ℕ) → Stands part.now cells known
-        → result ≡ is_some (whole_part cells known) }
+    ensures { (cells : List (Option ℕ)) (length : Option ℕ) → Stands part.now cells length
+        → result ≡ is_some (whole_part cells length) }
 {
     part.length == Some(part.reach) && part.covered.is_whole(part.reach)
 }

@@ -24,11 +24,10 @@ pub fn no_sessions(alloc: Global) -> Sessions
     }
 }
 
-/// Whether the piece would leave more than `most` sessions unfinished, of which there are no more
-/// yet. No memory is taken.
+/// Whether the piece would leave more than `most` sessions unfinished, where there are no more yet.
+/// No memory is taken.
 pub fn is_one_too_many(sessions: &Sessions, piece: &Piece<'_>, most: usize) -> bool
-    requires { sessions.now.unfinished ≤ most }
-    ensures { (kept : List Kept) → Shows sessions.now kept → result ≡ nat_lt most (unfinished
+    ensures { (kept : List Kept) → Shows sessions.now kept → sessions.now.unfinished ≤ most → result ≡ nat_lt most (unfinished
         (with_session piece.now.name (meets BLOCK_MAX (session_in piece.now.name kept) (red_piece piece.now)).1 kept)) }
 {
     match find(sessions, (piece.name.originator, piece.name.number)) {
@@ -59,8 +58,7 @@ pub fn meet<'a>(
     sessions: &mut Sessions,
     piece: &Piece<'a>,
 ) -> Result<Reply<'a>, AllocError>
-    requires { sessions.old.unfinished < 2 ^ 32 }
-    ensures met { (kept : List Kept) → Shows sessions.old kept
+    ensures met { (kept : List Kept) → Shows sessions.old kept → sessions.old.unfinished < 2 ^ 32
         → IfOk result (λ reply. Meets kept (red_piece piece.now) reply sessions.new) }
     ensures memory { (kept : List Kept) → Shows sessions.old kept
         → OnErr result (IsTaken (meets BLOCK_MAX (session_in piece.now.name kept) (red_piece piece.now)).0) }
@@ -98,8 +96,7 @@ fn meet_first<'a>(
     sessions: &mut Sessions,
     piece: &Piece<'a>,
 ) -> Result<Reply<'a>, AllocError>
-    requires { sessions.old.unfinished < 2 ^ 32 }
-    ensures met { (kept : List Kept) → LacksFirst sessions.old kept piece.now.name
+    ensures met { (kept : List Kept) → LacksFirst sessions.old kept piece.now.name → sessions.old.unfinished < 2 ^ 32
         → IfOk result (λ reply. Meets kept (red_piece piece.now) reply sessions.new) }
     ensures memory { OnErr result (bounds BLOCK_MAX 0 None (red_piece piece.now) ≡ false) }
 {
@@ -114,7 +111,7 @@ fn meet_first<'a>(
     take(alloc, &mut part, piece)?;
     let part = Box::new(alloc, part)?;
     put(sessions, piece, Standing::Open(part))?;
-    sessions.unfinished += 1;
+    sessions.unfinished = sessions.unfinished.saturating_add(1);
     Ok(Reply::Nothing)
 }
 
@@ -133,8 +130,8 @@ fn meet_open<'a>(
     piece: &Piece<'a>,
 ) -> Result<Reply<'a>, AllocError>
     requires { bounds BLOCK_MAX part.value.reach part.value.length (red_piece piece.now) ≡ false }
-    ensures { (kept : List Kept) (cells : List (Option ℕ)) (known : Option ℕ)
-        → LacksOpen sessions.old kept piece.now.name part.value cells known
+    ensures { (kept : List Kept) (cells : List (Option ℕ)) (length : Option ℕ)
+        → LacksOpen sessions.old kept piece.now.name part.value cells length
         → IfOk result (λ reply. Meets kept (red_piece piece.now) reply sessions.new) }
 {
     take(alloc, &mut part, piece)?;

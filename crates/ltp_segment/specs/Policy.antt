@@ -5,7 +5,8 @@ use Rattle.std.specs.Prelude.{Ok, Err, List, codes}
 use Rattle.ltp_segment.specs.declared.policy.PolicyFault.{PolicyFault}
 use Rattle.ltp_segment.specs.declared.policy.PolicyFault.TheVariants as faults
 
--- octets of data in a segment, the first wait, how often one segment is sent, and the longest wait
+-- octets of data in a segment, the first wait, the most times that one checkpoint, report or cancel is
+-- sent, and the longest wait
 pub record PolicyValue : Type 0 where
   pub segment : ℕ
   pub timeout : ℕ

@@ -1,13 +1,14 @@
 -- The steps of a sender, by what their tests say.
 
-use Rattle.std.proofs.Common.{◌≡◌, ℕ, ◌+◌, ◌^◌, ◌==◌, true, false, List, [], ◌∷◌, ◌++◌, length, take, map, Some, None, Option, refl, sym, ap, subst, ◌∙◌, arith, nat_lt}
+use Rattle.std.proofs.Common.{◌≡◌, ◌≢◌, ℕ, ◌+◌, ◌^◌, ◌==◌, Bool, true, false, List, [], ◌∷◌, ◌++◌, length, take, map, Some, None, Option, Result, Ok, Err, refl, sym, ap, subst, ◌∙◌, arith, nat_lt}
+use Rattle.std.specs.Prelude.{OnErr}
 use Rattle.ltp_segment.specs.declared.session.Step.{Step}
 use Rattle.ltp_segment.specs.Policy.{PolicyValue}
-use Rattle.ltp_segment.specs.Values.{PieceValue, ReportValue, ContentValue, a_report_ack}
+use Rattle.ltp_segment.specs.Values.{PieceValue, ReportValue, ContentValue, a_report_ack, a_sender_cancel}
 use Rattle.ltp_session.specs.declared.name.SessionName.{SessionName}
 use Rattle.ltp_session.specs.declared.timer.Timer.{Timer}
 use Rattle.ltp_session.specs.Timer.{first_timer, next_timer, is_due, may_repeat, is_past_serials}
-use Rattle.ltp_session.specs.Step.{stays, keeps, ends, StepValue, sending, noting, note_sent, note_bad_bounds, by_system}
+use Rattle.ltp_session.specs.Step.{stays, keeps, ends, StepValue, sending, noting, note_sent, note_bad_bounds, by_system, Sends}
 use Rattle.ltp_session.specs.Sender.{SendingPhase, sender_open, sender_cancelling, Sending, sending_timer, segments_of, red_segments, last_segment, checkpoint_at, red_pieces, unclaimed, is_all_claimed, gives_up, next_round, goes_on, with_report, takes_report, report_step, sender_due, sender_tick}
 use Rattle.ltp_session.specs.Views.{datagrams_of}
 use Rattle.ltp_sender.specs.declared.segments.Segment.{Segment}
@@ -204,3 +205,57 @@ sender_tick-over policy s now due may = rw due (sender_due-over policy s s.phase
 pub exhausted-open : (policy : PolicyValue) (s : Sending) (size : ℕ) (part : List ℕ) (phase : Phase) (checkpoint : Checkpoint) (timer : Timer) (now : ℕ) → phase ≡ phases.Open checkpoint timer
     → exhausted policy s (phase_value size part phase) now ≡ gives_up policy s 2 now []
 exhausted-open policy s size part phase checkpoint timer now is = rw is refl
+
+-- ---- steps that send something
+
+some-more : {X : Type 0} (xs : List X) (x : X) → xs ++ x ∷ [] ≢ []
+some-more [] x none = cc
+some-more (y ∷ ys) x none = cc
+
+pub gives_up-sends : (policy : PolicyValue) (s : Sending) (reason now : ℕ) (earlier : List ContentValue) → Sends (gives_up policy s reason now earlier)
+gives_up-sends policy s reason now earlier = some-more earlier (a_sender_cancel reason)
+
+pub Sends-is : (step other : StepValue Sending) → step ≡ other → Sends other → Sends step
+Sends-is step other is sends = subst (λ (t : StepValue Sending). Sends t) (sym is) sends
+
+next_round-sends-by : (policy : PolicyValue) (s : Sending) (serial report now ack : ℕ) (past : Bool) (last : Option (ℕ × List ℕ)) → is_past_serials (serial + 1) ≡ past
+    → last_segment (unclaimed s.claimed (red_segments policy s.block s.red)) ≡ last → Sends (next_round policy s serial report now (a_report_ack ack ∷ []))
+next_round-sends-by policy s serial report now ack true last is is_last =
+    Sends-is _ _ (next_round-gives_up policy s serial report now (a_report_ack ack ∷ []) is) (gives_up-sends policy s by_system now (a_report_ack ack ∷ []))
+next_round-sends-by policy s serial report now ack false None is is_last =
+    Sends-is _ _ (next_round-none policy s serial report now (a_report_ack ack ∷ []) is is_last) (λ none. cc)
+next_round-sends-by policy s serial report now ack false (Some last) is is_last =
+    Sends-is _ _ (next_round-some policy s serial report now (a_report_ack ack ∷ []) last is is_last) (λ none. cc)
+
+goes_on-sends-by : (policy : PolicyValue) (s : Sending) (checkpoint : PieceValue) (report : ReportValue) (now ack : ℕ) (whole same : Bool) → is_all_claimed s.claimed ≡ whole
+    → (report.checkpoint == checkpoint.checkpoint) ≡ same → Sends (goes_on policy s checkpoint report now (a_report_ack ack ∷ []))
+goes_on-sends-by policy s checkpoint report now ack true same is is_same_one =
+    Sends-is _ _ (goes_on-whole policy s checkpoint report now (a_report_ack ack ∷ []) is) (λ none. cc)
+goes_on-sends-by policy s checkpoint report now ack false false is is_same_one =
+    Sends-is _ _ (goes_on-other policy s checkpoint report now (a_report_ack ack ∷ []) is is_same_one) (λ none. cc)
+goes_on-sends-by policy s checkpoint report now ack false true is is_same_one =
+    Sends-is _ _ (goes_on-round policy s checkpoint report now (a_report_ack ack ∷ []) is is_same_one)
+    (next_round-sends-by policy s checkpoint.checkpoint report.serial now ack (is_past_serials (checkpoint.checkpoint + 1))
+    (last_segment (unclaimed s.claimed (red_segments policy s.block s.red))) refl refl)
+
+report_step-sends-by : (policy : PolicyValue) (s : Sending) (report : ReportValue) (now : ℕ) (phase : SendingPhase) → nat_lt s.red report.upper ≡ false → s.phase ≡ phase
+    → Sends (report_step policy s report now)
+report_step-sends-by policy s report now (sender_open checkpoint timer) inside is =
+    Sends-is _ _ (report_step-open policy s report now checkpoint timer inside is)
+    (goes_on-sends-by policy (with_report s report) checkpoint report now report.serial (is_all_claimed (with_report s report).claimed)
+    (report.checkpoint == checkpoint.checkpoint) refl refl)
+report_step-sends-by policy s report now (sender_cancelling reason timer) inside is =
+    Sends-is _ _ (report_step-cancelling policy s report now reason timer inside is) (λ none. cc)
+
+-- a report within the bounds is answered
+pub report_step-sends : (policy : PolicyValue) (s : Sending) (report : ReportValue) (now : ℕ) → nat_lt s.red report.upper ≡ false → Sends (report_step policy s report now)
+report_step-sends policy s report now inside = report_step-sends-by policy s report now s.phase inside refl
+
+pub sender_tick-sends : (policy : PolicyValue) (s : Sending) (now : ℕ) → is_due (sending_timer s.phase) now ≡ true → may_repeat policy (sending_timer s.phase) ≡ true
+    → Sends (sender_tick policy s now)
+sender_tick-sends policy s now due may = Sends-is _ _ (sender_tick-again policy s now due may) (λ none. cc)
+
+-- what holds anyway holds where a result is an error
+pub OnErr-of : {T E : Type 0} (r : Result T E) (P : Type 0) → P → OnErr r P
+OnErr-of (Ok x) P p = tt
+OnErr-of (Err e) P p = p

@@ -40,8 +40,8 @@ opened_by block red claimed timer (Some c) = Some (record {
 })
 
 -- a session did a step of its definition, and answers it
-pub record Did (name : SessionName) (s : Sending) (step : StepValue Sending) (r : Option Kept × Step)
-    : Type 0 where
+pub record Did (name : SessionName) (s : Sending) (step : StepValue Sending)
+    (r : Option Kept × Step) : Type 0 where
   pub kept : option_map sending_of r.0 ≡ after step.next (Some s)
   pub answer : r.1 ≡ answer_of name step
 

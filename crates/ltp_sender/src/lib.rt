@@ -15,5 +15,6 @@ mod pieces;
 mod ranges;
 mod segments;
 mod sender;
+mod steps;
 
 pub use sender::{Begun, Sender};

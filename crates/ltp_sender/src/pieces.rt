@@ -68,8 +68,8 @@ fn write_plain(
 ) -> Result<Octets, AllocError>
     requires on { IsOn (length part.now) segment }
     requires plain { is_checkpoint kind ≡ false }
-    ensures { IfOk result (λ octets. octets
-        ≡ segment_octets (headed name (a_piece (piece_at kind 0 0 (segment_in part.now segment))))) }
+    ensures { IfOk result (λ octets. octets ≡ segment_octets
+        (headed name (a_piece (piece_at kind 0 0 (segment_in part.now segment))))) }
 {
     let Segment { from, to } = segment;
     write_piece(

@@ -5,12 +5,14 @@ ghost use Rattle.ltp_segment.specs.Legal.{IsReport};
 ghost use Rattle.ltp_segment.specs.PolicyViews.{policy_value};
 ghost use Rattle.ltp_segment.specs.Views.{report_value};
 ghost use Rattle.ltp_session.specs.Sender.{begin, on_report, on_sender_tick, on_receiver_cancel, on_sender_cancel_ack};
+ghost use Rattle.ltp_session.specs.Step.{Sends};
 ghost use Rattle.ltp_session.specs.Views.{datagrams_of, answer_of, changed};
 ghost use Rattle.ltp_sender.specs.Sender.{is_kept_cancelling, begun_with, deadline_of, claimed_of};
 
-use crate::kept::{Kept, Terms, acknowledgement, noting, sending};
+use crate::kept::{Kept, Terms};
 use crate::pieces::{send_green, send_red};
 use crate::segments::unclaimed;
+use crate::steps::{acknowledgement, noting, sending};
 use ltp_segment::{Note, Outs, Policy, ReportView, Step, write_cancel_ack};
 use ltp_session::{SessionName, Timer, first_serial};
 use spans::Spans;
@@ -127,6 +129,10 @@ impl Sender {
         ensures answer { IfOk result (λ step. step ≡ answer_of self.old.name
             (on_report self.old.policy self.old.kept (report_value report.entry) now)) }
         ensures err { OnErr result (self.new.spent ≡ true) }
+
+        // Memory is wanted only where something is to be sent.
+        ensures wanted { OnErr result (Sends
+            (on_report self.old.policy self.old.kept (report_value report.entry) now)) }
     {
         self.spent = true;
         let (kept, step) = match self.kept.take() {
@@ -148,6 +154,10 @@ impl Sender {
         ensures answer { IfOk result (λ step. step ≡ answer_of self.old.name
             (on_sender_tick self.old.policy self.old.kept now)) }
         ensures err { OnErr result (self.new.spent ≡ true) }
+
+        // Memory is wanted only where something is to be sent.
+        ensures wanted { OnErr result (Sends
+            (on_sender_tick self.old.policy self.old.kept now)) }
     {
         self.spent = true;
         let (kept, step) = match self.kept.take() {

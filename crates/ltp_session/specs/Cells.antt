@@ -63,7 +63,7 @@ length_after None ends stop = if ends then Some stop else None
 
 -- ---- bounds
 
--- a place is past the length, where that is known
+-- a place is past a bound, where one is known
 abbrev pub is_past : Option ℕ → ℕ → Bool
 is_past None place = false
 is_past (Some end) place = nat_lt end place

@@ -48,7 +48,7 @@ is_whole_claim (Some end) (claim ∷ next ∷ claims) = false
 
 -- ---- at the sender: the octets that are claimed
 
--- the places of which the first is place k, with those from `from` to before `to` claimed too
+-- the places from `from` to before `to` are claimed too; the list begins with place k
 unfoldable pub with_range : ℕ → ℕ → ℕ → List Bool → List Bool
 with_range k from to [] = []
 with_range k from to (claimed ∷ places) =

@@ -1,4 +1,4 @@
--- An engine of a link: all sessions that it sends and receives (RFC 5326, section 7). What it does
+-- An engine of a link: all sessions that it sends and receives. What it does
 -- about a session is what the session does; the rest is keeping.
 
 use Rattle.std.specs.Prelude.{ℕ, pred, ◌+◌, ◌^◌, Bool, not, ◌==◌, ◌&&◌, ◌||◌, nat_lt, nat_le, min, List, [], ◌∷◌, ◌++◌, length, Option, None, Some, Result, Ok, Err, if◌then◌else◌}
@@ -113,7 +113,7 @@ unfoldable pub evicted_of : Engine → Option ℕ
 evicted_of e =
     if nat_le 64 (length e.receivers) then longest_untouched e.touched e.receivers else None
 
--- a session that wasn't kept opens
+-- the session that is evicted, where one that wasn't kept opens
 abbrev pub evicted_by : Engine → Option Receiving → Change Receiving → Option ℕ
 evicted_by e None (keeps r) = evicted_of e
 evicted_by e kept change = None
@@ -135,7 +135,7 @@ receiver_replies e n (Some step) =
     })
 
 -- what a receiving session has to know of its engine: the record of closed numbers is full where
--- its runs and the kept sessions are 65,536 or more
+-- its runs and the kept receiving sessions together are 65,536 or more
 abbrev pub place_of : Party → Engine → ℕ → Place
 place_of p e n = record {
   session = n;
@@ -146,21 +146,25 @@ place_of p e n = record {
 
 -- ---- a segment arrives
 
--- a segment that is neither for a session of this engine nor from its peer has no reply
+-- a segment of a session that the engine began
+abbrev pub to_sender : Party → Engine → SegmentValue → ℕ → Option Reply
+to_sender p e s now =
+    sender_replies e s.session
+    (sender_answers p.policy (find s.session e.senders) s.content now)
+
+-- a segment of a session that its peer began
+abbrev pub to_receiver : Party → Engine → SegmentValue → ℕ → Option Reply
+to_receiver p e s now =
+    receiver_replies e s.session
+    (receiver_answers p.policy (place_of p e s.session) (find s.session e.receivers) s.content now)
+
+-- a segment has no reply where it is neither an answer to a session that this engine began, nor what
+-- the sender of a session of its peer sends
 unfoldable pub arrives : Party → Engine → SegmentValue → ℕ → Option Reply
 arrives p e s now =
     if s.originator == p.own
-    then
-    (if is_used p e s.session
-    then
-    sender_replies e s.session
-    (sender_answers p.policy (find s.session e.senders) s.content now)
-    else None)
-    else if s.originator == p.peer
-    then
-    receiver_replies e s.session
-    (receiver_answers p.policy (place_of p e s.session) (find s.session e.receivers)
-    s.content now)
+    then (if is_used p e s.session then to_sender p e s now else None)
+    else if s.originator == p.peer then to_receiver p e s now
     else None
 
 -- ---- a block is submitted

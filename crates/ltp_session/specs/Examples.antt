@@ -10,7 +10,7 @@ use Rattle.ltp_segment.specs.Policy.{PolicyValue}
 use Rattle.ltp_segment.specs.Values.{PieceValue, ReportValue, ContentValue, a_piece, a_report}
 use Rattle.ltp_session.specs.Sender.{Sending, sender_open}
 use Rattle.ltp_session.specs.Engine.{Party, Engine, starts, EffectsValue, EngineStep, datagram_step, tick_step}
-use Rattle.ltp_session.specs.World.{World, Event, starts_world, run}
+use Rattle.ltp_session.specs.World.{World, Event, first_end, submit, deliver, starts_world, run}
 
 abbrev pub policy : PolicyValue
 policy = record { segment = 2; timeout = 10; limit = 2; cap = 15 }
@@ -48,6 +48,13 @@ report serial checkpoint upper claims = a_report (report_value serial checkpoint
 abbrev pub world_after : List Event → World
 world_after events =
     run (party 1 2, party 2 1) (starts_world (party 1 2, party 2 1)) events
+
+-- of three segments the middle one comes late; all else that is sent comes too
+abbrev pub late_segment : List Event
+late_segment =
+    submit first_end (7 ∷ 8 ∷ 9 ∷ 10 ∷ 11 ∷ []) 5
+    ∷ deliver 0 ∷ deliver 2 ∷ deliver 3 ∷ deliver 1 ∷ deliver 4 ∷ deliver 5 ∷ deliver 6
+    ∷ deliver 7 ∷ deliver 8 ∷ []
 
 abbrev pub contents_sent : World → List ContentValue
 contents_sent w = map (λ d. (d.segment).content) w.sent
@@ -99,7 +106,7 @@ all_notes (first ∷ others) = first.notes ++ all_notes others
 
 -- ---- a sending session
 
--- two octets of two segments, of which none is claimed; its checkpoint has this serial
+-- three octets in two segments, of which none is claimed; its checkpoint has this serial
 abbrev pub sending_with : ℕ → Sending
 sending_with serial = record {
   block = 97 ∷ 98 ∷ 99 ∷ [];

@@ -80,8 +80,8 @@ abbrev pub is_outside : Receiving → PieceValue → Bool
 is_outside r piece = is_red piece.kind
     && is_misplaced (reach_of r.cells) r.length (ends_red_part piece.kind) (piece_stop piece)
 
--- 2. red octets that come after green ones in the block, or green ones before red ones
--- (section 6.21)
+-- 2. a red piece that stops past the lowest green offset, or a green one that begins below the end of
+-- the red octets that came or below the known length (section 6.21)
 abbrev pub is_miscoloured : Receiving → PieceValue → Bool
 is_miscoloured r piece =
     if is_red piece.kind then is_past r.green (piece_stop piece)
@@ -150,14 +150,16 @@ reports policy r report now = record {
   note = None;
 }
 
+abbrev pub takes_checkpoint : PolicyValue → Receiving → PieceValue → ℕ → StepValue Receiving
+takes_checkpoint policy r piece now =
+    if is_past_serials r.serial
+    then rejects policy (with_handed_up r) by_system now (red_part r)
+    else reports policy r (report_of r piece) now
+
 -- rules 5 and 6, once the piece's octets are there
 abbrev pub takes_red : PolicyValue → Receiving → PieceValue → ℕ → StepValue Receiving
 takes_red policy r piece now =
-    if is_checkpoint piece.kind
-    then
-    (if is_past_serials r.serial
-    then rejects policy (with_handed_up r) by_system now (red_part r)
-    else reports policy r (report_of r piece) now)
+    if is_checkpoint piece.kind then takes_checkpoint policy r piece now
     else record {
       next = keeps (with_handed_up r);
       out = [];

@@ -112,7 +112,7 @@ opened policy block red now checkpoint (Some segment) = keeps (record {
 })
 
 -- all segments are sent in order, and the last red one is the first checkpoint; a block without a
--- red part is sent at that
+-- red part is sent and noted, and no session is kept
 unfoldable pub begin : PolicyValue → ℕ → List ℕ → ℕ → ℕ → StepValue Sending
 begin policy session block red now =
     let segments : List (ℕ × List ℕ) = red_segments policy block red in
@@ -176,8 +176,8 @@ next_round policy s serial report now before =
     checkpoint_at (length s.block) s.red (serial + 1) report in
     sends_again policy s now segments checkpoint (last_segment segments) before)
 
--- the claims are added by now: the session is over where they are all; a report that names the
--- current checkpoint begins another round
+-- the claims are added by now: where they cover the whole red part the session is over; else a report
+-- that names the current checkpoint begins another round
 abbrev pub goes_on :
     PolicyValue → Sending → PieceValue → ReportValue → ℕ → List ContentValue
     → StepValue Sending

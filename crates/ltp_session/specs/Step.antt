@@ -1,10 +1,10 @@
 -- What one session does in answer to an event. It names neither its originator nor its number;
 -- who keeps the session knows them.
 
-use Rattle.std.specs.Prelude.{ℕ, Bool, List, Option, None, Some}
+use Rattle.std.specs.Prelude.{◌≢◌, ℕ, Bool, List, [], Option, None, Some}
 use Rattle.ltp_segment.specs.Values.{ContentValue}
 
--- what is to be noted: the block was sent and its red part claimed whole; the session was given
+-- what is to be noted: the block was sent and its red part, if it has one, claimed whole; the session was given
 -- up, for a reason; a block for a client service that isn't there came; the other end gave the
 -- session up, for a reason; a piece or a report doesn't fit the block; a piece for a session that
 -- is over came; there is no room in the record of earlier sessions
@@ -52,6 +52,10 @@ sending next out = record { next = next; out = out; up = None; green = None; not
 abbrev pub noting : {S : Type 0} → Change S → List ContentValue → NoteValue → StepValue S
 noting next out note =
     record { next = next; out = out; up = None; green = None; note = Some note }
+
+-- the step sends something
+abbrev pub Sends : {S : Type 0} → StepValue S → Type 0
+Sends step = step.out ≢ []
 
 -- ---- the reasons of a cancel (RFC 5326, section 3.2.4)
 

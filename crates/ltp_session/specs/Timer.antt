@@ -29,6 +29,6 @@ may_repeat policy timer = nat_lt timer.times policy.limit
 abbrev pub first_serial : ℕ → ℕ
 first_serial session = 1 + session % 16383
 
--- no segment has this serial or a larger one. Own rule
+-- we send no segment with this serial or a larger one. Own rule
 abbrev pub is_past_serials : ℕ → Bool
 is_past_serials serial = serial == 2 ^ 32

@@ -11,15 +11,13 @@ ghost use Rattle.ltp_session.specs.Step.{StepValue, note_closed, note_history_fu
 ghost use Rattle.ltp_session.specs.Sender.{report_step};
 ghost use Rattle.ltp_session.specs.Receiver.{on_piece};
 ghost use Rattle.ltp_session.specs.World.{first_end, second_end, submit, deliver, clock};
-ghost use Rattle.ltp_session.specs.Examples.{policy, piece_value, piece, claim, report_value, report, world_after, contents_sent, comes, ticks_at, effects_of, engine_after, effects, opens, all_notes, sending_with};
+ghost use Rattle.ltp_session.specs.Examples.{policy, piece_value, piece, claim, report_value, report, late_segment, world_after, contents_sent, comes, ticks_at, effects_of, engine_after, effects, opens, all_notes, sending_with};
 
 /// The middle one of three segments comes late. Its place is reported open, and it alone is sent
 /// again; the red part is handed up as it comes, and all is over once the next report is
 /// acknowledged.
 pub fn a_late_segment_is_sent_again()
-    ensures { contents_sent (world_after (submit first_end (7 ∷ 8 ∷ 9 ∷ 10 ∷ 11 ∷ []) 5
-        ∷ deliver 0 ∷ deliver 2 ∷ deliver 3 ∷ deliver 1 ∷ deliver 4 ∷ deliver 5 ∷ deliver 6
-        ∷ deliver 7 ∷ deliver 8 ∷ []))
+    ensures { contents_sent (world_after late_segment)
         ≡ piece kinds.Red 0 0 0 (7 ∷ 8 ∷ [])
         ∷ piece kinds.Red 2 0 0 (9 ∷ 10 ∷ [])
         ∷ piece kinds.RedEndBlock 4 2 0 (11 ∷ [])
@@ -29,6 +27,13 @@ pub fn a_late_segment_is_sent_again()
         ∷ report 3 3 5 (claim 0 5 ∷ [])
         ∷ a_report_ack 3
         ∷ [] }
+{}
+
+/// After that run the sender keeps nothing, and the receiver has closed the number.
+pub fn a_claimed_session_is_over()
+    ensures senders { (world_after late_segment).engines.0.senders ≡ [] }
+    ensures receivers { (world_after late_segment).engines.1.receivers ≡ [] }
+    ensures closed { (world_after late_segment).engines.1.closed ≡ 1 ∷ [] }
 {}
 
 /// A report that names another checkpoint than the current one is acknowledged and begins no round.
@@ -116,8 +121,10 @@ pub fn the_65th_session_evicts_the_first()
 
 /// A closed number is told before a record that is full.
 pub fn closed_comes_before_full()
-    ensures closed { (on_piece policy (record { session = 7; most = 100; closed = true; full = true })
+    ensures closed { (on_piece policy
+        (record { session = 7; most = 100; closed = true; full = true })
         None (piece_value kinds.Red 0 0 0 (97 ∷ [])) 0).note ≡ Some note_closed }
-    ensures full { (on_piece policy (record { session = 7; most = 100; closed = false; full = true })
+    ensures full { (on_piece policy
+        (record { session = 7; most = 100; closed = false; full = true })
         None (piece_value kinds.Red 0 0 0 (97 ∷ [])) 0).note ≡ Some note_history_full }
 {}

@@ -112,7 +112,9 @@ fn a_run_does_not(rt: HostRuntime) -> Result<(), Fail> {
 
 /// What is read of `abcdef`, where these reads fail.
 fn read_of(alloc: Global, failing: &[bool], most: u8) -> Result<Vec<u8>, ReadRefused> {
-    let mut source = MemSource::new(alloc, b"abcdef", failing)?;
+    let Ok(mut source) = MemSource::new(alloc, b"abcdef", failing) else {
+        return Err(ReadRefused::NoMemory);
+    };
     read_all(alloc, &mut source, usize::from(most))
 }
 

@@ -100,18 +100,24 @@ fn a_fault_ends_the_run(rt: HostRuntime) -> Result<(), Fail> {
     Ok(())
 }
 
-/// Whether the second read fails, so that the run ends with it and a front of the line is written.
+/// Two whole lines and a half, which one read takes.
+const HALF_A_LINE_MORE: &str = "030107000103030800646566\n00010700010003616263\n0301080001000308";
+
+/// Whether the second read fails, so that the run ends with it, and what the octets read settle was
+/// written: the line for the two that ended.
 fn second_read_fails(alloc: Global) -> Result<bool, AllocError> {
-    let input = IN_PIECES.as_bytes();
-    let failing = ([false, true].as_slice(), [].as_slice());
-    let words = ["receive"].as_slice();
-    let nothing = with_faults(alloc, words, input, failing, "", Status::ReadFault)?;
-    let line = "up 1 7 616263646566\n";
-    Ok(nothing || with_faults(alloc, words, input, failing, line, Status::ReadFault)?)
+    with_faults(
+        alloc,
+        &["receive"],
+        HALF_A_LINE_MORE.as_bytes(),
+        (&[false, true], &[]),
+        "up 1 7 616263646566\n",
+        Status::ReadFault,
+    )
 }
 
 #[test]
-fn a_later_read_that_fails_leaves_whole_lines(rt: HostRuntime) -> Result<(), Fail> {
+fn what_was_read_before_a_failed_read_is_answered(rt: HostRuntime) -> Result<(), Fail> {
     assert!(rt; second_read_fails(rt.alloc())?);
     Ok(())
 }

@@ -28,7 +28,7 @@ since_place p at text =
           sym (ap (λ k. drop p (take k text)) (sym whole) ∙ drop-take p (at - p) text)
     ]
 
--- a front is a shorter front and the part behind it
+-- a front is a shorter front and the part after it
 pub front_seam : (text : List ℕ) (at to : ℕ) → at ≤ to → take at text ++ take (to - at) (drop at text) ≡ take to text
 front_seam text at to h =
     let whole : at + (to - at) ≡ to = omega arith in
@@ -43,7 +43,7 @@ part_seam text at mid to h k =
     ap (λ n. take n (drop at text)) (sym whole) ∙ take-add (mid - at) (to - mid) (drop at text)
     ∙ ap (λ t. take (mid - at) (drop at text) ++ take (to - mid) t) (drop-drop (mid - at) at text ∙ ap (λ n. drop n text) place)
 
--- what is left at a place is a part and what is left behind it
+-- what is left at a place is a part and what is left after it
 pub rest_seam : (text : List ℕ) (at to : ℕ) → at ≤ to → drop at text ≡ take (to - at) (drop at text) ++ drop to text
 rest_seam text at to h =
     let place : at + (to - at) ≡ to = omega arith in

@@ -1,4 +1,4 @@
--- The laws of whole texts, behind which nothing may stand.
+-- The laws of whole texts, after which nothing may stand.
 use Rattle.std.proofs.Common.{◌≡◌, ℕ, ◌≢◌, Bool, true, false, eqb, List, [], length, take, Result, Ok, Err, ◌⊎◌, refl, sym, ap, ◌∙◌, subst, inl, inr, arith, eqb-true, eq-eqb, ne_eqb, take_all}
 use Rattle.wire_fields.specs.Format.{Format, Spells}
 use Rattle.wire_fields.specs.Refusal.{Stop, because, Begins}

@@ -1,25 +1,22 @@
-//! `receive`: the datagrams of recorded traffic, line by line.
+//! One line of `receive`: a datagram of recorded traffic.
 ghost use Rattle.std.specs.Prelude.{◌≡◌, ◌+◌, ◌++◌, ◌<◌, ◌≤◌, ℕ, List, [], None, Some, length, IfOk, IfSome, OnOk, OnErr};
 ghost use Rattle.std.specs.String.{string_bytes};
-ghost use Rattle.edge_traits.specs.AnswerView.{answered};
-ghost use Rattle.edge_traits.specs.Outcome.{IsAnswer};
 ghost use Rattle.ltp_segment.specs.Reading.{segment_of};
-ghost use Rattle.gateway_run.specs.InputLines.{lines_of};
 ghost use Rattle.gateway_run.specs.LineContent.{segment_content, content_of as content_of_line, red};
 ghost use Rattle.gateway_run.specs.KeptSessions.{Kept};
 ghost use Rattle.gateway_run.specs.WrittenLines.{reply_line};
-ghost use Rattle.gateway_run.specs.Receive.{received, the_limits, lines_settle, turn_of, content_turn};
+ghost use Rattle.gateway_run.specs.Receive.{the_limits, turn_of, content_turn};
 ghost use Rattle.gateway_run.specs.Views.{red_piece, reply as replied};
 ghost use Rattle.gateway_run.specs.Table.{Shows};
 ghost use Rattle.gateway_run.specs.Turns.{TurnsAs, WantsMemory};
+ghost use Rattle.gateway_run.specs.Stops.{IsStop};
 
-use crate::input_lines::{ended, first_line};
 use crate::line_content::{LineContent, content_of, datagram_of, is_hex};
 use crate::piece::Piece;
-use crate::sessions::{is_one_too_many, meet, no_sessions};
+use crate::sessions::{is_one_too_many, meet};
 use crate::table::{Reply, Sessions, Whole};
 use crate::written_lines::{write_fault, write_no_hex, write_note, write_skip, write_up};
-use edge_traits::{Answer, Status};
+use edge_traits::Status;
 use std::alloc::{AllocError, Global};
 
 /// The most lines of an input.
@@ -31,60 +28,20 @@ pub const MOST_OCTETS: usize = 9_000_000;
 /// The most sessions that may be unfinished at a time.
 pub const MOST_SESSIONS: usize = 64;
 
-/// What `receive` answers to an input, of which only so many octets are looked at. Memory is
-/// wanted only for an input that has octets.
-pub fn receive(alloc: Global, input: &[u8], most: usize) -> Result<Answer, AllocError>
-    ensures answer { IfOk result (λ a. answered a ≡ received the_limits most input.now) }
-    ensures status { IfOk result (λ a. IsAnswer a.status) }
-    ensures memory { OnErr result (0 < length input.now) }
-{
-    if input.len() > most {
-        answer_lines(alloc, ended(&input[..most]), Status::Limit)
-    } else {
-        answer_lines(alloc, input, Status::Done)
-    }
-}
-
-/// Answers the lines of a text; the run ends so where none of them ends it.
-fn answer_lines(alloc: Global, lines: &[u8], ending: Status) -> Result<Answer, AllocError>
-    requires { IsAnswer ending }
-    ensures answer { IfOk result (λ a. answered a ≡ lines_settle the_limits 1 [] (lines_of lines.now) (Some ending)) }
-    ensures status { IfOk result (λ a. IsAnswer a.status) }
-    ensures memory { OnErr result (0 < length lines.now) }
-{
-    let mut text = String::new(alloc);
-    let mut sessions = no_sessions(alloc);
-    let mut rest = lines;
-    let mut number = 1;
-    'lines: while !rest.is_empty() {
-        let (line, later) = first_line(rest);
-        match answer_line(alloc, number, line, &mut sessions, &mut text)? {
-            Some(status) => return Ok(Answer { text, status }),
-            None => rest = later,
-        }
-        number += 1;
-    }
-    Ok(Answer {
-        text,
-        status: ending,
-    })
-}
-
 /// Answers line `number`: the status where the run ends with it. A line too many or too long is
 /// answered without memory.
 #[tactic(auto, unfolding(crate::specs::Receive::turn_of))]
-fn answer_line(
+pub fn answer_line(
     alloc: Global,
     number: u64,
     line: &[u8],
     sessions: &mut Sessions,
     text: &mut String,
 ) -> Result<Option<Status>, AllocError>
-    requires { sessions.old.unfinished ≤ MOST_SESSIONS }
-    ensures few { (kept : List Kept) → Shows sessions.old kept
+    ensures few { (kept : List Kept) → Shows sessions.old kept → sessions.old.unfinished ≤ MOST_SESSIONS
         → IfOk result (λ ends. ends ≡ None → sessions.new.unfinished ≤ MOST_SESSIONS) }
-    ensures status { IfOk result (λ ends. IfSome ends IsAnswer) }
-    ensures turn { (kept : List Kept) → Shows sessions.old kept
+    ensures status { IfOk result (λ ends. IfSome ends IsStop) }
+    ensures turn { (kept : List Kept) → Shows sessions.old kept → sessions.old.unfinished ≤ MOST_SESSIONS
         → IfOk result (λ ends. TurnsAs (turn_of the_limits number kept line.now) ends
         (string_bytes text.old) (string_bytes text.new) sessions.new) }
     ensures memory { OnErr result ((number ≤ MOST_LINES) × (length line.now ≤ MOST_OCTETS)) }
@@ -104,11 +61,10 @@ fn answer_content(
     sessions: &mut Sessions,
     text: &mut String,
 ) -> Result<Option<Status>, AllocError>
-    requires { sessions.old.unfinished ≤ MOST_SESSIONS }
-    ensures few { (kept : List Kept) → Shows sessions.old kept
+    ensures few { (kept : List Kept) → Shows sessions.old kept → sessions.old.unfinished ≤ MOST_SESSIONS
         → IfOk result (λ ends. ends ≡ None → sessions.new.unfinished ≤ MOST_SESSIONS) }
-    ensures status { IfOk result (λ ends. IfSome ends IsAnswer) }
-    ensures turn { (kept : List Kept) → Shows sessions.old kept
+    ensures status { IfOk result (λ ends. IfSome ends IsStop) }
+    ensures turn { (kept : List Kept) → Shows sessions.old kept → sessions.old.unfinished ≤ MOST_SESSIONS
         → IfOk result (λ ends. TurnsAs (content_turn the_limits number kept (content_of_line line.now)) ends
         (string_bytes text.old) (string_bytes text.new) sessions.new) }
 {
@@ -129,14 +85,13 @@ fn answer_datagram(
     sessions: &mut Sessions,
     text: &mut String,
 ) -> Result<Option<Status>, AllocError>
-    requires { sessions.old.unfinished ≤ MOST_SESSIONS }
-    ensures few { (kept : List Kept) → Shows sessions.old kept
+    ensures few { (kept : List Kept) → Shows sessions.old kept → sessions.old.unfinished ≤ MOST_SESSIONS
         → IfOk result (λ ends. ends ≡ None → sessions.new.unfinished ≤ MOST_SESSIONS) }
-    ensures status { IfOk result (λ ends. IfSome ends IsAnswer) }
-    ensures turn { (kept : List Kept) → Shows sessions.old kept
+    ensures status { IfOk result (λ ends. IfSome ends IsStop) }
+    ensures turn { (kept : List Kept) → Shows sessions.old kept → sessions.old.unfinished ≤ MOST_SESSIONS
         → IfOk result (λ ends. TurnsAs (content_turn the_limits number kept (segment_content (segment_of datagram.now))) ends
         (string_bytes text.old) (string_bytes text.new) sessions.new) }
-    ensures memory { (kept : List Kept) → Shows sessions.old kept
+    ensures memory { (kept : List Kept) → Shows sessions.old kept → sessions.old.unfinished ≤ MOST_SESSIONS
         → OnErr result (WantsMemory (content_turn the_limits number kept (segment_content (segment_of datagram.now)))) }
 {
     match content_of(datagram) {
@@ -160,14 +115,13 @@ fn answer_piece(
     sessions: &mut Sessions,
     text: &mut String,
 ) -> Result<Option<Status>, AllocError>
-    requires { sessions.old.unfinished ≤ MOST_SESSIONS }
-    ensures few { (kept : List Kept) → Shows sessions.old kept
+    ensures few { (kept : List Kept) → Shows sessions.old kept → sessions.old.unfinished ≤ MOST_SESSIONS
         → IfOk result (λ ends. ends ≡ None → sessions.new.unfinished ≤ MOST_SESSIONS) }
-    ensures status { IfOk result (λ ends. IfSome ends IsAnswer) }
-    ensures turn { (kept : List Kept) → Shows sessions.old kept
+    ensures status { IfOk result (λ ends. IfSome ends IsStop) }
+    ensures turn { (kept : List Kept) → Shows sessions.old kept → sessions.old.unfinished ≤ MOST_SESSIONS
         → IfOk result (λ ends. TurnsAs (content_turn the_limits number kept (red (red_piece piece.now))) ends
         (string_bytes text.old) (string_bytes text.new) sessions.new) }
-    ensures memory { (kept : List Kept) → Shows sessions.old kept
+    ensures memory { (kept : List Kept) → Shows sessions.old kept → sessions.old.unfinished ≤ MOST_SESSIONS
         → OnErr result (WantsMemory (content_turn the_limits number kept (red (red_piece piece.now)))) }
 {
     if is_one_too_many(sessions, piece, MOST_SESSIONS) {

@@ -4,16 +4,15 @@ ghost use Rattle.edge_traits.specs.Outcome.{Ran, source_tells, sink_tells};
 ghost use Rattle.gateway_run.specs.Words.{command_of, settles, CompletesCommand, KeepsLaw};
 
 use crate::commands::command::{Command, command_named};
-use crate::commands::receive::receive;
+use crate::commands::drive::run_receive;
 use crate::commands::word::Word;
 use bundle_runs::bundles;
-use edge_traits::{
-    Clock, Link, MOST_INPUT, ReadRefused, Sink, Source, Status, read_all, write_answer,
-};
-use std::alloc::{AllocError, Global};
+use edge_traits::{Clock, Link, Sink, Source, Status};
+use std::alloc::Global;
 
-/// Answers the command that the words name: reads the source to its end, and writes the answer
-/// to the sink. The links and the clock are for commands to come.
+/// Answers the command that the words name, from the source to the sink. `receive` writes what the
+/// octets read settle before it reads on; `check` and `show` read their input first. The links and
+/// the clock are for commands to come.
 pub fn run<S: Source, K: Sink, L: Link, C: Clock>(
     alloc: Global,
     words: &[Word],
@@ -35,9 +34,6 @@ pub fn run<S: Source, K: Sink, L: Link, C: Clock>(
     ensures ran { IfSome (command_of words.now) (λ command. Ran (settles command) result
         (source_tells S.left S.faults S.failing source.old) (source_tells S.left S.faults S.failing source.new)
         (sink_tells K.held K.faults K.failing sink.old) (sink_tells K.held K.faults K.failing sink.new)) }
-
-    // No write follows a failed read.
-    ensures read_fault { result ≡ Status.ReadFault → sink.new ≡ sink.old }
 
     // Where no count rose, the run ends as the input has it, or for want of memory.
     ensures complete { S.faults source.new ≡ S.faults source.old → K.faults sink.new ≡ K.faults sink.old
@@ -65,31 +61,12 @@ fn run_command<S: Source, K: Sink>(
     source: &mut S,
     sink: &mut K,
 ) -> Status
-    ensures ran { Ran (settles command) result
+    ensures { Ran (settles command) result
         (source_tells S.left S.faults S.failing source.old) (source_tells S.left S.faults S.failing source.new)
         (sink_tells K.held K.faults K.failing sink.old) (sink_tells K.held K.faults K.failing sink.new) }
-    ensures read_fault { result ≡ Status.ReadFault → sink.new ≡ sink.old }
 {
     match command {
         Command::Receive => run_receive(alloc, source, sink),
         Command::Bundles(command) => bundles(alloc, command, source, sink),
-    }
-}
-
-/// Runs `receive`.
-fn run_receive<S: Source, K: Sink>(alloc: Global, source: &mut S, sink: &mut K) -> Status
-    ensures ran { Ran (settles Command.Receive) result
-        (source_tells S.left S.faults S.failing source.old) (source_tells S.left S.faults S.failing source.new)
-        (sink_tells K.held K.faults K.failing sink.old) (sink_tells K.held K.faults K.failing sink.new) }
-    ensures read_fault { result ≡ Status.ReadFault → sink.new ≡ sink.old }
-{
-    let input = match read_all(alloc, source, MOST_INPUT) {
-        Ok(input) => input,
-        Err(ReadRefused::Fault) => return Status::ReadFault,
-        Err(ReadRefused::NoMemory) => return Status::Memory,
-    };
-    match receive(alloc, &input, MOST_INPUT) {
-        Ok(answer) => write_answer(sink, &answer),
-        Err(AllocError) => Status::Memory,
     }
 }

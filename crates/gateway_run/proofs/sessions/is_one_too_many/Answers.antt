@@ -7,23 +7,23 @@ use Rattle.gateway_run.proofs.SessionsLemmas.{found_handed_up, found_open, lacks
 use Rattle.gateway_run.proofs.sessions.is_one_too_many.Goals as goal
 
 pub returns-in-Fresh : goal.returns-in-Fresh
-returns-in-Fresh c = λ kept shows.
+returns-in-Fresh c = λ kept shows low.
     let lacks = lacks_first c.args.sessions.now kept _ shows (sym c.find.ensures ∙ c.in-Fresh.is) in
-    let few : unfinished kept ≤ c.args.most = rw shows.count at c.requires in
+    let few : unfinished kept ≤ c.args.most = rw shows.count at low in
     let same : meets BLOCK_MAX (session_in c.args.piece.now.name kept) (red_piece c.args.piece.now) ≡ meets BLOCK_MAX fresh (red_piece c.args.piece.now) =
     ap (λ (s : Session). meets BLOCK_MAX s (red_piece c.args.piece.now)) lacks.first in
     rw same (c.exceeds.ensures ∙ rw shows.count (sym (fresh_too_many c.args.most kept c.args.piece.now.name _ few lacks.first)))
 
 pub returns-in-Open : goal.returns-in-Open
-returns-in-Open c = λ kept shows.
-    let few : unfinished kept ≤ c.args.most = rw shows.count at c.requires in
+returns-in-Open c = λ kept shows low.
+    let few : unfinished kept ≤ c.args.most = rw shows.count at low in
     let found = found_open _ (session_in c.args.piece.now.name kept) c.in-Open.field-0 c.in-Open.field-1
     (shows.each c.args.piece.now.name) (sym c.find.ensures ∙ c.in-Open.is) in
     sym (open_too_many c.args.most kept c.args.piece.now.name _ few (rw found.is_open refl))
 
 pub returns-in-HandedUp : goal.returns-in-HandedUp
-returns-in-HandedUp c = λ kept shows.
-    let few : unfinished kept ≤ c.args.most = rw shows.count at c.requires in
+returns-in-HandedUp c = λ kept shows low.
+    let few : unfinished kept ≤ c.args.most = rw shows.count at low in
     let is = found_handed_up _ (session_in c.args.piece.now.name kept) BLOCK_MAX (red_piece c.args.piece.now)
     (shows.each c.args.piece.now.name) (sym c.find.ensures ∙ c.in-HandedUp.is) in
     rw is (sym (none_too_many c.args.most kept c.args.piece.now.name handed_up few (omega arith)))

@@ -7,15 +7,15 @@ use Rattle.gateway_run.proofs.SessionsLemmas.{found_handed_up, handed_up_of, fou
 use Rattle.gateway_run.proofs.sessions.meet.Goals as goal
 
 pub returns-in-HandedUp-clause-met : goal.returns-in-HandedUp-clause-met
-returns-in-HandedUp-clause-met c = λ kept shows.
+returns-in-HandedUp-clause-met c = λ kept shows few.
     let test = sym c.find.ensures ∙ c.in-HandedUp.is in
     let stands = shows.each c.args.piece.now.name in
     rw (found_handed_up _ (session_in c.args.piece.now.name kept) BLOCK_MAX (red_piece c.args.piece.now) stands test)
     (refl, shows_same c.args.sessions.now kept _ handed_up shows (handed_up_of _ _ stands test))
 
 pub returns-in-Fresh-clause-met : goal.returns-in-Fresh-clause-met
-returns-in-Fresh-clause-met c = λ kept shows.
-    c.meet_first.ensures.met kept (lacks_first c.args.sessions.now kept _ shows (sym c.find.ensures ∙ c.in-Fresh.is))
+returns-in-Fresh-clause-met c = λ kept shows few.
+    c.meet_first.ensures.met kept (lacks_first c.args.sessions.now kept _ shows (sym c.find.ensures ∙ c.in-Fresh.is)) few
 
 pub returns-in-Fresh-clause-memory : goal.returns-in-Fresh-clause-memory
 returns-in-Fresh-clause-memory c = λ kept shows.
@@ -25,7 +25,7 @@ returns-in-Fresh-clause-memory c = λ kept shows.
     c.meet_first.ensures.memory
 
 pub returns-then-is_out_of_bounds-clause-met : goal.returns-then-is_out_of_bounds-clause-met
-returns-then-is_out_of_bounds-clause-met c = λ kept shows.
+returns-then-is_out_of_bounds-clause-met c = λ kept shows few.
     let found = found_open _ (session_in c.args.piece.now.name kept) c.in-Open.reach c.in-Open.length
     (shows.each c.args.piece.now.name) (sym c.find.ensures ∙ c.in-Open.is) in
     let test : is_out_of_bounds BLOCK_MAX (length found.cells) found.known (red_piece c.args.piece.now) ≡ true =
@@ -34,7 +34,7 @@ returns-then-is_out_of_bounds-clause-met c = λ kept shows.
     (refl, shows_same c.args.sessions.now kept _ (open_part found.cells found.known) shows found.is_open)
 
 pub returns-in-Some-Open-clause-met : goal.returns-in-Some-Open-clause-met
-returns-in-Some-Open-clause-met c = λ kept shows.
+returns-in-Some-Open-clause-met c = λ kept shows few.
     let found = found_entry _ _ _ (sym c.in-Some-Open.ensures.value) (shows.each c.args.piece.now.name) in
     let (cells, known, is, stands) = rw c.in-Some-Open.field-0-is at found in
     c.meet_open.ensures kept cells known (record {

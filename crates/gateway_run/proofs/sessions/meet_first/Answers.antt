@@ -8,12 +8,12 @@ use Rattle.gateway_run.proofs.SessionsLemmas.{first-out, first-alone, first-open
 use Rattle.gateway_run.proofs.sessions.meet_first.Goals as goal
 
 pub returns-then-is_out_of_bounds-clause-met : goal.returns-then-is_out_of_bounds-clause-met
-returns-then-is_out_of_bounds-clause-met c = λ kept lacks.
+returns-then-is_out_of_bounds-clause-met c = λ kept lacks few.
     rw (first-out _ (red_piece c.args.piece.now) lacks.first (sym c.is_out_of_bounds.ensures ∙ c.if-is_out_of_bounds.true))
     (refl, shows_absent _ kept _ lacks)
 
 pub returns-then-is_alone-clause-met : goal.returns-then-is_alone-clause-met
-returns-then-is_alone-clause-met c = λ kept lacks.
+returns-then-is_alone-clause-met c = λ kept lacks few.
     rw (first-alone _ (red_piece c.args.piece.now) lacks.first (sym c.is_out_of_bounds.ensures ∙ c.if-is_out_of_bounds.false)
     (sym c.is_alone.ensures ∙ c.if-is_alone.true)) (
       refl,
@@ -22,7 +22,7 @@ returns-then-is_alone-clause-met c = λ kept lacks.
     )
 
 pub returns-clause-met : goal.returns-clause-met
-returns-clause-met c = λ kept lacks.
+returns-clause-met c = λ kept lacks few.
     rw (first-open _ (red_piece c.args.piece.now) lacks.first (sym c.is_out_of_bounds.ensures ∙ c.if-is_out_of_bounds.false)
     (sym c.is_alone.ensures ∙ c.if-is_alone.false)) (
       refl,
@@ -31,5 +31,5 @@ returns-clause-met c = λ kept lacks.
           (length_after None c.args.piece.now.ends (stop (red_piece c.args.piece.now))))
           lacks.others c.in_ok-put-2.ensures
           (_, _, refl, rw c.in_ok-part.ensures.ok (c.in_ok-take.ensures [] None c.empty_part-part.ensures))
-          refl (rw lacks.first (omega arith)),
+          refl (rw lacks.first (omega (arith, few, c.saturating_add-sessions.ensures, c.in_ok-put-2.ensures.count))),
     )

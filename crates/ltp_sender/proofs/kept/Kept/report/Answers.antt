@@ -9,18 +9,18 @@ use Rattle.ltp_session.specs.Step.{StepValue}
 use Rattle.ltp_session.specs.Sender.{Sending, goes_on}
 use Rattle.ltp_sender.specs.Segments.{checkpoint_value}
 use Rattle.ltp_sender.specs.Kept.{sending_of, phase_value, Did}
-use Rattle.ltp_sender.proofs.StepLemmas.{Did-is, report_step-outside, report_step-open, report_step-cancelling}
+use Rattle.ltp_sender.proofs.StepLemmas.{Did-is, report_step-sends, OnErr-of, report_step-outside, report_step-open, report_step-cancelling}
 use Rattle.ltp_sender.proofs.kept.Kept.report.Goals as goal
 
-pub returns-then-report-self : goal.returns-then-report-self
-returns-then-report-self c =
+pub returns-then-report-self-clause-done : goal.returns-then-report-self-clause-done
+returns-then-report-self-clause-done c =
     let s = sending_of c.args.self in
     Did-is c.args.terms.name s _ _ (Some c.args.self, c.noting.result)
     (report_step-outside (policy_value c.args.terms.policy) s (report_value c.args.report) c.args.now (lt-ltb c.args.self.red c.args.report.upper c.if-report-self.true))
     (record { kept = refl; answer = c.noting.ensures ∙ ap (λ ds. record { out = ds; up = None; green = None; note = Some (notes.BadBounds c.args.terms.name.number) }) c.new.ensures })
 
-pub returns-in_ok-add-in-Open : goal.returns-in_ok-add-in-Open
-returns-in_ok-add-in-Open c =
+pub returns-in_ok-add-in-Open-clause-done : goal.returns-in_ok-add-in-Open-clause-done
+returns-in_ok-add-in-Open-clause-done c =
     let s = sending_of c.args.self in
     let policy = policy_value c.args.terms.policy in
     let report = report_value c.args.report in
@@ -36,11 +36,26 @@ returns-in_ok-add-in-Open c =
     (ap goes added ∙ sym is_open)
     (c.go_on.ensures s (a_report_ack c.args.report.serial ∷ []) c.in_ok-acks.ensures)
 
-pub returns-in-Cancelling : goal.returns-in-Cancelling
-returns-in-Cancelling c =
+pub returns-in-Cancelling-clause-done : goal.returns-in-Cancelling-clause-done
+returns-in-Cancelling-clause-done c =
     let s = sending_of c.args.self in
     Did-is c.args.terms.name s _ _ (Some c.args.self, c.sending.result)
     (report_step-cancelling (policy_value c.args.terms.policy) s (report_value c.args.report) c.args.now c.in-Cancelling.reason c.in-Cancelling.timer
     (le-ltb c.args.self.red c.args.report.upper c.if-report-self.false)
     (ap (λ phase. phase_value (length s.block) (take s.red s.block) phase) c.in-Cancelling.is))
     (record { kept = refl; answer = c.sending.ensures ∙ ap (λ ds. record { out = ds; up = None; green = None; note = None }) c.in_ok-acks.ensures })
+
+pub returns-in_err-acks-clause-wanted : goal.returns-in_err-acks-clause-wanted
+returns-in_err-acks-clause-wanted c =
+    OnErr-of c.from_residual.result _ (report_step-sends (policy_value c.args.terms.policy) (sending_of c.args.self) (report_value c.args.report) c.args.now
+    (le-ltb c.args.self.red c.args.report.upper c.if-report-self.false))
+
+pub returns-in_err-add-in-Open-clause-wanted : goal.returns-in_err-add-in-Open-clause-wanted
+returns-in_err-add-in-Open-clause-wanted c =
+    OnErr-of c.from_residual-in_err-add-in-Open.result _ (report_step-sends (policy_value c.args.terms.policy) (sending_of c.args.self) (report_value c.args.report) c.args.now
+    (le-ltb c.args.self.red c.args.report.upper c.if-report-self.false))
+
+pub returns-in_ok-add-in-Open-clause-wanted : goal.returns-in_ok-add-in-Open-clause-wanted
+returns-in_ok-add-in-Open-clause-wanted c =
+    OnErr-of c.go_on.result _ (report_step-sends (policy_value c.args.terms.policy) (sending_of c.args.self) (report_value c.args.report) c.args.now
+    (le-ltb c.args.self.red c.args.report.upper c.if-report-self.false))

@@ -1,0 +1,8 @@
+-- Nothing was kept before the piece.
+use Rattle.bundle6.proofs.ReaderLemmas.{stands-longer}
+use Rattle.bundle6.proofs.reader.Held.begin.Goals as goal
+
+pub taken-requires-clause-stands : goal.taken-requires-clause-stands
+taken-requires-clause-stands c =
+    rw c.requires.empty at
+    (stands-longer 64 c.args.self.now.kept.items c.args.piece.now c.args.self.now.pass c.requires.held.fits c.requires.held.stands)

@@ -1,0 +1,132 @@
+-- Reading a stream of bundles in pieces.
+
+use Rattle.std.specs.Prelude.{◌≡◌, ℕ, ◌+◌, ◌-◌, ◌<◌, ◌≤◌, Bool, true, false, nat_lt, if◌then◌else◌, List, [], ◌++◌, length, take, Option, Some, None, Result, Ok, Err, ◌⊎◌}
+use Rattle.wire_fields.specs.Refusal.{Stop, truncated, because}
+use Rattle.wire_fields.specs.Reading.{read, IsOctets}
+use Rattle.bundle6.specs.declared.fault.Cause6.{Cause6}
+use Rattle.bundle6.specs.declared.fault.Cause6.TheVariants.{Truncated, TooLong}
+use Rattle.bundle6.specs.declared.fault.Refused6.{Refused6}
+use Rattle.bundle6.specs.declared.fault.Fail6.{Fail6}
+use Rattle.bundle6.specs.declared.fault.Fail6.TheVariants.{Refused, Memory}
+use Rattle.bundle6.specs.declared.bundle.Bundle6.{Bundle6}
+use Rattle.bundle6.specs.declared.reader.Fed6.{Fed6}
+use Rattle.bundle6.specs.Table.{bundle}
+use Rattle.bundle6.specs.Legal.{IsLegal}
+
+-- A stream as far as it was taken: how many octets its bundles took, and the octets after them.
+pub record Stream : Type 0 where
+  pub before : ℕ
+  pub kept : List ℕ
+
+-- a reader of a stream: what it took, the refusal that it met, and whether memory ran out
+pub record Reading : Type 0 where
+  pub stream : Stream
+  pub refused : Option Refused6
+  pub spent : Bool
+
+-- the octets end inside a bundle that they begin, or are none
+abbrev pub IsOpen : List ℕ → Type 0
+IsOpen text = (at : ℕ) × (read (bundle 64) text 0 ≡ Err (at, truncated))
+
+-- the octets are not refused for a cause
+abbrev pub IsSpared : List ℕ → Type 0
+IsSpared text = (at : ℕ) (cause : Cause6) → read (bundle 64) text 0 ≡ Err (at, because cause) → ⊥
+
+-- A piece was taken: up to the end of the first bundle, which is legal, or all of it where none ends in
+-- it.
+abbrev pub Takes : ℕ → Stream → List ℕ → ℕ → Option Bundle6 → Stream → Type 0
+Takes longest old piece used (Some b) new =
+    (used ≤ length piece) × (length old.kept + used ≤ longest)
+    × (read (bundle 64) (old.kept ++ piece) 0 ≡ Ok (b, length old.kept + used)) × IsLegal b
+    × (new ≡ record { before = old.before + (length old.kept + used); kept = [] })
+Takes longest old piece used None new =
+    (used ≡ length piece) × (length old.kept + length piece ≤ longest) × IsOpen (old.kept ++ piece)
+    × (new ≡ record { before = old.before; kept = old.kept ++ piece })
+
+-- the octets of a piece with which a bundle is no longer than the longest
+abbrev pub near : ℕ → Stream → List ℕ → List ℕ
+near longest old piece = take (longest - length old.kept) piece
+
+-- with the octets of a piece the unfinished bundle is refused at a place for a cause
+pub record HasRefusal (old : Stream) (piece : List ℕ) (at : ℕ) (cause : Cause6) : Type 0 where
+  pub place : ℕ
+  pub reads : read (bundle 64) (old.kept ++ piece) 0 ≡ Err (place, because cause)
+  pub spot : at ≡ old.before + place
+
+-- the unfinished bundle is open where the longest has ended, and another octet follows
+pub record IsTooLong (longest : ℕ) (old : Stream) (piece : List ℕ)
+    (at : ℕ) (cause : Cause6) : Type 0 where
+  pub begun : IsOpen (old.kept ++ near longest old piece)
+  pub more : longest < length old.kept + length piece
+  pub spot : at ≡ old.before
+  pub named : cause ≡ TooLong
+
+abbrev pub Refuses : ℕ → Stream → List ℕ → ℕ → Cause6 → Type 0
+Refuses longest old piece at cause =
+    HasRefusal old (near longest old piece) at cause ⊎ IsTooLong longest old piece at cause
+
+-- What a piece gives. Memory is wanted for a bundle and for octets that are kept: where nothing was kept
+-- before the piece, want of memory hides no refusal.
+abbrev pub Feeds : ℕ → Stream → List ℕ → Result Fed6 Fail6 → Stream → Type 0
+Feeds longest old piece (Ok fed) new = Takes longest old piece fed.used fed.bundle new
+Feeds longest old piece (Err (Refused at cause)) new = Refuses longest old piece at cause
+Feeds longest old piece (Err Memory) new = old.kept ≡ [] → IsSpared (near longest old piece)
+
+-- The end of the stream: nothing is kept, or the octets end inside a bundle.
+abbrev pub Finishes : Stream → Result (Unit {0}) Fail6 → Type 0
+Finishes old (Ok x) = old.kept ≡ []
+Finishes old (Err (Refused at cause)) =
+    ((old.kept ≡ []) → ⊥) × (cause ≡ Truncated)
+    × ((p : ℕ) × (read (bundle 64) old.kept 0 ≡ Err (p, truncated)) × (at ≡ old.before + p))
+Finishes old (Err Memory) = ⊥
+
+-- what a reader remembers of an answer: a refusal, and want of memory
+abbrev pub Remembers : {A : Type 0} → Result A Fail6 → Reading → Type 0
+Remembers (Ok x) new = (new.refused ≡ None) × (new.spent ≡ false)
+Remembers (Err (Refused at cause)) new =
+    (new.refused ≡ Some (record { at = at; cause = cause })) × (new.spent ≡ false)
+Remembers (Err Memory) new = new.spent ≡ true
+
+-- a reader that met a refusal answers it again, and stays as it is
+pub record AnswersAgain {A : Type 0} (refused : Refused6) (old : Reading)
+    (result : Result A Fail6) (new : Reading) : Type 0 where
+  pub answer : result ≡ Err (Refused refused.at refused.cause)
+  pub kept : new ≡ old
+
+-- ---- one answer
+
+-- the answer to a piece, by what the octets kept and the near ones of the piece are; whether more of it
+-- follow
+abbrev pub answer_of : Stream → List ℕ → Bool
+    → Result (Bundle6 × ℕ) (ℕ × Stop Cause6) → Result Fed6 Fail6
+answer_of old piece more (Ok x) = Ok (record { used = x.1 - length old.kept; bundle = Some x.0 })
+answer_of old piece more (Err (at, truncated)) =
+    if more then Err (Refused old.before TooLong)
+    else Ok (record { used = length piece; bundle = None })
+answer_of old piece more (Err (at, because cause)) = Err (Refused (old.before + at) cause)
+
+abbrev pub answer : ℕ → Stream → List ℕ → Result Fed6 Fail6
+answer longest old piece =
+    answer_of old piece (nat_lt longest (length old.kept + length piece))
+    (read (bundle 64) (old.kept ++ near longest old piece) 0)
+
+-- A piece has one answer, or memory is wanted.
+abbrev pub HaveOneAnswer : ℕ → Type 0
+HaveOneAnswer longest = (old new : Stream) (piece : List ℕ) (result : Result Fed6 Fail6)
+    → length old.kept ≤ longest → IsOctets (old.kept ++ piece)
+    → Feeds longest old piece result new → (result ≡ Err Memory → ⊥)
+    → result ≡ answer longest old piece
+
+-- ---- cutting
+
+-- an answer to a piece, as one to so many octets more before it
+abbrev pub later : ℕ → Result Fed6 Fail6 → Result Fed6 Fail6
+later n (Ok fed) = Ok (record { used = n + fed.used; bundle = fed.bundle })
+later n (Err e) = Err e
+
+-- A piece that completes nothing, and another after it, give what both give as one piece.
+abbrev pub CutsAlike : ℕ → Type 0
+CutsAlike longest = (old mid new : Stream) (first second : List ℕ) (result : Result Fed6 Fail6)
+    → Takes longest old first (length first) None mid → Feeds longest mid second result new
+    → (result ≡ Err Memory → ⊥)
+    → Feeds longest old (first ++ second) (later (length first) result) new

@@ -1,0 +1,262 @@
+//! Reading a stream of bundles, in whatever pieces it comes.
+
+ghost use Rattle.std.specs.Prelude.{ℕ, ◌≡◌, ◌+◌, ◌<◌, ◌≤◌, ◌^◌, ◌++◌, List, [], length, Some, None, true, false, IfOk, IfSome, Err};
+ghost use Rattle.wire_fields.specs.Reading.{read};
+ghost use Rattle.bundle6.specs.Passing.{Fits, Stands};
+ghost use Rattle.bundle6.specs.Streaming.{Feeds, Finishes, Remembers, AnswersAgain};
+ghost use Rattle.bundle6.specs.Holding.{IsHeld, stream_of, Gains, Tells, Ends};
+
+use crate::bundle::Bundle6;
+use crate::fault::{Cause6, Fail6, Refused6};
+use crate::pass::Pass;
+use crate::reading::{MOST_OTHERS, bundle_at};
+use std::alloc::{AllocError, Global};
+use std::marker::Model;
+
+/// The most octets of a bundle of a stream. Own rule.
+const LONGEST: usize = 67_108_864;
+
+/// What a piece gave.
+#[derive(Debug, Drop)]
+pub struct Fed6 {
+    /// How many octets of the piece were taken. The rest is to be fed again.
+    pub used: usize,
+    /// The bundle that they completed, or none where they are all of the piece and complete none.
+    pub bundle: Option<Bundle6>,
+}
+
+/// What a text gave.
+pub(crate) enum Gained {
+    /// A bundle at the front, and how many octets it takes.
+    Whole(Bundle6, usize),
+    /// The octets end inside a bundle; the pass has come so far.
+    Open(Pass),
+}
+
+/// The octets of the unfinished bundle, and how far they are judged.
+#[derive(Drop)]
+pub(crate) struct Held {
+    /// How many octets the bundles before it took.
+    pub(crate) before: usize,
+    pub(crate) kept: Vec<u8>,
+    pub(crate) pass: Pass,
+}
+
+/// A reader of a stream of bundles, which keeps the octets of at most one unfinished bundle.
+///
+/// How the stream is cut into pieces makes no difference, and a piece costs what its octets cost: no
+/// field is read again once it was read whole. Places count from the first octet that was taken.
+#[derive(Drop)]
+pub struct Reader6 {
+    held: Held,
+    refused: Option<Refused6>,
+    spent: bool,
+    alloc: Global,
+}
+
+impl Model for Reader6 {
+    ghost use Rattle.std.specs.Prelude.{◌≤◌, length};
+    ghost use Rattle.bundle6.specs.Streaming.{Reading};
+    ghost use Rattle.bundle6.specs.Holding.{IsHeld, stream_of};
+
+    ghost Value = { Reading };
+
+    ghost view = { λ r.
+        record { stream = stream_of r.held; refused = r.refused; spent = r.spent } };
+
+    ghost invariant = { λ r. IsHeld r.held × (length r.held.kept.items ≤ 67108864) };
+}
+
+impl Reader6 {
+    /// A reader that has taken nothing. It takes no memory.
+    pub fn new(alloc: Global) -> Reader6
+        ensures stream { result.stream ≡ record { before = 0; kept = [] } }
+        ensures fresh { result.refused ≡ None }
+        ensures whole { result.spent ≡ false }
+    {
+        Reader6 {
+            held: Held::new(alloc),
+            refused: None,
+            spent: false,
+            alloc,
+        }
+    }
+
+    /// Takes a piece of the stream, up to the end of the first bundle that it completes, or all of it.
+    ///
+    /// A refusal comes with the octets that settle it, and each later call answers it again. After want
+    /// of memory the reader may only be dropped.
+    pub fn feed(&mut self, piece: &[u8]) -> Result<Fed6, Fail6>
+        requires whole { self.old.spent ≡ false }
+        requires counted { self.old.stream.before + length self.old.stream.kept + length piece.now
+            < 2 ^ 64 }
+        ensures feeds { self.old.refused ≡ None
+            → Feeds 67108864 self.old.stream piece.now result self.new.stream }
+        ensures again { IfSome self.old.refused (λ refused.
+            AnswersAgain refused self.old result self.new) }
+        ensures remembers { Remembers result self.new }
+        ensures bounded { length self.new.stream.kept ≤ 67108864 }
+    {
+        if let Some(refused) = self.refused {
+            return Err(refused.into());
+        }
+        let result = self.held.feed(self.alloc, piece, LONGEST);
+        match &result {
+            Ok(_) => {}
+            Err(Fail6::Refused { at, cause }) => self.refused = Some(cause.at(*at)),
+            Err(Fail6::Memory) => self.spent = true,
+        }
+        result
+    }
+
+    /// Ends the stream. It is refused if and only if a bundle has begun and isn't complete.
+    pub fn finish(&mut self) -> Result<(), Fail6>
+        requires { self.old.spent ≡ false }
+        ensures finishes { self.old.refused ≡ None → Finishes self.old.stream result }
+        ensures again { IfSome self.old.refused (λ refused.
+            AnswersAgain refused self.old result self.new) }
+        ensures remembers { Remembers result self.new }
+    {
+        if let Some(refused) = self.refused {
+            return Err(refused.into());
+        }
+        match self.held.finish() {
+            None => Ok(()),
+            Some(refused) => {
+                self.refused = Some(refused);
+                Err(refused.into())
+            }
+        }
+    }
+}
+
+impl Held {
+    /// Nothing is kept.
+    fn new(alloc: Global) -> Held
+        ensures held { IsHeld result }
+        ensures empty { stream_of result ≡ record { before = 0; kept = [] } }
+    {
+        Held {
+            before: 0,
+            kept: Vec::new(alloc),
+            pass: Pass::START,
+        }
+    }
+
+    /// Takes a piece; with it the unfinished bundle may have so many octets.
+    fn feed(&mut self, alloc: Global, piece: &[u8], longest: usize) -> Result<Fed6, Fail6>
+        requires held { IsHeld self.old }
+        requires small { length self.old.kept.items ≤ longest }
+        requires counted { self.old.before + length self.old.kept.items + length piece.now
+            < 2 ^ 64 }
+        ensures held { IsHeld self.new }
+        ensures small { length self.new.kept.items ≤ longest }
+        ensures feeds { Feeds longest (stream_of self.old) piece.now result (stream_of self.new) }
+    {
+        let room = longest - self.kept.as_slice().len();
+        let near = &piece[..piece.len().min(room)];
+        let cut = near.len() < piece.len();
+        if self.kept.is_empty() {
+            self.begin(alloc, near, cut)
+        } else {
+            self.go_on(alloc, near, cut)
+        }
+    }
+
+    /// Takes a piece after whole bundles. It is kept only where it leaves a bundle open.
+    fn begin(&mut self, alloc: Global, piece: &[u8], cut: bool) -> Result<Fed6, Fail6>
+        requires held { IsHeld self.old }
+        requires counted { self.old.before + length self.old.kept.items + length piece.now
+            < 2 ^ 64 }
+        requires empty { self.old.kept.items ≡ [] }
+        ensures held { IsHeld self.new }
+        ensures tells { Tells (stream_of self.old) piece.now cut result (stream_of self.new) }
+    {
+        match taken(alloc, piece, self.pass, cut) {
+            Ok(Gained::Whole(bundle, end)) => {
+                self.before += end;
+                Ok(Fed6 {
+                    used: end,
+                    bundle: Some(bundle),
+                })
+            }
+            Ok(Gained::Open(pass)) => {
+                self.kept.extend_from_slice(piece)?;
+                self.pass = pass;
+                Ok(Fed6 {
+                    used: piece.len(),
+                    bundle: None,
+                })
+            }
+            Err(fail) => Err(fail.after(self.before)),
+        }
+    }
+
+    /// Takes a piece after the beginning of a bundle.
+    fn go_on(&mut self, alloc: Global, piece: &[u8], cut: bool) -> Result<Fed6, Fail6>
+        requires held { IsHeld self.old }
+        requires counted { self.old.before + length self.old.kept.items + length piece.now
+            < 2 ^ 64 }
+        requires some { self.old.kept.items ≡ [] → ⊥ }
+        ensures held { IsHeld self.new }
+        ensures tells { Tells (stream_of self.old) piece.now cut result (stream_of self.new) }
+    {
+        let held = self.kept.as_slice().len();
+        self.kept.extend_from_slice(piece)?;
+        match taken(alloc, self.kept.as_slice(), self.pass, cut) {
+            Ok(Gained::Whole(bundle, end)) => {
+                self.before += end;
+                self.kept.clear();
+                self.pass = Pass::START;
+                Ok(Fed6 {
+                    used: end - held,
+                    bundle: Some(bundle),
+                })
+            }
+            Ok(Gained::Open(pass)) => {
+                self.pass = pass;
+                Ok(Fed6 {
+                    used: piece.len(),
+                    bundle: None,
+                })
+            }
+            Err(fail) => {
+                self.kept.truncate(held);
+                Err(fail.after(self.before))
+            }
+        }
+    }
+
+    /// The refusal of the end of the stream, where a bundle has begun.
+    fn finish(&self) -> Option<Refused6>
+        requires { IsHeld self.now }
+        ensures { Ends (stream_of self.now) result }
+    {
+        if self.kept.is_empty() {
+            return None;
+        }
+        match self.pass.run(self.kept.as_slice(), MOST_OTHERS) {
+            (_, None) => None,
+            (_, Some(refused)) => Some(refused.cause.at(self.before + refused.at)),
+        }
+    }
+}
+
+/// What some octets give, over which a pass has come so far. Where they are cut no more may follow them.
+fn taken(alloc: Global, text: &[u8], pass: Pass, cut: bool) -> Result<Gained, Fail6>
+    requires fits { Fits 64 text.now pass }
+    requires stands { Stands 64 text.now pass }
+    ensures { Gains text.now cut result }
+{
+    match pass.run(text, MOST_OTHERS) {
+        (_, None) => {
+            let (bundle, end) = bundle_at(alloc, text, 0, MOST_OTHERS)?;
+            Ok(Gained::Whole(bundle, end))
+        }
+        (pass, Some(refused)) => match refused.cause {
+            Cause6::Truncated if cut => Err(Cause6::TooLong.at(0).into()),
+            Cause6::Truncated => Ok(Gained::Open(pass)),
+            _ => Err(refused.into()),
+        },
+    }
+}

@@ -1,0 +1,9 @@
+use Rattle.gateway_run.proofs.FrontLemmas.{settles-front}
+use Rattle.gateway_run.proofs.CommandLemmas.{command-front}
+use Rattle.gateway_run.proofs.laws.earliest_place_decides.Goals as goal
+
+pub returns-clause-receive : goal.returns-clause-receive
+returns-clause-receive c = settles-front
+
+pub returns-clause-commands : goal.returns-clause-commands
+returns-clause-commands c = command-front

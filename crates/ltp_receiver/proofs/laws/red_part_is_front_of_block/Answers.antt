@@ -1,0 +1,5 @@
+use Rattle.ltp_receiver.proofs.BlockLemmas.{all_fronts}
+use Rattle.ltp_receiver.proofs.laws.red_part_is_front_of_block.Goals as goal
+
+pub returns : goal.returns
+returns c = all_fronts

@@ -1,0 +1,58 @@
+-- What a receiver shows of its session.
+
+use Rattle.std.specs.Prelude.{◌≡◌, ℕ, ◌≤◌, Bool, false, List, [], length, Option, None, Some}
+use Rattle.std.specs.Prelude.{is_some}
+use Rattle.spans.specs.Places.{is_covered}
+use Rattle.ltp_segment.specs.declared.session.TheConstants.{BLOCK_MAX}
+use Rattle.ltp_segment.specs.Policy.{PolicyValue}
+use Rattle.ltp_segment.specs.Values.{PieceValue}
+use Rattle.ltp_session.specs.declared.name.SessionName.{SessionName}
+use Rattle.ltp_session.specs.Cells.{cell}
+use Rattle.ltp_session.specs.Step.{StepValue, stays, sending}
+use Rattle.ltp_session.specs.Receiver.{Receiving, fresh, is_cancelling, is_outside, piece_step}
+use Rattle.ltp_session.specs.Receiver.{receiver_deadline}
+use Rattle.ltp_session.specs.Views.{SessionValue}
+
+-- a session of which nothing came
+abbrev pub new_session : SessionName → PolicyValue → SessionValue Receiving
+new_session name policy = record {
+  spent = false;
+  name = name;
+  policy = policy;
+  kept = Some (fresh name.number);
+}
+
+-- the session is neither over nor cancelling
+abbrev pub IsOpen : Option Receiving → Type 0
+IsOpen None = ⊥
+IsOpen (Some r) = is_cancelling r.phase ≡ false
+
+-- a piece comes; once the session is over nothing happens
+abbrev pub on_open_piece : PolicyValue → Option Receiving → PieceValue → ℕ → StepValue Receiving
+on_open_piece policy None piece now = sending stays []
+on_open_piece policy (Some r) piece now = piece_step policy r piece now
+
+-- a piece can't be one of the session's red part
+abbrev pub is_kept_outside : Option Receiving → PieceValue → Bool
+is_kept_outside None piece = false
+is_kept_outside (Some r) piece = is_outside r piece
+
+abbrev pub is_kept_cancelling : Option Receiving → Bool
+is_kept_cancelling None = false
+is_kept_cancelling (Some r) = is_cancelling r.phase
+
+-- when the timer is due, where one runs
+abbrev pub deadline_of : Option Receiving → Option ℕ
+deadline_of None = None
+deadline_of (Some r) = receiver_deadline r
+
+-- the octets that came; once the session is over there are none
+abbrev pub cells_of : Option Receiving → List (Option ℕ)
+cells_of None = []
+cells_of (Some r) = r.cells
+
+-- these places, up to the greatest length of a block, are covered where the cells are filled
+pub record Covers (places : List Bool) (cells : List (Option ℕ)) : Type 0 where
+  pub limit : length places ≡ BLOCK_MAX
+  pub within : length cells ≤ BLOCK_MAX
+  pub each : (k : ℕ) → is_covered places k ≡ is_some (cell cells k)

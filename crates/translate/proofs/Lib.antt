@@ -1,0 +1,9 @@
+pub mod BodyLemmas
+pub mod NumberLemmas
+pub mod BitsLemmas
+pub mod Blocks6Lemmas
+pub mod Back6Lemmas
+pub mod Residue6Lemmas
+pub mod View6Laws
+pub mod View7Laws
+pub mod BackLaws

@@ -1,0 +1,12 @@
+-- what a reader must believe, in this order
+pub mod Sound
+pub mod View6
+pub mod View7
+pub mod Refusals
+pub mod Private
+pub mod Answers
+pub mod Reading6
+pub mod Reading7
+pub mod Translation
+-- what only ties code to it
+pub mod Views

@@ -1,0 +1,235 @@
+//! The record that a version 7 bundle stands for.
+
+ghost use Rattle.std.specs.Prelude.{◌≡◌, ◌++◌, ◌≤◌, ◌<◌, ◌^◌, ◌+◌, length, IfOk, OnOk};
+ghost use Rattle.std.specs.List.{list_all, list_any};
+ghost use Rattle.wire_fields.specs.Whole.{read_whole};
+ghost use Rattle.bundle7.specs.Legal.{IsLegal7};
+ghost use Rattle.bundle_meaning.specs.Creation.{id6_of};
+ghost use Rattle.bundle_meaning.specs.Residue.{residue_new};
+ghost use Rattle.bundle_meaning.specs.Wrap.{wrap_new};
+ghost use Rattle.translate.specs.Answers.{Translates};
+ghost use Rattle.translate.specs.Refusals.{first_that_holds};
+ghost use Rattle.translate.specs.Reading7.{refusals7, residue_in7, default_residue7, is_residue7, may_stand7, are_residues7, may_be_held6, is_wrap_legal7, ext7_of, exts_in7, shared7_of, extra7_of, extra6_of_residue, full7_of};
+
+use crate::old_reading::{ADMINISTRATIVE, FRAGMENT, has_bit, own};
+use crate::old_view::{BLOCK_COMMON, COMMON};
+use crate::private::{is_marked, is_residue, is_wrap};
+use crate::refused::Refused;
+use bundle_meaning::{
+    Block7Like, BlockFault, Content, Ext, Extra6, Extra7, Exts, Full, ResidueNew, Shared, default6,
+    id_to_old, lend_residue_new, lend_wrap_new, read_residue_new, read_wrap_new,
+};
+use bundle7::{Block7, Bundle7};
+use std::alloc::{AllocError, Global};
+
+/// The record that a version 7 bundle stands for.
+pub fn from7(alloc: Global, bundle: &Bundle7) -> Result<Full, Refused>
+    requires { IsLegal7 bundle.now }
+    ensures { Translates (first_that_holds (refusals7 bundle.now)) (full7_of bundle.now) result }
+{
+    match refusal7(bundle) {
+        Some(cause) => Err(cause),
+        None => Ok(full7(alloc, bundle)?),
+    }
+}
+
+/// The first cause that refuses a bundle. No memory is taken.
+pub(crate) fn refusal7(bundle: &Bundle7) -> Option<Refused>
+    ensures { result ≡ first_that_holds (refusals7 bundle.now) }
+{
+    let primary = &bundle.primary;
+    if primary.millis < 1000 {
+        Some(Refused::Clockless)
+    } else if primary.lifetime == 0 {
+        Some(Refused::LifetimeZero)
+    } else if id_to_old(primary.millis, primary.sequence).is_err() {
+        Some(Refused::SequenceTooLarge)
+    } else if has_bit(primary.flags, FRAGMENT) && has_bit(primary.flags, ADMINISTRATIVE) {
+        Some(Refused::AdminFragment)
+    } else if has_bit(primary.flags, ADMINISTRATIVE) {
+        Some(Refused::AdminUnknown)
+    } else if !are_residues7(bundle.exts.as_slice()) {
+        Some(Refused::ResidueBad)
+    } else if !are_wraps7(bundle.exts.as_slice()) {
+        Some(Refused::WrapBad)
+    } else {
+        None
+    }
+}
+
+/// Whether a block is a residue.
+fn is_residue7(block: &Block7) -> bool
+    ensures { result ≡ is_residue7 block.now }
+{
+    is_residue(block.kind, block.body.as_slice())
+}
+
+/// Whether a residue speaks of no report.
+fn may_stand7(residue: &[u8]) -> bool
+    ensures { result ≡ may_stand7 (read_whole residue_new BlockFault.Bad residue.now) }
+{
+    match lend_residue_new(residue) {
+        Ok(residue) => residue.rests.iter().all(|rest| *rest == 0),
+        Err(_) => false,
+    }
+}
+
+/// Whether a residue is among the blocks.
+fn has_residue7(blocks: &[Block7]) -> bool
+    ensures { result ≡ list_any is_residue7 blocks.now }
+{
+    blocks.iter().any(|block| is_residue7(block))
+}
+
+/// Whether there is no residue, or one that may stand in this bundle.
+#[tactic(auto, unfolding(crate::specs::Reading7::are_residues7))]
+fn are_residues7(blocks: &[Block7]) -> bool
+    ensures { result ≡ are_residues7 blocks.now }
+{
+    for i in 0..blocks.len() {
+        let block = &blocks[i];
+        if is_residue7(block) {
+            return may_stand7(block.body.as_slice()) && !has_residue7(&blocks[i + 1..]);
+        }
+    }
+    true
+}
+
+/// Whether a wrap's octets hold a block that may be held.
+fn may_be_held6(wrap: &[u8]) -> bool
+    ensures { result ≡ may_be_held6 (read_whole (wrap_new (length wrap.now)) BlockFault.Bad wrap.now) }
+{
+    match lend_wrap_new(wrap) {
+        Ok(block) => !is_marked(u64::from(block.kind), block.body),
+        Err(_) => false,
+    }
+}
+
+/// Whether a block is no wrap, or holds a block that may be held.
+fn is_wrap_legal7(block: &Block7) -> bool
+    ensures { result ≡ is_wrap_legal7 block.now }
+{
+    let body = block.body.as_slice();
+    !is_wrap(block.kind, body) || may_be_held6(body)
+}
+
+/// Whether each wrap holds a block.
+fn are_wraps7(blocks: &[Block7]) -> bool
+    ensures { result ≡ list_all is_wrap_legal7 blocks.now }
+{
+    blocks.iter().all(is_wrap_legal7)
+}
+
+/// What a bundle that isn't refused says.
+fn full7(alloc: Global, bundle: &Bundle7) -> Result<Full, AllocError>
+    ensures { IfOk result (λ full. full ≡ full7_of bundle.now) }
+{
+    let shared = shared7(alloc, bundle)?;
+    let residue = residue7(alloc, &shared, bundle.exts.as_slice())?;
+    let mut exts = Vec::with_capacity(alloc, bundle.exts.len())?;
+    push_exts7(alloc, bundle.exts.as_slice(), &mut exts)?;
+    let extra6 = Extra6 {
+        after: residue.extra6.after.min(exts.len() as u64),
+        ..residue.extra6
+    };
+    Ok(Full {
+        shared,
+        extra6,
+        extra7: extra7(bundle),
+        exts: Exts::from_vec(exts),
+    })
+}
+
+/// What both versions say.
+fn shared7(alloc: Global, bundle: &Bundle7) -> Result<Shared, AllocError>
+    ensures { IfOk result (λ shared. shared ≡ shared7_of bundle.now) }
+{
+    let primary = &bundle.primary;
+    Ok(Shared {
+        destination: primary.destination.copy(alloc)?,
+        source: primary.source.copy(alloc)?,
+        report_to: primary.report_to.copy(alloc)?,
+        millis: primary.millis,
+        sequence: primary.sequence,
+        expiry: u128::from(primary.millis) + u128::from(primary.lifetime),
+        flags: primary.flags & COMMON,
+        fragment: primary.fragment,
+        payload_flags: bundle.payload.flags & BLOCK_COMMON,
+        content: Content::Bytes(bundle.payload.body.copy(alloc)?),
+    })
+}
+
+/// What only version 7 says.
+fn extra7(bundle: &Bundle7) -> Extra7
+    ensures { result ≡ extra7_of bundle.now }
+{
+    Extra7 {
+        flags: own(bundle.primary.flags, COMMON),
+        crc: bundle.primary.crc,
+        payload_crc: bundle.payload.crc,
+        payload_flags: own(bundle.payload.flags, BLOCK_COMMON),
+    }
+}
+
+/// What a bundle without a residue says in its place.
+fn no_residue7(shared: &Shared) -> ResidueNew
+    ensures { result ≡ default_residue7 shared.now }
+{
+    ResidueNew {
+        extra6: default6(shared),
+        rests: [0; 4],
+    }
+}
+
+/// What the first residue says, or what a bundle without one says in its place.
+#[tactic(auto, unfolding(crate::specs::Reading7::residue_in7))]
+fn residue7(alloc: Global, shared: &Shared, blocks: &[Block7]) -> Result<ResidueNew, AllocError>
+    ensures { IfOk result (λ residue. residue ≡ residue_in7 (default_residue7 shared.now) blocks.now) }
+{
+    for block in blocks {
+        if is_residue7(block) {
+            return match read_residue_new(alloc, block.body.as_slice()) {
+                Ok(residue) => Ok(residue),
+                Err(BlockFault::Bad) => Ok(no_residue7(shared)),
+                Err(BlockFault::Memory) => Err(AllocError),
+            };
+        }
+    }
+    Ok(no_residue7(shared))
+}
+
+/// Adds the extension blocks for which some blocks stand.
+fn push_exts7(alloc: Global, blocks: &[Block7], exts: &mut Vec<Ext>) -> Result<(), AllocError>
+    ensures { OnOk result (exts.new.items ≡ exts.old.items ++ exts_in7 blocks.now) }
+{
+    for block in blocks {
+        push_ext7(alloc, block, exts)?;
+    }
+    Ok(())
+}
+
+/// Adds the extension block for which a block stands, if it stands for one.
+fn push_ext7(alloc: Global, block: &Block7, exts: &mut Vec<Ext>) -> Result<(), AllocError>
+    ensures { OnOk result (exts.new.items ≡ exts.old.items ++ ext7_of block.now) }
+{
+    let body = block.body.as_slice();
+    if is_residue7(block) {
+        return Ok(());
+    }
+    if !is_wrap(block.kind, body) {
+        exts.push(Ext::Seven(Block7Like {
+            kind: block.kind,
+            number: block.number,
+            flags: block.flags,
+            crc: block.crc,
+            body: block.body.copy(alloc)?,
+        }))?;
+        return Ok(());
+    }
+    match read_wrap_new(alloc, body) {
+        Ok(held) => exts.push(Ext::Six(held))?,
+        Err(BlockFault::Bad) => {}
+        Err(BlockFault::Memory) => return Err(AllocError),
+    }
+    Ok(())
+}

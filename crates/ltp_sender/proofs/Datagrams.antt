@@ -2,7 +2,7 @@
 
 use Rattle.std.proofs.Common.{◌≡◌, List, [], ◌∷◌, ◌++◌, refl, ap}
 use Rattle.ltp_segment.specs.Values.{ContentValue}
-use Rattle.ltp_segment.specs.Writing.{segment_octets}
+use Rattle.ltp_segment.specs.Spelling.{segment_octets}
 use Rattle.ltp_session.specs.declared.name.SessionName.{SessionName}
 use Rattle.ltp_session.specs.Views.{headed, datagrams_of}
 

@@ -6,7 +6,7 @@ use Rattle.std.proofs.lemmas.Bool.{eqb-true, eqb-false}
 use Rattle.std.proofs.lemmas.List.{append_assoc, append-nil, drop_more}
 use Rattle.ltp_segment.specs.declared.segment.PieceKind.TheVariants as kinds
 use Rattle.ltp_segment.specs.Values.{PieceValue, ContentValue, a_piece}
-use Rattle.ltp_segment.specs.Writing.{segment_octets}
+use Rattle.ltp_segment.specs.Spelling.{segment_octets}
 use Rattle.ltp_session.specs.declared.name.SessionName.{SessionName}
 use Rattle.ltp_session.specs.Sender.{piece_at, red_pieces, green_pieces, last_segment}
 use Rattle.ltp_session.specs.Views.{headed, datagrams_of}

@@ -5,7 +5,7 @@ ghost use Rattle.std.specs.Option.{option_map};
 ghost use Rattle.ltp_segment.specs.declared.segment.PieceKind.TheVariants as kinds;
 ghost use Rattle.ltp_segment.specs.Kinds.{is_checkpoint};
 ghost use Rattle.ltp_segment.specs.Values.{a_piece};
-ghost use Rattle.ltp_segment.specs.Writing.{segment_octets};
+ghost use Rattle.ltp_segment.specs.Spelling.{segment_octets};
 ghost use Rattle.ltp_session.specs.Sender.{segments_of, last_segment, piece_at, checkpoint_kind, checkpoint_at, red_pieces, green_pieces};
 ghost use Rattle.ltp_session.specs.Views.{headed, datagrams_of};
 ghost use Rattle.ltp_sender.specs.Segments.{segment_in, IsOn, checkpoint_value, IsCheckpoint, plain_pieces, IsLast, green_kind};

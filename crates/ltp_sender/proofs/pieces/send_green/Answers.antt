@@ -1,6 +1,6 @@
 use Rattle.std.proofs.Common.{refl, ap, ◌++◌, ◌∷◌, [], ◌∙◌}
 use Rattle.ltp_segment.specs.Values.{a_piece}
-use Rattle.ltp_segment.specs.Writing.{segment_octets}
+use Rattle.ltp_segment.specs.Spelling.{segment_octets}
 use Rattle.ltp_session.specs.Sender.{piece_at}
 use Rattle.ltp_session.specs.Views.{headed}
 use Rattle.ltp_sender.specs.Segments.{segment_in}

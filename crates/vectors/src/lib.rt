@@ -20,11 +20,17 @@ mod names;
 #[cfg(test)]
 mod new_bundles;
 #[cfg(test)]
+mod new_streams;
+#[cfg(test)]
 mod numbers;
 #[cfg(test)]
 mod old_bundles;
 #[cfg(test)]
+mod old_streams;
+#[cfg(test)]
 mod ranges;
+#[cfg(test)]
+mod records;
 #[cfg(test)]
 mod rows;
 #[cfg(test)]

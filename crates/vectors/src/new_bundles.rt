@@ -2,7 +2,7 @@
 
 use crate::rows::octets;
 use bundle7::{
-    Blocks7, EidFault, Fail7, Hop, age_of, decode7, encode7, hop_of, previous_of, read_eid,
+    Blocks7, EidFault, Fail7, Hop, age_of, decode7, encode7, hop_of, judge7, previous_of, read_eid,
     write_eid,
 };
 use endpoint::Endpoint;
@@ -18,7 +18,8 @@ const PLAIN: &str =
 const RICH: &str =
     "9f8b071a000400010282016f2f2f6e6f64652f67726f75702f7e788202821b0000000100000000008201656e6f6e6532821b80000000000000001a000111701a05265c00051903e844d83a1a49860a0210024582181e181d44fb77970e860619012c0001458202820101428f748507040100451a000100008618c805000240449689a2668601010101581e000102030405060708090a0b0c0d0e0f101112131415161718191a1b1c1d42da12ff";
 
-/// Whether octets with more after them are read to their end, and written in the same octets.
+/// Whether octets with more after them are read and judged to their end, and written in the same
+/// octets.
 fn is_written_again(alloc: Global, text: &str) -> Result<bool, Fail> {
     let bytes = octets(alloc, text)?;
     let mut stream = octets(alloc, text)?;
@@ -26,7 +27,8 @@ fn is_written_again(alloc: Global, text: &str) -> Result<bool, Fail> {
     match decode7(alloc, &stream) {
         Ok((bundle, used)) => {
             let again = encode7(alloc, &bundle)?;
-            Ok(used == bytes.len() && again.as_slice() == bytes.as_slice())
+            let judged = judge7(&stream) == Ok(bytes.len());
+            Ok(judged && used == bytes.len() && again.as_slice() == bytes.as_slice())
         }
         Err(_) => Ok(false),
     }
@@ -49,10 +51,20 @@ fn bundles_are_written_in_their_octets(rt: HostRuntime) -> Result<(), Fail> {
     Ok(())
 }
 
+/// Whether octets are judged to be refused at a place for a cause.
+fn is_judged(bytes: &[u8], place: usize, word: &str) -> bool {
+    match judge7(bytes) {
+        Err(refused) => refused.at == place && refused.cause.word() == word,
+        Ok(_) => false,
+    }
+}
+
 /// Whether octets are refused at a place for a cause.
 fn is_refused(alloc: Global, bytes: &[u8], place: usize, word: &str) -> bool {
     match decode7(alloc, bytes) {
-        Err(Fail7::Refused { at, cause }) => at == place && cause.word() == word,
+        Err(Fail7::Refused { at, cause }) => {
+            at == place && cause.word() == word && is_judged(bytes, place, word)
+        }
         _ => false,
     }
 }

@@ -1,7 +1,7 @@
 //! Bundles of version 6: octets that are read and written again, and refusals.
 
 use crate::rows::octets;
-use bundle6::{Blocks6, Fail6, decode6, encode6};
+use bundle6::{Blocks6, Fail6, decode6, encode6, judge6};
 use std::alloc::Global;
 use std::test::Fail;
 
@@ -37,7 +37,7 @@ const WRITTEN: &[(&str, &str)] = &[
     ),
 ];
 
-/// Whether octets with more after them are read to their end, and written so.
+/// Whether octets with more after them are read and judged to their end, and written so.
 fn is_written(alloc: Global, text: &str, wanted: &str) -> Result<bool, Fail> {
     let mut stream = octets(alloc, text)?;
     let size = stream.len();
@@ -45,7 +45,8 @@ fn is_written(alloc: Global, text: &str, wanted: &str) -> Result<bool, Fail> {
     match decode6(alloc, &stream) {
         Ok((bundle, used)) => {
             let again = encode6(alloc, &bundle)?;
-            Ok(used == size && again.as_slice() == octets(alloc, wanted)?.as_slice())
+            let judged = judge6(&stream) == Ok(size);
+            Ok(judged && used == size && again.as_slice() == octets(alloc, wanted)?.as_slice())
         }
         Err(_) => Ok(false),
     }
@@ -59,10 +60,20 @@ fn bundles_are_written_in_their_canonical_octets(rt: HostRuntime) -> Result<(), 
     Ok(())
 }
 
+/// Whether octets are judged to be refused at a place for a cause.
+fn is_judged(bytes: &[u8], place: usize, word: &str) -> bool {
+    match judge6(bytes) {
+        Err(refused) => refused.at == place && refused.cause.word() == word,
+        Ok(_) => false,
+    }
+}
+
 /// Whether octets are refused at a place for a cause.
 fn is_refused(alloc: Global, bytes: &[u8], place: usize, word: &str) -> bool {
     match decode6(alloc, bytes) {
-        Err(Fail6::Refused { at, cause }) => at == place && cause.word() == word,
+        Err(Fail6::Refused { at, cause }) => {
+            at == place && cause.word() == word && is_judged(bytes, place, word)
+        }
         _ => false,
     }
 }

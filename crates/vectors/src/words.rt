@@ -1,5 +1,6 @@
 //! Each cause's word, and that its message is the same.
 
+use bundle_meaning::BlockFault;
 use bundle6::Cause6;
 use bundle7::{Cause7, EidFault};
 use cbor_lite::CborFault;
@@ -159,6 +160,14 @@ fn words_of_new_bundles(rt: HostRuntime) -> Result<(), Fail> {
 #[test]
 fn words_of_eids(rt: HostRuntime) -> Result<(), Fail> {
     for (cause, name) in [(EidFault::Eid, "Eid"), (EidFault::Memory, "Memory")] {
+        assert!(rt; is_named(rt.alloc(), cause, cause.word(), name)?, "{name}");
+    }
+    Ok(())
+}
+
+#[test]
+fn words_of_private_blocks(rt: HostRuntime) -> Result<(), Fail> {
+    for (cause, name) in [(BlockFault::Bad, "Bad"), (BlockFault::Memory, "Memory")] {
         assert!(rt; is_named(rt.alloc(), cause, cause.word(), name)?, "{name}");
     }
     Ok(())

@@ -83,7 +83,7 @@ impl Endpoint {
     }
 
     /// Whether the endpoint is one receiver: an ipn name, or a dtn name without `/~`, which names a
-    /// group. Own rule; the null endpoint is none.
+    /// group. Own rule; the null endpoint isn't one.
     pub fn is_singleton(&self) -> bool
         ensures { result ≡ is_singleton self.now }
     {

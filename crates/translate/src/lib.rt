@@ -1,11 +1,12 @@
 //! Bundles of version 6 and 7, translated into each other (RFC 5050, RFC 9171).
 //!
 //! [`from6`] and [`from7`] read the record that a bundle stands for, and [`view6`] and [`view7`] are the
-//! bundles that stand for a record. [`to_new`] and [`to_old`] are one after the other, and [`norm6`] and
-//! [`norm7`] the view in the bundle's own version.
+//! bundles that stand for a record. A translation is a view in the other version of what was read; calls
+//! that make both steps are still to come.
 //!
 //! What the other version can't say is carried in blocks of the gateway's own, so that a bundle that went
-//! there and back is its normal form: a bundle without such blocks comes back as itself.
+//! there and back is its normal form. That is a law where the record is sound ([`there_and_back`]); that
+//! each bundle that isn't refused has a sound record is still to be shown.
 //!
 //! Administrative bundles are refused so far.
 #![tactic(auto)]

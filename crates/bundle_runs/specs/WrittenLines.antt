@@ -22,7 +22,7 @@ abbrev pub bundle_line : Command → Bundle → ℕ → List ℕ
 bundle_line Check bundle size = check_line (version_of bundle) size
 bundle_line Show bundle size = show_line bundle
 
--- bundle n is none, by the field at a place of the input
+-- bundle n is invalid, by the field at a place of the input
 abbrev pub refused_line : ℕ → ℕ → List ℕ → List ℕ
 refused_line n at word = joined
     (codes "refused " ∷ decimal n ∷ codes " " ∷ decimal at ∷ codes " " ∷ word ∷ codes "\n" ∷ [])

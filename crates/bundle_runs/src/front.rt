@@ -35,9 +35,9 @@ impl Bundle {
 pub enum Cause {
     /// The first octet names no version that is known here.
     Version,
-    /// They begin as a bundle of version 6, and are none.
+    /// They begin as a bundle of version 6, and are invalid.
     Six(Cause6),
-    /// They begin as a bundle of version 7, and are none.
+    /// They begin as a bundle of version 7, and are invalid.
     Seven(Cause7),
 }
 

@@ -42,7 +42,7 @@ fn write_show(alloc: Global, text: &mut String, bundle: &Bundle) -> Result<(), A
     write!(text, "{json}\n")
 }
 
-/// Bundle `number` is none, by the field at this place of the input.
+/// Bundle `number` is invalid, by the field at this place of the input.
 pub fn write_refused(
     text: &mut String,
     number: u64,

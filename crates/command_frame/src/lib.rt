@@ -1,0 +1,17 @@
+//! The frame of every command that reads: a task is told the octets as they come, and one driver
+//! moves them.
+//!
+//! A command is what octets settle of its answer (`Settled` of `edge_traits`). Its `Task` is fed
+//! octets and says what text they settle, and whether they end the run; it promises what the octets
+//! still to come settle from there. `drive` reads into one buffer, feeds, writes what is settled,
+//! and reads again. It holds the limit on the size of an input for all commands, and how a run
+//! went (`Ran`) is proved here once.
+#![tactic(auto)]
+
+mod driver;
+mod laws;
+mod task;
+
+pub use driver::drive;
+pub use laws::earliest_place_decides_within;
+pub use task::Task;

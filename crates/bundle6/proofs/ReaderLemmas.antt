@@ -1,12 +1,12 @@
 -- Reading a stream: octets that are open, whole bundles at their front, and pieces.
 
-use Rattle.std.proofs.Common.{◌≡◌, ◌≢◌, ℕ, zero, suc, ◌∷◌, ◌+◌, ◌-◌, ◌<◌, ◌≤◌, ltb, min, Bool, List, [], ◌++◌, length, take, drop, Option, Some, None, Result, Ok, Err, IsErrAnd, refl, sym, ap, ◌∙◌, subst, inl, inr, lit<, arith, append_assoc, append-nil, length-append, take-append-drop}
+use Rattle.std.proofs.Common.{◌≡◌, ◌≢◌, ℕ, zero, suc, ◌∷◌, ◌+◌, ◌-◌, ◌<◌, ◌≤◌, ltb, min, Bool, false, List, [], ◌++◌, length, take, drop, Option, Some, None, Result, Ok, Err, IsErrAnd, refl, sym, ap, ◌∙◌, subst, inl, inr, lit<, arith, append_assoc, append-nil, length-append, take-append-drop}
 use Rattle.std.proofs.lemmas.Bool.{cases_lt, ltb-true, ltb-false}
 use Rattle.std.proofs.lemmas.List.{take-append-le, drop-append-le, length-take-le, length-drop, take_all}
 use Rattle.wire_fields.specs.Refusal.{Stop, truncated, because}
 use Rattle.wire_fields.specs.Reading.{read, IsOctets}
 use Rattle.wire_fields.specs.Gives.{Fails, Judges}
-use Rattle.wire_fields.proofs.ResultLemmas.{found, stopped, stopped_is}
+use Rattle.wire_fields.proofs.ResultLemmas.{found, found_is, stopped, stopped_is}
 use Rattle.wire_fields.proofs.ReadLemmas.{read-refused}
 use Rattle.wire_fields.proofs.StayLemmas.{begins-read, read-begins, begins-within, refusal-within}
 use Rattle.wire_fields.proofs.ContinueLemmas.{found-longer}
@@ -19,13 +19,15 @@ use Rattle.bundle6.specs.declared.bundle.Bundle6.{Bundle6}
 use Rattle.bundle6.specs.declared.pass.Pass.{Pass}
 use Rattle.bundle6.specs.declared.pass.Texts.{Texts}
 use Rattle.bundle6.specs.declared.reader.Fed6.{Fed6}
-use Rattle.bundle6.specs.declared.reader.Gained.{Gained}
-use Rattle.bundle6.specs.Cause.{why, stop_of, refusal, fail_after}
+use Rattle.bundle6.specs.declared.reader.Judged6.{Judged6}
+use Rattle.bundle6.specs.declared.reader.Held.{Held}
+use Rattle.bundle6.specs.Cause.{why, stop_of, refusal}
 use Rattle.bundle6.specs.Table.{primary, bundle}
 use Rattle.bundle6.specs.Judging.{judged_bundle}
 use Rattle.bundle6.specs.Passing.{texts_in, left_at, left_of, Fits, Stands, Comes}
-use Rattle.bundle6.specs.Streaming.{Stream, IsOpen, IsSpared, Takes, near, Refuses, Feeds, later, CutsAlike}
-use Rattle.bundle6.specs.Holding.{IsRefused, IsWhole, Gains, Took, Tells}
+use Rattle.bundle6.specs.Legal.{Spells6}
+use Rattle.bundle6.specs.Streaming.{Stream, IsOpen, IsSpared, Takes, TakesSize, near, Refuses, Feeds, JudgesPiece, later, CutsAlike}
+use Rattle.bundle6.specs.Holding.{stream_of, text_of, IsHeld, IsRefused, IsWhole, HasEnded, IsOpenWith, PassesOver}
 use Rattle.bundle6.proofs.LegalLemmas.{begun-legal}
 use Rattle.bundle6.proofs.PassLemmas.{judges-ended, judges-stopped}
 
@@ -110,19 +112,13 @@ spared-open text (p, is) at cause refused =
     let no = both.1 in absurd (cc)
 
 -- what was judged is built, but for want of memory
-pub built : (text : List ℕ) (cut : Bool) (pass : Pass) (result : Result Gained Fail6) (e : Fail6) → Stands 64 text pass
-    → Comes 64 text pass None → IsErrAnd result (λ y. y ≡ e) → Fails (refusal e) (read (bundle 64) text 0)
-    → Gains text cut result
-built text cut pass result e stands comes is fails =
-    by result e (read (bundle 64) text 0) refl (judges-ended 64 text pass stands comes) is fails
-  where
-    by : (result : Result Gained Fail6) (e : Fail6) (given : Result (Bundle6 × ℕ) (ℕ × Stop Cause6)) → read (bundle 64) text 0 ≡ given
-        → Judges stop_of (Ok pass.at) given → IsErrAnd result (λ y. y ≡ e) → Fails (refusal e) given → Gains text cut result
-    by (Ok x) e given reads judges is fails = absurd is
-    by (Err y) (Refused at cause) (Ok x) reads judges is fails = absurd (cc)
-    by (Err y) (Refused at cause) (Err s) reads judges is fails = absurd judges
-    by (Err y) Memory (Ok x) reads judges is fails = rw is (spared-ok text x.0 x.1 reads)
-    by (Err y) Memory (Err s) reads judges is fails = absurd judges
+pub built : (text : List ℕ) (b : Bundle6) (k : ℕ) (e : Fail6) → IsWhole text b k
+    → Fails (refusal e) (read (bundle 64) text 0) → e ≡ Memory
+built text b k (Refused at cause) whole fails =
+    let reads : read (bundle 64) text 0 ≡ found b k =
+    ap (λ t. read (bundle 64) t 0) (sym (append-nil text)) ∙ whole.reads [] in
+    let no : found b k ≡ stopped at (why cause) = sym reads ∙ fails in absurd (cc)
+built text b k Memory whole fails = refl
 
 pub whole-text : (text : List ℕ) (b : Bundle6) (k : ℕ) → IsOctets text → k ≤ length text
     → read (bundle 64) text 0 ≡ Ok (b, k) → IsWhole text b k
@@ -132,6 +128,17 @@ whole-text text b k fits within is = record {
   reads = λ more. found-longer (bundle 64) text 0 k b fits (omega arith) is more;
   legal = (begun-legal text k b fits (read-begins (bundle 64) text k b fits is)).legal;
 }
+
+-- a pass that has ended stands after a bundle
+pub ended-whole : (text : List ℕ) (pass : Pass) → IsOctets text → Fits 64 text pass → Stands 64 text pass → Comes 64 text pass None
+    → (b : Bundle6) × IsWhole text b pass.at
+ended-whole text pass fits places stands comes =
+    by (read (bundle 64) text 0) refl (judges-ended 64 text pass stands comes)
+  where
+    by : (given : Result (Bundle6 × ℕ) (ℕ × Stop Cause6)) → read (bundle 64) text 0 ≡ given → Judges stop_of (Ok pass.at) given
+        → (b : Bundle6) × IsWhole text b pass.at
+    by (Ok x) is judges = (x.0, whole-text text x.0 pass.at fits places.place (is ∙ ap (found x.0) (sym judges)))
+    by (Err s) is judges = absurd judges
 
 -- an open bundle has not ended
 pub not-ended : (text : List ℕ) (pass : Pass) → IsOpen text → Stands 64 text pass → Comes 64 text pass None → ⊥
@@ -155,16 +162,26 @@ after-open kept piece b k (at, is) whole =
           let no : found b k ≡ stopped at truncated = sym ended ∙ is in absurd (cc)
     ]
 
--- a piece that is refused, or for which memory is wanted
-pub tells-fail : (old : Stream) (piece : List ℕ) (cut : Bool) (fail : Fail6) → Gains (old.kept ++ piece) cut (Err fail)
-    → Tells old piece cut (Err (fail_after old.before fail)) old
-tells-fail old piece cut (Refused at cause) (within, refused) = ((at, refused, refl), refl)
-tells-fail old piece cut Memory spared = (refl, λ empty. rw empty at spared)
+take-front : (xs ys : List ℕ) → take (length xs) (xs ++ ys) ≡ xs
+take-front xs ys = take-append-le (length xs) xs ys (omega arith) ∙ take_all (length xs) xs (omega arith)
 
-pub tells-memory : (old new : Stream) (piece : List ℕ) (cut : Bool) (result : Result Fed6 Fail6) → IsErrAnd result (λ e. e ≡ Memory)
-    → new ≡ old → (old.kept ≡ [] → IsSpared piece) → Tells old piece cut result new
-tells-memory old new piece cut (Ok x) is same spared = absurd is
-tells-memory old new piece cut (Err e) is same spared = rw is (same, spared)
+text-more : (xs ys : List ℕ) → (xs ≡ [] → ⊥) → text_of (xs ++ ys) ys ≡ xs ++ ys
+text-more [] ys some = absurd (some refl)
+text-more (x ∷ xs) ys some = refl
+
+-- a piece after the beginning of a bundle ends it
+pub ended-late : (old : Held) (piece : List ℕ) (k : ℕ) (new : Held) (b : Bundle6) → IsWhole (old.kept.items ++ piece) b k
+    → IsOpen old.kept.items → (old.kept.items ≡ [] → ⊥) → new.kept.items ≡ old.kept.items ++ piece
+    → new.before ≡ old.before → new.pass ≡ old.pass → HasEnded old piece k new
+ended-late old piece k new b whole begun some items before pass = record {
+  bundle = b;
+  whole = whole;
+  late = after-open old.kept.items piece b k begun whole;
+  text = ap (λ t. text_of t piece) items ∙ text-more old.kept.items piece some;
+  part = ap (λ t. take (length old.kept.items) t) items ∙ take-front old.kept.items piece;
+  before = before;
+  pass = pass;
+}
 
 abbrev stream : ℕ → List ℕ → Stream
 stream before kept = record { before = before; kept = kept }
@@ -181,6 +198,14 @@ near-min k n piece is =
       | inl all ↦ take_all k piece (omega (arith, is, all)) ∙ sym (take_all n piece (omega (arith, all)))
       | inr some ↦ ap (λ m. take m piece) (omega (arith, is, some))
     ]
+
+take-past : (n : ℕ) (xs ys : List ℕ) → length xs ≤ n → take n (xs ++ ys) ≡ xs ++ take (n - length xs) ys
+take-past n [] ys h = let none : n ≡ n - 0 = omega arith in ap (λ m. take m ys) none
+take-past zero (x ∷ xs) ys h = absurd (omega (arith, h))
+take-past (suc n) (x ∷ xs) ys h =
+    let rest = take-past n xs ys (omega (arith, h)) in
+    let left : n - length xs ≡ suc n - length (x ∷ xs) = omega arith in
+    ap (λ t. x ∷ t) rest ∙ ap (λ m. x ∷ (xs ++ take m ys)) left
 
 record PartOf (n : ℕ) (piece part : List ℕ) : Type 0 where
   shorter : length part ≤ length piece
@@ -224,19 +249,53 @@ module _ (longest : ℕ) (old : Stream) (piece part : List ℕ) (cut : Bool) (sm
       append_assoc old.kept part rest
       ∙ ap (λ t. old.kept ++ t) (ap (λ t. t ++ rest) is ∙ take-append-drop (longest - length old.kept) piece)
 
-  takes : (used : ℕ) (found : Option Bundle6) (new : Stream) → Took old part cut used found new → Takes longest old piece used found new
-  takes used (Some b) new (low, reads, legal, stands) = (
-    omega (arith, low, sizes.shorter),
-    omega (arith, low, sizes.within, small),
-    ap (λ t. read (bundle 64) t 0) (sym joined) ∙ reads rest,
-    legal,
-    stands,
+  whole-part : part ++ rest ≡ piece
+  unfolding rest
+  whole-part = ap (λ t. t ++ rest) is ∙ take-append-drop (longest - length old.kept) piece
+
+  -- the bundle ends in the part
+  takes-whole : (b : Bundle6) (k : ℕ) (new : Stream) → IsWhole (old.kept ++ part) b k → length old.kept ≤ k
+      → new ≡ stream (old.before + k) [] → Takes longest old piece (k - length old.kept) (Some b) new
+  takes-whole b k new whole late stands =
+      let long : length (old.kept ++ part) ≡ length old.kept + length part = length-append old.kept part in
+      let ends : length old.kept + (k - length old.kept) ≡ k = omega (arith, late) in (
+        omega (arith, whole.within, late, long, sizes.shorter),
+        omega (arith, whole.within, ends, long, sizes.within, small),
+        ap (λ t. read (bundle 64) t 0) (sym joined) ∙ whole.reads rest ∙ ap (found b) (sym ends),
+        whole.legal,
+        stands ∙ ap (λ n. stream (old.before + n) []) (sym ends),
+      )
+
+  -- its octets spell it
+  spells-whole : (b : Bundle6) (k : ℕ) → IsWhole (old.kept ++ part) b k → length old.kept ≤ k
+      → Spells6 b (old.kept ++ take (k - length old.kept) piece)
+  spells-whole b k whole late =
+      let long : length (old.kept ++ part) ≡ length old.kept + length part = length-append old.kept part in
+      let reads : read (bundle 64) (old.kept ++ part) 0 ≡ found b k =
+      ap (λ t. read (bundle 64) t 0) (sym (append-nil (old.kept ++ part))) ∙ whole.reads [] in
+      let spells = begun-legal (old.kept ++ part) k b whole.octets (read-begins (bundle 64) (old.kept ++ part) k b whole.octets reads) in
+      let inside : take (k - length old.kept) piece ≡ take (k - length old.kept) part =
+      ap (λ t. take (k - length old.kept) t) (sym whole-part)
+      ∙ take-append-le (k - length old.kept) part rest (omega (arith, whole.within, late, long)) in
+      subst (λ t. Spells6 b t) (take-past k old.kept part late ∙ ap (λ t. old.kept ++ t) (sym inside)) spells
+
+  takes-size : (b : Bundle6) (k : ℕ) (new : Stream) → IsWhole (old.kept ++ part) b k → length old.kept ≤ k
+      → new ≡ stream (old.before + k) [] → TakesSize longest old piece (k - length old.kept) (Some k) new
+  takes-size b k new whole late stands = (
+    omega (arith, late),
+    (b, spells-whole b k whole late, takes-whole b k new whole late stands),
   )
-  takes used None new (low, last, begun, stands) =
-      let whole : length piece ≤ length part = ltb-false (length part) (length piece) (sym cuts ∙ last) in
-      let same = sizes.whole whole in (
-        low ∙ ap length same,
-        omega (arith, sizes.within, small, whole),
+
+  -- all of the part is all of the piece, where no more may be cut off
+  all-of : cut ≡ false → part ≡ piece
+  all-of last = sizes.whole (ltb-false (length part) (length piece) (sym cuts ∙ last))
+
+  takes-open : (new : Stream) → cut ≡ false → IsOpen (old.kept ++ part) → new ≡ stream old.before (old.kept ++ part)
+      → Takes longest old piece (length part) None new
+  takes-open new last begun stands =
+      let same = all-of last in (
+        ap length same,
+        omega (arith, ap length same, sizes.within, small),
         subst (λ t. IsOpen (old.kept ++ t)) same begun,
         stands ∙ ap (λ t. stream old.before (old.kept ++ t)) same,
       )
@@ -254,10 +313,85 @@ module _ (longest : ℕ) (old : Stream) (piece part : List ℕ) (cut : Bool) (sm
         named = spread.named;
       })
 
-  pub tells-feeds : (result : Result Fed6 Fail6) (new : Stream) → Tells old part cut result new → Feeds longest old piece result new
-  tells-feeds (Ok fed) new tells = takes fed.used fed.bundle new tells
-  tells-feeds (Err (Refused at cause)) new ((p, refused, spot), same) = refuses at cause p refused spot
-  tells-feeds (Err Memory) new (same, spared) = λ empty. subst IsSpared is (spared empty)
+-- a bundle that is whole wants memory to be built
+pub feeds-memory : (longest : ℕ) (old : Stream) (piece part : List ℕ) (b : Bundle6) (k : ℕ) (new : Stream)
+    → part ≡ near longest old piece → IsWhole (old.kept ++ part) b k → Feeds longest old piece (Err Memory) new
+feeds-memory longest old piece part b k new is whole empty =
+    let reads : read (bundle 64) (old.kept ++ part) 0 ≡ found b k =
+    ap (λ t. read (bundle 64) t 0) (sym (append-nil (old.kept ++ part))) ∙ whole.reads [] in
+    let alone : read (bundle 64) part 0 ≡ found b k = ap (λ xs. read (bundle 64) (xs ++ part) 0) (sym empty) ∙ reads in
+    subst IsSpared is (spared-ok part b k alone)
+
+-- what a pass over a part of a piece tells of the piece
+module _ (longest : ℕ) (old new : Held) (piece part : List ℕ) (cut : Bool) (small : length old.kept.items ≤ longest)
+    (is : part ≡ near longest (stream_of old) piece) (cuts : cut ≡ ltb (length part) (length piece)) where
+  -- a text that was passed over, and what it reads as
+  whole-reads : (k : ℕ) (text : List ℕ) → HasEnded old part k new → text ≡ text_of new.kept.items part → text ≡ old.kept.items ++ part
+  whole-reads k text ended same = same ∙ ended.text
+
+  pub feeds-built : (k n : ℕ) (b : Bundle6) (text : List ℕ) (after : Stream) → HasEnded old part k new
+      → text ≡ text_of new.kept.items part → read (bundle 64) text 0 ≡ found b n
+      → after ≡ stream (new.before + k) [] → Takes longest (stream_of old) piece (k - length old.kept.items) (Some b) after
+  feeds-built k n b text after ended same reads stands =
+      let parts = old.kept.items ++ part in
+      let again : read (bundle 64) parts 0 ≡ found b n = ap (λ t. read (bundle 64) t 0) (sym (whole-reads k text ended same)) ∙ reads in
+      let given : read (bundle 64) parts 0 ≡ found ended.bundle k =
+      ap (λ t. read (bundle 64) t 0) (sym (append-nil parts)) ∙ ended.whole.reads [] in
+      let both : found b n ≡ found ended.bundle k = sym again ∙ given in
+      let size : n ≡ k = (found_is {E = ℕ × Stop Cause6} b ended.bundle n k both).1 in
+      takes-whole longest (stream_of old) piece part cut small is cuts b k after
+      (whole-text parts b k ended.whole.octets ended.whole.within (again ∙ ap (found b) size)) ended.late
+      (stands ∙ ap (λ m. stream (m + k) []) ended.before)
+
+  pub feeds-unbuilt : (k : ℕ) (e : Fail6) (text : List ℕ) (after : Stream) → HasEnded old part k new
+      → text ≡ text_of new.kept.items part → Fails (refusal e) (read (bundle 64) text 0) → Feeds longest (stream_of old) piece (Err e) after
+  feeds-unbuilt k e text after ended same fails =
+      let memory : e ≡ Memory =
+      built (old.kept.items ++ part) ended.bundle k e ended.whole
+      (subst (λ t. Fails (refusal e) (read (bundle 64) t 0)) (whole-reads k text ended same) fails) in
+      rw memory (feeds-memory longest (stream_of old) piece part ended.bundle k after is ended.whole)
+
+  pub judges-whole : (k : ℕ) (after : Stream) → HasEnded old part k new
+      → after ≡ stream (new.before + k) [] → TakesSize longest (stream_of old) piece (k - length old.kept.items) (Some k) after
+  judges-whole k after ended stands =
+      takes-size longest (stream_of old) piece part cut small is cuts ended.bundle k after ended.whole ended.late
+      (stands ∙ ap (λ m. stream (m + k) []) ended.before)
+
+  pub feeds-open : IsOpenWith old part cut new → Takes longest (stream_of old) piece (length part) None (stream_of new)
+  feeds-open opened =
+      takes-open longest (stream_of old) piece part cut small is cuts (stream_of new) opened.last
+      (subst (λ s. IsOpen s.kept) opened.stream opened.held.begun) opened.stream
+
+  pub small-open : IsOpenWith old part cut new → length new.kept.items ≤ longest
+  small-open opened =
+      let takes = feeds-open opened in
+      let long : length new.kept.items ≡ length (old.kept.items ++ part) = ap (λ s. length s.kept) opened.stream in
+      omega (arith, long, length-append old.kept.items part, takes.0, takes.1)
+
+  pub feeds-fail : (fail : Fail6) (result : Result Fed6 Fail6) → PassesOver old part cut (Err fail) new → IsErrAnd result (λ e. e ≡ fail)
+      → Feeds longest (stream_of old) piece result (stream_of new)
+  feeds-fail fail (Ok x) passes same = absurd same
+  feeds-fail (Refused at cause) (Err e) passes same =
+      rw same (refuses longest (stream_of old) piece part cut small is cuts at cause passes.place passes.refused passes.spot)
+  feeds-fail Memory (Err e) passes same =
+      rw same (λ empty. subst IsSpared is (spared-open part (passes.begun empty).1))
+
+  pub judges-fail : (fail : Fail6) (result : Result Judged6 Fail6) → PassesOver old part cut (Err fail) new → IsErrAnd result (λ e. e ≡ fail)
+      → JudgesPiece longest (stream_of old) piece result (stream_of new)
+  judges-fail fail (Ok x) passes same = absurd same
+  judges-fail (Refused at cause) (Err e) passes same =
+      rw same (refuses longest (stream_of old) piece part cut small is cuts at cause passes.place passes.refused passes.spot)
+  judges-fail Memory (Err e) passes same =
+      let all = all-of longest (stream_of old) piece part cut small is cuts in
+      rw same (λ empty.
+      let open_piece = passes.begun empty in
+      let sizes = part-of (longest - length old.kept.items) piece part is in
+      (omega (arith, ap length (all open_piece.0), sizes.within), subst IsOpen (all open_piece.0) open_piece.1))
+
+pub stays-fail : (old new : Held) (part : List ℕ) (cut : Bool) (fail : Fail6) → PassesOver old part cut (Err fail) new
+    → IsHeld new × (stream_of new ≡ stream_of old)
+stays-fail old new part cut (Refused at cause) passes = (passes.held, passes.same)
+stays-fail old new part cut Memory passes = (passes.held, passes.same)
 
 -- ---- the end
 
@@ -281,14 +415,6 @@ ends-open stream pass e (at, is) comes =
     is-truncated causes.TooLong is = absurd (cc)
 
 -- ---- cutting
-
-take-past : (n : ℕ) (xs ys : List ℕ) → length xs ≤ n → take n (xs ++ ys) ≡ xs ++ take (n - length xs) ys
-take-past n [] ys h = let none : n ≡ n - 0 = omega arith in ap (λ m. take m ys) none
-take-past zero (x ∷ xs) ys h = absurd (omega (arith, h))
-take-past (suc n) (x ∷ xs) ys h =
-    let rest = take-past n xs ys (omega (arith, h)) in
-    let left : n - length xs ≡ suc n - length (x ∷ xs) = omega arith in
-    ap (λ t. x ∷ t) rest ∙ ap (λ m. x ∷ (xs ++ take m ys)) left
 
 cut-near : (longest : ℕ) (old : Stream) (first second : List ℕ) → length old.kept + length first ≤ longest
     → (old.kept ++ first) ++ near longest (stream old.before (old.kept ++ first)) second ≡ old.kept ++ near longest old (first ++ second)

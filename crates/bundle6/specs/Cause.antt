@@ -1,6 +1,6 @@
 -- The names of the causes, and a fault as a refusal.
 
-use Rattle.std.specs.Prelude.{ℕ, ◌+◌, List, codes, Option, Some, None}
+use Rattle.std.specs.Prelude.{ℕ, List, codes, Option, Some, None}
 use Rattle.wire_fields.specs.Refusal.{Stop, truncated, because}
 use Rattle.wire_fields.specs.declared.miss.Miss.{Miss}
 use Rattle.wire_fields.specs.declared.miss.Miss.TheVariants as misses
@@ -56,12 +56,3 @@ fault_named reasons.Memory at cause = Memory
 
 abbrev pub refused_at : Refused6 → Option (ℕ × Stop Cause6)
 refused_at refused = Some (stop_of refused)
-
--- a fault with its place counted from so many octets before
-abbrev pub fail_after : ℕ → Fail6 → Fail6
-fail_after before (Refused at cause) = Refused (before + at) cause
-fail_after before Memory = Memory
-
-abbrev pub place_of : Fail6 → ℕ
-place_of (Refused at cause) = at
-place_of Memory = 0

@@ -1,7 +1,7 @@
 //! Why octets are no version 6 bundle.
 
 ghost use Rattle.std.specs.Prelude.{◌≡◌, ◌+◌, ◌<◌, ◌^◌};
-ghost use Rattle.bundle6.specs.Cause.{word_of, refused, missed, fail_after, place_of};
+ghost use Rattle.bundle6.specs.Cause.{word_of, refused, missed};
 
 use std::alloc::AllocError;
 use thiserror::Error;
@@ -92,6 +92,16 @@ pub struct Refused6 {
     pub cause: Cause6,
 }
 
+impl Refused6 {
+    /// The same, with its place counted from so many octets before.
+    pub(crate) fn after(self, before: usize) -> Refused6
+        requires { before + self.at < 2 ^ 64 }
+        ensures { result ≡ refused (before + self.at) self.cause }
+    {
+        self.cause.at(before + self.at)
+    }
+}
+
 /// Why no bundle was read.
 #[derive(Clone, Copy, Debug, PartialEq, Eq)]
 pub enum Fail6 {
@@ -130,22 +140,6 @@ impl From<Refused6> for Fail6 {
         Fail6::Refused {
             at: refused.at,
             cause: refused.cause,
-        }
-    }
-}
-
-impl Fail6 {
-    /// The same, with its place counted from so many octets before.
-    pub(crate) fn after(self, before: usize) -> Fail6
-        requires { before + place_of self < 2 ^ 64 }
-        ensures { result ≡ fail_after before self }
-    {
-        match self {
-            Fail6::Refused { at, cause } => Fail6::Refused {
-                at: before + at,
-                cause,
-            },
-            Fail6::Memory => Fail6::Memory,
         }
     }
 }

@@ -35,6 +35,6 @@ pub use fault::{Cause6, Fail6, Refused6};
 pub use judging::judge6;
 pub use laws::{canonical_spells, cuts_alike, exactly_one, only_legal};
 pub use primary::Primary6;
-pub use reader::{Fed6, Reader6};
+pub use reader::{Fed6, Judged6, Reader6};
 pub use reading::decode6;
 pub use writing::encode6;

@@ -1,10 +1,10 @@
 //! Reading a stream of bundles, in whatever pieces it comes.
 
-ghost use Rattle.std.specs.Prelude.{ℕ, ◌≡◌, ◌+◌, ◌<◌, ◌≤◌, ◌^◌, ◌++◌, List, [], length, Some, None, true, false, IfOk, IfSome, Err};
+ghost use Rattle.std.specs.Prelude.{ℕ, ◌≡◌, ◌+◌, ◌<◌, ◌≤◌, ◌^◌, ◌++◌, List, [], length, Some, None, true, false, IfOk, IfSome, OnErr, Err};
 ghost use Rattle.wire_fields.specs.Reading.{read};
 ghost use Rattle.bundle6.specs.Passing.{Fits, Stands};
-ghost use Rattle.bundle6.specs.Streaming.{Feeds, Finishes, Remembers, AnswersAgain};
-ghost use Rattle.bundle6.specs.Holding.{IsHeld, stream_of, Gains, Tells, Ends};
+ghost use Rattle.bundle6.specs.Streaming.{near, Feeds, JudgesPiece, Finishes, Remembers, RemembersFail, AnswersAgain};
+ghost use Rattle.bundle6.specs.Holding.{IsHeld, stream_of, text_of, Gains, PassesOver, Ends};
 
 use crate::bundle::Bundle6;
 use crate::fault::{Cause6, Fail6, Refused6};
@@ -25,10 +25,20 @@ pub struct Fed6 {
     pub bundle: Option<Bundle6>,
 }
 
+/// What a piece gave where no bundle is wanted.
+#[derive(Clone, Copy, Debug, PartialEq, Eq)]
+pub struct Judged6 {
+    /// How many octets of the piece were taken. The rest is to be fed again.
+    pub used: usize,
+    /// How many octets the bundle has that they completed, those of earlier pieces too, or none where
+    /// they are all of the piece and complete none.
+    pub whole: Option<usize>,
+}
+
 /// What a text gave.
 pub(crate) enum Gained {
-    /// A bundle at the front, and how many octets it takes.
-    Whole(Bundle6, usize),
+    /// A bundle at the front that takes so many octets.
+    Whole(usize),
     /// The octets end inside a bundle; the pass has come so far.
     Open(Pass),
 }
@@ -94,6 +104,7 @@ impl Reader6 {
             → Feeds 67108864 self.old.stream piece.now result self.new.stream }
         ensures again { IfSome self.old.refused (λ refused.
             AnswersAgain refused self.old result self.new) }
+        ensures kept { OnErr result (self.new.stream ≡ self.old.stream) }
         ensures remembers { Remembers result self.new }
         ensures bounded { length self.new.stream.kept ≤ 67108864 }
     {
@@ -103,8 +114,35 @@ impl Reader6 {
         let result = self.held.feed(self.alloc, piece, LONGEST);
         match &result {
             Ok(_) => {}
-            Err(Fail6::Refused { at, cause }) => self.refused = Some(cause.at(*at)),
-            Err(Fail6::Memory) => self.spent = true,
+            Err(fail) => self.remember(*fail),
+        }
+        result
+    }
+
+    /// Takes a piece as [`Reader6::feed`] does, for a caller who wants no bundle: it tells how many
+    /// octets a bundle has that is whole. Both calls read one stream, each from where the other left it.
+    ///
+    /// No bundle is built, so memory is wanted for octets that are kept alone: none where a piece begins
+    /// with a bundle and ends it, or refuses it.
+    pub fn judge(&mut self, piece: &[u8]) -> Result<Judged6, Fail6>
+        requires whole { self.old.spent ≡ false }
+        requires counted { self.old.stream.before + length self.old.stream.kept + length piece.now
+            < 2 ^ 64 }
+        ensures feeds { self.old.refused ≡ None
+            → JudgesPiece 67108864 self.old.stream piece.now result self.new.stream }
+        ensures again { IfSome self.old.refused (λ refused.
+            AnswersAgain refused self.old result self.new) }
+        ensures kept { OnErr result (self.new.stream ≡ self.old.stream) }
+        ensures remembers { Remembers result self.new }
+        ensures bounded { length self.new.stream.kept ≤ 67108864 }
+    {
+        if let Some(refused) = self.refused {
+            return Err(refused.into());
+        }
+        let result = self.held.judge(piece, LONGEST);
+        match &result {
+            Ok(_) => {}
+            Err(fail) => self.remember(*fail),
         }
         result
     }
@@ -115,6 +153,7 @@ impl Reader6 {
         ensures finishes { self.old.refused ≡ None → Finishes self.old.stream result }
         ensures again { IfSome self.old.refused (λ refused.
             AnswersAgain refused self.old result self.new) }
+        ensures kept { self.new.stream ≡ self.old.stream }
         ensures remembers { Remembers result self.new }
     {
         if let Some(refused) = self.refused {
@@ -126,6 +165,19 @@ impl Reader6 {
                 self.refused = Some(refused);
                 Err(refused.into())
             }
+        }
+    }
+
+    /// Keeps a failure, so that each later call knows of it.
+    fn remember(&mut self, fail: Fail6)
+        requires fresh { self.old.refused ≡ None }
+        requires whole { self.old.spent ≡ false }
+        ensures stream { self.new.stream ≡ self.old.stream }
+        ensures remembers { RemembersFail fail self.new }
+    {
+        match fail {
+            Fail6::Refused { at, cause } => self.refused = Some(cause.at(at)),
+            Fail6::Memory => self.spent = true,
         }
     }
 }
@@ -152,79 +204,145 @@ impl Held {
         ensures held { IsHeld self.new }
         ensures small { length self.new.kept.items ≤ longest }
         ensures feeds { Feeds longest (stream_of self.old) piece.now result (stream_of self.new) }
-    {
-        let room = longest - self.kept.as_slice().len();
-        let near = &piece[..piece.len().min(room)];
-        let cut = near.len() < piece.len();
-        if self.kept.is_empty() {
-            self.begin(alloc, near, cut)
-        } else {
-            self.go_on(alloc, near, cut)
-        }
-    }
-
-    /// Takes a piece after whole bundles. It is kept only where it leaves a bundle open.
-    fn begin(&mut self, alloc: Global, piece: &[u8], cut: bool) -> Result<Fed6, Fail6>
-        requires held { IsHeld self.old }
-        requires counted { self.old.before + length self.old.kept.items + length piece.now
-            < 2 ^ 64 }
-        requires empty { self.old.kept.items ≡ [] }
-        ensures held { IsHeld self.new }
-        ensures tells { Tells (stream_of self.old) piece.now cut result (stream_of self.new) }
-    {
-        match taken(alloc, piece, self.pass, cut) {
-            Ok(Gained::Whole(bundle, end)) => {
-                self.before += end;
-                Ok(Fed6 {
-                    used: end,
-                    bundle: Some(bundle),
-                })
-            }
-            Ok(Gained::Open(pass)) => {
-                self.kept.extend_from_slice(piece)?;
-                self.pass = pass;
-                Ok(Fed6 {
-                    used: piece.len(),
-                    bundle: None,
-                })
-            }
-            Err(fail) => Err(fail.after(self.before)),
-        }
-    }
-
-    /// Takes a piece after the beginning of a bundle.
-    fn go_on(&mut self, alloc: Global, piece: &[u8], cut: bool) -> Result<Fed6, Fail6>
-        requires held { IsHeld self.old }
-        requires counted { self.old.before + length self.old.kept.items + length piece.now
-            < 2 ^ 64 }
-        requires some { self.old.kept.items ≡ [] → ⊥ }
-        ensures held { IsHeld self.new }
-        ensures tells { Tells (stream_of self.old) piece.now cut result (stream_of self.new) }
+        ensures kept { OnErr result (stream_of self.new ≡ stream_of self.old) }
     {
         let held = self.kept.as_slice().len();
-        self.kept.extend_from_slice(piece)?;
-        match taken(alloc, self.kept.as_slice(), self.pass, cut) {
-            Ok(Gained::Whole(bundle, end)) => {
-                self.before += end;
-                self.kept.clear();
-                self.pass = Pass::START;
+        let near = self.near(piece, longest);
+        let Some(end) = self.pass_over(near, near.len() < piece.len())? else {
+            return Ok(Fed6 {
+                used: near.len(),
+                bundle: None,
+            });
+        };
+        match bundle_at(alloc, self.text(near), 0, MOST_OTHERS) {
+            Ok((bundle, _)) => {
+                self.close(end);
                 Ok(Fed6 {
                     used: end - held,
                     bundle: Some(bundle),
                 })
             }
-            Ok(Gained::Open(pass)) => {
-                self.pass = pass;
-                Ok(Fed6 {
-                    used: piece.len(),
-                    bundle: None,
-                })
-            }
             Err(fail) => {
                 self.kept.truncate(held);
-                Err(fail.after(self.before))
+                Err(fail)
             }
         }
+    }
+
+    /// The same of a piece of which no bundle is wanted.
+    fn judge(&mut self, piece: &[u8], longest: usize) -> Result<Judged6, Fail6>
+        requires held { IsHeld self.old }
+        requires small { length self.old.kept.items ≤ longest }
+        requires counted { self.old.before + length self.old.kept.items + length piece.now
+            < 2 ^ 64 }
+        ensures held { IsHeld self.new }
+        ensures small { length self.new.kept.items ≤ longest }
+        ensures feeds { JudgesPiece longest (stream_of self.old) piece.now result
+            (stream_of self.new) }
+        ensures kept { OnErr result (stream_of self.new ≡ stream_of self.old) }
+    {
+        let held = self.kept.as_slice().len();
+        let near = self.near(piece, longest);
+        let Some(end) = self.pass_over(near, near.len() < piece.len())? else {
+            return Ok(Judged6 {
+                used: near.len(),
+                whole: None,
+            });
+        };
+        self.close(end);
+        Ok(Judged6 {
+            used: end - held,
+            whole: Some(end),
+        })
+    }
+
+    /// The octets of a piece with which the unfinished bundle has no more than so many.
+    fn near<'a>(&self, piece: &'a [u8], longest: usize) -> &'a [u8]
+        requires { length self.now.kept.items ≤ longest }
+        ensures { result.now ≡ near longest (stream_of self.now) piece.now }
+    {
+        let room = longest - self.kept.as_slice().len();
+        &piece[..piece.len().min(room)]
+    }
+
+    /// Passes over a piece, after which no more may follow where it is cut: the end of the bundle, whose
+    /// octets stay until it is closed, or none where it is open.
+    fn pass_over(&mut self, piece: &[u8], cut: bool) -> Result<Option<usize>, Fail6>
+        requires held { IsHeld self.old }
+        requires counted { self.old.before + length self.old.kept.items + length piece.now
+            < 2 ^ 64 }
+        ensures { PassesOver self.old piece.now cut result self.new }
+    {
+        if self.kept.is_empty() {
+            self.begin(piece, cut)
+        } else {
+            self.go_on(piece, cut)
+        }
+    }
+
+    /// Passes over a piece after whole bundles. It is kept only where it leaves a bundle open.
+    fn begin(&mut self, piece: &[u8], cut: bool) -> Result<Option<usize>, Fail6>
+        requires held { IsHeld self.old }
+        requires counted { self.old.before + length self.old.kept.items + length piece.now
+            < 2 ^ 64 }
+        requires empty { self.old.kept.items ≡ [] }
+        ensures { PassesOver self.old piece.now cut result self.new }
+    {
+        match look(piece, self.pass, cut) {
+            Ok(Gained::Whole(end)) => Ok(Some(end)),
+            Ok(Gained::Open(pass)) => {
+                self.kept.extend_from_slice(piece)?;
+                self.pass = pass;
+                Ok(None)
+            }
+            Err(refused) => Err(refused.after(self.before).into()),
+        }
+    }
+
+    /// Passes over a piece after the beginning of a bundle.
+    fn go_on(&mut self, piece: &[u8], cut: bool) -> Result<Option<usize>, Fail6>
+        requires held { IsHeld self.old }
+        requires counted { self.old.before + length self.old.kept.items + length piece.now
+            < 2 ^ 64 }
+        requires some { self.old.kept.items ≡ [] → ⊥ }
+        ensures { PassesOver self.old piece.now cut result self.new }
+    {
+        let held = self.kept.as_slice().len();
+        self.kept.extend_from_slice(piece)?;
+        match look(self.kept.as_slice(), self.pass, cut) {
+            Ok(Gained::Whole(end)) => Ok(Some(end)),
+            Ok(Gained::Open(pass)) => {
+                self.pass = pass;
+                Ok(None)
+            }
+            Err(refused) => {
+                self.kept.truncate(held);
+                Err(refused.after(self.before).into())
+            }
+        }
+    }
+
+    /// The octets kept, or where none are those of a piece.
+    fn text<'a>(&'a self, piece: &'a [u8]) -> &'a [u8]
+        ensures { result.now ≡ text_of self.now.kept.items piece.now }
+    {
+        if self.kept.is_empty() {
+            piece
+        } else {
+            self.kept.as_slice()
+        }
+    }
+
+    /// Lets go of a whole bundle of so many octets.
+    fn close(&mut self, end: usize)
+        requires { self.old.before + end < 2 ^ 64 }
+        ensures held { IsHeld self.new }
+        ensures closed { stream_of self.new
+            ≡ record { before = self.old.before + end; kept = [] } }
+    {
+        self.before += end;
+        self.kept.clear();
+        self.pass = Pass::START;
     }
 
     /// The refusal of the end of the stream, where a bundle has begun.
@@ -237,26 +355,23 @@ impl Held {
         }
         match self.pass.run(self.kept.as_slice(), MOST_OTHERS) {
             (_, None) => None,
-            (_, Some(refused)) => Some(refused.cause.at(self.before + refused.at)),
+            (_, Some(refused)) => Some(refused.after(self.before)),
         }
     }
 }
 
 /// What some octets give, over which a pass has come so far. Where they are cut no more may follow them.
-fn taken(alloc: Global, text: &[u8], pass: Pass, cut: bool) -> Result<Gained, Fail6>
+fn look(text: &[u8], pass: Pass, cut: bool) -> Result<Gained, Refused6>
     requires fits { Fits 64 text.now pass }
     requires stands { Stands 64 text.now pass }
     ensures { Gains text.now cut result }
 {
     match pass.run(text, MOST_OTHERS) {
-        (_, None) => {
-            let (bundle, end) = bundle_at(alloc, text, 0, MOST_OTHERS)?;
-            Ok(Gained::Whole(bundle, end))
-        }
+        (pass, None) => Ok(Gained::Whole(pass.at)),
         (pass, Some(refused)) => match refused.cause {
-            Cause6::Truncated if cut => Err(Cause6::TooLong.at(0).into()),
+            Cause6::Truncated if cut => Err(Cause6::TooLong.at(0)),
             Cause6::Truncated => Ok(Gained::Open(pass)),
-            _ => Err(refused.into()),
+            _ => Err(refused),
         },
     }
 }

@@ -2,7 +2,7 @@
 use Rattle.bundle6.proofs.ReaderLemmas.{stands-longer}
 use Rattle.bundle6.proofs.reader.Held.begin.Goals as goal
 
-pub taken-requires-clause-stands : goal.taken-requires-clause-stands
-taken-requires-clause-stands c =
+pub look-requires-clause-stands : goal.look-requires-clause-stands
+look-requires-clause-stands c =
     rw c.requires.empty at
     (stands-longer 64 c.args.self.now.kept.items c.args.piece.now c.args.self.now.pass c.requires.held.fits c.requires.held.stands)

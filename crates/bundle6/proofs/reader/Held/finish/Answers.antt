@@ -4,8 +4,8 @@ use Rattle.bundle6.specs.Holding.{stream_of}
 use Rattle.bundle6.proofs.ReaderLemmas.{place-within, not-ended, ends-open}
 use Rattle.bundle6.proofs.reader.Held.finish.Goals as goal
 
-pub overflow_add-self : goal.overflow_add-self
-overflow_add-self c =
+pub after-requires : goal.after-requires
+after-requires c =
     let kept = c.args.self.now.kept.items in
     let comes = rw c.as_slice.ensures.value at (rw c.in_default-Some.is-1 at c.run.ensures.comes) in
     let within = place-within kept c.run.result.0 c.in_default-Some.refused c.requires.octets comes in
@@ -21,5 +21,5 @@ pub returns-in_default-Some : goal.returns-in_default-Some
 returns-in_default-Some c =
     let comes = rw c.as_slice.ensures.value at (rw c.in_default-Some.is-1 at c.run.ensures.comes) in
     let ends = ends-open (stream_of c.args.self.now) c.run.result.0 c.in_default-Some.refused c.requires.begun comes in
-    rw c.at.ensures
+    rw c.after.ensures
     (λ none. let empty : c.args.self.now.kept.items ≡ [] = none in search rules, ends.0, (c.in_default-Some.refused.at, ends.1, refl))

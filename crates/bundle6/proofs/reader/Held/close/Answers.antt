@@ -1,0 +1,13 @@
+-- Nothing is open.
+use Rattle.std.proofs.Common.{arith, refl}
+use Rattle.bundle6.proofs.ReaderLemmas.{open-nothing, octets-nothing}
+use Rattle.bundle6.proofs.reader.Held.close.Goals as goal
+
+pub returns-clause-held : goal.returns-clause-held
+returns-clause-held c = record {
+  fits = record { place = omega arith; few = omega arith; order = omega arith; inside = omega arith };
+  stands = λ more. refl;
+  begun = rw c.clear.ensures.items open-nothing;
+  octets = rw c.clear.ensures.items octets-nothing;
+  counted = rw c.clear.ensures.items (omega (arith, c.requires));
+}

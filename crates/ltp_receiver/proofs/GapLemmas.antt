@@ -1,12 +1,12 @@
 -- A piece whose octets are taken gap by gap.
 
-use Rattle.std.proofs.Common.{◌≡◌, ℕ, ◌+◌, ◌-◌, ◌<◌, ◌≤◌, max, Bool, true, false, List, [], length, take, drop, slice_range, Option, None, Some, is_some, refl, sym, ◌∙◌, ap, arith, ⊎_elim, length-drop}
+use Rattle.std.proofs.Common.{◌≡◌, ℕ, suc, ◌+◌, ◌-◌, ◌<◌, ◌≤◌, max, All, Bool, true, false, List, [], ◌∷◌, length, take, drop, slice_range, Option, None, Some, is_some, refl, sym, ◌∙◌, ap, arith, ⊎_elim, length-drop}
 use Rattle.std.proofs.lemmas.Bool.{cases_lt, lt-ltb, le-ltb}
 use Rattle.std.proofs.lemmas.List.{length-take, length-take-le, get_or-take, get_or-drop, take_all, get_or_past}
-use Rattle.std.specs.Prelude.{slice_get}
 use Rattle.spans.specs.declared.range.Run.{Run}
-use Rattle.spans.specs.Places.{runs_of, runs_below}
-use Rattle.spans.proofs.PlaceLaws.{IsMaximal-found, counts_those_below}
+use Rattle.spans.specs.Laws.{IsMaximal}
+use Rattle.spans.specs.Places.{runs_reaching}
+use Rattle.spans.proofs.Reaching.{reaching-maximal}
 use Rattle.ltp_session.specs.Cells.{cell, octet_in, filled}
 use Rattle.ltp_receiver.specs.Receiver.{Covers}
 use Rattle.ltp_receiver.specs.RedPart.{or_else}
@@ -183,19 +183,33 @@ up_to-end cells now offset body at so_far past some =
     (λ k. rw (so_far.each k, take_all (at - offset) body (omega (arith, past)), cell-filled cells offset body k) refl)
 
 -- a run of the filled places is passed over, once the gap before it is taken
-pub up_to-run : (cells log now : List (Option ℕ)) (places : List Bool) (offset : ℕ) (body : List ℕ) (at i : ℕ) (run : Run)
-    → Covers places cells → slice_get (runs_of places) i ≡ Some run → run.from ≤ offset + length body
+up_to-run : (cells log now : List (Option ℕ)) (places : List Bool) (offset : ℕ) (body : List ℕ) (at : ℕ) (run : Run)
+    → Covers places cells → IsMaximal run places → run.from ≤ offset + length body
     → IsUpTo cells log offset body at → now ≡ filled_gap log offset body at run.from
     → IsUpTo cells now offset body (max at run.to)
-up_to-run cells log now places offset body at i run covers is fits so_far taken =
-    let maximal = IsMaximal-found places i run is in
+up_to-run cells log now places offset body at run covers maximal fits so_far taken =
     let gap = up_to-gap cells log now offset body at run.from so_far fits taken in
     let skip = up_to-skip cells now offset body (max at run.from) run.from run.to gap (omega arith)
     (λ k low high. sym (covers.each k) ∙ maximal.covered k low high) in
     let place : max (max at run.from) run.to ≡ max at run.to = omega (arith, maximal.some) in
     rw place at skip
 
--- one that is counted begins before the piece stops
-pub run-below : (places : List Bool) (i to : ℕ) (run : Run) → slice_get (runs_of places) i ≡ Some run
-    → i < runs_below to places → run.from ≤ to
-run-below places i to run is low = omega (arith, (counts_those_below to places i run is).0 low)
+-- the octets of a piece up to a place are taken, and the runs that are left are maximal
+pub record IsFilling (cells now : List (Option ℕ)) (places : List Bool) (offset : ℕ) (body : List ℕ) (at : ℕ) (left : List Run) : Type 0 where
+  pub so_far : IsUpTo cells now offset body at
+  pub maximal : All (λ run. IsMaximal run places) left
+
+pub filling-start : (cells : List (Option ℕ)) (places : List Bool) (offset : ℕ) (body : List ℕ)
+    → IsFilling cells cells places offset body offset (runs_reaching offset places)
+filling-start cells places offset body = record {
+  so_far = up_to-start cells offset body;
+  maximal = reaching-maximal offset places;
+}
+
+pub filling-more : (cells log now : List (Option ℕ)) (places : List Bool) (offset : ℕ) (body : List ℕ) (at : ℕ) (run : Run) (left : List Run)
+    → Covers places cells → run.from ≤ offset + length body → now ≡ filled_gap log offset body at run.from
+    → IsFilling cells log places offset body at (run ∷ left) → IsFilling cells now places offset body (max at run.to) left
+filling-more cells log now places offset body at run left covers fits taken filling = record {
+  so_far = up_to-run cells log now places offset body at run covers (filling.maximal 0 run (omega arith)) fits filling.so_far taken;
+  maximal = λ k d below. filling.maximal (suc k) d (omega arith);
+}

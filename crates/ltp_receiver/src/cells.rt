@@ -109,13 +109,12 @@ fn with_new(log: Log, places: &Spans, offset: u64, body: &[u8]) -> Result<Log, A
     let stop = offset + body.len() as u64;
     let mut log = log;
     let mut at = offset;
-    // The last range that begins before the piece may reach into it.
-    let first = places.count(offset).saturating_sub(1);
-    for i in first..places.count(stop) {
-        if let Some(run) = places.run(i) {
-            log = with_gap(log, offset, body, at, run.from)?;
-            at = at.max(run.to);
+    'filling: for run in places.runs_from(offset) {
+        if run.from >= stop {
+            break;
         }
+        log = with_gap(log, offset, body, at, run.from)?;
+        at = at.max(run.to);
     }
     with_gap(log, offset, body, at, stop)
 }

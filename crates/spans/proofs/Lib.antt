@@ -11,3 +11,4 @@ pub mod Kept
 pub mod Iterating
 pub mod Counting
 pub mod PlaceLaws
+pub mod Reaching

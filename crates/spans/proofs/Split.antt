@@ -9,7 +9,7 @@ use Rattle.spans.specs.declared.range.Run.{Run}
 use Rattle.spans.specs.Chunks.{AreFilled, joined, before, from_there, split_at}
 use Rattle.spans.specs.Runs.{BeginsBy, FirstHasAll}
 use Rattle.spans.proofs.Growing.{drop-read}
-use Rattle.spans.proofs.Joined.{from_there-past, joined-set, from_there-split}
+use Rattle.spans.proofs.Joined.{from_there-past, joined-place, joined-set, from_there-split}
 
 -- ---- parts of a list
 
@@ -100,6 +100,13 @@ StandsAt-moved chunks now p q keep below within kept is low high =
           let there = subst (λ (ns : List (List Run)). StandsAt chunks p.chunk p.at ns p.chunk p.at) (sym is) stays in
           subst (λ (t : Place). StandsAt chunks p.chunk p.at now t.chunk t.at) (sym (low le)) there
     ]
+
+pub joined-stands : (chunks : List (List Run)) (c i : ℕ) (now : List (List Run)) (d j : ℕ) → StandsAt chunks c i now d j → joined now ≡ joined chunks
+joined-stands chunks c i now d j h =
+    joined-place now d j
+    ∙ (ap (λ xs. xs ++ from_there now d j) h.before
+    ∙ (ap (λ xs. before chunks c i ++ xs) h.rest
+    ∙ sym (joined-place chunks c i)))
 
 pub AreFilled-split_at : (chunks : List (List Run)) (c keep : ℕ) → AreFilled chunks → 0 < keep → keep < length (get_or chunks c []) → AreFilled (split_at c keep chunks)
 AreFilled-split_at [] c keep filled some below = tt

@@ -5,6 +5,7 @@ use Rattle.std.specs.Prelude.{Some, slice_get}
 use Rattle.spans.specs.declared.range.Run.{Run}
 use Rattle.spans.specs.Places.{uncovered, is_covered, is_in, with_covered, uncovered_in, covered_count}
 use Rattle.spans.specs.Places.{all_covered, AreCovered, runs_of, runs_below}
+use Rattle.spans.specs.Places.{runs_reaching}
 use Rattle.spans.specs.Runs.{AreApart, FirstHasAll, has_place}
 
 -- where nothing was covered no place is covered, there is no run, and the limit is the length
@@ -51,6 +52,16 @@ RunsAreMaximal =
     → ((i : ℕ) (r : Run) → slice_get (runs_of places) i ≡ Some r → IsMaximal r places)
     × AreApart 0 (runs_of places)
     × ((k : ℕ) → has_place (runs_of places) k ≡ is_covered places k)
+
+-- the runs from a place on are maximal covered ranges that end there or later, come in order, and
+-- have each covered place from there on
+abbrev pub RunsReachOn : Type 0
+RunsReachOn =
+    (place : ℕ) (places : List Bool)
+    → ((i : ℕ) (r : Run) → slice_get (runs_reaching place places) i ≡ Some r
+    → IsMaximal r places × (place ≤ r.to))
+    × AreApart 0 (runs_reaching place places)
+    × ((k : ℕ) → place ≤ k → has_place (runs_reaching place places) k ≡ is_covered places k)
 
 -- all places below `to` are covered if and only if the first run begins at 0 and reaches `to`
 abbrev pub WholeIsOneRun : Type 0

@@ -3,9 +3,9 @@
 use Rattle.std.specs.Prelude.{◌≡◌, ℕ, ◌+◌, ◌-◌, ◌<◌, ◌≤◌, Bool, true, false, not, ◌&&◌, List, []}
 use Rattle.std.specs.Prelude.{◌∷◌, ◌++◌, take, drop, replicate, slice_index_or, slice_range}
 use Rattle.std.specs.Prelude.{if◌then◌else◌, ◌==◌, nat_lt, nat_le, length, ◌⊎◌}
-use Rattle.std.specs.List.{list_all, count_by}
+use Rattle.std.specs.List.{list_all, count_by, filter}
 use Rattle.spans.specs.declared.range.Run.{Run}
-use Rattle.spans.specs.declared.chunk.TheConstants.{MOST}
+use Rattle.spans.specs.declared.chunk.TheConstants.{FEW}
 
 -- whether place k is covered; no place at or past the limit is
 abbrev pub is_covered : List Bool → ℕ → Bool
@@ -62,10 +62,14 @@ runs_from k (true ∷ places) = grown_by k (runs_from (k + 1) places)
 unfoldable pub runs_of : List Bool → List Run
 runs_of places = runs_from 0 places
 
+-- the maximal covered ranges that end at or after a place, in order
+unfoldable pub runs_reaching : ℕ → List Bool → List Run
+runs_reaching place places = filter (λ r. nat_le place r.to) (runs_of places)
+
 -- how many of the maximal covered ranges begin below `to`
 unfoldable pub runs_below : ℕ → List Bool → ℕ
 runs_below to places = count_by (λ r. nat_lt r.from to) (runs_of places)
 
--- a run more may want memory: there is none yet, or there are as many as a chunk holds, or more
+-- a run more may want memory: there is none yet, or there are a few
 abbrev pub MayWant : List Run → Type 0
-MayWant runs = (length runs ≡ 0) ⊎ (MOST ≤ length runs)
+MayWant runs = (length runs ≡ 0) ⊎ (FEW ≤ length runs)

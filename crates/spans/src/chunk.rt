@@ -1,7 +1,7 @@
 //! A chunk: a bounded number of runs, in order.
 
 ghost use Rattle.std.specs.Prelude.{◌≡◌, ℕ, ◌+◌, ◌^◌, ◌<◌, ◌≤◌, ◌++◌, ◌∷◌, [], length, take};
-ghost use Rattle.std.specs.Prelude.{drop, slice_index_or, slice_set, IfOk, IsTrue};
+ghost use Rattle.std.specs.Prelude.{drop, slice_index_or, slice_set, IfOk, OnOk, OnErr, IsTrue};
 ghost use Rattle.std.specs.Prelude.{◌↔◌, nat_lt, count_by};
 ghost use Rattle.std.specs.List.{insert};
 ghost use Rattle.spans.specs.Growing.{grown_over, left_after};
@@ -15,7 +15,11 @@ use std::marker::Model;
 /// How many runs a chunk holds at the most.
 pub(crate) const MOST: usize = 128;
 
-/// Some runs that follow one another, and room for as many as a chunk may hold.
+/// For how many runs a chunk has room from its first one on. Most have few: a session of which one
+/// octet came keeps one run.
+pub(crate) const FEW: usize = 16;
+
+/// Some runs that follow one another, and room for a few at least.
 #[derive(Debug, Drop)]
 pub(crate) struct Chunk {
     runs: Vec<Run>,
@@ -24,13 +28,13 @@ pub(crate) struct Chunk {
 impl Model for Chunk {
     ghost use Rattle.std.specs.Prelude.{List, ◌≤◌, length, vec_capacity};
     ghost use Rattle.spans.specs.declared.range.Run.{Run};
-    ghost use Rattle.spans.specs.declared.chunk.TheConstants.{MOST};
+    ghost use Rattle.spans.specs.declared.chunk.TheConstants.{MOST, FEW};
 
     ghost Value = { List Run };
 
     ghost view = { λ c. c.runs.items };
 
-    ghost invariant = { λ c. (length c.runs.items ≤ MOST) × (MOST ≤ vec_capacity c.runs) };
+    ghost invariant = { λ c. (length c.runs.items ≤ MOST) × (FEW ≤ vec_capacity c.runs) };
 }
 
 impl Chunk {
@@ -38,12 +42,12 @@ impl Chunk {
     pub fn of(alloc: Global, run: Run) -> Result<Chunk, AllocError>
         ensures { IfOk result (λ c. c ≡ run ∷ []) }
     {
-        let mut runs = Vec::with_capacity(alloc, MOST)?;
+        let mut runs = Vec::with_capacity(alloc, FEW)?;
         runs.push(run)?;
         Ok(Chunk { runs })
     }
 
-    /// A chunk of the runs from `at` on.
+    /// A chunk of the runs from `at` on, with room for as many as it may hold.
     pub fn rest(&self, alloc: Global, at: usize) -> Result<Chunk, AllocError>
         requires { at ≤ length self.now }
         ensures { IfOk result (λ c. c ≡ drop at self.now) }
@@ -116,13 +120,16 @@ impl Chunk {
         self.runs.partition_point(|run| run.from < to)
     }
 
-    /// Adds a run at an index. There is room for it, so no memory is wanted.
-    pub fn insert(&mut self, at: usize, run: Run)
+    /// Adds a run at an index. Below a few runs no memory is wanted.
+    pub fn insert(&mut self, at: usize, run: Run) -> Result<(), AllocError>
         requires at { at ≤ length self.old }
         requires room { length self.old < MOST }
-        ensures { self.new ≡ insert self.old at run }
+        ensures ok { OnOk result (self.new ≡ insert self.old at run) }
+        ensures wants { OnErr result (FEW ≤ length self.old) }
+        ensures err { OnErr result (self.new ≡ self.old) }
     {
-        let _never_refused = self.runs.insert(at, run);
+        self.runs.insert(at, run)?;
+        Ok(())
     }
 
     /// Puts another run in the place of that at an index.

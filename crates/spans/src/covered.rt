@@ -3,7 +3,7 @@
 ghost use Rattle.std.specs.Prelude.{◌≡◌, ℕ, ◌+◌, ◌-◌, ◌<◌, ◌≤◌, List, [], length, IfOk, OnOk};
 ghost use Rattle.std.specs.Prelude.{OnErr, IsTrue, slice_get};
 ghost use Rattle.spans.specs.Places.{uncovered, with_covered, uncovered_in, all_covered, AddsRun};
-ghost use Rattle.spans.specs.Places.{runs_of, runs_below};
+ghost use Rattle.spans.specs.Places.{runs_of, runs_reaching, runs_below};
 ghost use Rattle.spans.specs.Places.{MayWant};
 
 use crate::chunk::Chunk;
@@ -51,14 +51,14 @@ impl Spans {
     /// covered before.
     ///
     /// Only a range that has a place, and neither overlaps nor touches a covered one, may want
-    /// memory: the first one, and each once there are 128. A refusal leaves all as before.
+    /// memory: the first one, and each once there are 16. A refusal leaves all as before.
     pub fn cover(&mut self, from: u64, to: u64) -> Result<u64, AllocError>
         requires order { from ≤ to }
         requires within { to ≤ length self.old }
         ensures covered { OnOk result (self.new ≡ with_covered from to self.old) }
         ensures fresh { IfOk result (λ n. n ≡ uncovered_in from to self.old) }
         ensures refused { OnErr result (AddsRun from to self.old) }
-        // Memory may be wanted for the first run, and once there are as many as a chunk holds.
+        // Memory may be wanted for the first run, and once there are a few.
         ensures wants { OnErr result (MayWant (runs_of self.old)) }
         ensures kept { OnErr result (self.new ≡ self.old) }
         ensures limit { length self.new ≡ length self.old }
@@ -100,6 +100,14 @@ impl Spans {
         ensures { result ≡ runs_below to self.now }
     {
         reading::count(&self.chunks, to)
+    }
+
+    /// The maximal covered ranges that end at or after a place, in order. It is found by two binary
+    /// searches, so a walk over what a range meets costs no more than these.
+    pub fn runs_from(&self, place: u64) -> Runs<'_>
+        ensures { result ≡ runs_reaching place self.now }
+    {
+        reading::runs_from(&self.chunks, place)
     }
 
     /// The maximal covered ranges, in order.

@@ -2,7 +2,7 @@
 //! contract of a function that does nothing.
 
 ghost use Rattle.spans.specs.Laws.{NothingIsCovered, CoversTheRange, CountsTheFresh, AllIsEach};
-ghost use Rattle.spans.specs.Laws.{RunsAreMaximal, WholeIsOneRun, CountsThoseBelow};
+ghost use Rattle.spans.specs.Laws.{RunsAreMaximal, RunsReachOn, WholeIsOneRun, CountsThoseBelow};
 
 /// Where nothing was covered no place is covered and there is no run.
 pub fn nothing_is_covered()
@@ -27,6 +27,12 @@ pub fn all_is_each()
 /// The runs are the maximal covered ranges, in order, and have all covered places.
 pub fn runs_are_maximal()
     ensures { RunsAreMaximal }
+{}
+
+/// The runs from a place on are the maximal covered ranges that end there or later, in order, and
+/// have all covered places from there on.
+pub fn runs_reach_on()
+    ensures { RunsReachOn }
 {}
 
 /// All places below another are covered if and only if one run has them all.

@@ -67,7 +67,7 @@ fn split(
     Ok(())
 }
 
-/// The place among the chunks for a run that is to be added, in a chunk with room for it.
+/// The place among the chunks for a run that is to be added, in a chunk that may hold one more.
 fn make_room(chunks: &mut Vec<Chunk>, alloc: Global, place: Place) -> Result<Place, AllocError>
     requires within { place.chunk < length chunks.old.items }
     requires at { place.at ≤ length (slice_index_or chunks.old.items place.chunk []) }
@@ -81,7 +81,7 @@ fn make_room(chunks: &mut Vec<Chunk>, alloc: Global, place: Place) -> Result<Pla
         ≡ from_there chunks.old.items place.chunk place.at) }
     ensures room { IfOk result (λ p. length (slice_index_or chunks.new.items p.chunk []) < MOST) }
     ensures wants { OnErr result (MayWant (joined chunks.old.items)) }
-    ensures err { OnErr result (joined chunks.new.items ≡ joined chunks.old.items) }
+    ensures runs { joined chunks.new.items ≡ joined chunks.old.items }
 {
     if !chunks[place.chunk].is_full() {
         return Ok(place);
@@ -108,20 +108,24 @@ fn moved(place: Place, keep: usize) -> Place
     }
 }
 
-/// Adds a run at a place in a chunk with room for it.
-fn insert(chunks: &mut Vec<Chunk>, place: Place, run: Run)
+/// Adds a run at a place in a chunk that may hold one more.
+fn insert(chunks: &mut Vec<Chunk>, place: Place, run: Run) -> Result<(), AllocError>
     requires within { place.chunk < length chunks.old.items }
     requires at { place.at ≤ length (slice_index_or chunks.old.items place.chunk []) }
     requires room { length (slice_index_or chunks.old.items place.chunk []) < MOST }
     requires filled { AreFilled chunks.old.items }
     ensures filled { AreFilled chunks.new.items }
-    ensures runs { joined chunks.new.items ≡ before chunks.old.items place.chunk place.at
-        ++ run ∷ from_there chunks.old.items place.chunk place.at }
+    ensures ok { OnOk result (joined chunks.new.items
+        ≡ before chunks.old.items place.chunk place.at
+        ++ run ∷ from_there chunks.old.items place.chunk place.at) }
+    ensures wants { OnErr result (MayWant (joined chunks.old.items)) }
+    ensures err { OnErr result (joined chunks.new.items ≡ joined chunks.old.items) }
 {
-    chunks[place.chunk].insert(place.at, run);
+    chunks[place.chunk].insert(place.at, run)?;
+    Ok(())
 }
 
-/// The place after all runs, where the last chunk has room.
+/// The place after all runs, where the last chunk may hold one more.
 fn end_with_room(chunks: &[Chunk]) -> Option<Place>
     ensures last { IfSome result (λ p. p.chunk + 1 ≡ length chunks.now) }
     ensures at { IfSome result (λ p. p.at ≡ length (slice_index_or chunks.now p.chunk [])) }
@@ -145,7 +149,7 @@ fn append(chunks: &mut Vec<Chunk>, alloc: Global, run: Run) -> Result<(), AllocE
     ensures err { OnErr result (joined chunks.new.items ≡ joined chunks.old.items) }
 {
     if let Some(place) = end_with_room(chunks) {
-        insert(chunks, place, run);
+        insert(chunks, place, run)?;
         return Ok(());
     }
     let chunk = Chunk::of(alloc, run)?;
@@ -173,7 +177,7 @@ pub(crate) fn add(
         return append(chunks, alloc, run);
     }
     let place = make_room(chunks, alloc, place)?;
-    insert(chunks, place, run);
+    insert(chunks, place, run)?;
     Ok(())
 }
 

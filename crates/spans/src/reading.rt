@@ -1,13 +1,14 @@
 //! What the runs of the chunks cover, one at an index, and how many there are.
 
 ghost use Rattle.std.specs.Prelude.{◌≡◌, ◌^◌, ◌<◌, [], length, slice_index_or, IsTrue, ◌↔◌};
-ghost use Rattle.std.specs.Prelude.{nat_lt, slice_get, count_by};
+ghost use Rattle.std.specs.Prelude.{nat_le, nat_lt, slice_get, count_by, filter};
 ghost use Rattle.spans.specs.Chunks.{joined, AreFilled, from_there};
 ghost use Rattle.spans.specs.Runs.{AreApart, HasAll, FirstHasAll};
 
 use crate::chunk::Chunk;
 use crate::pieces::{Place, reaching};
 use crate::range::Run;
+use crate::runs::Runs;
 
 /// Whether a run stands at a place that has all places from `from` to before `to`.
 fn has_all(chunks: &[Chunk], place: Place, from: u64, to: u64) -> bool
@@ -44,6 +45,15 @@ pub(crate) fn run(chunks: &[Chunk], i: usize) -> Option<Run>
         left -= chunk.len();
     }
     None
+}
+
+/// The runs that end at or after a place.
+pub(crate) fn runs_from(chunks: &[Chunk], place: u64) -> Runs<'_>
+    requires apart { AreApart 0 (joined chunks.now) }
+    requires filled { AreFilled chunks.now }
+    ensures { result ≡ filter (λ r. nat_le place r.to) (joined chunks.now) }
+{
+    Runs::from_place(chunks, reaching(chunks, place))
 }
 
 /// How many runs there are in some chunks.

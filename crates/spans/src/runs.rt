@@ -1,10 +1,11 @@
 //! The maximal covered ranges, one after another.
 
-ghost use Rattle.std.specs.Prelude.{◌≡◌, List};
+ghost use Rattle.std.specs.Prelude.{◌≡◌, ◌<◌, ◌≤◌, List, [], length, slice_index_or};
 ghost use Rattle.std.specs.Iterator.{YieldsFirst, item_count};
-ghost use Rattle.spans.specs.Chunks.{AreFilled, joined};
+ghost use Rattle.spans.specs.Chunks.{AreFilled, joined, from_there};
 
 use crate::chunk::Chunk;
+use crate::pieces::Place;
 use crate::range::Run;
 use std::marker::Model;
 
@@ -35,6 +36,20 @@ impl<'a> Runs<'a> {
         ensures { result ≡ joined chunks.now }
     {
         Runs { chunks, at: 0 }
+    }
+
+    /// The runs of some chunks from a place on.
+    pub(crate) fn from_place(chunks: &'a [Chunk], place: Place) -> Runs<'a>
+        requires filled { AreFilled chunks.now }
+        requires within { place.chunk ≤ length chunks.now }
+        requires at { place.chunk < length chunks.now
+            → place.at < length (slice_index_or chunks.now place.chunk []) }
+        ensures { result ≡ from_there chunks.now place.chunk place.at }
+    {
+        Runs {
+            chunks: &chunks[place.chunk..],
+            at: place.at,
+        }
     }
 }
 

@@ -15,6 +15,6 @@ returns-then-place-len-clause-ok c =
 
 pub returns-clause-ok : goal.returns-clause-ok
 returns-clause-ok c =
-    c.insert.ensures.runs
+    c.in_ok-insert.ensures.ok
     ∙ (ap (λ xs. xs ++ c.args.run ∷ from_there c.make_room.new.chunks.items c.in_ok-place.place.chunk c.in_ok-place.place.at) c.in_ok-place.ensures.before
     ∙ ap (λ xs. before c.args.chunks.now.items c.args.place.chunk c.args.place.at ++ c.args.run ∷ xs) c.in_ok-place.ensures.rest)

@@ -11,7 +11,7 @@ returns-in-Some-clause-ok c =
     let p = c.in-Some.place in
     let last = subst (λ (xs : List (List Run)). p.chunk + 1 ≡ length xs) c.deref.ensures.value c.in-Some.ensures.last in
     let at = subst (λ (xs : List (List Run)). p.at ≡ length (get_or xs p.chunk [])) c.deref.ensures.value c.in-Some.ensures.at in
-    c.insert.ensures.runs
+    c.in_ok-insert.ensures.ok
     ∙ (ap (λ xs. xs ++ c.args.run ∷ from_there chunks p.chunk p.at) (before-last chunks p.chunk p.at last at)
     ∙ ap (λ xs. joined chunks ++ c.args.run ∷ xs) (from_there-last chunks p.chunk p.at last at))
 

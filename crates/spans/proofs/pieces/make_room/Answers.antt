@@ -2,7 +2,7 @@ use Rattle.std.proofs.Common.{◌≡◌, ◌<◌, ◌≤◌, ◌/◌, List, [], 
 use Rattle.std.proofs.lemmas.List.{get_or_read}
 use Rattle.spans.specs.declared.range.Run.{Run}
 use Rattle.spans.specs.Chunks.{AreFilled}
-use Rattle.spans.proofs.Split.{StandsAt, StandsAt-moved, AreFilled-split_at, length-moved, length-chunk}
+use Rattle.spans.proofs.Split.{StandsAt, StandsAt-moved, joined-stands, AreFilled-split_at, length-moved, length-chunk}
 use Rattle.spans.proofs.pieces.make_room.Goals as goal
 
 -- how long the chunk is
@@ -38,6 +38,10 @@ returns-clause-before c = (stands c).before
 
 pub returns-clause-rest : goal.returns-clause-rest
 returns-clause-rest c = (stands c).rest
+
+pub returns-clause-runs : goal.returns-clause-runs
+returns-clause-runs c =
+    joined-stands c.args.chunks.now.items c.args.place.chunk c.args.place.at c.split.new.chunks.items c.moved.result.chunk c.moved.result.at (stands c)
 
 pub returns-clause-room : goal.returns-clause-room
 returns-clause-room c =

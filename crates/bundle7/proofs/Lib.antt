@@ -7,4 +7,5 @@ pub mod SpellingLaws
 pub mod PrimaryLaws
 pub mod BlockLaws
 pub mod JudgingLemmas
-pub mod StreamLemmas
+pub mod ReaderLemmas
+pub mod AnswerLemmas

@@ -11,4 +11,4 @@ pub mod Streaming
 -- What follows only ties code to the definitions.
 pub mod Lent
 pub mod Seen
-pub mod Told
+pub mod Holding

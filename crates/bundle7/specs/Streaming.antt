@@ -1,128 +1,132 @@
--- Bundles out of a stream that comes in pieces: what a reader keeps, and what a piece makes of it.
-use Rattle.std.specs.Prelude.{◌≡◌, ℕ, ◌+◌, ◌-◌, ◌<◌, nat_lt, Bool, false, if◌then◌else◌, List, [], ◌∷◌, ◌++◌, length, take, Option, Some, None, Result, Ok, Err}
+-- Reading a stream of bundles in pieces.
+
+use Rattle.std.specs.Prelude.{◌≡◌, ℕ, ◌+◌, ◌-◌, ◌<◌, ◌≤◌, Bool, true, false, nat_lt, if◌then◌else◌, List, [], ◌++◌, length, take, Option, Some, None, Result, Ok, Err, ◌⊎◌}
 use Rattle.wire_fields.specs.Refusal.{Stop, truncated, because}
-use Rattle.wire_fields.specs.Reading.{read}
+use Rattle.wire_fields.specs.Reading.{read, IsOctets}
 use Rattle.bundle7.specs.declared.fault.Cause7.{Cause7}
-use Rattle.bundle7.specs.declared.fault.Cause7.TheVariants as causes
+use Rattle.bundle7.specs.declared.fault.Cause7.TheVariants.{Truncated, TooLong}
 use Rattle.bundle7.specs.declared.fault.Refused7.{Refused7}
 use Rattle.bundle7.specs.declared.fault.Fail7.{Fail7}
-use Rattle.bundle7.specs.declared.fault.Fail7.TheVariants as fails
+use Rattle.bundle7.specs.declared.fault.Fail7.TheVariants.{Refused, Memory}
 use Rattle.bundle7.specs.declared.bundle.Bundle7.{Bundle7}
-use Rattle.bundle7.specs.declared.told.Told.{Told}
-use Rattle.bundle7.specs.declared.told.Told.TheVariants.{Open, Whole, Stopped}
-use Rattle.bundle7.specs.declared.told.Fed7.{Fed7}
+use Rattle.bundle7.specs.declared.reader.Fed7.{Fed7}
 use Rattle.bundle7.specs.Table.{bundle}
+use Rattle.bundle7.specs.Legal.{IsLegal7}
 
--- what a reader keeps of a stream
+-- A stream as far as it was taken: how many octets its bundles took, and the octets after them.
 pub record Stream : Type 0 where
-  -- the octets after the last complete bundle
-  pub kept : List ℕ
-  -- how many octets stand before them
   pub before : ℕ
-  -- the refusal that was answered, if there was one
+  pub kept : List ℕ
+
+-- a reader of a stream: what it took, the refusal that it met, and whether memory ran out
+pub record Reading : Type 0 where
+  pub stream : Stream
   pub refused : Option Refused7
+  pub spent : Bool
 
--- the refusal of a field at a place
-abbrev pub refusal_at : ℕ → Cause7 → Refused7
-refusal_at at cause = record { at = at; cause = cause }
+-- the octets end inside a bundle that they begin, or are none
+abbrev pub IsOpen : List ℕ → Type 0
+IsOpen text = (at : ℕ) × (read (bundle 64) text 0 ≡ Err (at, truncated))
 
--- What the octets since the last bundle come to, which begin at a place and are read so: a bundle and
--- its length, a refusal, or nothing yet. Where more follow than are kept, nothing yet is too long.
-abbrev pub told_of : ℕ → Bool → Result (Bundle7 × ℕ) (ℕ × Stop Cause7) → Told
-told_of before longer (Ok x) = Whole x.0 x.1
-told_of before longer (Err (at, truncated)) =
-    if longer then Stopped (refusal_at before causes.TooLong) else Open
-told_of before longer (Err (at, because cause)) = Stopped (refusal_at (before + at) cause)
+-- the octets are not refused for a cause
+abbrev pub IsSpared : List ℕ → Type 0
+IsSpared text = (at : ℕ) (cause : Cause7) → read (bundle 64) text 0 ≡ Err (at, because cause) → ⊥
 
--- the octets since the last bundle, of which at most so many count
-abbrev pub octets_with : ℕ → Stream → List ℕ → List ℕ
-octets_with most stream piece = stream.kept ++ take (most - length stream.kept) piece
+-- A piece was taken: up to the end of the first bundle, which is legal, or all of it where none ends in
+-- it.
+abbrev pub Takes : ℕ → Stream → List ℕ → ℕ → Option Bundle7 → Stream → Type 0
+Takes longest old piece used (Some b) new =
+    (used ≤ length piece) × (length old.kept + used ≤ longest)
+    × (read (bundle 64) (old.kept ++ piece) 0 ≡ Ok (b, length old.kept + used)) × IsLegal7 b
+    × (new ≡ record { before = old.before + (length old.kept + used); kept = [] })
+Takes longest old piece used None new =
+    (used ≡ length piece) × (length old.kept + length piece ≤ longest) × IsOpen (old.kept ++ piece)
+    × (new ≡ record { before = old.before; kept = old.kept ++ piece })
 
--- whether there are more than count
-abbrev pub is_longer : ℕ → Stream → List ℕ → Bool
-is_longer most stream piece = nat_lt (most - length stream.kept) (length piece)
+-- the octets of a piece with which a bundle is no longer than the longest
+abbrev pub near : ℕ → Stream → List ℕ → List ℕ
+near longest old piece = take (longest - length old.kept) piece
 
--- what they come to, with a piece
-unfoldable pub told : ℕ → Stream → List ℕ → Told
-told most stream piece =
-    told_of stream.before (is_longer most stream piece) (read (bundle 64) (octets_with most stream piece) 0)
+-- with the octets of a piece the unfinished bundle is refused at a place for a cause
+pub record HasRefusal (old : Stream) (piece : List ℕ) (at : ℕ) (cause : Cause7) : Type 0 where
+  pub place : ℕ
+  pub reads : read (bundle 64) (old.kept ++ piece) 0 ≡ Err (place, because cause)
+  pub spot : at ≡ old.before + place
 
--- What is answered, and what is kept then, where the octets since the last bundle come to this.
-abbrev pub Turns : Stream → List ℕ → Told → Result Fed7 Fail7 → Stream → Type 0
--- none is complete: all was taken, and is kept
-Turns old octets Open (Ok fed) new =
-    (fed ≡ record { used = length octets - length old.kept; bundle = None })
-    × (new ≡ record { kept = octets; before = old.before; refused = None })
--- one is: the octets up to its end were taken, and none is kept
-Turns old octets (Whole b size) (Ok fed) new =
-    (fed ≡ record { used = size - length old.kept; bundle = Some b })
-    × (new ≡ record { kept = []; before = old.before + size; refused = None })
--- there is a refusal, which stays
-Turns old octets (Stopped r) (Err (fails.Refused at cause)) new =
-    (refusal_at at cause ≡ r)
-    × (new ≡ record { kept = old.kept; before = old.before; refused = Some r })
--- memory ran out: nothing was taken; a refusal waits for memory only where a bundle had begun before,
--- whose octets are kept
-Turns old octets (Stopped r) (Err fails.Memory) new = (new ≡ old) × (0 < length old.kept)
-Turns old octets come (Err fails.Memory) new = new ≡ old
-Turns old octets come result new = ⊥
+-- the unfinished bundle is open where the longest has ended, and another octet follows
+pub record IsTooLong (longest : ℕ) (old : Stream) (piece : List ℕ)
+    (at : ℕ) (cause : Cause7) : Type 0 where
+  pub begun : IsOpen (old.kept ++ near longest old piece)
+  pub more : longest < length old.kept + length piece
+  pub spot : at ≡ old.before
+  pub named : cause ≡ TooLong
 
--- What is answered to a piece, and what is kept then; a refusal is answered again.
-abbrev pub FeedsBy : Option Refused7 → ℕ → Stream → List ℕ → Result Fed7 Fail7 → Stream → Type 0
-FeedsBy (Some r) most old piece result new =
-    (result ≡ Err (fails.Refused r.at r.cause)) × (new ≡ old)
-FeedsBy None most old piece result new =
-    Turns old (octets_with most old piece) (told most old piece) result new
+abbrev pub Refuses : ℕ → Stream → List ℕ → ℕ → Cause7 → Type 0
+Refuses longest old piece at cause =
+    HasRefusal old (near longest old piece) at cause ⊎ IsTooLong longest old piece at cause
 
-unfoldable pub Feeds : ℕ → Stream → List ℕ → Result Fed7 Fail7 → Stream → Type 0
-Feeds most old piece result new = FeedsBy old.refused most old piece result new
+-- What a piece gives. Memory is wanted for a bundle and for octets that are kept: where nothing was kept
+-- before the piece, want of memory hides no refusal.
+abbrev pub Feeds : ℕ → Stream → List ℕ → Result Fed7 Fail7 → Stream → Type 0
+Feeds longest old piece (Ok fed) new = Takes longest old piece fed.used fed.bundle new
+Feeds longest old piece (Err (Refused at cause)) new = Refuses longest old piece at cause
+Feeds longest old piece (Err Memory) new = old.kept ≡ [] → IsSpared (near longest old piece)
 
--- ---- the end of the stream
+-- The end of the stream: nothing is kept, or the octets end inside a bundle.
+abbrev pub Finishes : Stream → Result (Unit {0}) Fail7 → Type 0
+Finishes old (Ok x) = old.kept ≡ []
+Finishes old (Err (Refused at cause)) =
+    ((old.kept ≡ []) → ⊥) × (cause ≡ Truncated)
+    × ((p : ℕ) × (read (bundle 64) old.kept 0 ≡ Err (p, truncated)) × (at ≡ old.before + p))
+Finishes old (Err Memory) = ⊥
 
--- the cause of a reason
-abbrev pub cause_of : Stop Cause7 → Cause7
-cause_of truncated = causes.Truncated
-cause_of (because cause) = cause
+-- what a reader remembers of an answer: a refusal, and want of memory
+abbrev pub Remembers : {A : Type 0} → Result A Fail7 → Reading → Type 0
+Remembers (Ok x) new = (new.refused ≡ None) × (new.spent ≡ false)
+Remembers (Err (Refused at cause)) new =
+    (new.refused ≡ Some (record { at = at; cause = cause })) × (new.spent ≡ false)
+Remembers (Err Memory) new = new.spent ≡ true
 
--- the refusal of octets that begin at a place and are read so
-abbrev pub refused_of : ℕ → Result (Bundle7 × ℕ) (ℕ × Stop Cause7) → Option Refused7
-refused_of before (Ok x) = None
-refused_of before (Err (at, reason)) = Some (refusal_at (before + at) (cause_of reason))
+-- a reader that met a refusal answers it again, and stays as it is
+pub record AnswersAgain {A : Type 0} (refused : Refused7) (old : Reading)
+    (result : Result A Fail7) (new : Reading) : Type 0 where
+  pub answer : result ≡ Err (Refused refused.at refused.cause)
+  pub kept : new ≡ old
 
--- what is answered where no octets follow, and what is kept then
-abbrev pub EndsBy : Option Refused7 → Stream → Result (Unit {0}) Fail7 → Stream → Type 0
-EndsBy None old result new = (result ≡ Ok tt) × (new ≡ old)
-EndsBy (Some r) old result new =
-    (result ≡ Err (fails.Refused r.at r.cause))
-    × (new ≡ record { kept = old.kept; before = old.before; refused = Some r })
+-- ---- one answer
 
--- no bundle has begun, or one has, or there was a refusal
-abbrev pub EndsWith : Option Refused7 → List ℕ → Stream → Result (Unit {0}) Fail7 → Stream → Type 0
-EndsWith (Some r) kept old result new =
-    (result ≡ Err (fails.Refused r.at r.cause)) × (new ≡ old)
-EndsWith None [] old result new = (result ≡ Ok tt) × (new ≡ old)
-EndsWith None (b ∷ more) old result new =
-    EndsBy (refused_of old.before (read (bundle 64) old.kept 0)) old result new
+-- the answer to a piece, by what the octets kept and the near ones of the piece are; whether more of it
+-- follow
+abbrev pub answer_of : Stream → List ℕ → Bool
+    → Result (Bundle7 × ℕ) (ℕ × Stop Cause7) → Result Fed7 Fail7
+answer_of old piece more (Ok x) = Ok (record { used = x.1 - length old.kept; bundle = Some x.0 })
+answer_of old piece more (Err (at, truncated)) =
+    if more then Err (Refused old.before TooLong)
+    else Ok (record { used = length piece; bundle = None })
+answer_of old piece more (Err (at, because cause)) = Err (Refused (old.before + at) cause)
 
-unfoldable pub Ends : Stream → Result (Unit {0}) Fail7 → Stream → Type 0
-Ends old result new = EndsWith old.refused old.kept old result new
+abbrev pub answer : ℕ → Stream → List ℕ → Result Fed7 Fail7
+answer longest old piece =
+    answer_of old piece (nat_lt longest (length old.kept + length piece))
+    (read (bundle 64) (old.kept ++ near longest old piece) 0)
 
--- ---- cuts
+-- A piece has one answer, or memory is wanted.
+abbrev pub HaveOneAnswer : ℕ → Type 0
+HaveOneAnswer longest = (old new : Stream) (piece : List ℕ) (result : Result Fed7 Fail7)
+    → length old.kept ≤ longest → IsOctets (old.kept ++ piece)
+    → Feeds longest old piece result new → (result ≡ Err Memory → ⊥)
+    → result ≡ answer longest old piece
 
--- the stream after a piece that completes nothing
-abbrev pub kept_with : Stream → List ℕ → Stream
-kept_with stream piece = record {
-  kept = stream.kept ++ piece;
-  before = stream.before;
-  refused = stream.refused;
-}
+-- ---- cutting
 
--- a bundle or a refusal, and no longer nothing
-abbrev pub IsTold : Told → Type 0
-IsTold Open = ⊥
-IsTold (Whole b size) = Unit {0}
-IsTold (Stopped r) = Unit {0}
+-- an answer to a piece, as one to so many octets more before it
+abbrev pub later : ℕ → Result Fed7 Fail7 → Result Fed7 Fail7
+later n (Ok fed) = Ok (record { used = n + fed.used; bundle = fed.bundle })
+later n (Err e) = Err e
 
--- what is kept is the beginning of a bundle, or nothing
-abbrev pub IsUnfinished : Stream → Type 0
-IsUnfinished stream = told_of stream.before false (read (bundle 64) stream.kept 0) ≡ Open
+-- A piece that completes nothing, and another after it, give what both give as one piece.
+abbrev pub CutsAlike : ℕ → Type 0
+CutsAlike longest = (old mid new : Stream) (first second : List ℕ) (result : Result Fed7 Fail7)
+    → Takes longest old first (length first) None mid → Feeds longest mid second result new
+    → (result ≡ Err Memory → ⊥)
+    → Feeds longest old (first ++ second) (later (length first) result) new

@@ -1,22 +1,18 @@
 //! Laws of the definitions, each the contract of a function that does nothing.
 
-ghost use Rattle.std.specs.Prelude.{◌≡◌, ◌≤◌, ◌+◌, ◌++◌, [], ℕ, List, length, Option, Result, true};
+ghost use Rattle.std.specs.Prelude.{◌≡◌, [], ℕ, List, true};
 ghost use Rattle.endpoint.specs.declared.name.Endpoint.{Endpoint};
 ghost use Rattle.endpoint.specs.Endpoints.{IsEndpoint};
 ghost use Rattle.wire_fields.specs.Format.{Spells};
 ghost use Rattle.wire_fields.specs.Refusal.{ExactlyOne};
 ghost use Rattle.wire_fields.specs.Reading.{IsOctets};
 ghost use Rattle.bundle7.specs.declared.bundle.Bundle7.{Bundle7};
-ghost use Rattle.bundle7.specs.declared.fault.Fail7.{Fail7 as Fail};
-ghost use Rattle.bundle7.specs.declared.fault.Refused7.{Refused7 as Refused};
-ghost use Rattle.bundle7.specs.declared.told.Fed7.{Fed7 as Fed};
-ghost use Rattle.bundle7.specs.declared.told.Told.TheVariants as tolds;
 ghost use Rattle.bundle7.specs.Eid.{eid};
 ghost use Rattle.bundle7.specs.Body.{IsBody, is_body};
 ghost use Rattle.bundle7.specs.Table.{bundle};
 ghost use Rattle.bundle7.specs.Spelling.{eid_octets, octets7};
 ghost use Rattle.bundle7.specs.Legal.{IsLegal7, Spells7};
-ghost use Rattle.bundle7.specs.Streaming.{Stream, octets_with, told, kept_with, IsTold, Feeds, IsUnfinished};
+ghost use Rattle.bundle7.specs.Streaming.{HaveOneAnswer, CutsAlike};
 
 /// Of each text of octets exactly one holds: one front of it spells a bundle, with one value, or it is
 /// refused at one place for one reason.
@@ -46,26 +42,12 @@ pub fn one_body()
     ensures only { (kind : ℕ) (w : List ℕ) → IsBody kind w → is_body kind w ≡ true }
 {}
 
-/// How a stream is cut makes no difference to what its octets come to.
+/// How a stream is cut into pieces makes no difference. What a piece gives is said by
+/// [`crate::Reader7::feed`].
 pub fn cuts_alike()
-    // What a piece doesn't settle is as if it came with the next.
-    ensures later { (most : ℕ) (stream : Stream) (piece next : List ℕ)
-        → length stream.kept + length piece ≤ most
-        → told most (kept_with stream piece) next ≡ told most stream (piece ++ next) }
+    // A piece has one answer, or memory is wanted.
+    ensures one { HaveOneAnswer 67108864 }
 
-    // A bundle or a refusal stays, whatever follows.
-    ensures stays { (most : ℕ) (stream : Stream) (piece more : List ℕ) → IsOctets (stream.kept ++ piece)
-        → IsTold (told most stream piece) → told most stream (piece ++ more) ≡ told most stream piece }
-{}
-
-/// What a reader keeps is the beginning of a bundle, or nothing; so a bundle ends in the piece that
-/// completes it.
-pub fn keeps_unfinished()
-    ensures new { (before : ℕ) (refused : Option Refused)
-        → IsUnfinished (record { kept = []; before = before; refused = refused }) }
-    ensures fed { (most : ℕ) (old new : Stream) (piece : List ℕ) (result : Result Fed Fail)
-        → Feeds most old piece result new → IsUnfinished old → IsUnfinished new }
-    ensures ends { (most : ℕ) (stream : Stream) (piece : List ℕ) (b : Bundle7) (size : ℕ)
-        → IsOctets (octets_with most stream piece) → IsUnfinished stream
-        → told most stream piece ≡ tolds.Whole b size → length stream.kept ≤ size }
+    // A piece that completes nothing and another after it give what both give as one piece.
+    ensures alike { CutsAlike 67108864 }
 {}

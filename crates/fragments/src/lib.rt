@@ -1,0 +1,21 @@
+//! Bundles cut into fragments, and joined again (RFC 5050, sections 5.8 and 5.9; RFC 9171, sections 5.8
+//! and 5.9).
+//!
+//! Both are done to the record that knows no version ([`bundle_meaning::Full`]), so that a bundle can be
+//! cut on one face and joined on the other. [`cut`] gives the pieces of a record, each with so many
+//! octets of its payload but the last.
+//!
+//! Where extension blocks go is the project's own choice: the first piece has all of them, and each
+//! other one those that are to stand in every fragment.
+#![tactic(auto)]
+
+mod cutting;
+mod fault;
+mod fulls;
+mod kept;
+mod laws;
+
+pub use cutting::cut;
+pub use fault::CutRefused;
+pub use fulls::Fulls;
+pub use laws::pieces_lie_end_to_end;

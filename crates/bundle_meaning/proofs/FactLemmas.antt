@@ -1,6 +1,8 @@
--- What is read of a wrap is a block that a record may hold, where it isn't marked itself.
+-- What is read of a wrap is a block that a record may hold, where it isn't marked itself; what is read of a
+-- residue is what a record may say.
 
-use Rattle.std.proofs.Common.{◌≡◌, ℕ, zero, suc, ◌+◌, ◌^◌, ◌<◌, ◌≤◌, Bool, true, false, not, ltb, leb, ◌==◌, ◌&&◌, List, [], ◌∷◌, ◌++◌, length, None, Result, Ok, Err, is_ok, refl, ap, ◌∙◌, arith, length-append, unwrap_or, IfOk}
+use Rattle.std.proofs.Common.{◌≡◌, ℕ, zero, suc, ◌+◌, ◌^◌, ◌<◌, ◌≤◌, Bool, true, false, not, ltb, leb, ◌==◌, ◌&&◌, List, [], ◌∷◌, ◌++◌, length, None, Result, Ok, Err, is_ok, refl, ap, ◌∙◌, arith, length-append, subst, unwrap_or, IfOk}
+use Rattle.std.proofs.lemmas.List.{append-nil}
 use Rattle.std.proofs.lemmas.Bool.{and_parts, ltb-true, leb-true}
 use Rattle.std.proofs.lemmas.List.Elements.{All-nil, All-push}
 use Rattle.std.specs.List.{All}
@@ -20,7 +22,11 @@ use Rattle.bundle_meaning.specs.declared.fault.BlockFault.{BlockFault}
 use Rattle.bundle_meaning.specs.declared.fault.BlockFault.TheVariants.{Bad}
 use Rattle.bundle_meaning.specs.declared.blocks.Block6Like.{Block6Like}
 use Rattle.bundle_meaning.specs.declared.blocks.Block7Like.{Block7Like}
-use Rattle.bundle_meaning.specs.Bits.{is_without, block_marks}
+use Rattle.bundle_meaning.specs.declared.residue.ResidueOld.{ResidueOld}
+use Rattle.bundle_meaning.specs.declared.residue_new.ResidueNew.{ResidueNew}
+use Rattle.bundle_meaning.specs.Bits.{is_without, block_marks, common, block_common, not_own6, block_not_own6}
+use Rattle.bundle_meaning.specs.Valid.{IsExtra6, IsExtra7}
+use Rattle.bundle_meaning.specs.Residue.{residue_old, residue_new}
 use Rattle.bundle_meaning.specs.Blocks.{is_marked, IsBlock6, IsBlock7}
 use Rattle.bundle_meaning.specs.Body.{shortest, is_name, name, all_left, GivesBody}
 use Rattle.bundle_meaning.specs.Wrap.{wrap_old, references, wrap_new}
@@ -82,7 +88,80 @@ names-legal (suc n) front w earlier refs are spells =
     let others = names-legal n (front ++ u) v both refs more rest in
     (others.0, omega (arith, others.1, long))
 
+-- ---- texts of octets
+
+rest_fits : (u v : List ℕ) → IsOctets (u ++ v) → IsOctets v
+rest_fits [] v fits i = fits i
+rest_fits (x ∷ u) v fits i = rest_fits u v (λ j. fits (suc j)) i
+
+part-octets : (w u v : List ℕ) → w ≡ u ++ v → IsOctets w → IsOctets v
+part-octets w u v parts fits = rest_fits u v (subst IsOctets parts fits)
+
+-- ---- residues
+
+pub residue_old-extra : (w : List ℕ) (residue : ResidueOld) → Spells residue_old [] w residue → IsExtra7 residue.extra7
+unfolding residue_old
+residue_old-extra w residue spells =
+    let (u1, v1, m, e1, s1, r1) = spells in
+    let (u2, v2, slack, e2, s2, r2) = r1 in
+    let (u3, v3, flags, e3, s3, r3) = r2 in
+    let (u4, v4, crc, e4, s4, r4) = r3 in
+    let (u5, v5, payload_crc, e5, s5, r5) = r4 in
+    let (u6, v6, payload_flags, e6, s6, r6) = r5 in
+    let (u7, v7, no_time, e7, s7, r7) = r6 in
+    record {
+      flags = rw r7.1 (needs-holds (is_without common flags) s3.1);
+      flags_fit = rw r7.1 (shortest-fits _ u3 flags s3.0);
+      crc = rw r7.1 (ltb-true crc 3 (needs-holds (ltb crc 3) s4.1));
+      payload_crc = rw r7.1 (ltb-true payload_crc 3 (needs-holds (ltb payload_crc 3) s5.1));
+      payload_flags = rw r7.1 (needs-holds (is_without block_common payload_flags) s6.1);
+      payload_flags_fit = rw r7.1 (shortest-fits _ u6 payload_flags s6.0);
+    }
+
+pub residue_new-extra : (w : List ℕ) (residue : ResidueNew) → Spells residue_new [] w residue → IsExtra6 residue.extra6
+unfolding residue_new
+residue_new-extra w residue spells =
+    let (u1, v1, m, e1, s1, r1) = spells in
+    let (u2, v2, flags, e2, s2, r2) = r1 in
+    let (u3, v3, custodian, e3, s3, r3) = r2 in
+    let (u4, v4, payload_flags, e4, s4, r4) = r3 in
+    let (u5, v5, after, e5, s5, r5) = r4 in
+    let (u6, v6, rests, e6, s6, r6) = r5 in
+    record {
+      custodian = rw r6.1 (name-legal _ u3 custodian s3);
+      flags = rw r6.1 (needs-holds (is_without not_own6 flags) s2.1);
+      flags_fit = rw r6.1 (shortest-fits _ u2 flags s2.0);
+      payload_flags = rw r6.1 (needs-holds (is_without block_not_own6 payload_flags) s4.1);
+      payload_flags_fit = rw r6.1 (shortest-fits _ u4 payload_flags s4.0);
+      after_fits = rw r6.1 (shortest-fits _ u5 after s5);
+    }
+
 -- ---- wraps
+
+left-octets : (size : ℕ) (front w body : List ℕ) → Spells (all_left size) front w body → IsOctets w → IsOctets body
+unfolding all_left
+left-octets size front w body spells fits =
+    let (u1, v1, at, e1, s1, r1) = spells in
+    let octets = part-octets w u1 v1 e1 fits in
+    subst IsOctets r1.0 octets
+
+-- the body that a wrap holds is octets
+pub wrap_old-octets : (size : ℕ) (w : List ℕ) (block : Block7Like) → Spells (wrap_old size) [] w block → IsOctets w → IsOctets block.body
+unfolding wrap_old
+wrap_old-octets size w block spells fits =
+    let (u1, v1, m, e1, s1, r1) = spells in
+    let (u2, v2, kind, e2, s2, r2) = r1 in
+    let (u3, v3, number, e3, s3, r3) = r2 in
+    let (u4, v4, flags, e4, s4, r4) = r3 in
+    let (u5, v5, crc, e5, s5, r5) = r4 in
+    let (u6, v6, body, e6, s6, r6) = r5 in
+    let f1 = part-octets w u1 v1 e1 fits in
+    let f2 = part-octets v1 u2 v2 e2 f1 in
+    let f3 = part-octets v2 u3 v3 e3 f2 in
+    let f4 = part-octets v3 u4 v4 e4 f3 in
+    let f5 = part-octets v4 u5 v5 e5 f4 in
+    let whole : v5 ≡ u6 = e6 ∙ ap (λ x. u6 ++ x) r6.0 ∙ append-nil u6 in
+    rw r6.1 (left-octets size _ u6 body s6 (subst IsOctets whole f5))
 
 pub wrap_old-block : (size : ℕ) (w : List ℕ) (block : Block7Like) → Spells (wrap_old size) [] w block → length w < 2 ^ 64
     → is_marked block.kind block.body ≡ false → IsBlock7 block

@@ -42,11 +42,11 @@ one_kind kind b one other = omega (arith, eqb-true kind 1 one, eqb-true kind 193
 two_kinds : (kind : ℕ) (b : Bool) → (eqb kind 192 && b) ≡ true → (eqb kind 193 && b) ≡ true → ⊥
 two_kinds kind b one other = omega (arith, eqb-true kind 192 (and_parts _ _ one).0, eqb-true kind 193 (and_parts _ _ other).0)
 
-not_marked : (p q b : Bool) → (p && b) ≡ false → (q && b) ≡ false → ((p || q) && b) ≡ false
+pub not_marked : (p q b : Bool) → (p && b) ≡ false → (q && b) ≡ false → ((p || q) && b) ≡ false
 not_marked true q b one other = one
 not_marked false q b one other = other
 
-or-true : (p q : Bool) → (not p || q) ≡ true → p ≡ true → q ≡ true
+pub or-true : (p q : Bool) → (not p || q) ≡ true → p ≡ true → q ≡ true
 or-true true q either is = either
 or-true false q either is = absurd (cc)
 

@@ -7,3 +7,5 @@ pub mod Residue6Lemmas
 pub mod View6Laws
 pub mod View7Laws
 pub mod BackLaws
+pub mod Sound6Lemmas
+pub mod Sound7Lemmas

@@ -1,7 +1,8 @@
 -- Translation there and back.
 
 use Rattle.std.specs.Prelude.{◌≡◌, ◌+◌, ◌-◌, ◌*◌, ◌%◌, ◌^◌, ◌<◌, true, false, not, [], ◌∷◌, ◌++◌, Option, None}
-use Rattle.std.specs.List.{list_all}
+use Rattle.std.specs.List.{All, list_all}
+use Rattle.wire_fields.specs.Reading.{IsOctets}
 use Rattle.bundle6.specs.declared.bundle.Bundle6.{Bundle6}
 use Rattle.bundle6.specs.Legal as six
 use Rattle.bundle7.specs.declared.bundle.Bundle7.{Bundle7}
@@ -48,6 +49,24 @@ norm6_refusal b = first_that_holds (refusals6 b ++ (causes.TooManyBlocks, not (f
 
 abbrev pub norm7_refusal : Bundle7 → Option Refused
 norm7_refusal b = first_that_holds (refusals7 b ++ (causes.TooManyBlocks, not (fits7 (full7_of b))) ∷ [])
+
+-- ---- a legal bundle that isn't refused reads as a sound record
+
+-- the bodies of all blocks are octets, as those of every bundle of the program are
+abbrev pub HoldsOctets6 : Bundle6 → Type 0
+HoldsOctets6 b = All (λ block. IsOctets block.body) b.blocks
+
+-- and those of all extension blocks
+abbrev pub HoldsOctets7 : Bundle7 → Type 0
+HoldsOctets7 b = All (λ block. IsOctets block.body) b.exts
+
+abbrev pub ReadsSoundly6 : Type 0
+ReadsSoundly6 = (b : Bundle6) → six.IsLegal b → HoldsOctets6 b
+    → first_that_holds (refusals6 b) ≡ None → IsSound (full6_of b)
+
+abbrev pub ReadsSoundly7 : Type 0
+ReadsSoundly7 = (b : Bundle7) → seven.IsLegal7 b → HoldsOctets7 b
+    → first_that_holds (refusals7 b) ≡ None → IsSound (full7_of b)
 
 -- ---- laws
 

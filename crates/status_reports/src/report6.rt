@@ -7,6 +7,8 @@ ghost use Rattle.wire_fields.specs.Words.{optional};
 ghost use Rattle.wire_fields.specs.Gives.{Gives, IsOn};
 ghost use Rattle.status_reports.specs.Fields.{refusal, is_set};
 ghost use Rattle.status_reports.specs.Table6.{lead, is_status, status, part6, time, time_if, times, report6};
+ghost use Rattle.status_reports.specs.Legal.{IsReport6};
+ghost use Rattle.status_reports.specs.Spelling.{report6_octets};
 ghost use Rattle.status_reports.specs.Order.{cause6, status_cause, answer6, Answers, SpellsNone};
 ghost use Rattle.status_reports.specs.Views.{report6_lent, seen};
 
@@ -92,6 +94,9 @@ pub fn read6(alloc: Global, body: &[u8]) -> Result<Report6, AdminFault>
         → (result ≡ Ok report) ⊎ (result ≡ Err AdminFault.Memory) }
     // All else is refused, for the first cause that holds.
     ensures refused { SpellsNone report6 body.now → result ≡ Err (cause6 body.now) }
+    // It is a legal report, and the octets are its one spelling.
+    ensures legal { IfOk result IsReport6 }
+    ensures same { IfOk result (λ report. body.now ≡ report6_octets report) }
     // It is this answer; memory runs out only where that is a report.
     ensures exact { Answers result (answer6 body.now) }
 {
@@ -109,6 +114,14 @@ fn owned6(alloc: Global, body: &[u8]) -> Result<Report6, AdminFault>
 /// Judges the body of an administrative record of version 6, and lends the report out of it. No memory
 /// is taken.
 pub fn lend6(body: &[u8]) -> Result<LentReport6<'_>, AdminFault>
+    ensures legal { IfOk result (λ lent. IsReport6 (report6_lent lent)) }
+    ensures exact { seen report6_lent result ≡ answer6 body.now }
+{
+    judged6(body)
+}
+
+/// The report that the octets are, and nothing more.
+fn judged6(body: &[u8]) -> Result<LentReport6<'_>, AdminFault>
     ensures { seen report6_lent result ≡ answer6 body.now }
 {
     match report_at(body, 0) {
@@ -162,7 +175,7 @@ pub(crate) fn is_set(statuses: u8, bit: u8) -> bool
 }
 
 /// Whether no status but received, forwarded, delivered and deleted is set.
-fn is_status(statuses: u8) -> bool
+pub(crate) fn is_status(statuses: u8) -> bool
     ensures { result ≡ is_status statuses }
 {
     statuses < 0x20 && !is_set(statuses, CUSTODY)

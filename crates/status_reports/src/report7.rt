@@ -7,6 +7,8 @@ ghost use Rattle.wire_fields.specs.Words.{optional};
 ghost use Rattle.wire_fields.specs.Gives.{Gives, IsOn};
 ghost use Rattle.status_reports.specs.Fields.{refusal};
 ghost use Rattle.status_reports.specs.Table7.{stamp_items, stamp_octet, timed, stamp, stamps, report_items, reason, part7, inner, report7};
+ghost use Rattle.status_reports.specs.Legal.{IsReport7};
+ghost use Rattle.status_reports.specs.Spelling.{report7_octets};
 ghost use Rattle.status_reports.specs.Order.{front7, cause7, answer7, Answers, SpellsNone};
 ghost use Rattle.status_reports.specs.Views.{report7_lent, seen};
 
@@ -79,6 +81,9 @@ pub fn read7(alloc: Global, body: &[u8]) -> Result<Report7, AdminFault>
         → (result ≡ Ok report) ⊎ (result ≡ Err AdminFault.Memory) }
     // All else is refused, for the first cause that holds.
     ensures refused { SpellsNone report7 body.now → result ≡ Err (cause7 body.now) }
+    // It is a legal report, and the octets are its one spelling.
+    ensures legal { IfOk result IsReport7 }
+    ensures same { IfOk result (λ report. body.now ≡ report7_octets report) }
     // It is this answer; memory runs out only where that is a report.
     ensures exact { Answers result (answer7 body.now) }
 {
@@ -96,6 +101,14 @@ fn owned7(alloc: Global, body: &[u8]) -> Result<Report7, AdminFault>
 /// Judges the body of an administrative record of version 7, and lends the report out of it. No memory
 /// is taken.
 pub fn lend7(body: &[u8]) -> Result<LentReport7<'_>, AdminFault>
+    ensures legal { IfOk result (λ lent. IsReport7 (report7_lent lent)) }
+    ensures exact { seen report7_lent result ≡ answer7 body.now }
+{
+    judged7(body)
+}
+
+/// The report that the octets are, and nothing more.
+fn judged7(body: &[u8]) -> Result<LentReport7<'_>, AdminFault>
     ensures { seen report7_lent result ≡ answer7 body.now }
 {
     match report_at(body, 0) {

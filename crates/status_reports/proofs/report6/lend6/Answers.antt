@@ -1,0 +1,6 @@
+use Rattle.std.proofs.Common.{arith}
+use Rattle.status_reports.proofs.SpelledLemmas6.{lent-legal}
+use Rattle.status_reports.proofs.report6.lend6.Goals as goal
+
+pub returns-clause-legal : goal.returns-clause-legal
+returns-clause-legal c = lent-legal c.judged6.result c.args.body.now (λ i. omega (arith, c.type_inv.body i)) c.judged6.ensures

@@ -9,10 +9,10 @@ use Rattle.spans.proofs.Covering.{same_truth}
 use Rattle.spans.proofs.Places.{is_covered-with_covered, length-with_covered, length-uncovered, all_covered-true, all_covered-from}
 use Rattle.ltp_segment.specs.declared.session.TheConstants.{BLOCK_MAX}
 use Rattle.ltp_session.specs.Cells.{cell, octet_in, filled, all_octets, whole_part}
-use Rattle.ltp_receiver.specs.RedPart.{or_else}
+use Rattle.ltp_session.specs.RedPart.{or_else}
 use Rattle.ltp_receiver.specs.Receiver.{Covers}
 use Rattle.ltp_receiver.specs.Laid.{StandsAfter}
-use Rattle.ltp_receiver.proofs.CellLemmas.{cell-filled, length-filled, all_octets-only, all_octets-some, all_octets-cell, all_octets-length}
+use Rattle.ltp_session.proofs.CellLemmas.{cell-filled, length-filled, all_octets-only, all_octets-some, all_octets-cell, all_octets-length}
 
 -- ---- no octets, and some more
 

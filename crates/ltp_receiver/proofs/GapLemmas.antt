@@ -9,9 +9,9 @@ use Rattle.spans.specs.Places.{runs_reaching}
 use Rattle.spans.proofs.Reaching.{reaching-maximal}
 use Rattle.ltp_session.specs.Cells.{cell, octet_in, filled}
 use Rattle.ltp_receiver.specs.Receiver.{Covers}
-use Rattle.ltp_receiver.specs.RedPart.{or_else}
+use Rattle.ltp_session.specs.RedPart.{or_else}
 use Rattle.ltp_receiver.specs.Ties.{filled_gap}
-use Rattle.ltp_receiver.proofs.CellLemmas.{cell-filled, length-filled, cells-same, octet_in-inside, octet_in-before_first, octet_in-past, or_else-none}
+use Rattle.ltp_session.proofs.CellLemmas.{cell-filled, length-filled, cells-same, octet_in-inside, octet_in-before_first, octet_in-past, or_else-none}
 
 pub or_else-assoc : {X : Type 0} (a b c : Option X) → or_else (or_else a b) c ≡ or_else a (or_else b c)
 or_else-assoc None b c = refl

@@ -1,5 +1,4 @@
 -- cells
-pub mod CellLemmas
 pub mod GapLemmas
 pub mod LogLemmas
 pub mod FilledLemmas
@@ -7,4 +6,3 @@ pub mod ReportLemmas
 pub mod KeptLemmas
 -- the receiver's law
 pub mod LawLemmas
-pub mod BlockLemmas

@@ -5,9 +5,9 @@ use Rattle.std.proofs.lemmas.Bool.{cases_lt}
 use Rattle.std.proofs.lemmas.List.{take_more, get_or_append_left, get_or-append_right, get_or-take, get_or-drop, length-take-le, get_or-replicate, take_all, append-nil, append_assoc, take-append-le, drop-append-le, take-append-drop}
 use Rattle.ltp_session.specs.Cells.{cell, octet_in, filled}
 use Rattle.ltp_receiver.specs.declared.log.Held.{Held}
-use Rattle.ltp_receiver.specs.RedPart.{or_else}
+use Rattle.ltp_session.specs.RedPart.{or_else}
 use Rattle.ltp_receiver.specs.Laid.{size_of, laid, IsLog, StandsAfter}
-use Rattle.ltp_receiver.proofs.CellLemmas.{cell-filled, length-filled, octet_in-inside, octet_in-before_first, octet_in-past}
+use Rattle.ltp_session.proofs.CellLemmas.{cell-filled, length-filled, octet_in-inside, octet_in-before_first, octet_in-past}
 use Rattle.ltp_receiver.proofs.GapLemmas.{or_else-assoc}
 
 -- ---- one range more

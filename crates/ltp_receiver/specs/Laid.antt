@@ -3,7 +3,7 @@
 use Rattle.std.specs.Prelude.{◌≡◌, ℕ, ◌+◌, ◌<◌, List, [], ◌∷◌, length, take, drop, Option, Some}
 use Rattle.std.specs.Prelude.{slice_index}
 use Rattle.ltp_session.specs.Cells.{cell, filled}
-use Rattle.ltp_receiver.specs.RedPart.{or_else}
+use Rattle.ltp_session.specs.RedPart.{or_else}
 use Rattle.ltp_receiver.specs.declared.log.Held.{Held}
 
 -- how many octets there are for some ranges

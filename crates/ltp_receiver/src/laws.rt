@@ -1,7 +1,8 @@
 //! What the steps of a session promise, place by place. Each law is the contract of a function that
 //! does nothing.
 
-ghost use Rattle.ltp_receiver.specs.RedPart.{HandsUpOnce, IsFrontOfBlock};
+ghost use Rattle.ltp_receiver.specs.RedPart.{HandsUpOnce};
+ghost use Rattle.ltp_session.specs.RedPart.{IsFrontOfBlock};
 
 /// Whatever comes to a session: its red part is handed up with the event after which its length is
 /// known and each place below it is filled, and with no other. Place by place it is the first octet

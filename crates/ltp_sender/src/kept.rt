@@ -1,6 +1,6 @@
 //! What is kept of a session that isn't over.
 
-ghost use Rattle.std.specs.Prelude.{◌≡◌, ◌≤◌, ◌∷◌, [], length, take, IfOk, Some};
+ghost use Rattle.std.specs.Prelude.{◌≡◌, ◌≤◌, ◌∷◌, [], length, take, IfOk, OnErr, ◌<◌, Some};
 ghost use Rattle.std.specs.Option.{option_map};
 ghost use Rattle.ltp_segment.specs.Legal.{IsReport};
 ghost use Rattle.ltp_segment.specs.Views.{report_value};
@@ -74,8 +74,9 @@ impl Kept {
         requires red { red ≤ length block.now }
         requires limit { length claimed ≡ red }
         requires checkpoint { (c : Checkpoints) → checkpoint ≡ Some c → IsCheckpoint red c }
-        ensures { IfOk result (λ kept. option_map sending_of kept
+        ensures kept { IfOk result (λ kept. option_map sending_of kept
             ≡ opened_by block.now red claimed timer checkpoint) }
+        ensures wanted { OnErr result (0 < length block.now) }
     {
         let Some(checkpoint) = checkpoint else {
             return Ok(None);

@@ -1,6 +1,6 @@
 //! Segments of a block, written as pieces.
 
-ghost use Rattle.std.specs.Prelude.{◌≡◌, ◌+◌, ◌<◌, ◌≤◌, ◌^◌, ◌++◌, ◌∷◌, [], length, map, drop, All, IfOk, OnOk, false};
+ghost use Rattle.std.specs.Prelude.{◌≡◌, ◌+◌, ◌<◌, ◌≤◌, ◌^◌, ◌++◌, ◌∷◌, [], length, map, drop, All, IfOk, OnOk, OnErr, false};
 ghost use Rattle.std.specs.Option.{option_map};
 ghost use Rattle.ltp_segment.specs.declared.segment.PieceKind.TheVariants as kinds;
 ghost use Rattle.ltp_segment.specs.Kinds.{is_checkpoint};
@@ -121,6 +121,7 @@ pub(crate) fn send_red(
         (red_pieces (checkpoint_at size (length part.now) serial report)
         (map (segment_in part.now) segments.now))) }
     ensures checkpoint { IfOk result (IsLast part.now segments.now serial report) }
+    ensures wanted { OnErr result (0 < length part.now) }
 {
     let Some((last, firsts)) = segments.split_last() else {
         return Ok(None);
@@ -157,8 +158,9 @@ pub(crate) fn send_green(
 ) -> Result<(), AllocError>
     requires red { red ≤ length block.now }
     requires some { 1 ≤ size }
-    ensures { OnOk result (out.new ≡ out.old ++ datagrams_of name
+    ensures out { OnOk result (out.new ≡ out.old ++ datagrams_of name
         (green_pieces (segments_of size red (drop red block.now)))) }
+    ensures wanted { OnErr result (0 < length block.now) }
 {
     let mut from = red;
     'cutting: while from < block.len() {

@@ -1,6 +1,6 @@
 //! Where the segments of a block lie.
 
-ghost use Rattle.std.specs.Prelude.{◌≡◌, ℕ, ◌+◌, ◌-◌, ◌<◌, ◌≤◌, length, min, map, All, IfOk, OnOk};
+ghost use Rattle.std.specs.Prelude.{◌≡◌, ℕ, ◌+◌, ◌-◌, ◌<◌, ◌≤◌, length, min, map, All, IfOk, OnOk, OnErr};
 ghost use Rattle.std.specs.Prelude.{◌++◌, ◌∷◌, []};
 ghost use Rattle.spans.specs.Runs.{HasAll};
 ghost use Rattle.ltp_session.specs.Sender.{segments_of, unclaimed};
@@ -71,6 +71,7 @@ pub(crate) fn unclaimed(
     ensures on { IfOk result (λ segments. All (IsOn (length part.now)) segments.items) }
     ensures exact { IfOk result (λ segments. map (segment_in part.now) segments.items
         ≡ unclaimed claimed.now (segments_of size 0 part.now)) }
+    ensures wanted { OnErr result (0 < length part.now) }
 {
     let mut segments = Vec::new(alloc);
     let mut ranges = Ranges::of(claimed);

@@ -78,6 +78,8 @@ impl Sender {
         ensures out { IfOk result (λ begun. begun.out
             ≡ datagrams_of (record { originator = own; number = session })
             (begin (policy_value policy.now) session block.now red now).out) }
+        // Memory is wanted only where the block has an octet.
+        ensures wanted { OnErr result (0 < length block.now) }
     {
         let name = SessionName {
             originator: own,

@@ -1,5 +1,6 @@
 -- one session
 pub mod Cells
+pub mod RedPart
 pub mod Claims
 pub mod Timer
 pub mod Step

@@ -3,7 +3,8 @@
 //! `specs/` is the crate. A step of a session is a function of the state before it, of what came,
 //! and of the moment; it gives the state after it, what is sent, what is handed up, and a note.
 //! `Sender` and `Receiver` have these steps, `Cells`, `Claims` and `Timer` their words, and `Views`
-//! says what the code of a session shows. `Engine` keeps many sessions, and `World` is two engines
+//! says what the code of a session shows. `RedPart` says without cells, place by place, what a red
+//! part is. `Engine` keeps many sessions, and `World` is two engines
 //! on a link that may lose, repeat and reorder what they send.
 //!
 //! The contracts of the sessions and of all that stands on them cite these definitions, and the

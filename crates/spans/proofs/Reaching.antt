@@ -1,14 +1,14 @@
 -- The runs from a place on, over plain variables.
 
-use Rattle.std.proofs.Common.{◌≡◌, ℕ, zero, suc, ◌+◌, ◌<◌, ◌≤◌, Bool, true, false, ◌||◌, List, [], ◌∷◌, ◌++◌, length, drop, get_or, leb, Some, All, filter, refl, sym, ap, ◌∙◌, subst, arith, inl, inr}
+use Rattle.std.proofs.Common.{◌≡◌, ℕ, zero, suc, ◌+◌, ◌<◌, ◌≤◌, Bool, true, ◌||◌, List, [], ◌∷◌, ◌++◌, length, drop, get_or, leb, Some, All, filter, refl, ap, ◌∙◌, subst, arith, inl, inr}
 use Rattle.std.proofs.lemmas.Bool.{cases_lt, le-leb, lt-leb, leb-true}
 use Rattle.std.proofs.lemmas.List.Elements.{All-filter, filter_passes}
 use Rattle.std.proofs.lemmas.Option.{slice_get-get_or, slice_get_within, get_or_from_slice_get}
 use Rattle.std.specs.List.{slice_get}
 use Rattle.spans.specs.declared.range.Run.{Run}
-use Rattle.spans.specs.Chunks.{AreFilled, IsAhead, joined, from_there}
+use Rattle.spans.specs.Chunks.{AreFilled, IsAhead, from_there}
 use Rattle.spans.specs.Laws.{IsMaximal, RunsReachOn}
-use Rattle.spans.specs.Places.{is_covered, is_in, runs_of, runs_reaching}
+use Rattle.spans.specs.Places.{is_in, runs_of, runs_reaching}
 use Rattle.spans.specs.Runs.{AreApart, EndBefore, FirstReaches, has_place}
 use Rattle.spans.proofs.Apart.{AreApart-lower}
 use Rattle.spans.proofs.Covering.{is_in-false}

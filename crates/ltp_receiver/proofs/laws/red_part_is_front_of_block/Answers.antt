@@ -1,4 +1,4 @@
-use Rattle.ltp_receiver.proofs.BlockLemmas.{all_fronts}
+use Rattle.ltp_session.proofs.RedPartLemmas.{all_fronts}
 use Rattle.ltp_receiver.proofs.laws.red_part_is_front_of_block.Goals as goal
 
 pub returns : goal.returns

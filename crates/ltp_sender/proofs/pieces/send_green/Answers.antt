@@ -22,6 +22,6 @@ cutting-preserved c =
     c.green_kind-kind.ensures))
     c.cutting.invariant
 
-pub returns : goal.returns
-returns c =
+pub returns-clause-out : goal.returns-clause-out
+returns-clause-out c =
     AreSent-last c.args.name _ _ _ (green_pieces-nil _ (rest_of-end c.args.size c.cutting.from c.args.block.now c.cutting-test.false)) c.cutting.invariant

@@ -1,4 +1,4 @@
-use Rattle.std.proofs.Common.{◌≡◌, ◌≤◌, List, [], get_or, set, length, arith, ap, ◌∙◌, subst, sym, inr, Result, Ok, Err, OnErr}
+use Rattle.std.proofs.Common.{◌≤◌, List, [], set, length, arith, ap, ◌∙◌, subst, sym, inr, Result, Ok, Err, OnErr}
 use Rattle.std.proofs.lemmas.List.{get_or_read}
 use Rattle.std.proofs.lemmas.List.Edits.{length-insert}
 use Rattle.spans.specs.declared.range.Run.{Run}

@@ -1,6 +1,6 @@
-use Rattle.std.proofs.Common.{◌≡◌, leb, filter, List, sym, ap, subst, ◌∙◌}
+use Rattle.std.proofs.Common.{leb, filter, List, sym, ap, subst, ◌∙◌}
 use Rattle.spans.specs.declared.range.Run.{Run}
-use Rattle.spans.specs.Chunks.{before, from_there, joined}
+use Rattle.spans.specs.Chunks.{before, from_there}
 use Rattle.spans.specs.Runs.{AreApart}
 use Rattle.spans.proofs.Apart.{AreApart-right}
 use Rattle.spans.proofs.Joined.{joined-place}

@@ -24,7 +24,7 @@ returns-clause-out c =
       segments_are = ap (λ (xs : List Segment). map (segment_in part) xs) c.deref.ensures.value ∙ c.in_ok-segments.ensures.exact
           ∙ ap (λ (claimed : List Bool). unclaimed claimed (segments_of policy.segment 0 part)) c.new-claimed.ensures.uncovered;
       red_is = c.in_ok-last.ensures.out ∙ ap (λ ds. ds ++ pieces c.first_serial-serial.result) c.new-out.ensures ∙ ap (λ serial. pieces serial) c.first_serial-serial.ensures;
-      green_is = c.in_ok-send_green.ensures;
+      green_is = c.in_ok-send_green.ensures.out;
     } in
     begin-out name policy c.args.session block part c.args.red c.args.now segments c.send_red.new.out c.send_green.new.out (omega (arith, c.args.policy.now.segment_least)) sent
 
@@ -42,11 +42,11 @@ returns-clause-sender c =
       segments_are = ap (λ (xs : List Segment). map (segment_in part) xs) c.deref.ensures.value ∙ c.in_ok-segments.ensures.exact
           ∙ ap (λ (claimed : List Bool). unclaimed claimed (segments_of policy.segment 0 part)) c.new-claimed.ensures.uncovered;
       red_is = c.in_ok-last.ensures.out ∙ ap (λ ds. ds ++ pieces c.first_serial-serial.result) c.new-out.ensures ∙ ap (λ serial. pieces serial) c.first_serial-serial.ensures;
-      green_is = c.in_ok-send_green.ensures;
+      green_is = c.in_ok-send_green.ensures.out;
     } in
     let last = subst (λ (serial : ℕ). IsLast part segments serial 0 c.in_ok-last.last) c.first_serial-serial.ensures c.in_ok-last.ensures.checkpoint in
     ap (λ (k : Option Sending). record { spent = false; name = name; policy = policy; kept = k })
-    (c.in_ok-kept.ensures
+    (c.in_ok-kept.ensures.kept
     ∙ ap (λ (claimed : List Bool). opened_by block c.args.red claimed c.first-timer.result c.in_ok-last.last) c.new-claimed.ensures.uncovered
     ∙ begin-kept name policy c.args.session block part c.args.red c.args.now segments c.send_red.new.out c.send_green.new.out c.first-timer.result c.in_ok-last.last
     (omega (arith, c.args.policy.now.segment_least)) sent last c.first-timer.ensures)

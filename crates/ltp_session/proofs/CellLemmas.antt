@@ -4,7 +4,7 @@ use Rattle.std.proofs.lemmas.List.{ext_get_or}
 use Rattle.std.proofs.lemmas.Bool.Decides.{nat_tests}
 use Rattle.std.specs.Option.{option_map}
 use Rattle.ltp_session.specs.Cells.{cell, octet_in, laid_over, filled, all_octets}
-use Rattle.ltp_receiver.specs.RedPart.{or_else}
+use Rattle.ltp_session.specs.RedPart.{or_else}
 
 -- ---- what a piece has for a place
 
@@ -80,7 +80,7 @@ length-filled (c ∷ cells) (suc offset) body = omega (arith, length-filled cell
 
 -- ---- all octets
 
--- the octets of some cells, taken apart behind the first
+-- the octets of some cells, taken apart after the first
 record Taken (first : ℕ) (rest : Option (List ℕ)) (body : List ℕ) : Type 0 where
   tail : List ℕ
   later : rest ≡ Some tail

@@ -6,7 +6,7 @@ use Rattle.edge_traits.specs.declared.status.Status.{Status}
 use Rattle.edge_traits.specs.declared.status.Status.TheVariants as statuses
 use Rattle.edge_traits.specs.Content.{Gains, GainsFront, Took}
 use Rattle.edge_traits.specs.Faults.{NoneFailed, LastFailed}
-use Rattle.edge_traits.specs.Settled.{at_end, goes_on, Settled}
+use Rattle.edge_traits.specs.Settled.{at_end, goes_on, Settled, GoesOnAs, EarliestDecides}
 use Rattle.edge_traits.specs.Outcome.{SourceTells, SinkTells, EndsAs, Wrote, WentReading, WentWriting, Ran, IsAnswer}
 use Rattle.edge_traits.proofs.ContentLemmas.{Gains-none, Gains-more, Consumes-none, Consumes-more}
 use Rattle.edge_traits.proofs.FaultsLemmas.{NoneFailed-same, NoneFailed-more, LastFailed-after}
@@ -49,6 +49,20 @@ front-more (Some before) (Some mid) (Some now) text new whole more first (front,
   rw (is, parts, append_assoc text (front ++ rest) more, append_assoc front rest more, append_assoc text front (rest ++ more)) refl,
   rw (gains, first, append_assoc before text front) refl,
 )
+
+-- what was written before a failed read is a front of the answer
+pub fault-front : (settles : Settling) → EarliestDecides settles → (input : List ℕ) (left before now : Option (List ℕ))
+    → Wrote settles statuses.ReadFault input left before now → GainsFront before now (settles at_end input).text
+fault-front settles front input None before now wrote = absurd wrote
+fault-front settles front input (Some rest) before now (taken, parts, open_end, gains) =
+    let (more, is) : (more : List ℕ) × ((settles at_end (taken ++ rest)).text ≡ (settles goes_on taken).text ++ more) =
+    by_end (settles goes_on taken).ends open_end (front at_end taken rest) in
+    rw parts (gains-front before now (settles goes_on taken).text _ more gains is)
+  where
+    by_end : (e : Option Status) → e ≡ None → GoesOnAs e (settles goes_on taken) (settles at_end (taken ++ rest))
+        → (more : List ℕ) × ((settles at_end (taken ++ rest)).text ≡ (settles goes_on taken).text ++ more)
+    by_end None is front = front
+    by_end (Some status) is front = absurd (cc)
 
 -- ---- the run so far
 

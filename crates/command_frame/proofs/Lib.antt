@@ -1,2 +1,5 @@
+pub mod InputLinesLemmas
 pub mod WithinLemmas
 pub mod DriveLemmas
+pub mod LinesLemmas
+pub mod FrontLemmas

@@ -76,7 +76,7 @@ GoesOnTo-more settles later last came text piece added first second ends more =
 
 -- ---- the earliest place decides
 
-same-front : (s : Settled) → IsFrontOf s s
+pub same-front : (s : Settled) → IsFrontOf s s
 same-front s = by_ends s.ends
   where
     by_ends : (ends : Option Status) → GoesOnAs ends s s

@@ -1,3 +1,5 @@
 pub mod Stops
 pub mod Task
 pub mod Within
+pub mod InputLines
+pub mod Lines

@@ -9,9 +9,14 @@
 #![tactic(auto)]
 
 mod driver;
+mod input_lines;
 mod laws;
+mod line_step;
+mod lines;
 mod task;
 
 pub use driver::drive;
-pub use laws::earliest_place_decides_within;
+pub use laws::{earliest_place_decides_by_lines, earliest_place_decides_within};
+pub use line_step::LineStep;
+pub use lines::{LinePassed, LineReader};
 pub use task::Task;

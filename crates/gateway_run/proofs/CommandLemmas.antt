@@ -7,12 +7,20 @@ use Rattle.edge_traits.specs.Content.{GainsFront, most_input}
 use Rattle.edge_traits.specs.Outcome.{EndsAs, Wrote, IsAnswer}
 use Rattle.gateway_run.specs.declared.commands.command.Command.{Command}
 use Rattle.gateway_run.specs.declared.commands.command.Command.TheVariants as commands
-use Rattle.gateway_run.specs.Receive.{the_limits, received}
+use Rattle.gateway_run.specs.Receive.{Limits, the_limits, receive_rules, received}
+use Rattle.gateway_run.specs.Receive as receive
 use Rattle.gateway_run.specs.Words.{settles, KeepsLaw, WritesLawfully}
 use Rattle.edge_traits.specs.Settled.{EarliestDecides}
-use Rattle.gateway_run.proofs.FrontLemmas.{settles-front}
-use Rattle.gateway_run.proofs.DriveLemmas.{fault-front}
+use Rattle.command_frame.specs.Within.{within}
+use Rattle.command_frame.proofs.WithinLemmas.{within-front}
+use Rattle.command_frame.proofs.FrontLemmas.{lines_from-front}
+use Rattle.command_frame.proofs.DriveLemmas.{fault-front}
 use Rattle.gateway_run.proofs.TranscriptLemmas.{Lawful, received-law}
+
+-- ---- fronts
+
+pub receive-front : (limits : Limits) (most : ℕ) → EarliestDecides (within most (receive.settles limits))
+receive-front limits most = within-front most (receive.settles limits) (lines_from-front (receive_rules limits) 1 [])
 
 -- ---- the receiver's law
 
@@ -63,7 +71,7 @@ module _ (input : List ℕ) (lawful : Lawful the_limits most_input input) where
   keeps statuses.Limit left before now wrote = whole_gains statuses.Limit before now wrote
   keeps statuses.Usage left before now wrote = absurd wrote
   keeps statuses.ReadFault left before now wrote =
-      front_gains statuses.ReadFault before now (λ no_answer. no_answer) (fault-front most_input input left before now wrote)
+      front_gains statuses.ReadFault before now (λ no_answer. no_answer) (fault-front (settles commands.Receive) (receive-front the_limits most_input) input left before now wrote)
   keeps statuses.WriteFault left before now wrote = front_gains statuses.WriteFault before now (λ no_answer. no_answer) wrote
   keeps statuses.Memory left before now wrote = front_gains statuses.Memory before now (λ no_answer. no_answer) wrote.1
 
@@ -78,5 +86,5 @@ keeps_law (Some input) named commands.Receive status left before now is wrote =
 -- ---- fronts
 
 pub command-front : (command : Command) → EarliestDecides (settles command)
-command-front commands.Receive = settles-front the_limits most_input
+command-front commands.Receive = receive-front the_limits most_input
 command-front (commands.Bundles command) = λ ends taken more. (_, refl)

@@ -1,6 +1,5 @@
 pub mod BlockLemmas
 pub mod CellLemmas
-pub mod InputLinesLemmas
 pub mod LawLemmas
 pub mod TableLemmas
 pub mod CountLemmas
@@ -9,6 +8,3 @@ pub mod OpenPartLemmas
 pub mod SessionsLemmas
 pub mod CommandLemmas
 pub mod HexLemmas
-pub mod FrontLemmas
-pub mod LiveLemmas
-pub mod DriveLemmas

@@ -3,14 +3,17 @@ use Rattle.std.proofs.Common.{◌≡◌, ℕ, zero, suc, ◌+◌, ◌<◌, Bool,
 use Rattle.std.proofs.lemmas.List.{append-nil}
 use Rattle.edge_traits.specs.declared.status.Status.{Status}
 use Rattle.edge_traits.specs.declared.status.Status.TheVariants as statuses
-use Rattle.edge_traits.specs.Settled.{Settled}
+use Rattle.edge_traits.specs.Settled.{Settled, at_end, goes_on as going_on}
 use Rattle.ltp_session.specs.declared.name.SessionName.{SessionName}
-use Rattle.gateway_run.specs.InputLines.{lines_of, ended_part, lines_within}
+use Rattle.command_frame.specs.InputLines.{lines_of, ended_part, lines_within}
 use Rattle.gateway_run.specs.LineContent.{RedPiece, LineContent, no_hex, no_segment, other, red, content_of}
 use Rattle.gateway_run.specs.Session.{Session, fresh, open_part, handed_up, Reply, nothing, up, note, skip, is_out_of_bounds, handing_up, meets}
 use Rattle.gateway_run.specs.KeptSessions.{Kept, session_in, with_session, unfinished, same_name}
 use Rattle.gateway_run.specs.WrittenLines.{skip_line, reply_line}
-use Rattle.gateway_run.specs.Receive.{Limits, Turn, passes, ends_run, content_turn, turn_of, after_turn, lines_settle, settles_within, settles, received}
+use Rattle.command_frame.specs.Within.{or_limit, within}
+use Rattle.command_frame.specs.Lines.{Turn, passes, ends_run, turn_at, after_turn, lines_settle, lines_from}
+use Rattle.command_frame.proofs.FrontLemmas.{from-limit, from-end}
+use Rattle.gateway_run.specs.Receive.{Limits, content_turn, receive_rules, received}
 use Rattle.gateway_run.specs.RedPart.{counts, with_piece, taken}
 use Rattle.gateway_run.specs.ReceiverLaw.{BecomesWhole, opens, closes, one_if, so_many, unfinished_after, Fate, goes_on, refused, past_limit, content_fate, fate, replies_text, EndsSo, KeepsReceiverLaw}
 use Rattle.gateway_run.proofs.LawLemmas.{Told, with_counted, MetByLaw, meets-law, red_part-whole}
@@ -78,7 +81,7 @@ StopsByLaw limits n before line text statuses.ReadFault = ⊥
 StopsByLaw limits n before line text statuses.WriteFault = ⊥
 StopsByLaw limits n before line text statuses.Memory = ⊥
 
-abbrev pub TurnByLaw : Limits → ℕ → List (List ℕ) → List ℕ → Turn → Type 0
+abbrev pub TurnByLaw : Limits → ℕ → List (List ℕ) → List ℕ → Turn (List Kept) → Type 0
 TurnByLaw limits n before line (passes text kept) = GoesOnByLaw limits n before line text kept
 TurnByLaw limits n before line (ends_run text status) = StopsByLaw limits n before line text status
 
@@ -223,8 +226,8 @@ module _ (limits : Limits) (n : ℕ) (kept : List Kept) (before : List (List ℕ
       by_test false test = red-law p is (fate-content (red p) is ∙ rw (counted p is, test) refl)
 
 pub turn-law : (limits : Limits) (n : ℕ) (kept : List Kept) (before : List (List ℕ)) (line : List ℕ)
-    → ShowsAll limits.block kept before → TurnByLaw limits n before line (turn_of limits n kept line)
-unfolding turn_of
+    → ShowsAll limits.block kept before → TurnByLaw limits n before line (turn_at (receive_rules limits) n kept line)
+unfolding turn_at
 turn-law limits n kept before line shows = by_test (nat_lt limits.lines n || nat_lt limits.octets (length line)) refl
   where
     by_test : (t : Bool) → (nat_lt limits.lines n || nat_lt limits.octets (length line)) ≡ t
@@ -332,13 +335,13 @@ module _ (limits : Limits) (n : ℕ) (longer : Bool) (before : List (List ℕ)) 
       each zero name body low = rw (append-nil before) (turn.law name body)
       each (suc i) name body low = rw (← append_assoc before (line ∷ []) (take i lines)) (later.law i name body (omega arith))
 
-  keeps_turn : (ending : Option Status) (turn : Turn) → TurnByLaw limits n before line turn
+  keeps_turn : (ending : List Kept → Settled) (turn : Turn (List Kept)) → TurnByLaw limits n before line turn
       → ((now : List Kept) → ShowsAll limits.block now (before ++ line ∷ [])
-      → KeepsFrom limits (n + 1) longer (before ++ line ∷ []) lines (lines_settle limits (n + 1) now lines ending))
+      → KeepsFrom limits (n + 1) longer (before ++ line ∷ []) lines (lines_settle (receive_rules limits) (n + 1) now lines ending))
       → KeepsFrom limits n longer before (line ∷ lines)
-      (after_turn turn (λ now. lines_settle limits (n + 1) now lines ending))
+      (after_turn turn (λ now. lines_settle (receive_rules limits) (n + 1) now lines ending))
   keeps_turn ending (passes text kept) turn later =
-      keeps_more text kept (lines_settle limits (n + 1) kept lines ending) turn (later kept turn.shows)
+      keeps_more text kept (lines_settle (receive_rules limits) (n + 1) kept lines ending) turn (later kept turn.shows)
   keeps_turn ending (ends_run text status) turn later = keeps_stop text status turn
 
 -- a run may end so after its last line
@@ -347,7 +350,7 @@ IsEnding limits longer ending = (n : ℕ) (before : List (List ℕ)) → EndsFro
 
 pub keeps_from : (limits : Limits) (n : ℕ) (longer : Bool) (kept : List Kept) (before lines : List (List ℕ)) (ending : Status)
     → IsEnding limits longer ending → ShowsAll limits.block kept before
-    → KeepsFrom limits n longer before lines (lines_settle limits n kept lines (Some ending))
+    → KeepsFrom limits n longer before lines (lines_settle (receive_rules limits) n kept lines (λ now. record { text = []; ends = Some ending }))
 unfolding lines_settle replies_text
 keeps_from limits n longer kept before [] ending last shows = record {
   status = ending;
@@ -360,7 +363,7 @@ keeps_from limits n longer kept before [] ending last shows = record {
   law = λ i name body low. absurd (omega arith);
 }
 keeps_from limits n longer kept before (line ∷ lines) ending last shows =
-    keeps_turn limits n longer before line lines (Some ending) (turn_of limits n kept line) (turn-law limits n kept before line shows)
+    keeps_turn limits n longer before line lines (λ now. record { text = []; ends = Some ending }) (turn_at (receive_rules limits) n kept line) (turn-law limits n kept before line shows)
     (λ now later. keeps_from limits (n + 1) longer now (before ++ line ∷ []) lines ending last later)
 
 ends_so : (limits : Limits) (longer : Bool) (lines : List (List ℕ)) (status : Status) (replied : ℕ) (closing : List ℕ)
@@ -379,14 +382,18 @@ nothing_came most = record { each = λ name. refl; count = refl }
 
 keeps_all : (limits : Limits) (most : ℕ) (input : List ℕ)
     → KeepsFrom limits 1 (nat_lt most (length input)) [] (lines_within most input) (received limits most input)
-unfolding settles settles_within lines_within
+unfolding within lines_within
 keeps_all limits most input = by_test (nat_lt most (length input))
   where
     by_test : (t : Bool) → KeepsFrom limits 1 t [] (if t then lines_of (ended_part (take most input)) else lines_of input)
-        (if t then lines_settle limits 1 [] (lines_of (ended_part (take most input))) (Some statuses.Limit)
-        else lines_settle limits 1 [] (lines_of input) (Some statuses.Done))
-    by_test true = keeps_from limits 1 true [] [] _ statuses.Limit (λ n before. (refl, inr (refl, refl))) (nothing_came limits.block)
-    by_test false = keeps_from limits 1 false [] [] _ statuses.Done (λ n before. (refl, refl, refl)) (nothing_came limits.block)
+        (if t then or_limit (lines_from (receive_rules limits) 1 [] going_on (take most input))
+        else lines_from (receive_rules limits) 1 [] at_end input)
+    by_test true =
+        rw (from-limit (receive_rules limits) 1 [] (take most input))
+        (keeps_from limits 1 true [] [] _ statuses.Limit (λ n before. (refl, inr (refl, refl))) (nothing_came limits.block))
+    by_test false =
+        rw (from-end (receive_rules limits) 1 [] input)
+        (keeps_from limits 1 false [] [] _ statuses.Done (λ n before. (refl, refl, refl)) (nothing_came limits.block))
 
 -- what `receive` writes keeps the receiver's law
 pub record Lawful (limits : Limits) (most : ℕ) (input : List ℕ) : Type 0 where

@@ -1,5 +1,4 @@
 pub mod Words
-pub mod InputLines
 pub mod LineContent
 pub mod Session
 pub mod KeptSessions
@@ -12,5 +11,3 @@ pub mod Views
 pub mod OpenPart
 pub mod Table
 pub mod Turns
-pub mod Stops
-pub mod Live

@@ -4,7 +4,7 @@ use Rattle.std.specs.Prelude.{◌≡◌, ℕ, ◌+◌, ◌-◌, ◌<◌, Bool, t
 use Rattle.edge_traits.specs.declared.status.Status.{Status}
 use Rattle.edge_traits.specs.declared.status.Status.TheVariants as statuses
 use Rattle.ltp_session.specs.declared.name.SessionName.{SessionName}
-use Rattle.gateway_run.specs.InputLines.{lines_within}
+use Rattle.command_frame.specs.InputLines.{lines_within}
 use Rattle.gateway_run.specs.LineContent.{RedPiece, LineContent, no_hex, no_segment, other, red, content_of}
 use Rattle.gateway_run.specs.Session.{Reply, nothing, up}
 use Rattle.gateway_run.specs.WrittenLines.{hex_line, cause_line, reply_line}

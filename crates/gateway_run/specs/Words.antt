@@ -6,6 +6,7 @@ use Rattle.edge_traits.specs.declared.status.Status.TheVariants as statuses
 use Rattle.edge_traits.specs.Content.{most_input}
 use Rattle.edge_traits.specs.Settled.{Ends, at_end, Settled}
 use Rattle.edge_traits.specs.Outcome.{IsAnswer}
+use Rattle.command_frame.specs.Within.{within}
 use Rattle.bundle_runs.specs.declared.commands.command.Command.TheVariants.{Check, Show}
 use Rattle.bundle_runs.specs.Answering as bundles
 use Rattle.gateway_run.specs.declared.commands.command.Command.{Command}
@@ -35,7 +36,7 @@ command_of (word ∷ second ∷ words) = None
 
 -- what octets settle of a command's answer
 abbrev pub settles : Command → Ends → List ℕ → Settled
-settles commands.Receive = receive.settles the_limits most_input
+settles commands.Receive = within most_input (receive.settles the_limits)
 settles (commands.Bundles command) = bundles.settles command
 
 -- the run of a command ends as its answer has it, or for want of memory

@@ -12,7 +12,6 @@
 #![tactic(auto)]
 
 mod commands;
-mod input_lines;
 mod laws;
 mod line_content;
 mod open_part;

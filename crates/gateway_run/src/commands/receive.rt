@@ -1,55 +1,82 @@
-//! One line of `receive`: a datagram of recorded traffic.
-ghost use Rattle.std.specs.Prelude.{◌≡◌, ◌+◌, ◌++◌, ◌<◌, ◌≤◌, ℕ, List, [], None, Some, length, IfOk, IfSome, OnOk, OnErr};
+//! `receive`: each line is a datagram of recorded traffic.
+ghost use Rattle.std.specs.Prelude.{◌≡◌, ◌++◌, List, [], Ok, IfOk, IfSome, OnOk, OnErr};
 ghost use Rattle.std.specs.String.{string_bytes};
 ghost use Rattle.ltp_segment.specs.Reading.{segment_of};
+ghost use Rattle.command_frame.specs.Stops.{IsStop};
+ghost use Rattle.command_frame.specs.Lines.{TurnsAs};
 ghost use Rattle.gateway_run.specs.LineContent.{segment_content, content_of as content_of_line, red};
 ghost use Rattle.gateway_run.specs.KeptSessions.{Kept};
 ghost use Rattle.gateway_run.specs.WrittenLines.{reply_line};
-ghost use Rattle.gateway_run.specs.Receive.{the_limits, turn_of, content_turn};
+ghost use Rattle.gateway_run.specs.Receive.{the_limits, receive_rules, content_turn};
 ghost use Rattle.gateway_run.specs.Views.{red_piece, reply as replied};
-ghost use Rattle.gateway_run.specs.Table.{Shows};
-ghost use Rattle.gateway_run.specs.Turns.{TurnsAs, WantsMemory};
-ghost use Rattle.gateway_run.specs.Stops.{IsStop};
+ghost use Rattle.gateway_run.specs.Turns.{ShowsFew, WantsMemory};
 
 use crate::line_content::{LineContent, content_of, datagram_of, is_hex};
 use crate::piece::Piece;
-use crate::sessions::{is_one_too_many, meet};
+use crate::sessions::{is_one_too_many, meet, no_sessions};
 use crate::table::{Reply, Sessions, Whole};
 use crate::written_lines::{write_fault, write_no_hex, write_note, write_skip, write_up};
+use command_frame::LineStep;
 use edge_traits::Status;
 use std::alloc::{AllocError, Global};
 
 /// The most lines of an input.
-pub const MOST_LINES: u64 = 1_000_000;
+const MOST_LINES: u32 = 1_000_000;
 
 /// The most octets of a line, its line feed not counted.
-pub const MOST_OCTETS: usize = 9_000_000;
+const MOST_OCTETS: u32 = 9_000_000;
 
 /// The most sessions that may be unfinished at a time.
-pub const MOST_SESSIONS: usize = 64;
+const MOST_SESSIONS: usize = 64;
 
-/// Answers line `number`: the status where the run ends with it. A line too many or too long is
-/// answered without memory.
-#[tactic(auto, unfolding(crate::specs::Receive::turn_of))]
-pub fn answer_line(
+/// What `receive` keeps from line to line.
+#[derive(Drop)]
+pub struct Receive {
     alloc: Global,
-    number: u64,
-    line: &[u8],
-    sessions: &mut Sessions,
-    text: &mut String,
-) -> Result<Option<Status>, AllocError>
-    ensures few { (kept : List Kept) → Shows sessions.old kept → sessions.old.unfinished ≤ MOST_SESSIONS
-        → IfOk result (λ ends. ends ≡ None → sessions.new.unfinished ≤ MOST_SESSIONS) }
-    ensures status { IfOk result (λ ends. IfSome ends IsStop) }
-    ensures turn { (kept : List Kept) → Shows sessions.old kept → sessions.old.unfinished ≤ MOST_SESSIONS
-        → IfOk result (λ ends. TurnsAs (turn_of the_limits number kept line.now) ends
-        (string_bytes text.old) (string_bytes text.new) sessions.new) }
-    ensures memory { OnErr result ((number ≤ MOST_LINES) × (length line.now ≤ MOST_OCTETS)) }
-{
-    if number > MOST_LINES || line.len() > MOST_OCTETS {
-        return Ok(Some(Status::Limit));
+    sessions: Sessions,
+}
+
+impl Receive {
+    /// No line came yet.
+    pub fn new(alloc: Global) -> Receive
+        ensures { ⟦<Receive as LineStep>⟧.Shows result [] }
+    {
+        Receive {
+            alloc,
+            sessions: no_sessions(alloc),
+        }
     }
-    answer_content(alloc, number, line, sessions, text)
+}
+
+impl LineStep for Receive {
+    ghost State = { List Kept };
+
+    ghost Shows = { λ r. ShowsFew r.sessions };
+
+    ghost rules = { receive_rules the_limits };
+
+    ghost Began = { λ r. ⊥ };
+
+    fn most_lines(&self) -> u32 {
+        MOST_LINES
+    }
+
+    fn most_octets(&self) -> u32 {
+        MOST_OCTETS
+    }
+
+    fn line(
+        &mut self,
+        number: u64,
+        line: &[u8],
+        text: &mut String,
+    ) -> Result<Option<Status>, AllocError> {
+        answer_content(self.alloc, number, line, &mut self.sessions, text)
+    }
+
+    fn finish(&mut self, _text: &mut String) -> Result<Status, AllocError> {
+        Ok(Status::Done)
+    }
 }
 
 /// Answers line `number`, which is within the limits.
@@ -61,12 +88,10 @@ fn answer_content(
     sessions: &mut Sessions,
     text: &mut String,
 ) -> Result<Option<Status>, AllocError>
-    ensures few { (kept : List Kept) → Shows sessions.old kept → sessions.old.unfinished ≤ MOST_SESSIONS
-        → IfOk result (λ ends. ends ≡ None → sessions.new.unfinished ≤ MOST_SESSIONS) }
     ensures status { IfOk result (λ ends. IfSome ends IsStop) }
-    ensures turn { (kept : List Kept) → Shows sessions.old kept → sessions.old.unfinished ≤ MOST_SESSIONS
-        → IfOk result (λ ends. TurnsAs (content_turn the_limits number kept (content_of_line line.now)) ends
-        (string_bytes text.old) (string_bytes text.new) sessions.new) }
+    ensures turn { (kept : List Kept) → ShowsFew sessions.old kept
+        → IfOk result (TurnsAs (ShowsFew sessions.new) (content_turn the_limits number kept (content_of_line line.now))
+        (string_bytes text.old) (string_bytes text.new)) }
 {
     if !is_hex(line) {
         write_no_hex(text, number)?;
@@ -85,13 +110,11 @@ fn answer_datagram(
     sessions: &mut Sessions,
     text: &mut String,
 ) -> Result<Option<Status>, AllocError>
-    ensures few { (kept : List Kept) → Shows sessions.old kept → sessions.old.unfinished ≤ MOST_SESSIONS
-        → IfOk result (λ ends. ends ≡ None → sessions.new.unfinished ≤ MOST_SESSIONS) }
     ensures status { IfOk result (λ ends. IfSome ends IsStop) }
-    ensures turn { (kept : List Kept) → Shows sessions.old kept → sessions.old.unfinished ≤ MOST_SESSIONS
-        → IfOk result (λ ends. TurnsAs (content_turn the_limits number kept (segment_content (segment_of datagram.now))) ends
-        (string_bytes text.old) (string_bytes text.new) sessions.new) }
-    ensures memory { (kept : List Kept) → Shows sessions.old kept → sessions.old.unfinished ≤ MOST_SESSIONS
+    ensures turn { (kept : List Kept) → ShowsFew sessions.old kept
+        → IfOk result (TurnsAs (ShowsFew sessions.new) (content_turn the_limits number kept (segment_content (segment_of datagram.now)))
+        (string_bytes text.old) (string_bytes text.new)) }
+    ensures memory { (kept : List Kept) → ShowsFew sessions.old kept
         → OnErr result (WantsMemory (content_turn the_limits number kept (segment_content (segment_of datagram.now)))) }
 {
     match content_of(datagram) {
@@ -115,13 +138,11 @@ fn answer_piece(
     sessions: &mut Sessions,
     text: &mut String,
 ) -> Result<Option<Status>, AllocError>
-    ensures few { (kept : List Kept) → Shows sessions.old kept → sessions.old.unfinished ≤ MOST_SESSIONS
-        → IfOk result (λ ends. ends ≡ None → sessions.new.unfinished ≤ MOST_SESSIONS) }
     ensures status { IfOk result (λ ends. IfSome ends IsStop) }
-    ensures turn { (kept : List Kept) → Shows sessions.old kept → sessions.old.unfinished ≤ MOST_SESSIONS
-        → IfOk result (λ ends. TurnsAs (content_turn the_limits number kept (red (red_piece piece.now))) ends
-        (string_bytes text.old) (string_bytes text.new) sessions.new) }
-    ensures memory { (kept : List Kept) → Shows sessions.old kept → sessions.old.unfinished ≤ MOST_SESSIONS
+    ensures turn { (kept : List Kept) → ShowsFew sessions.old kept
+        → IfOk result (TurnsAs (ShowsFew sessions.new) (content_turn the_limits number kept (red (red_piece piece.now)))
+        (string_bytes text.old) (string_bytes text.new)) }
+    ensures memory { (kept : List Kept) → ShowsFew sessions.old kept
         → OnErr result (WantsMemory (content_turn the_limits number kept (red (red_piece piece.now)))) }
 {
     if is_one_too_many(sessions, piece, MOST_SESSIONS) {

@@ -4,9 +4,10 @@ ghost use Rattle.edge_traits.specs.Outcome.{Ran, source_tells, sink_tells};
 ghost use Rattle.gateway_run.specs.Words.{command_of, settles, CompletesCommand, KeepsLaw};
 
 use crate::commands::command::{Command, command_named};
-use crate::commands::drive::run_receive;
+use crate::commands::receive::Receive;
 use crate::commands::word::Word;
 use bundle_runs::bundles;
+use command_frame::{LineReader, drive};
 use edge_traits::{Clock, Link, Sink, Source, Status};
 use std::alloc::Global;
 
@@ -66,7 +67,10 @@ fn run_command<S: Source, K: Sink>(
         (sink_tells K.held K.faults K.failing sink.old) (sink_tells K.held K.faults K.failing sink.new) }
 {
     match command {
-        Command::Receive => run_receive(alloc, source, sink),
+        Command::Receive => {
+            let mut task = LineReader::new(alloc, Receive::new(alloc));
+            drive(alloc, &mut task, source, sink)
+        }
         Command::Bundles(command) => bundles(alloc, command, source, sink),
     }
 }

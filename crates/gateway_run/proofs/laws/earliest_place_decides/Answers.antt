@@ -1,9 +1,8 @@
-use Rattle.gateway_run.proofs.FrontLemmas.{settles-front}
-use Rattle.gateway_run.proofs.CommandLemmas.{command-front}
+use Rattle.gateway_run.proofs.CommandLemmas.{receive-front, command-front}
 use Rattle.gateway_run.proofs.laws.earliest_place_decides.Goals as goal
 
 pub returns-clause-receive : goal.returns-clause-receive
-returns-clause-receive c = settles-front
+returns-clause-receive c = receive-front
 
 pub returns-clause-commands : goal.returns-clause-commands
 returns-clause-commands c = command-front

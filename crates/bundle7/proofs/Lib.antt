@@ -9,3 +9,6 @@ pub mod BlockLaws
 pub mod JudgingLemmas
 pub mod ReaderLemmas
 pub mod AnswerLemmas
+pub mod KeepingLemmas
+pub mod PassLemmas
+pub mod SumLemmas

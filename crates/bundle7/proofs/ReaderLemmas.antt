@@ -1,13 +1,12 @@
 -- Reading a stream: octets that are open, whole bundles at their front, and pieces.
 
-use Rattle.std.proofs.Common.{◌≡◌, ℕ, zero, suc, ◌∷◌, ◌+◌, ◌-◌, ◌<◌, ◌≤◌, ltb, min, Bool, true, false, List, [], ◌++◌, length, take, drop, Option, Some, None, Result, Ok, Err, IsErrAnd, refl, sym, ap, ◌∙◌, subst, inl, inr, lit<, arith, append_assoc, append-nil, length-append, take-append-drop}
+use Rattle.std.proofs.Common.{◌≡◌, ◌≢◌, ℕ, zero, suc, ◌∷◌, ◌+◌, ◌-◌, ◌^◌, ◌<◌, ◌≤◌, ltb, min, Bool, false, List, [], ◌++◌, length, take, drop, Option, Some, None, Result, Ok, Err, IsErrAnd, refl, sym, ap, ◌∙◌, subst, inl, inr, lit<, arith, append_assoc, append-nil, length-append, take-append-drop}
 use Rattle.std.proofs.lemmas.Bool.{cases_lt, ltb-true, ltb-false}
-use Rattle.std.proofs.lemmas.List.{length-take-le, take_all}
+use Rattle.std.proofs.lemmas.List.{take-append-le, length-take-le, take_all}
 use Rattle.wire_fields.specs.Refusal.{Stop, truncated, because}
 use Rattle.wire_fields.specs.Reading.{read, IsOctets}
-use Rattle.std.specs.Prelude.{IsOk}
-use Rattle.wire_fields.specs.Gives.{Judges}
-use Rattle.wire_fields.proofs.ResultLemmas.{found, stopped, stopped_is}
+use Rattle.wire_fields.specs.Gives.{Fails, Judges}
+use Rattle.wire_fields.proofs.ResultLemmas.{found, found_is, stopped, stopped_is}
 use Rattle.wire_fields.proofs.ReadLemmas.{read-refused}
 use Rattle.wire_fields.proofs.StayLemmas.{begins-read, read-begins, begins-within, refusal-within}
 use Rattle.wire_fields.proofs.ContinueLemmas.{found-longer}
@@ -17,13 +16,22 @@ use Rattle.bundle7.specs.declared.fault.Refused7.{Refused7}
 use Rattle.bundle7.specs.declared.fault.Fail7.{Fail7}
 use Rattle.bundle7.specs.declared.fault.Fail7.TheVariants.{Refused, Memory}
 use Rattle.bundle7.specs.declared.bundle.Bundle7.{Bundle7}
+use Rattle.bundle7.specs.declared.pass.Pass.{Pass}
+use Rattle.bundle7.specs.declared.pass.Stage.{Stage}
+use Rattle.bundle7.specs.declared.pass.Stage.TheVariants as stages
 use Rattle.bundle7.specs.declared.reader.Fed7.{Fed7}
-use Rattle.bundle7.specs.Cause.{why, stop_of, fail_after}
-use Rattle.bundle7.specs.Legal.{IsLegal7}
+use Rattle.bundle7.specs.declared.reader.Judged7.{Judged7}
+use Rattle.bundle7.specs.declared.reader.Held.{Held}
+use Rattle.bundle7.specs.Cause.{why, stop_of, refusal, refusal_at}
 use Rattle.bundle7.specs.Table.{bundle}
-use Rattle.bundle7.specs.Streaming.{Stream, IsOpen, IsSpared, Takes, near, Refuses, Feeds, later, CutsAlike}
-use Rattle.bundle7.specs.Holding.{IsRefused, IsWhole, Gains, stopped_by, Took, Tells}
+use Rattle.bundle7.specs.Judging.{judged_bundle}
+use Rattle.bundle7.specs.Passing.{left_of, IsSummed, Fits, Stands, Comes, IsFresh}
+use Rattle.bundle7.specs.Legal.{IsLegal7, Spells7}
+use Rattle.bundle7.specs.Streaming.{Stream, IsOpen, IsSpared, Takes, TakesSize, near, Refuses, Feeds, JudgesPiece, later, CutsAlike}
+use Rattle.bundle7.specs.Holding.{stream_of, text_of, IsHeld, IsRefused, IsWhole, Gains, HasEnded, IsOpenWith, PassesOver}
 use Rattle.bundle7.proofs.BlockLaws.{begins-legal}
+use Rattle.bundle7.proofs.SumLemmas.{sums-longer}
+use Rattle.bundle7.proofs.PassLemmas.{judges-ended, judges-stopped}
 
 -- ---- nothing
 
@@ -34,49 +42,72 @@ open-nothing = (0, refl)
 pub octets-nothing : IsOctets []
 octets-nothing i = lit< tt
 
-pub place-within : (text : List ℕ) (e : Refused7) → IsOctets text → read (bundle 64) text 0 ≡ Err (stop_of e) → e.at ≤ length text
-place-within text e fits is =
-    refusal-within (bundle 64) text e.at (why e.cause) (read-refused (bundle 64) text 0 e.at (why e.cause) fits (omega arith) is)
+-- ---- octets that follow
 
--- ---- what octets give that are refused
+-- a pass over octets stands for longer ones
+pub stands-longer : (most : ℕ) (text piece : List ℕ) (pass : Pass) → Stands most text pass → Stands most (text ++ piece) pass
+stands-longer most text piece pass stands more =
+    let joined : (text ++ piece) ++ more ≡ text ++ (piece ++ more) = append_assoc text piece more in
+    ap (λ t. read (judged_bundle most) t 0) joined ∙ stands (piece ++ more)
+    ∙ ap (λ t. read (left_of most pass) t pass.at) (sym joined)
 
-pub open-at : (text : List ℕ) (at : ℕ) (cause : Cause7) → read (bundle 64) text 0 ≡ Err (at, why cause) → cause ≡ causes.Truncated
-    → IsOpen text
-open-at text at cause is same = (at, is ∙ ap (λ c. stopped at (why c)) same)
+summed-longer : (text piece : List ℕ) (at : ℕ) (stage : Stage) → IsSummed text at stage → IsSummed (text ++ piece) at stage
+summed-longer text piece at stages.Primary is = tt
+summed-longer text piece at stages.Block is = tt
+summed-longer text piece at (stages.Body front sum) (sums, crc, low, high) = (sums-longer text piece sum sums, crc, low, high)
+summed-longer text piece at (stages.Check lead sum) (sums, crc, spot) = (sums-longer text piece sum sums, crc, spot)
+summed-longer text piece at stages.Break is = tt
+summed-longer text piece at stages.Ended is = tt
 
-module _ (text : List ℕ) (cut : Bool) (at : ℕ) (fits : IsOctets text) where
-  within : (s : Stop Cause7) → read (bundle 64) text 0 ≡ Err (at, s) → at ≤ length text
-  within s is = refusal-within (bundle 64) text at s (read-refused (bundle 64) text 0 at s fits (omega arith) is)
+pub fits-longer : (most : ℕ) (text piece : List ℕ) (pass : Pass) → Fits most text pass → Fits most (text ++ piece) pass
+fits-longer most text piece pass fits = record {
+  place = omega (arith, fits.place, length-append text piece);
+  few = fits.few;
+  each = fits.each;
+  summed = summed-longer text piece pass.at pass.stage fits.summed;
+}
 
-  settled : (cause : Cause7) → read (bundle 64) text 0 ≡ Err (at, because cause) → (at ≤ length text) × IsRefused text cut at cause
-  settled cause is = (within (because cause) is, inl is)
+-- ---- causes
 
-  truncates : (late : Bool) → cut ≡ late → read (bundle 64) text 0 ≡ Err (at, truncated)
-      → Gains text cut (stopped_by at causes.Truncated late)
-  truncates true more is =
-      (omega arith, inr (record { begun = (at, is); more = more; spot = refl; named = refl }))
-  truncates false last is = record { last = last; begun = (at, is); octets = fits }
+pub is-because : (cause : Cause7) → cause ≢ causes.Truncated → why cause ≡ because cause
+is-because causes.Start other = refl
+is-because causes.Head other = refl
+is-because causes.Version other = refl
+is-because causes.Number other = refl
+is-because causes.CrcType other = refl
+is-because causes.ItemCount other = refl
+is-because causes.Eid other = refl
+is-because causes.Timestamp other = refl
+is-because causes.Crc other = refl
+is-because causes.BlockHead other = refl
+is-because causes.TooManyBlocks other = refl
+is-because causes.Repeated other = refl
+is-because causes.BlockNumber other = refl
+is-because causes.Body other = refl
+is-because causes.FragmentRange other = refl
+is-because causes.ExtensionBody other = refl
+is-because causes.Break other = refl
+is-because causes.Truncated other = absurd (other refl)
+is-because causes.TooLong other = refl
 
-  pub gains-stopped : (cause : Cause7) → read (bundle 64) text 0 ≡ Err (at, why cause) → Gains text cut (stopped_by at cause cut)
-  gains-stopped causes.Start is = settled causes.Start is
-  gains-stopped causes.Head is = settled causes.Head is
-  gains-stopped causes.Version is = settled causes.Version is
-  gains-stopped causes.Number is = settled causes.Number is
-  gains-stopped causes.CrcType is = settled causes.CrcType is
-  gains-stopped causes.ItemCount is = settled causes.ItemCount is
-  gains-stopped causes.Eid is = settled causes.Eid is
-  gains-stopped causes.Timestamp is = settled causes.Timestamp is
-  gains-stopped causes.Crc is = settled causes.Crc is
-  gains-stopped causes.BlockHead is = settled causes.BlockHead is
-  gains-stopped causes.TooManyBlocks is = settled causes.TooManyBlocks is
-  gains-stopped causes.Repeated is = settled causes.Repeated is
-  gains-stopped causes.BlockNumber is = settled causes.BlockNumber is
-  gains-stopped causes.Body is = settled causes.Body is
-  gains-stopped causes.FragmentRange is = settled causes.FragmentRange is
-  gains-stopped causes.ExtensionBody is = settled causes.ExtensionBody is
-  gains-stopped causes.Break is = settled causes.Break is
-  gains-stopped causes.TooLong is = settled causes.TooLong is
-  gains-stopped causes.Truncated is = truncates cut refl is
+-- ---- what a pass tells
+
+stopped-at : (text : List ℕ) (pass : Pass) (e : Refused7) → Comes 64 text pass (Some e)
+    → read (bundle 64) text 0 ≡ Err (stop_of e)
+stopped-at text pass e comes = judges-stopped 64 text e comes
+
+pub open-text : (text : List ℕ) (pass : Pass) (e : Refused7) → Comes 64 text pass (Some e) → e.cause ≡ causes.Truncated → IsOpen text
+open-text text pass e comes is = (e.at, stopped-at text pass e comes ∙ ap (λ cause. stopped e.at (why cause)) is)
+
+pub place-within : (text : List ℕ) (pass : Pass) (e : Refused7) → IsOctets text → Comes 64 text pass (Some e) → e.at ≤ length text
+place-within text pass e fits comes =
+    refusal-within (bundle 64) text e.at (why e.cause)
+    (read-refused (bundle 64) text 0 e.at (why e.cause) fits (omega arith) (stopped-at text pass e comes))
+
+pub settled-text : (text : List ℕ) (cut : Bool) (pass : Pass) (e : Refused7) → Comes 64 text pass (Some e)
+    → e.cause ≢ causes.Truncated → IsRefused text cut e.at e.cause
+settled-text text cut pass e comes other =
+    inl (stopped-at text pass e comes ∙ ap (stopped e.at) (is-because e.cause other))
 
 -- ---- no refusal
 
@@ -88,8 +119,14 @@ spared-open text (p, is) at cause refused =
     let both = stopped_is {A = Bundle7 × ℕ} p at truncated (because cause) (sym is ∙ refused) in
     let no = both.1 in absurd (cc)
 
-pub spared-whole : (text : List ℕ) → IsOk (read (bundle 64) text 0) → IsSpared text
-spared-whole text ok at cause refused = let no : IsOk {T = Bundle7 × ℕ} (stopped at (because cause)) = rw refused at ok in absurd (cc)
+-- what was judged is built, but for want of memory
+pub built : (text : List ℕ) (b : Bundle7) (k : ℕ) (e : Fail7) → IsWhole text b k
+    → Fails (refusal e) (read (bundle 64) text 0) → e ≡ Memory
+built text b k (Refused at cause) whole fails =
+    let reads : read (bundle 64) text 0 ≡ found b k =
+    ap (λ t. read (bundle 64) t 0) (sym (append-nil text)) ∙ whole.reads [] in
+    let no : found b k ≡ stopped at (why cause) = sym reads ∙ fails in absurd (cc)
+built text b k Memory whole fails = refl
 
 read-legal : (text : List ℕ) (k : ℕ) (b : Bundle7) → IsOctets text → read (bundle 64) text 0 ≡ found b k → IsLegal7 b
 read-legal text k b fits is = begins-legal {E = Fail7} 64 text (found b k) fits (read-begins (bundle 64) text k b fits is)
@@ -103,11 +140,22 @@ whole-text text b k fits within is = record {
   legal = read-legal text k b fits is;
 }
 
--- an open bundle has not ended
-pub not-ended : (text : List ℕ) (k : ℕ) → IsOpen text → Judges stop_of (Ok k) (read (bundle 64) text 0) → ⊥
-not-ended text k (at, is) judges = by (read (bundle 64) text 0) is judges
+-- a pass that has ended stands after a bundle
+pub ended-whole : (text : List ℕ) (pass : Pass) → IsOctets text → Fits 64 text pass → Stands 64 text pass → Comes 64 text pass None
+    → (b : Bundle7) × IsWhole text b pass.at
+ended-whole text pass fits places stands comes =
+    by (read (bundle 64) text 0) refl (judges-ended 64 text pass stands comes)
   where
-    by : (given : Result (Bundle7 × ℕ) (ℕ × Stop Cause7)) → given ≡ stopped at truncated → Judges stop_of (Ok k) given → ⊥
+    by : (given : Result (Bundle7 × ℕ) (ℕ × Stop Cause7)) → read (bundle 64) text 0 ≡ given → Judges stop_of (Ok pass.at) given
+        → (b : Bundle7) × IsWhole text b pass.at
+    by (Ok x) is judges = (x.0, whole-text text x.0 pass.at fits places.place (is ∙ ap (found x.0) (sym judges)))
+    by (Err s) is judges = absurd judges
+
+-- an open bundle has not ended
+pub not-ended : (text : List ℕ) (pass : Pass) → IsOpen text → Stands 64 text pass → Comes 64 text pass None → ⊥
+not-ended text pass (at, is) stands comes = by (read (bundle 64) text 0) is (judges-ended 64 text pass stands comes)
+  where
+    by : (given : Result (Bundle7 × ℕ) (ℕ × Stop Cause7)) → given ≡ stopped at truncated → Judges stop_of (Ok pass.at) given → ⊥
     by (Ok x) is judges = let no : found x.0 x.1 ≡ stopped at truncated = is in cc
     by (Err s) is judges = judges
 
@@ -125,16 +173,77 @@ after-open kept piece b k (at, is) whole =
           let no : found b k ≡ stopped at truncated = sym ended ∙ is in absurd (cc)
     ]
 
--- a piece that is refused, or for which memory is wanted
-pub tells-fail : (old : Stream) (piece : List ℕ) (cut : Bool) (fail : Fail7) → Gains (old.kept ++ piece) cut (Err fail)
-    → Tells old piece cut (Err (fail_after old.before fail)) old
-tells-fail old piece cut (Refused at cause) (within, refused) = ((at, refused, refl), refl)
-tells-fail old piece cut Memory spared = (refl, λ empty. rw empty at spared)
+pub take-front : (xs ys : List ℕ) → take (length xs) (xs ++ ys) ≡ xs
+take-front xs ys = take-append-le (length xs) xs ys (omega arith) ∙ take_all (length xs) xs (omega arith)
 
-pub tells-memory : (old new : Stream) (piece : List ℕ) (cut : Bool) (result : Result Fed7 Fail7) → IsErrAnd result (λ e. e ≡ Memory)
-    → new ≡ old → (old.kept ≡ [] → IsSpared piece) → Tells old piece cut result new
-tells-memory old new piece cut (Ok x) is same spared = absurd is
-tells-memory old new piece cut (Err e) is same spared = rw is (same, spared)
+text-more : (xs ys : List ℕ) → (xs ≡ [] → ⊥) → text_of (xs ++ ys) ys ≡ xs ++ ys
+text-more [] ys some = absurd (some refl)
+text-more (x ∷ xs) ys some = refl
+
+-- a piece after the beginning of a bundle ends it
+pub ended-late : (old : Held) (piece : List ℕ) (k : ℕ) (new : Held) (b : Bundle7) → IsWhole (old.kept.items ++ piece) b k
+    → IsOpen old.kept.items → (old.kept.items ≡ [] → ⊥) → new.kept.items ≡ old.kept.items ++ piece
+    → new.before ≡ old.before → IsFresh new.pass → HasEnded old piece k new
+ended-late old piece k new b whole begun some items before pass = record {
+  bundle = b;
+  whole = whole;
+  late = after-open old.kept.items piece b k begun whole;
+  text = ap (λ t. text_of t piece) items ∙ text-more old.kept.items piece some;
+  part = ap (λ t. take (length old.kept.items) t) items ∙ take-front old.kept.items piece;
+  before = before;
+  pass = pass;
+}
+
+-- nothing is kept, and a pass has yet to begin
+pub held-nothing : (h : Held) → h.kept.items ≡ [] → IsFresh h.pass → h.before < 2 ^ 64 → IsHeld h
+held-nothing h none fresh counted = record {
+  fits = (fresh h.kept.items).0;
+  stands = (fresh h.kept.items).1;
+  begun = subst IsOpen (sym none) open-nothing;
+  octets = subst IsOctets (sym none) octets-nothing;
+  counted = omega (arith, counted, ap length none);
+}
+
+-- what was kept before is kept again, and a pass has yet to begin
+pub held-again : (old new : Held) → IsHeld old → IsFresh new.pass → new.kept.items ≡ old.kept.items → new.before ≡ old.before
+    → IsHeld new
+held-again old new held fresh items before = record {
+  fits = (fresh new.kept.items).0;
+  stands = (fresh new.kept.items).1;
+  begun = subst IsOpen (sym items) held.begun;
+  octets = subst IsOctets (sym items) held.octets;
+  counted = omega (arith, held.counted, before, ap length items);
+}
+
+-- what a pass tells of the octets kept and a piece
+pub passed-late : (old : Held) (piece : List ℕ) (cut : Bool) (new : Held) (end : Option ℕ) → IsHeld old → (old.kept.items ≡ [] → ⊥)
+    → old.before + length old.kept.items + length piece < 2 ^ 64 → new.kept.items ≡ old.kept.items ++ piece → new.before ≡ old.before
+    → Gains (old.kept.items ++ piece) cut (Ok end) new.pass → PassesOver old piece cut (Ok end) new
+passed-late old piece cut new (Some k) held some counted items before gains =
+    ended-late old piece k new gains.0.0 gains.0.1 held.begun some items before gains.1
+passed-late old piece cut new None held some counted items before waits = record {
+  last = waits.last;
+  held = record {
+    fits = subst (λ t. Fits 64 t new.pass) (sym items) waits.fits;
+    stands = subst (λ t. Stands 64 t new.pass) (sym items) waits.stands;
+    begun = subst IsOpen (sym items) waits.begun;
+    octets = subst IsOctets (sym items) waits.octets;
+    counted = omega (arith, counted, before, ap length items, length-append old.kept.items piece);
+  };
+  stream = rw (before, items) refl;
+}
+
+pub turned-late : (old : Held) (piece : List ℕ) (cut : Bool) (new : Held) (e after : Refused7) (fail : Fail7) → IsHeld old
+    → new.kept.items ≡ old.kept.items → new.before ≡ old.before → Gains (old.kept.items ++ piece) cut (Err e) new.pass
+    → after ≡ refusal_at (old.before + e.at) e.cause → fail ≡ Refused after.at after.cause → PassesOver old piece cut (Err fail) new
+turned-late old piece cut new e after fail held items before gains is same =
+    rw (same, is) (record {
+      place = e.at;
+      refused = gains.1;
+      spot = refl;
+      held = held-again old new held gains.2 items before;
+      same = rw (before, items) refl;
+    })
 
 abbrev stream : ℕ → List ℕ → Stream
 stream before kept = record { before = before; kept = kept }
@@ -151,6 +260,14 @@ near-min k n piece is =
       | inl all ↦ take_all k piece (omega (arith, is, all)) ∙ sym (take_all n piece (omega (arith, all)))
       | inr some ↦ ap (λ m. take m piece) (omega (arith, is, some))
     ]
+
+take-past : (n : ℕ) (xs ys : List ℕ) → length xs ≤ n → take n (xs ++ ys) ≡ xs ++ take (n - length xs) ys
+take-past n [] ys h = let none : n ≡ n - 0 = omega arith in ap (λ m. take m ys) none
+take-past zero (x ∷ xs) ys h = absurd (omega (arith, h))
+take-past (suc n) (x ∷ xs) ys h =
+    let rest = take-past n xs ys (omega (arith, h)) in
+    let left : n - length xs ≡ suc n - length (x ∷ xs) = omega arith in
+    ap (λ t. x ∷ t) rest ∙ ap (λ m. x ∷ (xs ++ take m ys)) left
 
 record PartOf (n : ℕ) (piece part : List ℕ) : Type 0 where
   shorter : length part ≤ length piece
@@ -194,19 +311,53 @@ module _ (longest : ℕ) (old : Stream) (piece part : List ℕ) (cut : Bool) (sm
       append_assoc old.kept part rest
       ∙ ap (λ t. old.kept ++ t) (ap (λ t. t ++ rest) is ∙ take-append-drop (longest - length old.kept) piece)
 
-  takes : (used : ℕ) (found : Option Bundle7) (new : Stream) → Took old part cut used found new → Takes longest old piece used found new
-  takes used (Some b) new (low, reads, legal, stands) = (
-    omega (arith, low, sizes.shorter),
-    omega (arith, low, sizes.within, small),
-    ap (λ t. read (bundle 64) t 0) (sym joined) ∙ reads rest,
-    legal,
-    stands,
+  whole-part : part ++ rest ≡ piece
+  unfolding rest
+  whole-part = ap (λ t. t ++ rest) is ∙ take-append-drop (longest - length old.kept) piece
+
+  -- the bundle ends in the part
+  takes-whole : (b : Bundle7) (k : ℕ) (new : Stream) → IsWhole (old.kept ++ part) b k → length old.kept ≤ k
+      → new ≡ stream (old.before + k) [] → Takes longest old piece (k - length old.kept) (Some b) new
+  takes-whole b k new whole late stands =
+      let long : length (old.kept ++ part) ≡ length old.kept + length part = length-append old.kept part in
+      let ends : length old.kept + (k - length old.kept) ≡ k = omega (arith, late) in (
+        omega (arith, whole.within, late, long, sizes.shorter),
+        omega (arith, whole.within, ends, long, sizes.within, small),
+        ap (λ t. read (bundle 64) t 0) (sym joined) ∙ whole.reads rest ∙ ap (found b) (sym ends),
+        whole.legal,
+        stands ∙ ap (λ n. stream (old.before + n) []) (sym ends),
+      )
+
+  -- its octets spell it
+  spells-whole : (b : Bundle7) (k : ℕ) → IsWhole (old.kept ++ part) b k → length old.kept ≤ k
+      → Spells7 b (old.kept ++ take (k - length old.kept) piece)
+  spells-whole b k whole late =
+      let long : length (old.kept ++ part) ≡ length old.kept + length part = length-append old.kept part in
+      let reads : read (bundle 64) (old.kept ++ part) 0 ≡ found b k =
+      ap (λ t. read (bundle 64) t 0) (sym (append-nil (old.kept ++ part))) ∙ whole.reads [] in
+      let begins = read-begins (bundle 64) (old.kept ++ part) k b whole.octets reads in
+      let inside : take (k - length old.kept) piece ≡ take (k - length old.kept) part =
+      ap (λ t. take (k - length old.kept) t) (sym whole-part)
+      ∙ take-append-le (k - length old.kept) part rest (omega (arith, whole.within, late, long)) in
+      subst (λ t. Spells7 b t) (take-past k old.kept part late ∙ ap (λ t. old.kept ++ t) (sym inside)) begins.spells
+
+  takes-size : (b : Bundle7) (k : ℕ) (new : Stream) → IsWhole (old.kept ++ part) b k → length old.kept ≤ k
+      → new ≡ stream (old.before + k) [] → TakesSize longest old piece (k - length old.kept) (Some k) new
+  takes-size b k new whole late stands = (
+    omega (arith, late),
+    (b, spells-whole b k whole late, takes-whole b k new whole late stands),
   )
-  takes used None new (low, last, begun, stands) =
-      let whole : length piece ≤ length part = ltb-false (length part) (length piece) (sym cuts ∙ last) in
-      let same = sizes.whole whole in (
-        low ∙ ap length same,
-        omega (arith, sizes.within, small, whole),
+
+  -- all of the part is all of the piece, where no more may be cut off
+  all-of : cut ≡ false → part ≡ piece
+  all-of last = sizes.whole (ltb-false (length part) (length piece) (sym cuts ∙ last))
+
+  takes-open : (new : Stream) → cut ≡ false → IsOpen (old.kept ++ part) → new ≡ stream old.before (old.kept ++ part)
+      → Takes longest old piece (length part) None new
+  takes-open new last begun stands =
+      let same = all-of last in (
+        ap length same,
+        omega (arith, ap length same, sizes.within, small),
         subst (λ t. IsOpen (old.kept ++ t)) same begun,
         stands ∙ ap (λ t. stream old.before (old.kept ++ t)) same,
       )
@@ -224,18 +375,93 @@ module _ (longest : ℕ) (old : Stream) (piece part : List ℕ) (cut : Bool) (sm
         named = spread.named;
       })
 
-  pub tells-feeds : (result : Result Fed7 Fail7) (new : Stream) → Tells old part cut result new → Feeds longest old piece result new
-  tells-feeds (Ok fed) new tells = takes fed.used fed.bundle new tells
-  tells-feeds (Err (Refused at cause)) new ((p, refused, spot), same) = refuses at cause p refused spot
-  tells-feeds (Err Memory) new (same, spared) = λ empty. subst IsSpared is (spared empty)
+-- a bundle that is whole wants memory to be built
+pub feeds-memory : (longest : ℕ) (old : Stream) (piece part : List ℕ) (b : Bundle7) (k : ℕ) (new : Stream)
+    → part ≡ near longest old piece → IsWhole (old.kept ++ part) b k → Feeds longest old piece (Err Memory) new
+feeds-memory longest old piece part b k new is whole empty =
+    let reads : read (bundle 64) (old.kept ++ part) 0 ≡ found b k =
+    ap (λ t. read (bundle 64) t 0) (sym (append-nil (old.kept ++ part))) ∙ whole.reads [] in
+    let alone : read (bundle 64) part 0 ≡ found b k = ap (λ xs. read (bundle 64) (xs ++ part) 0) (sym empty) ∙ reads in
+    subst IsSpared is (spared-ok part b k alone)
+
+-- what a pass over a part of a piece tells of the piece
+module _ (longest : ℕ) (old new : Held) (piece part : List ℕ) (cut : Bool) (small : length old.kept.items ≤ longest)
+    (is : part ≡ near longest (stream_of old) piece) (cuts : cut ≡ ltb (length part) (length piece)) where
+  -- a text that was passed over, and what it reads as
+  whole-reads : (k : ℕ) (text : List ℕ) → HasEnded old part k new → text ≡ text_of new.kept.items part → text ≡ old.kept.items ++ part
+  whole-reads k text ended same = same ∙ ended.text
+
+  pub feeds-built : (k n : ℕ) (b : Bundle7) (text : List ℕ) (after : Stream) → HasEnded old part k new
+      → text ≡ text_of new.kept.items part → read (bundle 64) text 0 ≡ found b n
+      → after ≡ stream (new.before + k) [] → Takes longest (stream_of old) piece (k - length old.kept.items) (Some b) after
+  feeds-built k n b text after ended same reads stands =
+      let parts = old.kept.items ++ part in
+      let again : read (bundle 64) parts 0 ≡ found b n = ap (λ t. read (bundle 64) t 0) (sym (whole-reads k text ended same)) ∙ reads in
+      let given : read (bundle 64) parts 0 ≡ found ended.bundle k =
+      ap (λ t. read (bundle 64) t 0) (sym (append-nil parts)) ∙ ended.whole.reads [] in
+      let both : found b n ≡ found ended.bundle k = sym again ∙ given in
+      let size : n ≡ k = (found_is {E = ℕ × Stop Cause7} b ended.bundle n k both).1 in
+      takes-whole longest (stream_of old) piece part cut small is cuts b k after
+      (whole-text parts b k ended.whole.octets ended.whole.within (again ∙ ap (found b) size)) ended.late
+      (stands ∙ ap (λ m. stream (m + k) []) ended.before)
+
+  pub feeds-unbuilt : (k : ℕ) (e : Fail7) (text : List ℕ) (after : Stream) → HasEnded old part k new
+      → text ≡ text_of new.kept.items part → Fails (refusal e) (read (bundle 64) text 0) → Feeds longest (stream_of old) piece (Err e) after
+  feeds-unbuilt k e text after ended same fails =
+      let memory : e ≡ Memory =
+      built (old.kept.items ++ part) ended.bundle k e ended.whole
+      (subst (λ t. Fails (refusal e) (read (bundle 64) t 0)) (whole-reads k text ended same) fails) in
+      rw memory (feeds-memory longest (stream_of old) piece part ended.bundle k after is ended.whole)
+
+  pub judges-whole : (k : ℕ) (after : Stream) → HasEnded old part k new
+      → after ≡ stream (new.before + k) [] → TakesSize longest (stream_of old) piece (k - length old.kept.items) (Some k) after
+  judges-whole k after ended stands =
+      takes-size longest (stream_of old) piece part cut small is cuts ended.bundle k after ended.whole ended.late
+      (stands ∙ ap (λ m. stream (m + k) []) ended.before)
+
+  pub feeds-open : IsOpenWith old part cut new → Takes longest (stream_of old) piece (length part) None (stream_of new)
+  feeds-open opened =
+      takes-open longest (stream_of old) piece part cut small is cuts (stream_of new) opened.last
+      (subst (λ s. IsOpen s.kept) opened.stream opened.held.begun) opened.stream
+
+  pub small-open : IsOpenWith old part cut new → length new.kept.items ≤ longest
+  small-open opened =
+      let takes = feeds-open opened in
+      let long : length new.kept.items ≡ length (old.kept.items ++ part) = ap (λ s. length s.kept) opened.stream in
+      omega (arith, long, length-append old.kept.items part, takes.0, takes.1)
+
+  pub feeds-fail : (fail : Fail7) (result : Result Fed7 Fail7) → PassesOver old part cut (Err fail) new → IsErrAnd result (λ e. e ≡ fail)
+      → Feeds longest (stream_of old) piece result (stream_of new)
+  feeds-fail fail (Ok x) passes same = absurd same
+  feeds-fail (Refused at cause) (Err e) passes same =
+      rw same (refuses longest (stream_of old) piece part cut small is cuts at cause passes.place passes.refused passes.spot)
+  feeds-fail Memory (Err e) passes same =
+      rw same (λ empty. subst IsSpared is (spared-open part (passes.begun empty).1))
+
+  pub judges-fail : (fail : Fail7) (result : Result Judged7 Fail7) → PassesOver old part cut (Err fail) new → IsErrAnd result (λ e. e ≡ fail)
+      → JudgesPiece longest (stream_of old) piece result (stream_of new)
+  judges-fail fail (Ok x) passes same = absurd same
+  judges-fail (Refused at cause) (Err e) passes same =
+      rw same (refuses longest (stream_of old) piece part cut small is cuts at cause passes.place passes.refused passes.spot)
+  judges-fail Memory (Err e) passes same =
+      let all = all-of longest (stream_of old) piece part cut small is cuts in
+      rw same (λ empty.
+      let open_piece = passes.begun empty in
+      let sizes = part-of (longest - length old.kept.items) piece part is in
+      (omega (arith, ap length (all open_piece.0), sizes.within), subst IsOpen (all open_piece.0) open_piece.1))
+
+pub stays-fail : (old new : Held) (part : List ℕ) (cut : Bool) (fail : Fail7) → PassesOver old part cut (Err fail) new
+    → IsHeld new × (stream_of new ≡ stream_of old)
+stays-fail old new part cut (Refused at cause) passes = (passes.held, passes.same)
+stays-fail old new part cut Memory passes = (passes.held, passes.same)
 
 -- ---- the end
 
-pub ends-open : (stream : Stream) (e : Refused7) → IsOpen stream.kept → read (bundle 64) stream.kept 0 ≡ Err (stop_of e)
+pub ends-open : (stream : Stream) (pass : Pass) (e : Refused7) → IsOpen stream.kept → Comes 64 stream.kept pass (Some e)
     → (e.cause ≡ causes.Truncated) × (read (bundle 64) stream.kept 0 ≡ Err (e.at, truncated))
-ends-open stream e (at, is) reads =
-    let both = stopped_is {A = Bundle7 × ℕ} e.at at (why e.cause) truncated (sym reads ∙ is) in
-    (is-truncated e.cause both.1, reads ∙ ap (stopped e.at) both.1)
+ends-open stream pass e (at, is) comes =
+    let both = stopped_is {A = Bundle7 × ℕ} e.at at (why e.cause) truncated (sym (stopped-at stream.kept pass e comes) ∙ is) in
+    (is-truncated e.cause both.1, stopped-at stream.kept pass e comes ∙ ap (stopped e.at) both.1)
   where
     is-truncated : (cause : Cause7) → why cause ≡ truncated → cause ≡ causes.Truncated
     is-truncated causes.Start is = absurd (cc)
@@ -259,14 +485,6 @@ ends-open stream e (at, is) reads =
     is-truncated causes.TooLong is = absurd (cc)
 
 -- ---- cutting
-
-take-past : (n : ℕ) (xs ys : List ℕ) → length xs ≤ n → take n (xs ++ ys) ≡ xs ++ take (n - length xs) ys
-take-past n [] ys h = let none : n ≡ n - 0 = omega arith in ap (λ m. take m ys) none
-take-past zero (x ∷ xs) ys h = absurd (omega (arith, h))
-take-past (suc n) (x ∷ xs) ys h =
-    let rest = take-past n xs ys (omega (arith, h)) in
-    let left : n - length xs ≡ suc n - length (x ∷ xs) = omega arith in
-    ap (λ t. x ∷ t) rest ∙ ap (λ m. x ∷ (xs ++ take m ys)) left
 
 cut-near : (longest : ℕ) (old : Stream) (first second : List ℕ) → length old.kept + length first ≤ longest
     → (old.kept ++ first) ++ near longest (stream old.before (old.kept ++ first)) second ≡ old.kept ++ near longest old (first ++ second)

@@ -1,5 +1,5 @@
 -- The names of the causes, and what a refusal says.
-use Rattle.std.specs.Prelude.{ℕ, ◌+◌, List, codes, Option, Some, None}
+use Rattle.std.specs.Prelude.{ℕ, List, codes, Option, Some, None}
 use Rattle.wire_fields.specs.Refusal.{Stop, truncated, because}
 use Rattle.wire_fields.specs.declared.miss.Miss.{Miss}
 use Rattle.wire_fields.specs.declared.miss.Miss.TheVariants as misses
@@ -46,6 +46,10 @@ abbrev pub missed : ℕ → Miss → Cause7 → Refused7
 missed at misses.Truncated cause = record { at = at; cause = Truncated }
 missed at misses.Absent cause = record { at = at; cause = cause }
 
+-- a refusal of a place for a cause
+abbrev pub refusal_at : ℕ → Cause7 → Refused7
+refusal_at at cause = record { at = at; cause = cause }
+
 -- the place and the reason of a refusal
 abbrev pub stop_of : Refused7 → ℕ × Stop Cause7
 stop_of r = (r.at, why r.cause)
@@ -57,12 +61,3 @@ refused r = Some (stop_of r)
 abbrev pub refusal : Fail7 → Option (ℕ × Stop Cause7)
 refusal (Refused at cause) = Some (at, why cause)
 refusal Memory = None
-
--- a fault with its place counted from so many octets before
-abbrev pub fail_after : ℕ → Fail7 → Fail7
-fail_after before (Refused at cause) = Refused (before + at) cause
-fail_after before Memory = Memory
-
-abbrev pub place_of : Fail7 → ℕ
-place_of (Refused at cause) = at
-place_of Memory = 0

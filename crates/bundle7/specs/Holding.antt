@@ -1,6 +1,6 @@
 -- What a reader of a stream keeps, and what the octets that it has give.
 
-use Rattle.std.specs.Prelude.{◌≡◌, ℕ, ◌+◌, ◌^◌, ◌<◌, ◌≤◌, Bool, true, false, List, [], ◌++◌, length, Option, Some, None, Result, Ok, Err, ◌⊎◌}
+use Rattle.std.specs.Prelude.{◌≡◌, ℕ, ◌+◌, ◌^◌, ◌<◌, ◌≤◌, Bool, true, false, List, [], ◌∷◌, ◌++◌, length, take, Option, Some, None, Result, Ok, Err, ◌⊎◌}
 use Rattle.wire_fields.specs.Refusal.{truncated, because}
 use Rattle.wire_fields.specs.Reading.{read, IsOctets}
 use Rattle.bundle7.specs.declared.fault.Cause7.{Cause7}
@@ -9,19 +9,20 @@ use Rattle.bundle7.specs.declared.fault.Refused7.{Refused7}
 use Rattle.bundle7.specs.declared.fault.Fail7.{Fail7}
 use Rattle.bundle7.specs.declared.fault.Fail7.TheVariants.{Refused, Memory}
 use Rattle.bundle7.specs.declared.bundle.Bundle7.{Bundle7}
-use Rattle.bundle7.specs.declared.reader.Fed7.{Fed7}
+use Rattle.bundle7.specs.declared.pass.Pass.{Pass}
 use Rattle.bundle7.specs.declared.reader.Held.{Held}
-use Rattle.bundle7.specs.declared.reader.Gained.{Gained}
-use Rattle.bundle7.specs.declared.reader.Gained.TheVariants.{Whole, Open}
 use Rattle.bundle7.specs.Table.{bundle}
 use Rattle.bundle7.specs.Legal.{IsLegal7}
-use Rattle.bundle7.specs.Streaming.{Stream, IsOpen, IsSpared}
+use Rattle.bundle7.specs.Passing.{Fits, Stands, IsFresh}
+use Rattle.bundle7.specs.Streaming.{Stream, IsOpen}
 
 abbrev pub stream_of : Held → Stream
 stream_of h = record { before = h.before; kept = h.kept.items }
 
--- the octets of one unfinished bundle
+-- the octets of one unfinished bundle, and a pass that stands for them
 pub record IsHeld (h : Held) : Type 0 where
+  pub fits : Fits 64 h.kept.items h.pass
+  pub stands : Stands 64 h.kept.items h.pass
   pub begun : IsOpen h.kept.items
   pub octets : IsOctets h.kept.items
   pub counted : h.before + length h.kept.items < 2 ^ 64
@@ -44,41 +45,62 @@ pub record IsWhole (text : List ℕ) (b : Bundle7) (k : ℕ) : Type 0 where
   pub reads : (more : List ℕ) → read (bundle 64) (text ++ more) 0 ≡ Ok (b, k)
   pub legal : IsLegal7 b
 
--- octets that end inside a bundle
-pub record Waits (text : List ℕ) (cut : Bool) : Type 0 where
+-- octets that end inside a bundle, and a pass that stands for them
+pub record Waits (text : List ℕ) (cut : Bool) (pass : Pass) : Type 0 where
   pub last : cut ≡ false
   pub begun : IsOpen text
   pub octets : IsOctets text
+  pub fits : Fits 64 text pass
+  pub stands : Stands 64 text pass
 
-abbrev pub Gains : List ℕ → Bool → Result Gained Fail7 → Type 0
-Gains text cut (Ok (Whole b k)) = IsWhole text b k
-Gains text cut (Ok Open) = Waits text cut
-Gains text cut (Err (Refused at cause)) = (at ≤ length text) × IsRefused text cut at cause
-Gains text cut (Err Memory) = IsSpared text
+-- what a pass over some octets tells; where they end no bundle inside, it begins anew
+abbrev pub Gains : List ℕ → Bool → Result (Option ℕ) Refused7 → Pass → Type 0
+Gains text cut (Ok (Some k)) pass = ((b : Bundle7) × IsWhole text b k) × IsFresh pass
+Gains text cut (Ok None) pass = Waits text cut pass
+Gains text cut (Err e) pass = (e.at ≤ length text) × IsRefused text cut e.at e.cause × IsFresh pass
 
--- what octets give that are refused at a place, where no more may follow or more may
-abbrev pub stopped_by : ℕ → Cause7 → Bool → Result Gained Fail7
-stopped_by at Truncated true = Err (Refused 0 TooLong)
-stopped_by at Truncated false = Ok Open
-stopped_by at cause cut = Err (Refused at cause)
+-- the octets kept, or where none are those of a piece
+abbrev pub text_of : List ℕ → List ℕ → List ℕ
+text_of [] piece = piece
+text_of (x ∷ xs) piece = x ∷ xs
 
--- a piece was taken, or a part of it after which no more may follow; a refusal leaves all as it was
-abbrev pub Took : Stream → List ℕ → Bool → ℕ → Option Bundle7 → Stream → Type 0
-Took old piece cut used (Some b) new =
-    (used ≤ length piece)
-    × ((more : List ℕ)
-    → read (bundle 64) ((old.kept ++ piece) ++ more) 0 ≡ Ok (b, length old.kept + used))
-    × IsLegal7 b
-    × (new ≡ record { before = old.before + (length old.kept + used); kept = [] })
-Took old piece cut used None new =
-    (used ≡ length piece) × (cut ≡ false) × IsOpen (old.kept ++ piece)
-    × (new ≡ record { before = old.before; kept = old.kept ++ piece })
+-- a piece ended a bundle, whose octets are kept or lie in the piece; what was kept before can be had again
+pub record HasEnded (old : Held) (piece : List ℕ) (k : ℕ) (new : Held) : Type 0 where
+  pub bundle : Bundle7
+  pub whole : IsWhole (old.kept.items ++ piece) bundle k
+  pub late : length old.kept.items ≤ k
+  pub text : text_of new.kept.items piece ≡ old.kept.items ++ piece
+  pub part : take (length old.kept.items) new.kept.items ≡ old.kept.items
+  pub before : new.before ≡ old.before
+  pub pass : IsFresh new.pass
 
-abbrev pub Tells : Stream → List ℕ → Bool → Result Fed7 Fail7 → Stream → Type 0
-Tells old piece cut (Ok fed) new = Took old piece cut fed.used fed.bundle new
-Tells old piece cut (Err (Refused at cause)) new =
-    ((p : ℕ) × IsRefused (old.kept ++ piece) cut p cause × (at ≡ old.before + p)) × (new ≡ old)
-Tells old piece cut (Err Memory) new = (new ≡ old) × (old.kept ≡ [] → IsSpared piece)
+-- after a piece a bundle is open, and all of it is kept
+pub record IsOpenWith (old : Held) (piece : List ℕ) (cut : Bool) (new : Held) : Type 0 where
+  pub last : cut ≡ false
+  pub held : IsHeld new
+  pub stream : stream_of new ≡ record { before = old.before; kept = old.kept.items ++ piece }
+
+-- a place and a cause are those of a refusal, which leaves all as it was
+pub record IsTurned (old : Held) (piece : List ℕ) (cut : Bool)
+    (at : ℕ) (cause : Cause7) (new : Held) : Type 0 where
+  pub place : ℕ
+  pub refused : IsRefused (old.kept.items ++ piece) cut place cause
+  pub spot : at ≡ old.before + place
+  pub held : IsHeld new
+  pub same : stream_of new ≡ stream_of old
+
+-- memory ran out: for the octets of a piece, which began a bundle or went on with one
+pub record WantsRoom (old : Held) (piece : List ℕ) (cut : Bool) (new : Held) : Type 0 where
+  pub begun : old.kept.items ≡ [] → (cut ≡ false) × IsOpen piece
+  pub held : IsHeld new
+  pub same : stream_of new ≡ stream_of old
+
+-- what a pass over a piece tells, after which no more may follow where it is cut
+abbrev pub PassesOver : Held → List ℕ → Bool → Result (Option ℕ) Fail7 → Held → Type 0
+PassesOver old piece cut (Ok (Some k)) new = HasEnded old piece k new
+PassesOver old piece cut (Ok None) new = IsOpenWith old piece cut new
+PassesOver old piece cut (Err (Refused at cause)) new = IsTurned old piece cut at cause new
+PassesOver old piece cut (Err Memory) new = WantsRoom old piece cut new
 
 -- the end of the stream as a refusal
 abbrev pub Ends : Stream → Option Refused7 → Type 0

@@ -11,4 +11,6 @@ pub mod Streaming
 -- What follows only ties code to the definitions.
 pub mod Lent
 pub mod Seen
+pub mod Judging
+pub mod Passing
 pub mod Holding

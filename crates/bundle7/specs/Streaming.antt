@@ -10,8 +10,9 @@ use Rattle.bundle7.specs.declared.fault.Fail7.{Fail7}
 use Rattle.bundle7.specs.declared.fault.Fail7.TheVariants.{Refused, Memory}
 use Rattle.bundle7.specs.declared.bundle.Bundle7.{Bundle7}
 use Rattle.bundle7.specs.declared.reader.Fed7.{Fed7}
+use Rattle.bundle7.specs.declared.reader.Judged7.{Judged7}
 use Rattle.bundle7.specs.Table.{bundle}
-use Rattle.bundle7.specs.Legal.{IsLegal7}
+use Rattle.bundle7.specs.Legal.{IsLegal7, Spells7}
 
 -- A stream as far as it was taken: how many octets its bundles took, and the octets after them.
 pub record Stream : Type 0 where
@@ -72,6 +73,24 @@ Feeds longest old piece (Ok fed) new = Takes longest old piece fed.used fed.bund
 Feeds longest old piece (Err (Refused at cause)) new = Refuses longest old piece at cause
 Feeds longest old piece (Err Memory) new = old.kept ≡ [] → IsSpared (near longest old piece)
 
+-- A piece was taken as `Takes` has it, and of a bundle that is whole no more is told than how many octets
+-- it has. They spell it.
+abbrev pub TakesSize : ℕ → Stream → List ℕ → ℕ → Option ℕ → Stream → Type 0
+TakesSize longest old piece used (Some size) new =
+    (size ≡ length old.kept + used)
+    × ((b : Bundle7) × Spells7 b (old.kept ++ take used piece)
+    × Takes longest old piece used (Some b) new)
+TakesSize longest old piece used None new = Takes longest old piece used None new
+
+-- What a piece gives where no bundle is wanted. Memory is wanted for octets that are kept: where nothing
+-- was kept before the piece, only where it begins a bundle and doesn't end it.
+abbrev pub JudgesPiece : ℕ → Stream → List ℕ → Result Judged7 Fail7 → Stream → Type 0
+JudgesPiece longest old piece (Ok judged) new =
+    TakesSize longest old piece judged.used judged.whole new
+JudgesPiece longest old piece (Err (Refused at cause)) new = Refuses longest old piece at cause
+JudgesPiece longest old piece (Err Memory) new =
+    old.kept ≡ [] → (length piece ≤ longest) × IsOpen piece
+
 -- The end of the stream: nothing is kept, or the octets end inside a bundle.
 abbrev pub Finishes : Stream → Result (Unit {0}) Fail7 → Type 0
 Finishes old (Ok x) = old.kept ≡ []
@@ -80,12 +99,16 @@ Finishes old (Err (Refused at cause)) =
     × ((p : ℕ) × (read (bundle 64) old.kept 0 ≡ Err (p, truncated)) × (at ≡ old.before + p))
 Finishes old (Err Memory) = ⊥
 
--- what a reader remembers of an answer: a refusal, and want of memory
+-- what a reader remembers of a failure: a refusal, or want of memory
+abbrev pub RemembersFail : Fail7 → Reading → Type 0
+RemembersFail (Refused at cause) new =
+    (new.refused ≡ Some (record { at = at; cause = cause })) × (new.spent ≡ false)
+RemembersFail Memory new = new.spent ≡ true
+
+-- what a reader remembers of an answer
 abbrev pub Remembers : {A : Type 0} → Result A Fail7 → Reading → Type 0
 Remembers (Ok x) new = (new.refused ≡ None) × (new.spent ≡ false)
-Remembers (Err (Refused at cause)) new =
-    (new.refused ≡ Some (record { at = at; cause = cause })) × (new.spent ≡ false)
-Remembers (Err Memory) new = new.spent ≡ true
+Remembers (Err fail) new = RemembersFail fail new
 
 -- a reader that met a refusal answers it again, and stays as it is
 pub record AnswersAgain {A : Type 0} (refused : Refused7) (old : Reading)

@@ -147,7 +147,12 @@ pub(crate) fn block_at<'a>(
 
 /// What a block has before its body.
 #[tactic(auto, unfolding(crate::specs::Table::lead))]
-fn lead_at(text: &[u8], at: usize, left: u64, earlier: &Seen) -> Result<(Lead, usize), Refused7>
+pub(crate) fn lead_at(
+    text: &[u8],
+    at: usize,
+    left: u64,
+    earlier: &Seen,
+) -> Result<(Lead, usize), Refused7>
     requires { at ≤ length text.now }
     ensures within { IfOk result (λ x. IsOn at text.now x.1) }
     ensures exact { Gives (λ l. l) refused result (read (lead left earlier.now) text.now at) }
@@ -227,7 +232,7 @@ fn is_number(kind: u64, earlier: &Seen, number: u64) -> bool
 }
 
 /// How many octets a block's body has; those of a fragment's payload lie within the whole.
-fn size_at(
+pub(crate) fn size_at(
     text: &[u8],
     at: usize,
     fragment: Option<Fragment>,
@@ -257,7 +262,12 @@ fn is_within(fragment: Option<Fragment>, kind: u64, size: u64) -> bool
 }
 
 /// The octets of a body, lent.
-fn body_at(text: &[u8], at: usize, kind: u64, size: u64) -> Result<(&[u8], usize), Refused7>
+pub(crate) fn body_at(
+    text: &[u8],
+    at: usize,
+    kind: u64,
+    size: u64,
+) -> Result<(&[u8], usize), Refused7>
     requires { at ≤ length text.now }
     ensures within { IfOk result (λ x. IsOn at text.now x.1) }
     ensures exact { Gives (λ lent. lent.now) refused result (read (body_field kind size) text.now at) }

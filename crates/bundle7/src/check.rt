@@ -1,10 +1,11 @@
 //! The check of a block (RFC 9171, section 4.2.1).
 
-ghost use Rattle.std.specs.Prelude.{◌≡◌, ◌≤◌, length, IfOk};
+ghost use Rattle.std.specs.Prelude.{◌≡◌, ◌≤◌, ◌==◌, ℕ, List, length, false, IfOk};
 ghost use Rattle.wire_fields.specs.Reading.{read};
 ghost use Rattle.wire_fields.specs.Gives.{Gives, IsOn};
 ghost use Rattle.bundle7.specs.Cause.{refused};
 ghost use Rattle.bundle7.specs.Check.{check16, check32, exact_octets, crc_field};
+ghost use Rattle.bundle7.specs.Passing.{between, Sums};
 
 use crate::fault::{Cause7, Refused7};
 use crate::fields::{exactly, octets};
@@ -68,4 +69,119 @@ pub(crate) fn thirty_two(block: &[u8]) -> [u8; 4]
         .update(&[0; 4])
         .finish()
         .to_be_bytes()
+}
+
+/// The octets of a block as far as they have come, summed for a check of its type.
+#[derive(Clone, Copy)]
+pub(crate) struct Sum {
+    /// The type of the check.
+    pub(crate) crc: u8,
+    /// Where the block begins.
+    pub(crate) from: usize,
+    /// Up to where its octets are summed.
+    pub(crate) to: usize,
+    short: Register16,
+    long: Register32,
+}
+
+impl Sum {
+    /// The sum of no octets of a block that begins at a place.
+    pub(crate) fn new(crc: u8, from: usize) -> Sum
+        ensures sums { (text : List ℕ) → from ≤ length text → Sums text result }
+        ensures crc { result.crc ≡ crc }
+        ensures from { result.from ≡ from }
+        ensures to { result.to ≡ from }
+    {
+        Sum {
+            crc,
+            from,
+            to: from,
+            short: Register16::new(),
+            long: Register32::new(),
+        }
+    }
+
+    /// The sum up to a later place.
+    pub(crate) fn up_to(self, text: &[u8], to: usize) -> Sum
+        requires sums { Sums text.now self }
+        requires later { self.to ≤ to }
+        requires within { to ≤ length text.now }
+        ensures sums { Sums text.now result }
+        ensures crc { result.crc ≡ self.crc }
+        ensures from { result.from ≡ self.from }
+        ensures to { result.to ≡ to }
+    {
+        let octets = &text[self.to..to];
+        let crc = self.crc;
+        if crc == 0 {
+            return Sum { to, ..self };
+        }
+        if crc == 1 {
+            Sum {
+                to,
+                short: self.short.update(octets),
+                ..self
+            }
+        } else {
+            Sum {
+                to,
+                long: self.long.update(octets),
+                ..self
+            }
+        }
+    }
+
+    /// The CRC-16 of the block up to a later place.
+    fn sixteen(self, text: &[u8], to: usize) -> [u8; 2]
+        requires sums { Sums text.now self }
+        requires later { self.to ≤ to }
+        requires within { to ≤ length text.now }
+        requires crc { self.crc ≡ 1 }
+        ensures { result ≡ check16 (between self.from to text.now) }
+    {
+        self.short
+            .update(&text[self.to..to])
+            .update(&[0; 2])
+            .finish()
+            .to_be_bytes()
+    }
+
+    /// The CRC-32C of the block up to a later place.
+    fn thirty_two(self, text: &[u8], to: usize) -> [u8; 4]
+        requires sums { Sums text.now self }
+        requires later { self.to ≤ to }
+        requires within { to ≤ length text.now }
+        requires zero { (self.crc == 0) ≡ false }
+        requires one { (self.crc == 1) ≡ false }
+        ensures { result ≡ check32 (between self.from to text.now) }
+    {
+        self.long
+            .update(&text[self.to..to])
+            .update(&[0; 4])
+            .finish()
+            .to_be_bytes()
+    }
+}
+
+/// The check of a block that is summed up to it; nothing for type 0.
+#[tactic(auto, unfolding(crate::specs::Check::crc_field))]
+pub(crate) fn check_at(text: &[u8], sum: Sum) -> Result<((), usize), Refused7>
+    requires { Sums text.now sum }
+    ensures within { IfOk result (λ x. IsOn sum.to text.now x.1) }
+    ensures exact { Gives (λ _. tt) refused result (read (crc_field sum.crc sum.from) text.now sum.to) }
+{
+    let at = sum.to;
+    match sum.crc {
+        0 => Ok(((), at)),
+        1 => {
+            let (_, at) = exactly(text, at, BYTE_STRING, 2, Cause7::Crc)?;
+            let check = sum.sixteen(text, at);
+            matches_at(text, at, &check)
+        }
+        _ => {
+            let (_, at) = exactly(text, at, BYTE_STRING, 4, Cause7::Crc)?;
+            let check = sum.thirty_two(text, at);
+            matches_at(text, at, &check)
+        }
+    }
 }

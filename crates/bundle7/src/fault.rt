@@ -1,7 +1,7 @@
 //! Why octets are no version 7 bundle, and why they are no endpoint.
 
 ghost use Rattle.std.specs.Prelude.{◌≡◌, ◌+◌, ◌<◌, ◌^◌};
-ghost use Rattle.bundle7.specs.Cause.{word_of, eid_word_of, missed, fail_after, place_of};
+ghost use Rattle.bundle7.specs.Cause.{word_of, eid_word_of, missed, refusal_at};
 
 use std::alloc::{AllocError, AllocFailed};
 use thiserror::Error;
@@ -124,6 +124,16 @@ pub struct Refused7 {
     pub cause: Cause7,
 }
 
+impl Refused7 {
+    /// The same, with its place counted from so many octets before.
+    pub(crate) fn after(self, before: usize) -> Refused7
+        requires { before + self.at < 2 ^ 64 }
+        ensures { result ≡ refusal_at (before + self.at) self.cause }
+    {
+        self.cause.at(before + self.at)
+    }
+}
+
 /// Why no bundle was read.
 #[derive(Clone, Copy, Debug, PartialEq, Eq)]
 pub enum Fail7 {
@@ -136,22 +146,6 @@ pub enum Fail7 {
     },
     /// Memory ran out; this says nothing of the octets.
     Memory,
-}
-
-impl Fail7 {
-    /// The same, with its place counted from so many octets before.
-    pub(crate) fn after(self, before: usize) -> Fail7
-        requires { before + place_of self < 2 ^ 64 }
-        ensures { result ≡ fail_after before self }
-    {
-        match self {
-            Fail7::Refused { at, cause } => Fail7::Refused {
-                at: before + at,
-                cause,
-            },
-            Fail7::Memory => Fail7::Memory,
-        }
-    }
 }
 
 impl From<Refused7> for Fail7 {

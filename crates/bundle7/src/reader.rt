@@ -1,14 +1,16 @@
 //! Reading a stream of bundles, in whatever pieces it comes.
 
-ghost use Rattle.std.specs.Prelude.{ℕ, ◌≡◌, ◌+◌, ◌<◌, ◌≤◌, ◌^◌, ◌++◌, List, [], length, Some, None, true, false, IfOk, IfSome, Err};
+ghost use Rattle.std.specs.Prelude.{ℕ, ◌≡◌, ◌+◌, ◌<◌, ◌≤◌, ◌^◌, ◌++◌, List, [], length, Some, None, true, false, IfOk, IfSome, OnErr, Err};
 ghost use Rattle.wire_fields.specs.Reading.{read};
-ghost use Rattle.bundle7.specs.Streaming.{Feeds, Finishes, Remembers, AnswersAgain};
-ghost use Rattle.bundle7.specs.Holding.{IsHeld, stream_of, Gains, stopped_by, Tells, Ends};
+ghost use Rattle.bundle7.specs.Passing.{Fits, Stands, IsFresh};
+ghost use Rattle.bundle7.specs.Streaming.{near, Feeds, JudgesPiece, Finishes, Remembers, RemembersFail, AnswersAgain};
+ghost use Rattle.bundle7.specs.Holding.{IsHeld, stream_of, text_of, Gains, PassesOver, Ends};
 
 use crate::bundle::Bundle7;
 use crate::fault::{Cause7, Fail7, Refused7};
-use crate::judging::judge7;
-use crate::reading::decode7;
+use crate::pass::Pass;
+use crate::reading::bundle_at;
+use crate::seen::MOST_EXTENSIONS;
 use std::alloc::{AllocError, Global};
 use std::marker::Model;
 
@@ -24,27 +26,30 @@ pub struct Fed7 {
     pub bundle: Option<Bundle7>,
 }
 
-/// What a text gave.
-pub(crate) enum Gained {
-    /// A bundle at the front, and how many octets it takes.
-    Whole(Bundle7, usize),
-    /// The octets end inside a bundle.
-    Open,
+/// What a piece gave where no bundle is wanted.
+#[derive(Clone, Copy, Debug, PartialEq, Eq)]
+pub struct Judged7 {
+    /// How many octets of the piece were taken. The rest is to be fed again.
+    pub used: usize,
+    /// How many octets the bundle has that they completed, those of earlier pieces too, or none where
+    /// they are all of the piece and complete none.
+    pub whole: Option<usize>,
 }
 
-/// The octets of the unfinished bundle.
+/// The octets of the unfinished bundle, and how far they are judged.
 #[derive(Drop)]
 pub(crate) struct Held {
     /// How many octets the bundles before it took.
     pub(crate) before: usize,
     pub(crate) kept: Vec<u8>,
+    pub(crate) pass: Pass,
 }
 
 /// A reader of a stream of bundles, which keeps the octets of at most one unfinished bundle.
 ///
-/// How the stream is cut into pieces makes no difference. Each piece of an unfinished bundle judges its
-/// octets anew, but for a body that hasn't come whole, which isn't looked at. Places count from the
-/// first octet that was taken.
+/// How the stream is cut into pieces makes no difference, and a piece costs what its octets cost: no
+/// body is looked at before it is whole, none is looked at twice, and a check is computed once a block,
+/// as its octets come. Places count from the first octet that was taken.
 #[derive(Drop)]
 pub struct Reader7 {
     held: Held,
@@ -93,6 +98,7 @@ impl Reader7 {
             → Feeds 67108864 self.old.stream piece.now result self.new.stream }
         ensures again { IfSome self.old.refused (λ refused.
             AnswersAgain refused self.old result self.new) }
+        ensures kept { OnErr result (self.new.stream ≡ self.old.stream) }
         ensures remembers { Remembers result self.new }
         ensures bounded { length self.new.stream.kept ≤ 67108864 }
     {
@@ -102,8 +108,35 @@ impl Reader7 {
         let result = self.held.feed(self.alloc, piece, LONGEST);
         match &result {
             Ok(_) => {}
-            Err(Fail7::Refused { at, cause }) => self.refused = Some(cause.at(*at)),
-            Err(Fail7::Memory) => self.spent = true,
+            Err(fail) => self.remember(*fail),
+        }
+        result
+    }
+
+    /// Takes a piece as [`Reader7::feed`] does, for a caller who wants no bundle: it tells how many
+    /// octets a bundle has that is whole. Both calls read one stream, each from where the other left it.
+    ///
+    /// No bundle is built, so memory is wanted for octets that are kept alone: none where a piece begins
+    /// with a bundle and ends it, or refuses it.
+    pub fn judge(&mut self, piece: &[u8]) -> Result<Judged7, Fail7>
+        requires whole { self.old.spent ≡ false }
+        requires counted { self.old.stream.before + length self.old.stream.kept + length piece.now
+            < 2 ^ 64 }
+        ensures feeds { self.old.refused ≡ None
+            → JudgesPiece 67108864 self.old.stream piece.now result self.new.stream }
+        ensures again { IfSome self.old.refused (λ refused.
+            AnswersAgain refused self.old result self.new) }
+        ensures kept { OnErr result (self.new.stream ≡ self.old.stream) }
+        ensures remembers { Remembers result self.new }
+        ensures bounded { length self.new.stream.kept ≤ 67108864 }
+    {
+        if let Some(refused) = self.refused {
+            return Err(refused.into());
+        }
+        let result = self.held.judge(piece, LONGEST);
+        match &result {
+            Ok(_) => {}
+            Err(fail) => self.remember(*fail),
         }
         result
     }
@@ -114,6 +147,7 @@ impl Reader7 {
         ensures finishes { self.old.refused ≡ None → Finishes self.old.stream result }
         ensures again { IfSome self.old.refused (λ refused.
             AnswersAgain refused self.old result self.new) }
+        ensures kept { self.new.stream ≡ self.old.stream }
         ensures remembers { Remembers result self.new }
     {
         if let Some(refused) = self.refused {
@@ -127,6 +161,19 @@ impl Reader7 {
             }
         }
     }
+
+    /// Keeps a failure, so that each later call knows of it.
+    fn remember(&mut self, fail: Fail7)
+        requires fresh { self.old.refused ≡ None }
+        requires whole { self.old.spent ≡ false }
+        ensures stream { self.new.stream ≡ self.old.stream }
+        ensures remembers { RemembersFail fail self.new }
+    {
+        match fail {
+            Fail7::Refused { at, cause } => self.refused = Some(cause.at(at)),
+            Fail7::Memory => self.spent = true,
+        }
+    }
 }
 
 impl Held {
@@ -138,6 +185,7 @@ impl Held {
         Held {
             before: 0,
             kept: Vec::new(alloc),
+            pass: Pass::new(),
         }
     }
 
@@ -150,121 +198,188 @@ impl Held {
         ensures held { IsHeld self.new }
         ensures small { length self.new.kept.items ≤ longest }
         ensures feeds { Feeds longest (stream_of self.old) piece.now result (stream_of self.new) }
-    {
-        let room = longest - self.kept.as_slice().len();
-        let near = &piece[..piece.len().min(room)];
-        let cut = near.len() < piece.len();
-        if self.kept.is_empty() {
-            self.begin(alloc, near, cut)
-        } else {
-            self.go_on(alloc, near, cut)
-        }
-    }
-
-    /// Takes a piece after whole bundles. It is kept only where it leaves a bundle open.
-    fn begin(&mut self, alloc: Global, piece: &[u8], cut: bool) -> Result<Fed7, Fail7>
-        requires held { IsHeld self.old }
-        requires counted { self.old.before + length self.old.kept.items + length piece.now
-            < 2 ^ 64 }
-        requires empty { self.old.kept.items ≡ [] }
-        ensures held { IsHeld self.new }
-        ensures tells { Tells (stream_of self.old) piece.now cut result (stream_of self.new) }
-    {
-        match taken(alloc, piece, cut) {
-            Ok(Gained::Whole(bundle, end)) => {
-                self.before += end;
-                Ok(Fed7 {
-                    used: end,
-                    bundle: Some(bundle),
-                })
-            }
-            Ok(Gained::Open) => {
-                self.kept.extend_from_slice(piece)?;
-                Ok(Fed7 {
-                    used: piece.len(),
-                    bundle: None,
-                })
-            }
-            Err(fail) => Err(fail.after(self.before)),
-        }
-    }
-
-    /// Takes a piece after the beginning of a bundle.
-    fn go_on(&mut self, alloc: Global, piece: &[u8], cut: bool) -> Result<Fed7, Fail7>
-        requires held { IsHeld self.old }
-        requires counted { self.old.before + length self.old.kept.items + length piece.now
-            < 2 ^ 64 }
-        requires some { self.old.kept.items ≡ [] → ⊥ }
-        ensures held { IsHeld self.new }
-        ensures tells { Tells (stream_of self.old) piece.now cut result (stream_of self.new) }
+        ensures kept { OnErr result (stream_of self.new ≡ stream_of self.old) }
     {
         let held = self.kept.as_slice().len();
-        self.kept.extend_from_slice(piece)?;
-        match taken_late(alloc, self.kept.as_slice(), cut) {
-            Ok(Gained::Whole(bundle, end)) => {
-                self.before += end;
-                self.kept.clear();
+        let near = self.near(piece, longest);
+        let Some(end) = self.pass_over(near, near.len() < piece.len())? else {
+            return Ok(Fed7 {
+                used: near.len(),
+                bundle: None,
+            });
+        };
+        match bundle_at(alloc, self.text(near), 0, MOST_EXTENSIONS) {
+            Ok((bundle, _)) => {
+                self.close(end);
                 Ok(Fed7 {
                     used: end - held,
                     bundle: Some(bundle),
                 })
             }
-            Ok(Gained::Open) => {
-                Ok(Fed7 {
-                    used: piece.len(),
-                    bundle: None,
-                })
-            }
             Err(fail) => {
                 self.kept.truncate(held);
-                Err(fail.after(self.before))
+                Err(fail)
             }
         }
     }
 
+    /// The same of a piece of which no bundle is wanted.
+    fn judge(&mut self, piece: &[u8], longest: usize) -> Result<Judged7, Fail7>
+        requires held { IsHeld self.old }
+        requires small { length self.old.kept.items ≤ longest }
+        requires counted { self.old.before + length self.old.kept.items + length piece.now
+            < 2 ^ 64 }
+        ensures held { IsHeld self.new }
+        ensures small { length self.new.kept.items ≤ longest }
+        ensures feeds { JudgesPiece longest (stream_of self.old) piece.now result
+            (stream_of self.new) }
+        ensures kept { OnErr result (stream_of self.new ≡ stream_of self.old) }
+    {
+        let held = self.kept.as_slice().len();
+        let near = self.near(piece, longest);
+        let Some(end) = self.pass_over(near, near.len() < piece.len())? else {
+            return Ok(Judged7 {
+                used: near.len(),
+                whole: None,
+            });
+        };
+        self.close(end);
+        Ok(Judged7 {
+            used: end - held,
+            whole: Some(end),
+        })
+    }
+
+    /// The octets of a piece with which the unfinished bundle has no more than so many.
+    fn near<'a>(&self, piece: &'a [u8], longest: usize) -> &'a [u8]
+        requires { length self.now.kept.items ≤ longest }
+        ensures { result.now ≡ near longest (stream_of self.now) piece.now }
+    {
+        let room = longest - self.kept.as_slice().len();
+        &piece[..piece.len().min(room)]
+    }
+
+    /// Passes over a piece, after which no more may follow where it is cut: the end of the bundle, whose
+    /// octets stay until it is closed, or none where it is open.
+    fn pass_over(&mut self, piece: &[u8], cut: bool) -> Result<Option<usize>, Fail7>
+        requires held { IsHeld self.old }
+        requires counted { self.old.before + length self.old.kept.items + length piece.now
+            < 2 ^ 64 }
+        ensures { PassesOver self.old piece.now cut result self.new }
+    {
+        if self.kept.is_empty() {
+            self.begin(piece, cut)
+        } else {
+            self.go_on(piece, cut)
+        }
+    }
+
+    /// Passes over a piece after whole bundles. It is kept only where it leaves a bundle open.
+    fn begin(&mut self, piece: &[u8], cut: bool) -> Result<Option<usize>, Fail7>
+        requires held { IsHeld self.old }
+        requires counted { self.old.before + length self.old.kept.items + length piece.now
+            < 2 ^ 64 }
+        requires empty { self.old.kept.items ≡ [] }
+        ensures { PassesOver self.old piece.now cut result self.new }
+    {
+        match look(&mut self.pass, piece, cut) {
+            Ok(Some(end)) => Ok(Some(end)),
+            Ok(None) => {
+                if let Err(fail) = self.kept.extend_from_slice(piece) {
+                    self.pass.restart();
+                    return Err(fail.into());
+                }
+                Ok(None)
+            }
+            Err(refused) => Err(refused.after(self.before).into()),
+        }
+    }
+
+    /// Passes over a piece after the beginning of a bundle.
+    fn go_on(&mut self, piece: &[u8], cut: bool) -> Result<Option<usize>, Fail7>
+        requires held { IsHeld self.old }
+        requires counted { self.old.before + length self.old.kept.items + length piece.now
+            < 2 ^ 64 }
+        requires some { self.old.kept.items ≡ [] → ⊥ }
+        ensures { PassesOver self.old piece.now cut result self.new }
+    {
+        let held = self.kept.as_slice().len();
+        self.kept.extend_from_slice(piece)?;
+        match look(&mut self.pass, self.kept.as_slice(), cut) {
+            Ok(end) => Ok(end),
+            Err(refused) => {
+                self.kept.truncate(held);
+                Err(refused.after(self.before).into())
+            }
+        }
+    }
+
+    /// The octets kept, or where none are those of a piece.
+    fn text<'a>(&'a self, piece: &'a [u8]) -> &'a [u8]
+        ensures { result.now ≡ text_of self.now.kept.items piece.now }
+    {
+        if self.kept.is_empty() {
+            piece
+        } else {
+            self.kept.as_slice()
+        }
+    }
+
+    /// Lets go of a whole bundle of so many octets.
+    fn close(&mut self, end: usize)
+        requires { self.old.before + end < 2 ^ 64 }
+        ensures held { IsHeld self.new }
+        ensures closed { stream_of self.new
+            ≡ record { before = self.old.before + end; kept = [] } }
+    {
+        self.before += end;
+        self.kept.clear();
+        self.pass.restart();
+    }
+
     /// The refusal of the end of the stream, where a bundle has begun.
-    fn finish(&self) -> Option<Refused7>
-        requires { IsHeld self.now }
-        ensures { Ends (stream_of self.now) result }
+    fn finish(&mut self) -> Option<Refused7>
+        requires { IsHeld self.old }
+        ensures ends { Ends (stream_of self.old) result }
+        ensures held { IsHeld self.new }
+        ensures kept { stream_of self.new ≡ stream_of self.old }
     {
         if self.kept.is_empty() {
             return None;
         }
-        match judge7(self.kept.as_slice()) {
-            Ok(_) => None,
-            Err(refused) => Some(refused.cause.at(self.before + refused.at)),
+        match self.pass.run(self.kept.as_slice(), MOST_EXTENSIONS) {
+            None => None,
+            Some(refused) => Some(refused.after(self.before)),
         }
     }
 }
 
-/// What some octets give. Where they are cut no more may follow them.
-fn taken(alloc: Global, text: &[u8], cut: bool) -> Result<Gained, Fail7>
-    ensures { Gains text.now cut result }
+/// What some octets give, over which a pass has come so far: the end of a bundle, or none where it is
+/// open. Where they are cut no more may follow them.
+fn look(pass: &mut Pass, text: &[u8], cut: bool) -> Result<Option<usize>, Refused7>
+    requires fits { Fits 64 text.now pass.old }
+    requires stands { Stands 64 text.now pass.old }
+    ensures { Gains text.now cut result pass.new }
 {
-    match decode7(alloc, text) {
-        Ok((bundle, end)) => Ok(Gained::Whole(bundle, end)),
-        Err(Fail7::Refused { at, cause }) => stopped(at, cause, cut),
-        Err(Fail7::Memory) => Err(Fail7::Memory),
-    }
-}
-
-/// The same of octets that mostly end before a bundle does: they are judged before it is built.
-fn taken_late(alloc: Global, text: &[u8], cut: bool) -> Result<Gained, Fail7>
-    ensures { Gains text.now cut result }
-{
-    match judge7(text) {
-        Ok(_) => taken(alloc, text, cut),
-        Err(refused) => stopped(refused.at, refused.cause, cut),
-    }
-}
-
-/// What octets give that are refused.
-fn stopped(at: usize, cause: Cause7, cut: bool) -> Result<Gained, Fail7>
-    ensures { result ≡ stopped_by at cause cut }
-{
-    match cause {
-        Cause7::Truncated if cut => Err(Cause7::TooLong.at(0).into()),
-        Cause7::Truncated => Ok(Gained::Open),
-        _ => Err(cause.at(at).into()),
+    match pass.run(text, MOST_EXTENSIONS) {
+        None => {
+            let end = pass.at;
+            pass.restart();
+            Ok(Some(end))
+        }
+        Some(refused) => match refused.cause {
+            Cause7::Truncated if cut => {
+                pass.restart();
+                Err(Cause7::TooLong.at(0))
+            }
+            Cause7::Truncated => {
+                pass.sum(text, MOST_EXTENSIONS);
+                Ok(None)
+            }
+            _ => {
+                pass.restart();
+                Err(refused)
+            }
+        },
     }
 }

@@ -78,7 +78,12 @@ fn decoded(alloc: Global, text: &[u8], at: usize, most: u64) -> Result<(Bundle7,
 
 /// The bundle at a place, with at most so many extension blocks.
 #[tactic(auto, unfolding(crate::specs::Table::bundle))]
-fn bundle_at(alloc: Global, text: &[u8], at: usize, most: u64) -> Result<(Bundle7, usize), Fail7>
+pub(crate) fn bundle_at(
+    alloc: Global,
+    text: &[u8],
+    at: usize,
+    most: u64,
+) -> Result<(Bundle7, usize), Fail7>
     requires place { at ≤ length text.now }
     requires few { most ≤ 64 }
     ensures within { IfOk result (λ x. IsOn at text.now x.1) }

@@ -37,6 +37,20 @@ impl Numbers {
         }
     }
 
+    /// Forgets all.
+    fn clear(&mut self)
+        ensures { self.new ≡ [] }
+    {
+        self.count = 0;
+    }
+
+    /// How many there are.
+    fn count(&self) -> u64
+        ensures { result ≡ length self.now }
+    {
+        self.count as u64
+    }
+
     /// One more.
     fn push(&mut self, number: u64)
         requires { length self.old < 64 }
@@ -72,6 +86,21 @@ impl Seen {
             kinds: Numbers::none(),
             numbers: Numbers::none(),
         }
+    }
+
+    /// Forgets all.
+    pub(crate) fn clear(&mut self)
+        ensures { self.new ≡ record { kinds = []; numbers = [] } }
+    {
+        self.kinds.clear();
+        self.numbers.clear();
+    }
+
+    /// How many blocks there are.
+    pub(crate) fn count(&self) -> u64
+        ensures { result ≡ length self.now.kinds }
+    {
+        self.kinds.count()
     }
 
     /// One more block, of this type and number.

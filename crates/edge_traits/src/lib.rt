@@ -32,5 +32,5 @@ pub use input::{MOST_INPUT, ReadRefused, read_all, read_once};
 pub use link::{LONGEST_DATAGRAM, Link, MemLink};
 pub use output::{write_all, write_answer};
 pub use sink::{MemSink, Sink, SureSink, Writing};
-pub use source::{MemSource, Reading, Source, SureSource};
+pub use source::{MOST_AGAIN, MemSource, Reading, Source, SureSource};
 pub use status::Status;

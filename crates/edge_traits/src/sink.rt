@@ -9,6 +9,7 @@ ghost use Rattle.edge_traits.specs.InMemory.{Keeping, MemSinkNow, unless_lost, a
 
 use crate::failing::{Failed, Failing};
 use crate::kept::Kept;
+use crate::source::MOST_AGAIN;
 use std::alloc::{AllocError, Global};
 use std::io::{ErrorKind, Write};
 use std::marker::Model;
@@ -150,8 +151,9 @@ impl Sink for SureSink {
     }
 }
 
-/// A sink over std's writer. Each write calls the writer once, and counts a fault where that is an
-/// error, or takes nothing of a piece that has an octet. What it takes goes to the writer.
+/// A sink over std's writer. A write that was only interrupted by a signal is made again, up to
+/// `MOST_AGAIN` times. It counts one fault where it failed for good, or took nothing of a piece that
+/// has an octet. What it takes goes to the writer.
 #[derive(Drop)]
 pub struct Writing<W: Drop> {
     writer: W,
@@ -189,7 +191,7 @@ impl<W: Write + Drop> Sink for Writing<W> {
 
     ghost failing = { λ _. None };
 
-    /// Writes to the writer, once.
+    /// Writes to the writer, again where that was only interrupted.
     fn write(&mut self, piece: &[u8]) -> Result<usize, Failed>
         ensures bound { WritesAtMost result piece.now }
         ensures some { TakesSome result piece.now }
@@ -198,12 +200,27 @@ impl<W: Write + Drop> Sink for Writing<W> {
         ensures writer { WriteAppends (writer_holds W.contents self.old)
             (writer_holds W.contents self.new) result piece.now }
     {
-        match self.writer.write(piece) {
+        match write_again(&mut self.writer, piece) {
             Ok(n) if n > 0 || piece.is_empty() => return Ok(n),
             Ok(_) => {}
-            Err(e) => self.reader_gone = e.kind() == ErrorKind::BrokenPipe,
+            Err(kind) => self.reader_gone = kind == ErrorKind::BrokenPipe,
         }
         self.faults = self.faults.saturating_add(1);
         Err(Failed)
     }
+}
+
+/// Writes, again where that was only interrupted: how many octets were taken, or why none was.
+fn write_again<W: Write>(writer: &mut W, piece: &[u8]) -> Result<usize, ErrorKind>
+    ensures bound { WritesAtMost result piece.now }
+    ensures octets { WriteAppends (W.contents writer.old) (W.contents writer.new) result piece.now }
+{
+    'again: for _ in 0..MOST_AGAIN {
+        match writer.write(piece) {
+            Ok(n) => return Ok(n),
+            Err(e) if e.kind() == ErrorKind::Interrupted => {}
+            Err(e) => return Err(e.kind()),
+        }
+    }
+    Err(ErrorKind::Interrupted)
 }

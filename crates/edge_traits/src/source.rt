@@ -7,7 +7,7 @@ ghost use Rattle.edge_traits.specs.InMemory.{MemSourceNow, after_read};
 
 use crate::failing::{Failed, Failing};
 use std::alloc::{AllocError, Global};
-use std::io::Read;
+use std::io::{ErrorKind, Read};
 use std::marker::Model;
 
 /// Where octets come from: a file, a pipe, or memory.
@@ -133,9 +133,14 @@ impl Source for SureSource {
     }
 }
 
-/// A source over std's reader. It tells the octets that its reader tells. Each read calls the
-/// reader once and counts a fault where that is an error: no clause can see how often the reader is
-/// called, so that is only tested.
+/// How often a call is made again that was only interrupted by a signal. A call that was interrupted
+/// once more has failed.
+pub const MOST_AGAIN: u32 = 1000;
+
+/// A source over std's reader. It tells the octets that its reader tells. A read that was only
+/// interrupted by a signal is made again, up to `MOST_AGAIN` times, and one that fails otherwise
+/// isn't: no clause can see how often the reader is called, so that is only tested. A read counts
+/// one fault, where it failed for good.
 #[derive(Drop)]
 pub struct Reading<R: Drop> {
     reader: R,
@@ -160,14 +165,29 @@ impl<R: Read + Drop> Source for Reading<R> {
     ghost failing = { λ _. None };
 
     fn read(&mut self, buf: &mut [u8]) -> Result<usize, Failed> {
-        match self.reader.read(buf) {
+        match read_again(&mut self.reader, buf) {
             Ok(n) => Ok(n),
-            Err(_) => {
+            Err(Failed) => {
                 self.faults = self.faults.saturating_add(1);
                 Err(Failed)
             }
         }
     }
+}
+
+/// Reads, again where that was only interrupted.
+fn read_again<R: Read>(reader: &mut R, buf: &mut [u8]) -> Result<usize, Failed>
+    ensures bound { ReadsAtMost result buf.new }
+    ensures octets { ReadConsumes (R.remaining reader.old) (R.remaining reader.new) result buf.new }
+{
+    'again: for _ in 0..MOST_AGAIN {
+        match reader.read(buf) {
+            Ok(n) => return Ok(n),
+            Err(e) if e.kind() == ErrorKind::Interrupted => {}
+            Err(_) => return Err(Failed),
+        }
+    }
+    Err(Failed)
 }
 
 /// Copies the octets from `at` on into the front of `buf`, as far as both reach, and answers

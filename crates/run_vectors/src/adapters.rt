@@ -3,8 +3,8 @@
 
 use crate::runs::{WHOLE, run_over};
 use edge_traits::{
-    Answer, Clock, Failed, LONGEST_DATAGRAM, Link, MemClock, MemLink, MemSink, MemSource,
-    ReadRefused, Reading, Sink, Source, Status, SureSink, SureSource, Writing, read_all,
+    Answer, Clock, Failed, LONGEST_DATAGRAM, Link, MOST_AGAIN, MemClock, MemLink, MemSink,
+    MemSource, ReadRefused, Reading, Sink, Source, Status, SureSink, SureSource, Writing, read_all,
     write_answer,
 };
 use std::alloc::{AllocError, Global};
@@ -31,21 +31,42 @@ impl Write for Broken {
     }
 }
 
-/// A reader of std whose first call is an error, and which gives its octets from then on.
+/// A reader of std whose first calls are errors, and which gives its octets from then on.
 #[derive(Drop)]
 struct Stumbling<'a> {
     kind: ErrorKind,
-    stumbled: bool,
+    times: u32,
     octets: &'a [u8],
 }
 
 impl Read for Stumbling<'_> {
     fn read(&mut self, buf: &mut [u8]) -> io::Result<usize> {
-        if self.stumbled {
+        if self.times == 0 {
             return self.octets.read(buf);
         }
-        self.stumbled = true;
+        self.times -= 1;
         Err(self.kind.into())
+    }
+}
+
+/// A writer of std whose first calls are errors, and which takes what it is given from then on.
+#[derive(Drop)]
+struct Halting {
+    kind: ErrorKind,
+    times: u32,
+}
+
+impl Write for Halting {
+    fn write(&mut self, piece: &[u8]) -> io::Result<usize> {
+        if self.times == 0 {
+            return Ok(piece.len());
+        }
+        self.times -= 1;
+        Err(self.kind.into())
+    }
+
+    fn flush(&mut self) -> io::Result<()> {
+        Ok(())
     }
 }
 
@@ -71,42 +92,60 @@ fn reads_give_the_octets_in_order(rt: HostRuntime) -> Result<(), Fail> {
     Ok(())
 }
 
-/// Errors of a reader that goes on after them. One that was interrupted is a fault like another.
-const STUMBLES: &[ErrorKind] = &[ErrorKind::TimedOut, ErrorKind::Interrupted];
-
-/// A reader of these octets that stumbles first.
-fn stumbles_first(kind: ErrorKind, octets: &[u8]) -> Stumbling<'_> {
+/// A reader of these octets that stumbles so often first.
+fn stumbles_first(kind: ErrorKind, times: u32, octets: &[u8]) -> Stumbling<'_> {
     Stumbling {
         kind,
-        stumbled: false,
+        times,
         octets,
     }
 }
 
+/// Errors of a reader, how often they come first, and the first of its reads: one that was only
+/// interrupted is made again, but not without end.
+const STUMBLES: &[(ErrorKind, u32, Result<usize, Failed>)] = &[
+    (ErrorKind::TimedOut, 1, Err(Failed)),
+    (ErrorKind::Interrupted, 1, Ok(3)),
+    (ErrorKind::Interrupted, MOST_AGAIN - 1, Ok(3)),
+    (ErrorKind::Interrupted, MOST_AGAIN, Err(Failed)),
+];
+
 #[test]
-fn a_reader_may_go_on_after_an_error(rt: HostRuntime) {
-    for &kind in STUMBLES {
-        let mut source = Reading::new(stumbles_first(kind, b"abcde"));
-        assert!(rt;
-            four_reads(&mut source, [Err(Failed), Ok(3), Ok(2), Ok(0)]),
-            "{kind:?}"
-        );
+fn an_interrupted_read_is_made_again(rt: HostRuntime) {
+    for &(kind, times, first) in STUMBLES {
+        let mut source = Reading::new(stumbles_first(kind, times, b"abcde"));
+        let mut buffer = [0; 3];
+        assert!(rt; source.read(&mut buffer) == first, "{kind:?} {times}");
+        assert!(rt; source.read(&mut buffer).is_ok(), "{kind:?} {times}");
     }
 }
 
-/// Whether a run over a reader that stumbles ends with its first error and writes nothing.
-fn run_stops(alloc: Global, kind: ErrorKind) -> Result<bool, AllocError> {
-    let mut source = Reading::new(stumbles_first(kind, WHOLE.as_bytes()));
+#[test]
+fn an_interrupted_write_is_made_again(rt: HostRuntime) {
+    for &(kind, times, first) in STUMBLES {
+        let mut sink = Writing::new(Halting { kind, times });
+        assert!(rt; sink.write(b"abc") == first, "{kind:?} {times}");
+        assert!(rt; sink.write(b"abc") == Ok(3), "{kind:?} {times}");
+    }
+}
+
+/// How a run over a reader that stumbles ends, which writes nothing where a read fails.
+fn run_stumbles(alloc: Global, kind: ErrorKind, times: u32) -> Result<Status, AllocError> {
+    let mut source = Reading::new(stumbles_first(kind, times, WHOLE.as_bytes()));
     let mut sink = SureSink::new(alloc, 100)?;
     let status = run_over(alloc, &["receive"], &mut source, &mut sink)?;
-    Ok(status == Status::ReadFault && sink.octets().is_empty())
+    if status == Status::ReadFault && !sink.octets().is_empty() {
+        return Ok(Status::Refused);
+    }
+    Ok(status)
 }
 
 #[test]
-fn a_run_does_not(rt: HostRuntime) -> Result<(), Fail> {
-    for &kind in STUMBLES {
-        assert!(rt; run_stops(rt.alloc(), kind)?, "{kind:?}");
-    }
+fn a_run_ends_with_a_failed_read_and_not_with_an_interrupted_one(
+    rt: HostRuntime,
+) -> Result<(), Fail> {
+    assert!(rt; run_stumbles(rt.alloc(), ErrorKind::TimedOut, 1)? == Status::ReadFault);
+    assert!(rt; run_stumbles(rt.alloc(), ErrorKind::Interrupted, 1)? == Status::Done);
     Ok(())
 }
 

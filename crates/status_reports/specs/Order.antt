@@ -1,5 +1,5 @@
--- Why a body that spells no report is refused: the first cause that holds. This is where the order of
--- the refusals is said; it is our own rule.
+-- Why a body that spells no report is refused: the first cause that holds. This is where the order
+-- of the refusals is said; it is our own rule.
 
 use Rattle.std.specs.Prelude.{◌≡◌, ℕ, ◌/◌, ◌%◌, ◌==◌, not, nat_lt, List, [], ◌∷◌, if◌then◌else◌, Result, Ok, Err, IsOk}
 use Rattle.wire_fields.specs.Format.{Format, Spells, ◌>>=◌}
@@ -22,8 +22,8 @@ abbrev pub status_cause : List ℕ → AdminFault
 status_cause [] = BadAdmin
 status_cause (octet ∷ rest) = if is_set 2 octet then CustodyReport else BadAdmin
 
--- The record type stands in the high half of the first octet: 2 is a custody signal, 1 a status report,
--- and no other is known. A status report's flags are 0 or 1.
+-- The record type stands in the high half of the first octet: 2 is a custody signal, 1 a status
+-- report, and no other is known. A status report's flags are 0 or 1.
 abbrev pub cause6 : List ℕ → AdminFault
 cause6 [] = BadAdmin
 cause6 (octet ∷ rest) =

@@ -1,6 +1,6 @@
--- Which report of one version says the same as a report of the other (own rule). Version 6 has no place
--- for a status without a time, and version 7 none for the part of a time below one millisecond: these
--- stand in the shared report, and the residue of a bundle carries them.
+-- Which report of one version says the same as a report of the other (own rule). Version 6 has no
+-- place for a status without a time, and version 7 none for the part of a time below one
+-- millisecond: these stand in the shared report, and the residue of a bundle carries them.
 
 use Rattle.std.specs.Prelude.{◌≡◌, ℕ, ◌+◌, ◌*◌, ◌/◌, ◌%◌, ◌^◌, Bool, true, false, ◌==◌, ◌&&◌, ◌||◌, not, nat_lt, List, [], ◌∷◌, get_or}
 use Rattle.bundle_meaning.specs.declared.report.Stamp.{Stamp}
@@ -161,8 +161,8 @@ report7_of report = record {
   fragment = report.fragment;
 }
 
--- Each is the other's; the rests, parts of times below one millisecond, are what version 7 has no place
--- for.
+-- Each is the other's; the rests, parts of times below one millisecond, are what version 7 has no
+-- place for.
 pub record Pair7 (new : Report7) (rests : List ℕ) (shared : Report) : Type 0 where
   pub there : shared ≡ shared_of7 new rests
   pub back : new ≡ report7_of shared
@@ -174,8 +174,10 @@ no_rests = 0 ∷ 0 ∷ 0 ∷ 0 ∷ []
 -- rests that a report of version 7 can have: each is below one millisecond, and 0 without a time
 unfoldable pub takes_rests : List Stamp → List ℕ → Bool
 takes_rests stamps rests =
-    is_rest (get_or stamps 0 No) (get_or rests 0 0) && is_rest (get_or stamps 1 No) (get_or rests 1 0)
-    && is_rest (get_or stamps 2 No) (get_or rests 2 0) && is_rest (get_or stamps 3 No) (get_or rests 3 0)
+    is_rest (get_or stamps 0 No) (get_or rests 0 0)
+    && is_rest (get_or stamps 1 No) (get_or rests 1 0)
+    && is_rest (get_or stamps 2 No) (get_or rests 2 0)
+    && is_rest (get_or stamps 3 No) (get_or rests 3 0)
 
 -- the name of the report's subject has a counterpart in version 6; its times always have one
 abbrev pub has_counterpart7 : Report7 → Bool

@@ -74,8 +74,9 @@ report7_octets report =
     ++ (head 0 report.reason ++ (eid_octets report.source ++ (head 4 2 ++ (head 0 report.millis
     ++ (head 0 report.sequence ++ part7_octets report.fragment))))))))
 
--- what a writer promises: these octets, that they spell the report, and that they are read back as it
-pub record IsWritten {A : Type 0} (f : Format AdminFault A) (report : A) (made octets : List ℕ) : Type 0 where
+-- what a writer promises: these octets, that they spell the report, and that they are read back
+pub record IsWritten {A : Type 0} (f : Format AdminFault A) (report : A)
+    (made octets : List ℕ) : Type 0 where
   pub is : octets ≡ made
   pub spells : Spells f [] octets report
   pub again : read_whole f BadAdmin octets ≡ Ok report

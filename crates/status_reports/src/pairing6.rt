@@ -1,6 +1,7 @@
 //! What a report of version 6 says, and the report of version 6 that says it.
 
-ghost use Rattle.std.specs.Prelude.{◌≡◌, ◌↔◌, ◌≤◌, true, false, IfOk, Err};
+ghost use Rattle.std.specs.Prelude.{◌≡◌, ◌↔◌, ◌≤◌, true, false, IfOk, OnErr, Err};
+ghost use Rattle.endpoint.specs.Endpoints.{IsDtn};
 ghost use Rattle.bundle_meaning.specs.Creation.{id6_of};
 ghost use Rattle.bundle_meaning.specs.Reports.{no_time, IsReport};
 ghost use Rattle.status_reports.specs.Legal.{IsReport6};
@@ -22,7 +23,8 @@ impl LentReport6<'_> {
         id_to_new(self.seconds, self.sequence).is_ok() && times_fit(&self.times)
     }
 
-    /// Whether the statuses of a mask may be those without a time: each is set, and its time is 0, 0.
+    /// Whether the statuses of a mask may be those without a time: each is set, and has the time
+    /// 0, 0.
     pub fn takes(&self, no_time: u8) -> bool
         ensures { result ≡ takes self.now.status self.now.times no_time }
     {
@@ -38,7 +40,8 @@ impl Report6 {
         id_to_new(self.seconds, self.sequence).is_ok() && times_fit(&self.times)
     }
 
-    /// Whether the statuses of a mask may be those without a time: each is set, and its time is 0, 0.
+    /// Whether the statuses of a mask may be those without a time: each is set, and has the time
+    /// 0, 0.
     pub fn takes(&self, no_time: u8) -> bool
         ensures { result ≡ takes self.now.status self.now.times no_time }
     {
@@ -55,7 +58,9 @@ pub fn shared_from6(alloc: Global, report: &Report6, no_time: u8) -> Result<Repo
     ensures paired { IfOk result (Pair6 report.now no_time) }
     ensures valid { IfOk result IsReport }
     // A time or the name of the subject has no counterpart.
-    ensures refused { (result ≡ Err PairFault.NoCounterpart) ↔ (has_counterpart6 report.now ≡ false) }
+    ensures refused { (result ≡ Err PairFault.NoCounterpart)
+        ↔ (has_counterpart6 report.now ≡ false) }
+    ensures memory { result ≡ Err PairFault.Memory → IsDtn report.now.source }
 {
     let Ok(id) = id_to_new(report.seconds, report.sequence) else {
         return Err(PairFault::NoCounterpart);
@@ -80,7 +85,9 @@ pub fn view6(alloc: Global, report: &Report) -> Result<Report6, AllocError>
     // The two are a pair, so the way back with the mask gives the report.
     ensures paired { IfOk result (λ old. Pair6 old (no_time report.now.stamps) report.now) }
     ensures legal { IfOk result IsReport6 }
-    ensures mask { IfOk result (λ old. takes old.status old.times (no_time report.now.stamps) ≡ true) }
+    ensures mask { IfOk result (λ old.
+        takes old.status old.times (no_time report.now.stamps) ≡ true) }
+    ensures memory { OnErr result (IsDtn report.now.source) }
 {
     let id = id_of(report);
     Ok(Report6 {

@@ -1,6 +1,7 @@
 //! What a report of version 7 says, and the report of version 7 that says it.
 
-ghost use Rattle.std.specs.Prelude.{◌≡◌, ◌↔◌, true, false, IfOk, Err};
+ghost use Rattle.std.specs.Prelude.{◌≡◌, ◌↔◌, true, false, IfOk, OnErr, Err};
+ghost use Rattle.endpoint.specs.Endpoints.{IsDtn};
 ghost use Rattle.bundle_meaning.specs.Reports.{is_rest, IsReport};
 ghost use Rattle.status_reports.specs.Legal.{IsReport7};
 ghost use Rattle.status_reports.specs.Views.{report7_lent};
@@ -52,7 +53,9 @@ pub fn shared_from7(alloc: Global, report: &Report7) -> Result<Report, PairFault
     ensures paired { IfOk result (Pair7 report.now no_rests) }
     ensures valid { IfOk result IsReport }
     // The name of the subject has no counterpart.
-    ensures refused { (result ≡ Err PairFault.NoCounterpart) ↔ (has_counterpart7 report.now ≡ false) }
+    ensures refused { (result ≡ Err PairFault.NoCounterpart)
+        ↔ (has_counterpart7 report.now ≡ false) }
+    ensures memory { result ≡ Err PairFault.Memory → IsDtn report.now.source }
 {
     shared_with_rests(alloc, report, [0; 4])
 }
@@ -69,7 +72,9 @@ pub fn shared_with_rests(
     ensures paired { IfOk result (Pair7 report.now rests) }
     ensures valid { IfOk result IsReport }
     // The name of the subject has no counterpart.
-    ensures refused { (result ≡ Err PairFault.NoCounterpart) ↔ (has_counterpart7 report.now ≡ false) }
+    ensures refused { (result ≡ Err PairFault.NoCounterpart)
+        ↔ (has_counterpart7 report.now ≡ false) }
+    ensures memory { result ≡ Err PairFault.Memory → IsDtn report.now.source }
 {
     if !report.has_counterpart() {
         return Err(PairFault::NoCounterpart);
@@ -106,12 +111,14 @@ fn is_rest(stamp: Stamp, rest: u32) -> bool
     }
 }
 
-/// The report of version 7 that says the same, but for the parts of the times below one millisecond.
+/// The report of version 7 that says the same, but for the parts of the times below one
+/// millisecond.
 pub fn view7(alloc: Global, report: &Report) -> Result<Report7, AllocError>
     requires { IsReport report.now }
     // The two are a pair, so the way back with these parts gives the report.
     ensures paired { IfOk result (λ new. Pair7 new report.now.rests report.now) }
     ensures legal { IfOk result IsReport7 }
+    ensures memory { OnErr result (IsDtn report.now.source) }
 {
     Ok(Report7 {
         stamps: report.stamps,

@@ -1,6 +1,7 @@
 //! Status reports of version 6, read (RFC 5050, section 6.1.1).
 
-ghost use Rattle.std.specs.Prelude.{◌≡◌, ◌⊎◌, ◌≤◌, [], length, IfOk, Ok, Err};
+ghost use Rattle.std.specs.Prelude.{◌≡◌, ◌⊎◌, ◌≤◌, [], length, IfOk, IsOkAnd, OnErr, Ok, Err};
+ghost use Rattle.endpoint.specs.Endpoints.{IsDtn};
 ghost use Rattle.wire_fields.specs.Format.{Spells};
 ghost use Rattle.wire_fields.specs.Reading.{read};
 ghost use Rattle.wire_fields.specs.Words.{optional};
@@ -70,7 +71,8 @@ pub struct LentReport6<'a> {
 impl LentReport6<'_> {
     /// The report, with octets of its own. Only a source of the scheme dtn takes memory.
     pub fn owned(self, alloc: Global) -> Result<Report6, AllocError>
-        ensures { IfOk result (λ report. report ≡ report6_lent self.entry) }
+        ensures owned { IfOk result (λ report. report ≡ report6_lent self.entry) }
+        ensures memory { OnErr result (IsDtn (report6_lent self.entry).source) }
     {
         Ok(Report6 {
             status: self.status,
@@ -84,8 +86,8 @@ impl LentReport6<'_> {
     }
 }
 
-/// Reads the body of an administrative record of version 6 as a status report. Memory is taken for a
-/// source of the scheme dtn, and only where the octets are a report.
+/// Reads the body of an administrative record of version 6 as a status report. Memory is taken for
+/// a source of the scheme dtn, and only where the octets are a report.
 pub fn read6(alloc: Global, body: &[u8]) -> Result<Report6, AdminFault>
     // What is read is spelled so.
     ensures found { IfOk result (λ report. Spells report6 [] body.now report) }
@@ -97,7 +99,9 @@ pub fn read6(alloc: Global, body: &[u8]) -> Result<Report6, AdminFault>
     // It is a legal report, and the octets are its one spelling.
     ensures legal { IfOk result IsReport6 }
     ensures same { IfOk result (λ report. body.now ≡ report6_octets report) }
-    // It is this answer; memory runs out only where that is a report.
+    // Memory runs out only where a report is spelled whose source is a dtn name.
+    ensures memory { result ≡ Err AdminFault.Memory
+        → IsOkAnd (answer6 body.now) (λ report. IsDtn report.source) }
     ensures exact { Answers result (answer6 body.now) }
 {
     owned6(alloc, body)
@@ -105,14 +109,16 @@ pub fn read6(alloc: Global, body: &[u8]) -> Result<Report6, AdminFault>
 
 /// The report, with octets of its own.
 fn owned6(alloc: Global, body: &[u8]) -> Result<Report6, AdminFault>
-    ensures { Answers result (answer6 body.now) }
+    ensures exact { Answers result (answer6 body.now) }
+    ensures memory { result ≡ Err AdminFault.Memory
+        → IsOkAnd (answer6 body.now) (λ report. IsDtn report.source) }
 {
     let lent = lend6(body)?;
     Ok(lent.owned(alloc)?)
 }
 
-/// Judges the body of an administrative record of version 6, and lends the report out of it. No memory
-/// is taken.
+/// Judges the body of an administrative record of version 6, and lends the report out of it. No
+/// memory is taken.
 pub fn lend6(body: &[u8]) -> Result<LentReport6<'_>, AdminFault>
     ensures legal { IfOk result (λ lent. IsReport6 (report6_lent lent)) }
     ensures exact { seen report6_lent result ≡ answer6 body.now }
@@ -238,7 +244,8 @@ fn status_at(text: &[u8], at: usize) -> Result<(u8, usize), Unfit>
 fn fragment_at(text: &[u8], at: usize, is_fragment: bool) -> Result<(Option<Part>, usize), Unfit>
     requires { at ≤ length text.now }
     ensures within { IfOk result (λ x. IsOn at text.now x.1) }
-    ensures exact { Gives (λ part. part) refusal result (read (optional is_fragment part6) text.now at) }
+    ensures exact { Gives (λ part. part) refusal result
+        (read (optional is_fragment part6) text.now at) }
 {
     if !is_fragment {
         return Ok((None, at));

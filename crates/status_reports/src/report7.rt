@@ -1,6 +1,7 @@
 //! Status reports of version 7, read (RFC 9171, section 6.1.1).
 
-ghost use Rattle.std.specs.Prelude.{◌≡◌, ◌⊎◌, ◌≤◌, [], length, IfOk, Ok, Err};
+ghost use Rattle.std.specs.Prelude.{◌≡◌, ◌⊎◌, ◌≤◌, [], length, IfOk, IsOkAnd, OnErr, Ok, Err};
+ghost use Rattle.endpoint.specs.Endpoints.{IsDtn};
 ghost use Rattle.wire_fields.specs.Format.{Spells};
 ghost use Rattle.wire_fields.specs.Reading.{read};
 ghost use Rattle.wire_fields.specs.Words.{optional};
@@ -58,7 +59,8 @@ pub struct LentReport7<'a> {
 impl LentReport7<'_> {
     /// The report, with octets of its own. Only a source of the scheme dtn takes memory.
     pub fn owned(self, alloc: Global) -> Result<Report7, AllocError>
-        ensures { IfOk result (λ report. report ≡ report7_lent self.entry) }
+        ensures owned { IfOk result (λ report. report ≡ report7_lent self.entry) }
+        ensures memory { OnErr result (IsDtn (report7_lent self.entry).source) }
     {
         Ok(Report7 {
             stamps: self.stamps,
@@ -71,8 +73,8 @@ impl LentReport7<'_> {
     }
 }
 
-/// Reads the body of an administrative record of version 7 as a status report. Memory is taken for a
-/// source of the scheme dtn, and only where the octets are a report.
+/// Reads the body of an administrative record of version 7 as a status report. Memory is taken for
+/// a source of the scheme dtn, and only where the octets are a report.
 pub fn read7(alloc: Global, body: &[u8]) -> Result<Report7, AdminFault>
     // What is read is spelled so.
     ensures found { IfOk result (λ report. Spells report7 [] body.now report) }
@@ -84,7 +86,9 @@ pub fn read7(alloc: Global, body: &[u8]) -> Result<Report7, AdminFault>
     // It is a legal report, and the octets are its one spelling.
     ensures legal { IfOk result IsReport7 }
     ensures same { IfOk result (λ report. body.now ≡ report7_octets report) }
-    // It is this answer; memory runs out only where that is a report.
+    // Memory runs out only where a report is spelled whose source is a dtn name.
+    ensures memory { result ≡ Err AdminFault.Memory
+        → IsOkAnd (answer7 body.now) (λ report. IsDtn report.source) }
     ensures exact { Answers result (answer7 body.now) }
 {
     owned7(alloc, body)
@@ -92,14 +96,16 @@ pub fn read7(alloc: Global, body: &[u8]) -> Result<Report7, AdminFault>
 
 /// The report, with octets of its own.
 fn owned7(alloc: Global, body: &[u8]) -> Result<Report7, AdminFault>
-    ensures { Answers result (answer7 body.now) }
+    ensures exact { Answers result (answer7 body.now) }
+    ensures memory { result ≡ Err AdminFault.Memory
+        → IsOkAnd (answer7 body.now) (λ report. IsDtn report.source) }
 {
     let lent = lend7(body)?;
     Ok(lent.owned(alloc)?)
 }
 
-/// Judges the body of an administrative record of version 7, and lends the report out of it. No memory
-/// is taken.
+/// Judges the body of an administrative record of version 7, and lends the report out of it. No
+/// memory is taken.
 pub fn lend7(body: &[u8]) -> Result<LentReport7<'_>, AdminFault>
     ensures legal { IfOk result (λ lent. IsReport7 (report7_lent lent)) }
     ensures exact { seen report7_lent result ≡ answer7 body.now }
@@ -206,7 +212,8 @@ fn reason_at(text: &[u8], at: usize) -> Result<(u8, usize), Unfit>
 fn fragment_at(text: &[u8], at: usize, is_fragment: bool) -> Result<(Option<Part>, usize), Unfit>
     requires { at ≤ length text.now }
     ensures within { IfOk result (λ x. IsOn at text.now x.1) }
-    ensures exact { Gives (λ part. part) refusal result (read (optional is_fragment part7) text.now at) }
+    ensures exact { Gives (λ part. part) refusal result
+        (read (optional is_fragment part7) text.now at) }
 {
     if !is_fragment {
         return Ok((None, at));

@@ -1,0 +1,99 @@
+-- The words of a line, one after another.
+
+use Rattle.std.proofs.Common.{◌≡◌, ℕ, List, [], ◌∷◌, ◌++◌, codes, None, Some, refl, sym, ap, ◌∙◌, append_assoc}
+use Rattle.std.proofs.lemmas.List.{append-nil}
+use Rattle.hex.specs.Hex.{encode_lower}
+use Rattle.replay_script.specs.declared.line.Line.{Line}
+use Rattle.replay_script.specs.declared.line.Line.TheVariants as lines
+use Rattle.replay_script.specs.Words.{after_spaces, spaced}
+use Rattle.replay_script.specs.Lines.{head_of, octets_of, line_text}
+
+pub after_spaces-append : (xs ys : List (List ℕ)) → after_spaces (xs ++ ys) ≡ after_spaces xs ++ after_spaces ys
+after_spaces-append [] ys = refl
+after_spaces-append (x ∷ xs) ys =
+    ap (λ rest. 32 ∷ (x ++ rest)) (after_spaces-append xs ys)
+    ∙ ap (λ rest. 32 ∷ rest) (sym (append_assoc x (after_spaces xs) (after_spaces ys)))
+
+-- two texts, one after the other
+pub after_both : (old one two : List ℕ) (xs ys : List (List ℕ)) → one ≡ old ++ after_spaces xs → two ≡ one ++ after_spaces ys
+    → two ≡ old ++ after_spaces (xs ++ ys)
+after_both old one two xs ys first second =
+    second
+    ∙ (ap (λ t. t ++ after_spaces ys) first
+    ∙ (append_assoc old (after_spaces xs) (after_spaces ys)
+    ∙ ap (λ t. old ++ t) (sym (after_spaces-append xs ys))))
+
+-- the words of a note
+pub note-both : (old one two word name : List ℕ) (site rest : List (List ℕ))
+    → one ≡ old ++ (word ++ after_spaces (site ++ name ∷ [])) → two ≡ one ++ after_spaces rest
+    → two ≡ old ++ (word ++ after_spaces (site ++ name ∷ rest))
+note-both old one two word name site rest first second =
+    second
+    ∙ (ap (λ t. t ++ after_spaces rest) first
+    ∙ (append_assoc old (word ++ after_spaces (site ++ name ∷ [])) (after_spaces rest)
+    ∙ ap (λ t. old ++ t) (append_assoc word (after_spaces (site ++ name ∷ [])) (after_spaces rest)
+    ∙ ap (λ t. word ++ t) (sym (after_spaces-append (site ++ name ∷ []) rest)
+    ∙ ap after_spaces (append_assoc site (name ∷ []) rest)))))
+
+-- ---- a line
+
+-- some words have a first one
+record Begins (words : List (List ℕ)) : Type 0 where
+  first : List ℕ
+  rest : List (List ℕ)
+  is : words ≡ first ∷ rest
+
+begins : (line : Line) → Begins (head_of line)
+begins (lines.Sent k route datagram) = record { first = codes "sent"; rest = _; is = refl }
+begins (lines.Up site session body) = record { first = codes "up"; rest = _; is = refl }
+begins (lines.Join site word) = record { first = codes "join"; rest = _; is = refl }
+begins (lines.JoinWhole site body) = record { first = codes "join"; rest = _; is = refl }
+begins (lines.Note site name first second word) = record { first = codes "note"; rest = _; is = refl }
+begins (lines.RefusedSend site cause) = record { first = codes "refused"; rest = _; is = refl }
+begins lines.RefusedDeliver = record { first = codes "refused"; rest = _; is = refl }
+begins (lines.End events) = record { first = codes "end"; rest = _; is = refl }
+begins (lines.Out datagram) = record { first = codes "out"; rest = _; is = refl }
+begins (lines.Green session offset last body) = record { first = codes "green"; rest = _; is = refl }
+begins (lines.LinkNote old send) = record { first = codes "note"; rest = _; is = refl }
+begins (lines.RefusedLine line at cause) = record { first = codes "refused"; rest = _; is = refl }
+
+spaced-more : (words : List (List ℕ)) (word : List ℕ) → Begins words → spaced (words ++ word ∷ []) ≡ (spaced words ++ codes " ") ++ word
+spaced-more words word b =
+    ap (λ ws. spaced (ws ++ word ∷ [])) b.is
+    ∙ (ap (λ t. b.first ++ t) (after_spaces-append b.rest (word ∷ [])
+    ∙ ap (λ t. after_spaces b.rest ++ (32 ∷ t)) (append-nil word))
+    ∙ (sym (append_assoc b.first (after_spaces b.rest) (32 ∷ word))
+    ∙ (ap (λ ws. spaced ws ++ (32 ∷ word)) (sym b.is)
+    ∙ sym (append_assoc (spaced words) (codes " ") word))))
+
+pub line-octets : (line : Line) (octets : List ℕ) → Some octets ≡ octets_of line
+    → (spaced (head_of line) ++ codes " ") ++ (encode_lower octets ++ codes "\n") ≡ line_text line
+unfolding line_text
+line-octets line octets is =
+    rw (sym is)
+    (sym (append_assoc (spaced (head_of line) ++ codes " ") (encode_lower octets) (codes "\n"))
+    ∙ ap (λ t. t ++ codes "\n") (sym (spaced-more (head_of line) (encode_lower octets) (begins line))))
+
+pub line-words : (line : Line) → None ≡ octets_of line → spaced (head_of line) ++ codes "\n" ≡ line_text line
+unfolding line_text
+line-words line is = rw (sym is) (ap (λ ws. spaced ws ++ codes "\n") (sym (append-nil (head_of line))))
+
+-- ---- a line as it is written
+
+pub octets-written : (line : Line) (octets out now head digits empty text more : List ℕ) → Some octets ≡ octets_of line
+    → empty ≡ [] → text ≡ empty ++ spaced (head_of line) → more ≡ text ++ codes " " → head ≡ more → digits ≡ encode_lower octets
+    → now ≡ out ++ (head ++ (digits ++ codes "\n")) → now ≡ out ++ line_text line
+octets-written line octets out now head digits empty text more is none words space same hex all =
+    let written : head ≡ spaced (head_of line) ++ codes " " =
+    same ∙ (space ∙ ap (λ t. t ++ codes " ") (words ∙ ap (λ t. t ++ spaced (head_of line)) none)) in
+    all
+    ∙ ap (λ t. out ++ t) (ap (λ h. h ++ (digits ++ codes "\n")) written
+    ∙ (ap (λ d. (spaced (head_of line) ++ codes " ") ++ (d ++ codes "\n")) hex ∙ line-octets line octets is))
+
+pub words-written : (line : Line) (out now head digits empty text : List ℕ) → None ≡ octets_of line
+    → empty ≡ [] → text ≡ empty ++ spaced (head_of line) → head ≡ text → digits ≡ []
+    → now ≡ out ++ (head ++ (digits ++ codes "\n")) → now ≡ out ++ line_text line
+words-written line out now head digits empty text is none words same nothing all =
+    let written : head ≡ spaced (head_of line) = same ∙ (words ∙ ap (λ t. t ++ spaced (head_of line)) none) in
+    all
+    ∙ ap (λ t. out ++ t) (ap (λ d. head ++ (d ++ codes "\n")) nothing ∙ (ap (λ h. h ++ codes "\n") written ∙ line-words line is))

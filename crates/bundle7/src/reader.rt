@@ -189,8 +189,34 @@ impl Held {
         }
     }
 
-    /// Takes a piece; with it the unfinished bundle may have so many octets.
+    /// Takes a piece; with it the unfinished bundle may have so many octets. A bundle that lies in the
+    /// piece as a whole is read there at once.
     fn feed(&mut self, alloc: Global, piece: &[u8], longest: usize) -> Result<Fed7, Fail7>
+        requires held { IsHeld self.old }
+        requires small { length self.old.kept.items ≤ longest }
+        requires counted { self.old.before + length self.old.kept.items + length piece.now
+            < 2 ^ 64 }
+        ensures held { IsHeld self.new }
+        ensures small { length self.new.kept.items ≤ longest }
+        ensures feeds { Feeds longest (stream_of self.old) piece.now result (stream_of self.new) }
+        ensures kept { OnErr result (stream_of self.new ≡ stream_of self.old) }
+    {
+        let near = self.near(piece, longest);
+        let held = self.kept.as_slice().len();
+        if held == 0 {
+            if let Ok((bundle, end)) = bundle_at(alloc, near, 0, MOST_EXTENSIONS) {
+                self.close(end);
+                return Ok(Fed7 {
+                    used: end,
+                    bundle: Some(bundle),
+                });
+            }
+        }
+        self.feed_judged(alloc, piece, longest)
+    }
+
+    /// The same; a bundle is judged before it is read.
+    fn feed_judged(&mut self, alloc: Global, piece: &[u8], longest: usize) -> Result<Fed7, Fail7>
         requires held { IsHeld self.old }
         requires small { length self.old.kept.items ≤ longest }
         requires counted { self.old.before + length self.old.kept.items + length piece.now

@@ -6,6 +6,10 @@ pub mod Back6Lemmas
 pub mod Residue6Lemmas
 pub mod View6Laws
 pub mod View7Laws
-pub mod BackLaws
 pub mod Sound6Lemmas
 pub mod Sound7Lemmas
+pub mod RefusalLemmas
+pub mod ReadLemmas
+pub mod FewLemmas
+pub mod BackLaws
+pub mod LoopLemmas

@@ -7,6 +7,7 @@ pub mod Private
 pub mod Answers
 pub mod Reading6
 pub mod Reading7
+pub mod Paired
 pub mod Translation
 -- what only ties code to it
 pub mod Views

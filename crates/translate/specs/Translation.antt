@@ -1,9 +1,10 @@
 -- Translation there and back.
 
-use Rattle.std.specs.Prelude.{◌≡◌, ◌+◌, ◌-◌, ◌*◌, ◌%◌, ◌^◌, ◌<◌, true, false, not, [], ◌∷◌, ◌++◌, Option, None}
+use Rattle.std.specs.Prelude.{◌≡◌, ◌+◌, ◌-◌, ◌*◌, ◌%◌, ◌^◌, ◌<◌, ◌≤◌, true, false, not, length, [], ◌∷◌, ◌++◌, Option, None}
 use Rattle.std.specs.List.{All, list_all}
 use Rattle.wire_fields.specs.Reading.{IsOctets}
 use Rattle.bundle6.specs.declared.bundle.Bundle6.{Bundle6}
+use Rattle.bundle6.specs.Table.{others}
 use Rattle.bundle6.specs.Legal as six
 use Rattle.bundle7.specs.declared.bundle.Bundle7.{Bundle7}
 use Rattle.bundle7.specs.Legal as seven
@@ -20,6 +21,7 @@ use Rattle.translate.specs.View7.{view7_of, fits7}
 use Rattle.translate.specs.Refusals.{first_that_holds}
 use Rattle.translate.specs.Reading6.{Reads6, refusals6, full6_of}
 use Rattle.translate.specs.Reading7.{Reads7, refusals7, full7_of}
+use Rattle.translate.specs.Paired.{IsPaired}
 
 -- ---- the other version, and the bundle's own view
 
@@ -80,11 +82,13 @@ IsPlain7 b = list_all (λ block. not (is_marked block.kind block.body)) b.exts �
 -- a legal bundle whose translation isn't refused
 pub record IsTranslatable6 (b : Bundle6) : Type 0 where
   pub legal : six.IsLegal b
+  pub octets : HoldsOctets6 b
   pub unrefused : to_new_refusal b ≡ None
 
 -- and in version 7 its lifetime, lengthened to whole seconds, is still a number of version 7
 pub record IsTranslatable7 (b : Bundle7) : Type 0 where
   pub legal : seven.IsLegal7 b
+  pub octets : HoldsOctets7 b
   pub unrefused : to_old_refusal b ≡ None
   pub lifetime : b.primary.lifetime + slack_of (full7_of b).shared < 2 ^ 64
 
@@ -103,14 +107,23 @@ abbrev pub View7Reads : Type 0
 View7Reads = (full : Full) → IsSound full → is_report full.shared.content ≡ false
     → Reads7 (view7_of full) full
 
--- There and back is the normal form, where the record that is read is sound. That it is so for each
--- legal bundle that isn't refused is still to be shown.
+-- a view has no more extension blocks than a bundle that reads as its record
+abbrev pub NoMoreBlocks : Type 0
+NoMoreBlocks =
+    ((b : Bundle6) (full : Full) → Reads6 b full → others (view6_of full).blocks ≤ others b.blocks)
+    × ((b : Bundle7) (full : Full) → Reads7 b full → length (view7_of full).exts ≤ length b.exts)
+
+-- a bundle that is translated comes back as its normal form
 abbrev pub ThereAndBack : Type 0
 ThereAndBack =
-    ((b : Bundle6) → IsSound (full6_of b)
-    → (first_that_holds (refusals7 (there6 b)) ≡ None) × (there7 (there6 b) ≡ norm6_of b))
-    × ((b : Bundle7) → IsSound (full7_of b) → HasLifetime (full7_of b)
-    → (first_that_holds (refusals6 (there7 b)) ≡ None) × (there6 (there7 b) ≡ norm7_of b))
+    ((b : Bundle6) → IsTranslatable6 b → (to_old_refusal (there6 b) ≡ None) × (there7 (there6 b) ≡ norm6_of b))
+    × ((b : Bundle7) → IsTranslatable7 b → (to_new_refusal (there7 b) ≡ None) × (there6 (there7 b) ≡ norm7_of b))
+
+-- a bundle, what it becomes, and its normal form say the same
+abbrev pub SaysTheSame : Type 0
+SaysTheSame =
+    ((b : Bundle6) → IsTranslatable6 b → IsPaired b (there6 b) × IsPaired (norm6_of b) (there6 b))
+    × ((b : Bundle7) → IsTranslatable7 b → IsPaired (there7 b) b × IsPaired (there7 b) (norm7_of b))
 
 -- a bundle without blocks of the gateway's own is its normal form
 abbrev pub PlainIsNormal : Type 0

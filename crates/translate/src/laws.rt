@@ -1,6 +1,6 @@
 //! Laws of the translation.
 
-ghost use Rattle.translate.specs.Translation.{ReadsSoundly6, ReadsSoundly7, View6Reads, View7Reads, ThereAndBack};
+ghost use Rattle.translate.specs.Translation.{ReadsSoundly6, ReadsSoundly7, View6Reads, View7Reads, NoMoreBlocks, ThereAndBack, SaysTheSame};
 
 /// A legal version 6 bundle that isn't refused reads as a sound record.
 pub fn reads_soundly6()
@@ -22,7 +22,18 @@ pub fn view7_reads()
     ensures { View7Reads }
 {}
 
-/// A bundle that was translated there and back is its normal form, where its record is sound.
+/// A view has no more extension blocks than a bundle that reads as its record.
+pub fn no_more_blocks()
+    ensures { NoMoreBlocks }
+{}
+
+/// A bundle that is translated comes back as its normal form.
 pub fn there_and_back()
     ensures { ThereAndBack }
+{}
+
+/// A bundle, what it becomes, and its normal form have names, expiry, payload, endpoints and fragment
+/// paired.
+pub fn says_the_same()
+    ensures { SaysTheSame }
 {}

@@ -1,16 +1,17 @@
 //! Bundles of version 6 and 7, translated into each other (RFC 5050, RFC 9171).
 //!
-//! [`from6`] and [`from7`] read the record that a bundle stands for, and [`view6`] and [`view7`] are the
-//! bundles that stand for a record. A translation is a view in the other version of what was read; calls
-//! that make both steps are still to come.
+//! [`to_new`] and [`to_old`] make a bundle of the other version, and [`norm6`] and [`norm7`] the normal
+//! form of one. Each is a view of what was read: [`from6`] and [`from7`] read the record that a bundle
+//! stands for, and [`view6`] and [`view7`] are the bundles that stand for a record.
 //!
 //! What the other version can't say is carried in blocks of the gateway's own, so that a bundle that went
-//! there and back is its normal form. That is a law where the record is sound ([`there_and_back`]); that
-//! each bundle that isn't refused has a sound record is still to be shown.
+//! there and back is its normal form ([`there_and_back`]), and says the same ([`says_the_same`]). A legal
+//! bundle that isn't refused reads as a sound record ([`reads_soundly6`], [`reads_soundly7`]).
 //!
 //! Administrative bundles are refused so far.
 #![tactic(auto)]
 
+mod fitting;
 mod laws;
 mod new_reading;
 mod new_view;
@@ -18,10 +19,15 @@ mod old_reading;
 mod old_view;
 mod private;
 mod refused;
+mod translation;
 
-pub use laws::{there_and_back, view6_reads, view7_reads};
+pub use laws::{
+    no_more_blocks, reads_soundly6, reads_soundly7, says_the_same, there_and_back, view6_reads,
+    view7_reads,
+};
 pub use new_reading::from7;
 pub use new_view::view7;
 pub use old_reading::from6;
 pub use old_view::view6;
 pub use refused::{Refused, ViewRefused};
+pub use translation::{norm6, norm7, to_new, to_old};

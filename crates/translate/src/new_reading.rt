@@ -1,12 +1,15 @@
 //! The record that a version 7 bundle stands for.
 
-ghost use Rattle.std.specs.Prelude.{◌≡◌, ◌++◌, ◌≤◌, ◌<◌, ◌^◌, ◌+◌, length, IfOk, OnOk};
-ghost use Rattle.std.specs.List.{list_all, list_any};
+ghost use Rattle.std.specs.Prelude.{◌≡◌, ◌++◌, ◌≤◌, ◌<◌, ◌^◌, ◌+◌, true, None, length, IfOk, OnOk};
+ghost use Rattle.std.specs.List.{All, list_all, list_any};
+ghost use Rattle.wire_fields.specs.Reading.{IsOctets};
 ghost use Rattle.wire_fields.specs.Whole.{read_whole};
 ghost use Rattle.bundle7.specs.Legal.{IsLegal7};
 ghost use Rattle.bundle_meaning.specs.Creation.{id6_of};
 ghost use Rattle.bundle_meaning.specs.Residue.{residue_new};
 ghost use Rattle.bundle_meaning.specs.Wrap.{wrap_new};
+ghost use Rattle.translate.specs.Sound.{IsSound};
+ghost use Rattle.translate.specs.Translation.{HoldsOctets7};
 ghost use Rattle.translate.specs.Answers.{Translates};
 ghost use Rattle.translate.specs.Refusals.{first_that_holds};
 ghost use Rattle.translate.specs.Reading7.{refusals7, residue_in7, default_residue7, is_residue7, may_stand7, are_residues7, may_be_held6, is_wrap_legal7, ext7_of, exts_in7, shared7_of, extra7_of, extra6_of_residue, full7_of};
@@ -25,7 +28,9 @@ use std::alloc::{AllocError, Global};
 /// The record that a version 7 bundle stands for.
 pub fn from7(alloc: Global, bundle: &Bundle7) -> Result<Full, Refused>
     requires { IsLegal7 bundle.now }
-    ensures { Translates (first_that_holds (refusals7 bundle.now)) (full7_of bundle.now) result }
+    ensures exact { Translates (first_that_holds (refusals7 bundle.now)) (full7_of bundle.now) result }
+    // It is a record that both versions can say.
+    ensures sound { IfOk result IsSound }
 {
     match refusal7(bundle) {
         Some(cause) => Err(cause),
@@ -35,7 +40,8 @@ pub fn from7(alloc: Global, bundle: &Bundle7) -> Result<Full, Refused>
 
 /// The first cause that refuses a bundle. No memory is taken.
 pub(crate) fn refusal7(bundle: &Bundle7) -> Option<Refused>
-    ensures { result ≡ first_that_holds (refusals7 bundle.now) }
+    ensures exact { result ≡ first_that_holds (refusals7 bundle.now) }
+    ensures octets { result ≡ None → HoldsOctets7 bundle.now }
 {
     let primary = &bundle.primary;
     if primary.millis < 1000 {
@@ -58,7 +64,7 @@ pub(crate) fn refusal7(bundle: &Bundle7) -> Option<Refused>
 }
 
 /// Whether a block is a residue.
-fn is_residue7(block: &Block7) -> bool
+pub(crate) fn is_residue7(block: &Block7) -> bool
     ensures { result ≡ is_residue7 block.now }
 {
     is_residue(block.kind, block.body.as_slice())
@@ -107,7 +113,8 @@ fn may_be_held6(wrap: &[u8]) -> bool
 
 /// Whether a block is no wrap, or holds a block that may be held.
 fn is_wrap_legal7(block: &Block7) -> bool
-    ensures { result ≡ is_wrap_legal7 block.now }
+    ensures exact { result ≡ is_wrap_legal7 block.now }
+    ensures octets { IsOctets block.now.body }
 {
     let body = block.body.as_slice();
     !is_wrap(block.kind, body) || may_be_held6(body)
@@ -115,13 +122,19 @@ fn is_wrap_legal7(block: &Block7) -> bool
 
 /// Whether each wrap holds a block.
 fn are_wraps7(blocks: &[Block7]) -> bool
-    ensures { result ≡ list_all is_wrap_legal7 blocks.now }
+    ensures exact { result ≡ list_all is_wrap_legal7 blocks.now }
+    ensures octets { result ≡ true → All (λ block. IsOctets block.body) blocks.now }
 {
-    blocks.iter().all(is_wrap_legal7)
+    for block in blocks {
+        if !is_wrap_legal7(block) {
+            return false;
+        }
+    }
+    true
 }
 
 /// What a bundle that isn't refused says.
-fn full7(alloc: Global, bundle: &Bundle7) -> Result<Full, AllocError>
+pub(crate) fn full7(alloc: Global, bundle: &Bundle7) -> Result<Full, AllocError>
     ensures { IfOk result (λ full. full ≡ full7_of bundle.now) }
 {
     let shared = shared7(alloc, bundle)?;
@@ -160,7 +173,7 @@ fn shared7(alloc: Global, bundle: &Bundle7) -> Result<Shared, AllocError>
 }
 
 /// What only version 7 says.
-fn extra7(bundle: &Bundle7) -> Extra7
+pub(crate) fn extra7(bundle: &Bundle7) -> Extra7
     ensures { result ≡ extra7_of bundle.now }
 {
     Extra7 {

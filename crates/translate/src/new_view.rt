@@ -77,7 +77,7 @@ fn primary7(alloc: Global, full: &Full) -> Result<Primary7, AllocError>
 }
 
 /// Whether it is the null endpoint.
-fn is_null(endpoint: &Endpoint) -> bool
+pub(crate) fn is_null(endpoint: &Endpoint) -> bool
     ensures { result ≡ is_null endpoint.now }
 {
     match endpoint {

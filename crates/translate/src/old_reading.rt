@@ -1,7 +1,8 @@
 //! The record that a version 6 bundle stands for.
 
-ghost use Rattle.std.specs.Prelude.{◌≡◌, ◌==◌, ◌++◌, ◌≤◌, ◌<◌, ◌^◌, ◌-◌, not, false, List, length, IfOk, OnOk, option_map, bit_and};
-ghost use Rattle.std.specs.List.{before_first, after_first, list_all, list_any, position};
+ghost use Rattle.std.specs.Prelude.{◌≡◌, ◌==◌, ◌++◌, ◌≤◌, ◌<◌, ◌^◌, ◌-◌, not, true, false, List, length, None, IfOk, OnOk, option_map, bit_and};
+ghost use Rattle.std.specs.List.{All, before_first, after_first, list_all, list_any, position};
+ghost use Rattle.wire_fields.specs.Reading.{IsOctets};
 ghost use Rattle.bundle6.specs.Bits.{has_bit};
 ghost use Rattle.bundle6.specs.Legal.{IsLegal};
 ghost use Rattle.bundle7.specs.Eid.{eid};
@@ -15,6 +16,8 @@ ghost use Rattle.translate.specs.Refusals.{first_that_holds};
 ghost use Rattle.wire_fields.specs.Whole.{read_whole};
 ghost use Rattle.bundle_meaning.specs.Residue.{residue_old};
 ghost use Rattle.translate.specs.Reading6.{refusals6, may_stand6, may_be_held7, is_late6, payload_in, residue_in6, is_residue6, are_residues6, is_wrap_legal6, are_apart6, are_wraps6, wrapped7, collide6, ext6_of, exts_in6, stand_after6, shared6_of, extra6_with, full6_of};
+ghost use Rattle.translate.specs.Sound.{IsSound};
+ghost use Rattle.translate.specs.Translation.{HoldsOctets6};
 ghost use Rattle.translate.specs.Views.{payload_found, is_refused};
 
 use crate::old_view::{BLOCK_COMMON, COMMON};
@@ -30,7 +33,7 @@ use endpoint::{Endpoint, Octets};
 use std::alloc::{AllocError, Global};
 
 /// The type of the payload block.
-const PAYLOAD: u8 = 1;
+pub(crate) const PAYLOAD: u8 = 1;
 /// The bits of a bundle's flags that say it is a fragment, administrative, and that custody is asked.
 pub(crate) const FRAGMENT: u32 = 0;
 
@@ -58,7 +61,9 @@ const NO_RESIDUE: ResidueOld = ResidueOld {
 /// The record that a version 6 bundle stands for.
 pub fn from6(alloc: Global, bundle: &Bundle6) -> Result<Full, Refused>
     requires { IsLegal bundle.now }
-    ensures { Translates (first_that_holds (refusals6 bundle.now)) (full6_of bundle.now) result }
+    ensures exact { Translates (first_that_holds (refusals6 bundle.now)) (full6_of bundle.now) result }
+    // It is a record that both versions can say.
+    ensures sound { IfOk result IsSound }
 {
     match refusal6(alloc, bundle) {
         Some(cause) => Err(cause),
@@ -68,7 +73,8 @@ pub fn from6(alloc: Global, bundle: &Bundle6) -> Result<Full, Refused>
 
 /// The first cause that refuses a bundle. Want of memory hides none.
 pub(crate) fn refusal6(alloc: Global, bundle: &Bundle6) -> Option<Refused>
-    ensures { result ≡ first_that_holds (refusals6 bundle.now) }
+    ensures exact { result ≡ first_that_holds (refusals6 bundle.now) }
+    ensures octets { result ≡ None → HoldsOctets6 bundle.now }
 {
     let primary = &bundle.primary;
     if has_bit(primary.flags, CUSTODY) {
@@ -113,7 +119,7 @@ pub(crate) fn has_bit(flags: u64, bit: u32) -> bool
 }
 
 /// Whether a block is a residue.
-fn is_residue6(block: &Block6) -> bool
+pub(crate) fn is_residue6(block: &Block6) -> bool
     ensures { result ≡ is_residue6 block.now }
 {
     is_residue(u64::from(block.kind), block.body.as_slice())
@@ -155,7 +161,7 @@ fn are_residues6(bundle: &Bundle6, blocks: &[Block6]) -> bool
 
 /// The payload block.
 #[tactic(auto, unfolding(crate::specs::Reading6::payload_in))]
-fn payload(blocks: &[Block6]) -> Option<&Block6>
+pub(crate) fn payload(blocks: &[Block6]) -> Option<&Block6>
     ensures { payload_found result ≡ payload_in blocks.now }
 {
     for block in blocks {
@@ -240,7 +246,8 @@ fn may_be_held7(alloc: Global, wrap: &[u8]) -> bool
 
 /// Whether a block is no wrap, or holds a block that may be held.
 fn is_wrap_legal6(alloc: Global, block: &Block6) -> bool
-    ensures { result ≡ is_wrap_legal6 block.now }
+    ensures exact { result ≡ is_wrap_legal6 block.now }
+    ensures octets { IsOctets block.now.body }
 {
     let body = block.body.as_slice();
     !is_wrap(u64::from(block.kind), body) || may_be_held7(alloc, body)
@@ -305,7 +312,8 @@ fn are_apart6(blocks: &[Block6]) -> bool
 
 /// Whether each wrap holds a block that may be held.
 fn all_wraps6(alloc: Global, blocks: &[Block6]) -> bool
-    ensures { result ≡ list_all is_wrap_legal6 blocks.now }
+    ensures exact { result ≡ list_all is_wrap_legal6 blocks.now }
+    ensures octets { result ≡ true → All (λ block. IsOctets block.body) blocks.now }
 {
     for block in blocks {
         if !is_wrap_legal6(alloc, block) {
@@ -317,13 +325,14 @@ fn all_wraps6(alloc: Global, blocks: &[Block6]) -> bool
 
 /// Whether the wraps hold blocks that may stand in one bundle.
 fn are_wraps6(alloc: Global, blocks: &[Block6]) -> bool
-    ensures { result ≡ are_wraps6 blocks.now }
+    ensures exact { result ≡ are_wraps6 blocks.now }
+    ensures octets { result ≡ true → All (λ block. IsOctets block.body) blocks.now }
 {
     all_wraps6(alloc, blocks) && are_apart6(blocks)
 }
 
 /// What a bundle that isn't refused says.
-fn full6(alloc: Global, bundle: &Bundle6) -> Result<Full, AllocError>
+pub(crate) fn full6(alloc: Global, bundle: &Bundle6) -> Result<Full, AllocError>
     requires { is_late6 bundle.now ≡ false }
     ensures { IfOk result (λ full. full ≡ full6_of bundle.now) }
 {
@@ -351,7 +360,7 @@ fn exts6(alloc: Global, blocks: &[Block6]) -> Result<(Exts, u64), AllocError>
 }
 
 /// The blocks before the payload, and those after it.
-fn around_payload(blocks: &[Block6]) -> (&[Block6], &[Block6])
+pub(crate) fn around_payload(blocks: &[Block6]) -> (&[Block6], &[Block6])
     ensures before { result.0.now ≡ before_first is_payload blocks.now }
     ensures after { result.1.now ≡ after_first is_payload blocks.now }
 {
@@ -427,7 +436,7 @@ fn extra6(alloc: Global, bundle: &Bundle6, after: u64) -> Result<Extra6, AllocEr
 }
 
 /// The payload's flags.
-fn payload_flags(payload: Option<&Block6>) -> u64
+pub(crate) fn payload_flags(payload: Option<&Block6>) -> u64
     ensures { result ≡ (payload_found payload.entry).flags }
 {
     match payload {

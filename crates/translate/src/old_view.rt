@@ -81,7 +81,7 @@ fn primary6(alloc: Global, full: &Full) -> Result<Primary6, AllocError>
 }
 
 /// Whether all of two extras is the same.
-fn is_same7(one: &Extra7, other: &Extra7) -> bool
+pub(crate) fn is_same7(one: &Extra7, other: &Extra7) -> bool
     ensures { result ≡ is_same7 one.now other.now }
 {
     one.flags == other.flags

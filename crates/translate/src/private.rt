@@ -2,6 +2,7 @@
 
 ghost use Rattle.std.specs.Prelude.{◌≡◌};
 ghost use Rattle.endpoint.specs.Endpoints.{begins};
+ghost use Rattle.wire_fields.specs.Reading.{IsOctets};
 ghost use Rattle.bundle_meaning.specs.Blocks.{mark, is_marked};
 ghost use Rattle.translate.specs.Private.{is_residue, is_wrap};
 
@@ -28,7 +29,8 @@ pub(crate) fn is_residue(kind: u64, body: &[u8]) -> bool
 
 /// Whether a block of this type and body is a wrap.
 pub(crate) fn is_wrap(kind: u64, body: &[u8]) -> bool
-    ensures { result ≡ is_wrap kind body.now }
+    ensures exact { result ≡ is_wrap kind body.now }
+    ensures octets { IsOctets body.now }
 {
     kind == WRAP && begins(body)
 }

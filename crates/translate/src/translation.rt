@@ -1,0 +1,104 @@
+//! A bundle in the other version, and the normal form of a bundle.
+
+ghost use Rattle.std.specs.Prelude.{◌≡◌, None};
+ghost use Rattle.bundle6.specs.Legal.{IsLegal};
+ghost use Rattle.bundle7.specs.Legal.{IsLegal7};
+ghost use Rattle.translate.specs.Answers.{Translates};
+ghost use Rattle.translate.specs.Translation.{HoldsOctets6, HoldsOctets7, there6, there7, norm6_of, norm7_of, to_new_refusal, to_old_refusal, norm6_refusal, norm7_refusal};
+
+use crate::fitting::{fits_new, fits_old};
+use crate::new_reading::{full7, refusal7};
+use crate::new_view::bundle7_of;
+use crate::old_reading::{full6, refusal6};
+use crate::old_view::bundle6_of;
+use crate::refused::Refused;
+use bundle6::Bundle6;
+use bundle7::Bundle7;
+use std::alloc::Global;
+
+/// The version 7 bundle that a version 6 one becomes. Memory is wanted only where nothing is refused.
+pub fn to_new(alloc: Global, bundle: &Bundle6) -> Result<Bundle7, Refused>
+    requires { IsLegal bundle.now }
+    ensures exact { Translates (to_new_refusal bundle.now) (there6 bundle.now) result }
+{
+    match refusal_new(alloc, bundle) {
+        Some(cause) => Err(cause),
+        None => Ok(bundle7_of(alloc, &full6(alloc, bundle)?)?),
+    }
+}
+
+/// The version 6 bundle that a version 7 one becomes. Memory is wanted only where nothing is refused.
+pub fn to_old(alloc: Global, bundle: &Bundle7) -> Result<Bundle6, Refused>
+    requires { IsLegal7 bundle.now }
+    ensures exact { Translates (to_old_refusal bundle.now) (there7 bundle.now) result }
+{
+    match refusal_old(bundle) {
+        Some(cause) => Err(cause),
+        None => Ok(bundle6_of(alloc, &full7(alloc, bundle)?)?),
+    }
+}
+
+/// The normal form of a version 6 bundle: what it says, as a translation back would say it. It has no
+/// more extension blocks than the bundle.
+pub fn norm6(alloc: Global, bundle: &Bundle6) -> Result<Bundle6, Refused>
+    requires { IsLegal bundle.now }
+    ensures exact { Translates (norm6_refusal bundle.now) (norm6_of bundle.now) result }
+{
+    match refusal_own6(alloc, bundle) {
+        Some(cause) => Err(cause),
+        None => Ok(bundle6_of(alloc, &full6(alloc, bundle)?)?),
+    }
+}
+
+/// The normal form of a version 7 bundle. It has no more extension blocks than the bundle.
+pub fn norm7(alloc: Global, bundle: &Bundle7) -> Result<Bundle7, Refused>
+    requires { IsLegal7 bundle.now }
+    ensures exact { Translates (norm7_refusal bundle.now) (norm7_of bundle.now) result }
+{
+    match refusal_own7(bundle) {
+        Some(cause) => Err(cause),
+        None => Ok(bundle7_of(alloc, &full7(alloc, bundle)?)?),
+    }
+}
+
+/// The first cause that refuses a translation to version 7. Want of memory hides none.
+fn refusal_new(alloc: Global, bundle: &Bundle6) -> Option<Refused>
+    ensures exact { result ≡ to_new_refusal bundle.now }
+    ensures octets { result ≡ None → HoldsOctets6 bundle.now }
+{
+    match refusal6(alloc, bundle) {
+        Some(cause) => Some(cause),
+        None if fits_new(bundle) => None,
+        None => Some(Refused::TooManyBlocks),
+    }
+}
+
+/// The first cause that refuses a translation to version 6. No memory is taken.
+fn refusal_old(bundle: &Bundle7) -> Option<Refused>
+    ensures exact { result ≡ to_old_refusal bundle.now }
+    ensures octets { result ≡ None → HoldsOctets7 bundle.now }
+{
+    match refusal7(bundle) {
+        Some(cause) => Some(cause),
+        None if fits_old(bundle) => None,
+        None => Some(Refused::TooManyBlocks),
+    }
+}
+
+/// The first cause that a version 6 bundle has no normal form. There is always room for its blocks.
+fn refusal_own6(alloc: Global, bundle: &Bundle6) -> Option<Refused>
+    requires { IsLegal bundle.now }
+    ensures exact { result ≡ norm6_refusal bundle.now }
+    ensures octets { result ≡ None → HoldsOctets6 bundle.now }
+{
+    refusal6(alloc, bundle)
+}
+
+/// The first cause that a version 7 bundle has no normal form. There is always room for its blocks.
+fn refusal_own7(bundle: &Bundle7) -> Option<Refused>
+    requires { IsLegal7 bundle.now }
+    ensures exact { result ≡ norm7_refusal bundle.now }
+    ensures octets { result ≡ None → HoldsOctets7 bundle.now }
+{
+    refusal7(bundle)
+}

@@ -1,5 +1,8 @@
--- Which runs end with a line on standard error.
-use Rattle.std.specs.Prelude.{Bool, true, false, not}
+-- Which runs end with a line on standard error, and the one that names a limit.
+use Rattle.std.specs.Prelude.{Bool, true, false, not, ℕ, List, ◌++◌, codes}
+use Rattle.std.specs.Fmt.{decimal}
+use Rattle.gateway_run.specs.declared.commands.passed.Passed.{Passed}
+use Rattle.gateway_run.specs.declared.commands.passed.Passed.TheVariants.{Size, Lines, LineLength, Sessions}
 use Rattle.edge_traits.specs.declared.status.Status.{Status}
 use Rattle.edge_traits.specs.declared.status.Status.TheVariants.{Done, Refused, Usage, ReadFault, WriteFault, Limit, Memory}
 
@@ -12,3 +15,10 @@ wants_line ReadFault reader_gone = true
 wants_line WriteFault reader_gone = not reader_gone
 wants_line Limit reader_gone = true
 wants_line Memory reader_gone = true
+
+-- the line that names the limit that was passed, and where
+abbrev pub limit_text : Passed → List ℕ
+limit_text Size = codes "fimdahol: the input has more than 67108864 octets\n"
+limit_text Lines = codes "fimdahol: the input has more than 1000000 lines\n"
+limit_text (LineLength line) = codes "fimdahol: line " ++ (decimal line ++ codes " has more than 9000000 octets\n")
+limit_text (Sessions line) = codes "fimdahol: line " ++ (decimal line ++ codes " leaves more than 64 sessions unfinished\n")

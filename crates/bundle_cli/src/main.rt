@@ -8,15 +8,18 @@
 #![tactic(auto)]
 
 mod help;
+mod limit;
 mod outside;
 mod unused;
 mod why;
 
 use edge_traits::Status;
+use gateway_run::Word;
 use help::{HELP, VERSION};
+use limit::limit_line;
 use outside::{call, words_of};
 use std::process::ExitCode;
-use why::reason;
+use why::{Call, reason};
 
 fn main(rt: HostRuntime) -> ExitCode {
     let words = match words_of(&rt) {
@@ -30,11 +33,23 @@ fn main(rt: HostRuntime) -> ExitCode {
         [word] if word.octets() == b"--version".as_slice() => say(&rt, VERSION),
         words => {
             let ended = call(&rt, words);
-            if let Some(line) = reason(words, ended) {
-                let _ = rt.eprint(line);
-            }
-            ExitCode::from(ended.status.code())
+            complain(&rt, words, ended);
+            ExitCode::from(ended.ended.status.code())
         }
+    }
+}
+
+/// Says on standard error why the run ended, where its output doesn't. Where there is no memory for
+/// the line that names a limit, the one without its name is written.
+fn complain<R: Eprint + AllocGlobal>(rt: &R, words: &[Word], call: Call) {
+    let named = match call.ended.passed {
+        Some(passed) => limit_line(rt.alloc(), passed).ok(),
+        None => None,
+    };
+    if let Some(line) = named {
+        let _ = rt.eprint(line);
+    } else if let Some(line) = reason(words, call) {
+        let _ = rt.eprint(line);
     }
 }
 

@@ -4,9 +4,9 @@ ghost use Rattle.edge_traits.specs.Outcome.{Ran, source_tells, sink_tells};
 ghost use Rattle.gateway_run.specs.Words.{command_of, settles};
 
 use crate::unused::Unused;
-use crate::why::Ended;
+use crate::why::Call;
 use edge_traits::{Reading, Sink, Source, Status, Writing};
-use gateway_run::{Word, run};
+use gateway_run::{Ended, Word, run_told};
 use std::alloc::Global;
 use std::env;
 use std::io::{self, ErrorKind};
@@ -32,14 +32,14 @@ pub fn words_of<R: Env + AllocGlobal>(rt: &R) -> Result<Vec<Word>, Status>
 }
 
 /// Runs the command that the words name over standard input and standard output.
-pub fn call<R: Input + Print + AllocGlobal>(rt: &R, words: &[Word]) -> Ended
-    ensures usage { (result.status ≡ Status.Usage) ↔ (command_of words.now ≡ None) }
+pub fn call<R: Input + Print + AllocGlobal>(rt: &R, words: &[Word]) -> Call
+    ensures usage { (result.ended.status ≡ Status.Usage) ↔ (command_of words.now ≡ None) }
 {
     let mut source = Reading::new(rt.reader());
     let mut sink = Writing::new(io::writer(rt));
-    let status = run_over(rt.alloc(), words, &mut source, &mut sink);
-    Ended {
-        status,
+    let ended = run_over(rt.alloc(), words, &mut source, &mut sink);
+    Call {
+        ended,
         reader_gone: sink.is_reader_gone(),
     }
 }
@@ -50,15 +50,15 @@ fn run_over<S: Source, K: Sink>(
     words: &[Word],
     source: &mut S,
     sink: &mut K,
-) -> Status
+) -> Ended
     requires source { S.faults source.old < 2 ^ 64 - 1 }
     requires sink { K.faults sink.old < 2 ^ 64 - 1 }
-    ensures usage { (result ≡ Status.Usage) ↔ (command_of words.now ≡ None) }
-    ensures untouched { result ≡ Status.Usage → (source.new ≡ source.old) × (sink.new ≡ sink.old) }
-    ensures ran { IfSome (command_of words.now) (λ command. Ran (settles command) result
+    ensures usage { (result.status ≡ Status.Usage) ↔ (command_of words.now ≡ None) }
+    ensures untouched { result.status ≡ Status.Usage → (source.new ≡ source.old) × (sink.new ≡ sink.old) }
+    ensures ran { IfSome (command_of words.now) (λ command. Ran (settles command) result.status
         (source_tells S.left S.faults S.failing source.old) (source_tells S.left S.faults S.failing source.new)
         (sink_tells K.held K.faults K.failing sink.old) (sink_tells K.held K.faults K.failing sink.new)) }
 {
     let (mut old, mut new, mut clock) = (Unused, Unused, Unused);
-    run(alloc, words, source, sink, &mut old, &mut new, &mut clock)
+    run_told(alloc, words, source, sink, &mut old, &mut new, &mut clock)
 }

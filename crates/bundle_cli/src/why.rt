@@ -3,13 +3,13 @@ ghost use Rattle.std.specs.Prelude.{◌≡◌, is_some};
 ghost use Rattle.bundle_cli.specs.Why.{wants_line};
 
 use edge_traits::Status;
-use gateway_run::Word;
+use gateway_run::{Ended, Word};
 
 /// How a run ended, and whether that was since the reader of standard output has gone away.
 #[derive(Clone, Copy, Debug, Drop)]
-pub struct Ended {
-    /// How it ended.
-    pub status: Status,
+pub struct Call {
+    /// How it ended, and which limit it passed.
+    pub ended: Ended,
     /// A write failed since nobody reads any more.
     pub reader_gone: bool,
 }
@@ -18,15 +18,15 @@ pub struct Ended {
 const USAGE: &str = "fimdahol: these words are no command; 'fimdahol --help' lists them\n";
 
 /// The line for standard error, where the run of these words ended otherwise than its output shows.
-pub fn reason(words: &[Word], ended: Ended) -> Option<&'static str>
-    ensures { is_some result ≡ wants_line ended.status ended.reader_gone }
+pub fn reason(words: &[Word], call: Call) -> Option<&'static str>
+    ensures { is_some result ≡ wants_line call.ended.status call.reader_gone }
 {
-    match ended.status {
+    match call.ended.status {
         Status::Done => None,
         Status::Refused => None,
         Status::Usage => Some(usage(words)),
         Status::ReadFault => Some("fimdahol: a read of standard input failed\n"),
-        Status::WriteFault if ended.reader_gone => None,
+        Status::WriteFault if call.reader_gone => None,
         Status::WriteFault => Some("fimdahol: a write to standard output failed\n"),
         Status::Limit => Some("fimdahol: the input passes a limit; 'fimdahol --help' lists them\n"),
         Status::Memory => Some("fimdahol: memory ran out\n"),

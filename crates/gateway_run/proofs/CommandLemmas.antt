@@ -4,7 +4,7 @@ use Rattle.std.proofs.lemmas.List.{append-nil}
 use Rattle.edge_traits.specs.declared.status.Status.{Status}
 use Rattle.edge_traits.specs.declared.status.Status.TheVariants as statuses
 use Rattle.edge_traits.specs.Content.{GainsFront, most_input}
-use Rattle.edge_traits.specs.Outcome.{EndsAs, Wrote, IsAnswer}
+use Rattle.edge_traits.specs.Outcome.{SourceTells, SinkTells, EndsAs, Wrote, Ran, IsAnswer}
 use Rattle.gateway_run.specs.declared.commands.command.Command.{Command}
 use Rattle.gateway_run.specs.declared.commands.command.Command.TheVariants as commands
 use Rattle.gateway_run.specs.Receive.{Limits, the_limits, receive_rules, received}
@@ -88,3 +88,16 @@ keeps_law (Some input) named commands.Receive status left before now is wrote =
 pub command-front : (command : Command) → EarliestDecides (settles command)
 command-front commands.Receive = receive-front the_limits most_input
 command-front (commands.Bundles command) = λ ends taken more. (_, refl)
+
+-- ---- by how a run went
+
+pub keeps_ran : (named : Option Command) (status : Status) (source source_now : SourceTells) (sink sink_now : SinkTells)
+    → IfSome named (λ command. Ran (settles command) status source source_now sink sink_now)
+    → IfSome source.left (λ input. KeepsLaw named input status sink.held sink_now.held)
+keeps_ran None status source source_now sink sink_now ran = nothing source.left
+  where
+    nothing : (left : Option (List ℕ)) → IfSome left (λ input. KeepsLaw None input status sink.held sink_now.held)
+    nothing None = tt
+    nothing (Some input) = tt
+keeps_ran (Some command) status source source_now sink sink_now ran =
+    keeps_law source.left (Some command) command status source_now.left sink.held sink_now.held refl ran.wrote

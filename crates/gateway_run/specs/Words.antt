@@ -1,5 +1,5 @@
 -- Which command the words of a call name, and what it answers to an input.
-use Rattle.std.specs.Prelude.{ℕ, Bool, List, [], ◌∷◌, codes, Option, None, Some, IfSome, IsSomeAnd, ◌≡◌, ◌⊎◌, ◌++◌, nat_eq, if◌then◌else◌}
+use Rattle.std.specs.Prelude.{ℕ, Bool, true, false, List, [], ◌∷◌, codes, Option, None, Some, IfSome, IsSomeAnd, ◌≡◌, ◌⊎◌, ◌++◌, nat_eq, if◌then◌else◌}
 use Rattle.std.specs.Cmp.Lexicographic.{pointwise}
 use Rattle.edge_traits.specs.declared.status.Status.{Status}
 use Rattle.edge_traits.specs.declared.status.Status.TheVariants as statuses
@@ -38,6 +38,16 @@ command_of (word ∷ second ∷ words) = None
 abbrev pub settles : Command → Ends → List ℕ → Settled
 settles commands.Receive = within most_input (receive.settles the_limits)
 settles (commands.Bundles command) = bundles.settles command
+
+-- the run ended with a limit
+abbrev pub is_limit : Status → Bool
+is_limit statuses.Done = false
+is_limit statuses.Refused = false
+is_limit statuses.Usage = false
+is_limit statuses.ReadFault = false
+is_limit statuses.WriteFault = false
+is_limit statuses.Limit = true
+is_limit statuses.Memory = false
 
 -- the run of a command ends as its answer has it, or for want of memory
 abbrev pub CompletesCommand : Option Command → List ℕ → Status → Type 0

@@ -1,9 +1,10 @@
 //! The program's one call.
-ghost use Rattle.std.specs.Prelude.{◌≡◌, ◌↔◌, ◌-◌, ◌<◌, ◌^◌, None, IfSome};
+ghost use Rattle.std.specs.Prelude.{◌≡◌, ◌↔◌, ◌-◌, ◌<◌, ◌^◌, None, is_some, IfSome};
 ghost use Rattle.edge_traits.specs.Outcome.{Ran, source_tells, sink_tells};
-ghost use Rattle.gateway_run.specs.Words.{command_of, settles, CompletesCommand, KeepsLaw};
+ghost use Rattle.gateway_run.specs.Words.{command_of, is_limit, settles, CompletesCommand, KeepsLaw};
 
 use crate::commands::command::{Command, command_named};
+use crate::commands::passed::{Ended, ended_with};
 use crate::commands::receive::Receive;
 use crate::commands::word::Word;
 use bundle_runs::bundles;
@@ -49,28 +50,57 @@ pub fn run<S: Source, K: Sink, L: Link, C: Clock>(
     ensures new_link { new_link.new ≡ new_link.old }
     ensures clock { clock.new ≡ clock.old }
 {
+    run_told(alloc, words, source, sink, old_link, new_link, clock).status
+}
+
+/// The same, and which limit the input passed, where it passed one. What `run` says besides of a
+/// whole answer and of the red parts follows from `ran`.
+pub fn run_told<S: Source, K: Sink, L: Link, C: Clock>(
+    alloc: Global,
+    words: &[Word],
+    source: &mut S,
+    sink: &mut K,
+    old_link: &mut L,
+    new_link: &mut L,
+    clock: &mut C,
+) -> Ended
+    ensures usage { (result.status ≡ Status.Usage) ↔ (command_of words.now ≡ None) }
+    ensures untouched { result.status ≡ Status.Usage → (source.new ≡ source.old) × (sink.new ≡ sink.old) }
+    ensures ran { IfSome (command_of words.now) (λ command. Ran (settles command) result.status
+        (source_tells S.left S.faults S.failing source.old) (source_tells S.left S.faults S.failing source.new)
+        (sink_tells K.held K.faults K.failing sink.old) (sink_tells K.held K.faults K.failing sink.new)) }
+
+    // A limit is named if and only if the run ended with one.
+    ensures passed { is_some result.passed ≡ is_limit result.status }
+
+    ensures old_link { old_link.new ≡ old_link.old }
+    ensures new_link { new_link.new ≡ new_link.old }
+    ensures clock { clock.new ≡ clock.old }
+{
     match command_named(words) {
-        None => Status::Usage,
+        None => ended_with(Status::Usage, None),
         Some(command) => run_command(alloc, command, source, sink),
     }
 }
 
-/// Runs a command.
+/// Runs a command: an arm for each, which makes its task and drives it.
 fn run_command<S: Source, K: Sink>(
     alloc: Global,
     command: Command,
     source: &mut S,
     sink: &mut K,
-) -> Status
-    ensures { Ran (settles command) result
+) -> Ended
+    ensures ran { Ran (settles command) result.status
         (source_tells S.left S.faults S.failing source.old) (source_tells S.left S.faults S.failing source.new)
         (sink_tells K.held K.faults K.failing sink.old) (sink_tells K.held K.faults K.failing sink.new) }
+    ensures passed { is_some result.passed ≡ is_limit result.status }
 {
     match command {
         Command::Receive => {
             let mut task = LineReader::new(alloc, Receive::new(alloc));
-            drive(alloc, &mut task, source, sink)
+            let status = drive(alloc, &mut task, source, sink);
+            ended_with(status, task.passed())
         }
-        Command::Bundles(command) => bundles(alloc, command, source, sink),
+        Command::Bundles(command) => ended_with(bundles(alloc, command, source, sink), None),
     }
 }

@@ -3,19 +3,27 @@
 //!
 //! Both are done to the record that knows no version ([`bundle_meaning::Full`]), so that a bundle can be
 //! cut on one face and joined on the other. [`cut`] gives the pieces of a record, each with so many
-//! octets of its payload but the last.
+//! octets of its payload but the last. A [`Joiner`] takes fragments in any order, and gives the whole with
+//! the one that completes it.
 //!
 //! Where extension blocks go is the project's own choice: the first piece has all of them, and each
 //! other one those that are to stand in every fragment.
 #![tactic(auto)]
 
+mod cells;
 mod cutting;
 mod fault;
 mod fulls;
+mod join;
+mod joining;
 mod kept;
 mod laws;
+mod limits;
+mod log;
 
 pub use cutting::cut;
-pub use fault::CutRefused;
+pub use fault::{CutRefused, JoinRefused};
 pub use fulls::Fulls;
+pub use joining::{Joined, Joiner};
 pub use laws::pieces_lie_end_to_end;
+pub use limits::{NAMES_MAX, TOTAL_MAX};

@@ -1,0 +1,196 @@
+//! Joining fragments.
+
+ghost use Rattle.std.specs.Prelude.{◌≡◌, ◌≤◌, [], true, false, length, Ok, Err, Some, None, IfOk};
+ghost use Rattle.bundle_meaning.specs.Valid.{IsValid};
+ghost use Rattle.fragments.specs.declared.limits.TheConstants.{TOTAL_MAX, NAMES_MAX};
+ghost use Rattle.fragments.specs.Cells.{stop_of};
+ghost use Rattle.fragments.specs.Cutting.{octets_of};
+ghost use Rattle.fragments.specs.Joining.{index_of, open_join, others, open_total, accepted, is_repeat, started, Adds, TakesIn};
+
+use crate::cutting::octets_of;
+use crate::fault::JoinRefused;
+use crate::join::{Finished, Join, is_named};
+use crate::limits::{NAMES_MAX, TOTAL_MAX};
+use bundle_meaning::{Full, Shared};
+use endpoint::Fragment;
+use std::alloc::{AllocError, Global};
+use std::marker::Model;
+
+/// What a fragment came to.
+#[derive(Debug, Drop)]
+pub enum Joined {
+    /// Octets of the whole are still missing.
+    Waiting,
+    /// So they are, and for each place of this fragment an octet had come before.
+    Repeat,
+    /// Each octet of the whole is there. The joiner has forgotten its name.
+    Whole(Full),
+}
+
+/// Joins the fragments of bundles, whichever version they came in. Fragments belong together where
+/// source and creation timestamp are equal (RFC 5050, section 5.9; RFC 9171, section 5.9).
+///
+/// It keeps each octet that came once, in the order in which they came, and lays them out when all are
+/// there: memory goes with the octets, and not with the totals that strangers name. At most
+/// [`NAMES_MAX`] names are kept, with totals to [`TOTAL_MAX`].
+#[derive(Debug, Drop)]
+pub struct Joiner {
+    joins: Vec<Join>,
+    spent: bool,
+    alloc: Global,
+}
+
+impl Model for Joiner {
+    ghost use Rattle.std.specs.Prelude.{◌≤◌, length};
+    ghost use Rattle.fragments.specs.declared.limits.TheConstants.{NAMES_MAX};
+    ghost use Rattle.fragments.specs.Joining.{Joining};
+
+    ghost Value = { Joining };
+
+    ghost view = { λ j. record { joins = j.joins.items; spent = j.spent } };
+
+    ghost invariant = { λ j. length j.joins.items ≤ NAMES_MAX };
+}
+
+impl Joiner {
+    /// A joiner to which nothing came. It takes no memory.
+    pub fn new(alloc: Global) -> Joiner
+        ensures { result ≡ record { joins = []; spent = false } }
+    {
+        Joiner {
+            joins: Vec::new(alloc),
+            spent: false,
+            alloc,
+        }
+    }
+
+    /// Takes a fragment. After want of memory the joiner may only be dropped.
+    ///
+    /// Own rule: the whole is the first fragment that came with offset 0, with the payload that all have
+    /// together, so that it has the extension blocks of that fragment.
+    pub fn add(&mut self, full: &Full) -> Result<Joined, JoinRefused>
+        requires whole { self.old.spent ≡ false }
+        requires valid { IsValid full.now }
+
+        // What is answered, and what is kept then. A refusal leaves all as it was.
+        ensures adds { Adds self.old.joins full.now result self.new }
+        ensures bounded { length self.new.joins ≤ NAMES_MAX }
+    {
+        let part = accepted(self.joins.as_slice(), &full.shared)?;
+        match take_in(self.alloc, &mut self.joins, full, part) {
+            Ok(joined) => Ok(joined),
+            Err(AllocError) => {
+                self.spent = true;
+                Err(JoinRefused::Memory)
+            }
+        }
+    }
+}
+
+/// Where a record's payload lies in the whole, if it is taken beside these joins.
+fn accepted(joins: &[Join], shared: &Shared) -> Result<Fragment, JoinRefused>
+    ensures { result ≡ accepted joins.now shared.now }
+{
+    let Some(part) = shared.fragment else {
+        return Err(JoinRefused::NotFragment);
+    };
+    if part.total > TOTAL_MAX {
+        return Err(JoinRefused::TooLarge);
+    }
+    match open_total(joins, shared) {
+        Some(total) if total != part.total => Err(JoinRefused::TotalDiffers),
+        None if joins.len() >= NAMES_MAX => Err(JoinRefused::NoRoom),
+        _ => Ok(part),
+    }
+}
+
+/// How many octets the whole with a record's name has, where one is open.
+fn open_total(joins: &[Join], shared: &Shared) -> Option<u64>
+    ensures { result ≡ open_total shared.now joins.now }
+{
+    match joins.get(index_of(joins, shared)) {
+        Some(join) => Some(join.total),
+        None => None,
+    }
+}
+
+/// The place of the join with a record's name, or how many joins there are.
+fn index_of(joins: &[Join], shared: &Shared) -> usize
+    ensures { result ≡ index_of shared.now joins.now }
+{
+    'looking: for at in 0..joins.len() {
+        if is_named(shared, &joins[at]) {
+            return at;
+        }
+    }
+    joins.len()
+}
+
+/// Takes out the join with a record's name, where one is open.
+fn take_out(joins: &mut Vec<Join>, shared: &Shared) -> Option<Join>
+    ensures found { result ≡ open_join shared.now joins.old.items }
+    ensures left { joins.new.items ≡ others shared.now joins.old.items }
+{
+    let at = index_of(joins.as_slice(), shared);
+    if at < joins.as_slice().len() {
+        Some(joins.remove(at))
+    } else {
+        None
+    }
+}
+
+/// Takes a fragment that is accepted.
+fn take_in(
+    alloc: Global,
+    joins: &mut Vec<Join>,
+    full: &Full,
+    part: Fragment,
+) -> Result<Joined, AllocError>
+    requires accepted { accepted joins.old.items full.now.shared ≡ Ok part }
+    requires few { length joins.old.items ≤ NAMES_MAX }
+    requires valid { IsValid full.now }
+    ensures taken { IfOk result (λ joined. TakesIn joins.old.items full.now part joined joins.new.items) }
+    ensures few { length joins.new.items ≤ NAMES_MAX }
+{
+    let octets = octets_of(&full.shared.content);
+    let begun = take_out(joins, &full.shared);
+    let repeats = is_repeat(&begun, part.offset, octets);
+    let join = started(alloc, begun, &full.shared, part.total)?.with(alloc, full, part.offset)?;
+    match join.finished(alloc)? {
+        Finished::Whole(whole) => Ok(Joined::Whole(whole)),
+        Finished::Open(join) => {
+            joins.push(join)?;
+            Ok(if repeats {
+                Joined::Repeat
+            } else {
+                Joined::Waiting
+            })
+        }
+    }
+}
+
+/// Whether a name is open and no octet of a fragment is new.
+fn is_repeat(begun: &Option<Join>, offset: u64, octets: &[u8]) -> bool
+    requires { stop_of offset octets.now ≤ TOTAL_MAX }
+    ensures { result ≡ is_repeat begun.now offset octets.now }
+{
+    match begun {
+        Some(join) => join.has_all(offset, octets),
+        None => false,
+    }
+}
+
+/// The join that is open, or a new one.
+fn started(
+    alloc: Global,
+    begun: Option<Join>,
+    shared: &Shared,
+    total: u64,
+) -> Result<Join, AllocError>
+    ensures { IfOk result (λ join. join ≡ started begun shared.now total) }
+{
+    match begun {
+        Some(join) => Ok(join),
+        None => Join::new(alloc, shared, total),
+    }
+}

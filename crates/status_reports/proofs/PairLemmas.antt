@@ -162,6 +162,11 @@ takes-parts statuses times bare is =
     let p0 = and_parts _ _ p1.0 in
     record { status = p0.0; received = p0.1; forwarded = p1.1; delivered = p2.1; deleted = p3.1 }
 
+-- where no residue says otherwise, each status has its time
+pub takes-none : (statuses : ℕ) (times : List Time6) → takes statuses times 0 ≡ true
+unfolding takes
+takes-none statuses times = refl
+
 statuses-back : (statuses bare : ℕ) (times : List Time6) → is_status statuses ≡ true
     → statuses_of (stamps_of statuses bare times) ≡ statuses
 unfolding statuses_of stamps_of sum

@@ -30,9 +30,9 @@ time_of millis rest = record {
   nanos = millis % 1000 * 1000000 + rest;
 }
 
--- ---- one status
+-- ---- one status; it is bare where it is reported without a time
 
--- whether it is set, whether its time is none, and its time
+-- whether it is set, whether it is bare, and its time
 abbrev pub stamp_of : Bool → Bool → Time6 → Stamp
 stamp_of false bare time = No
 stamp_of true true time = Yes
@@ -79,7 +79,7 @@ times_of stamps rests =
 
 -- ---- version 6 and the shared report
 
--- what a report of version 6 says, where the statuses of the mask have no time
+-- what a report of version 6 says, where the statuses of the mask are bare
 abbrev pub shared_of6 : Report6 → ℕ → Report
 shared_of6 report bare = record {
   stamps = stamps_of report.status bare report.times;
@@ -91,7 +91,7 @@ shared_of6 report bare = record {
   fragment = report.fragment;
 }
 
--- the report of version 6 that says it, but for the statuses that have no time
+-- the report of version 6 that says it, but for which statuses are bare
 abbrev pub report6_of : Report → Report6
 report6_of report = record {
   status = statuses_of report.stamps;
@@ -103,7 +103,7 @@ report6_of report = record {
   source = report.source;
 }
 
--- Each is the other's; the mask is what version 6 has no place for.
+-- Each is the other's; the mask of bare statuses is what version 6 has no place for.
 pub record Pair6 (old : Report6) (bare : ℕ) (shared : Report) : Type 0 where
   pub there : shared ≡ shared_of6 old bare
   pub back : old ≡ report6_of shared

@@ -4,17 +4,17 @@ use Rattle.std.specs.Prelude.{Result, Ok, Err}
 use Rattle.endpoint.specs.declared.name.Endpoint.{Endpoint}
 use Rattle.endpoint.specs.declared.name.Endpoint.TheVariants as endpoints
 use Rattle.status_reports.specs.declared.fault.AdminFault.{AdminFault}
-use Rattle.status_reports.specs.declared.source.Source.{Source}
-use Rattle.status_reports.specs.declared.source.Source.TheVariants.{Null, Ipn, Dtn}
+use Rattle.status_reports.specs.declared.lent.LentEndpoint.{LentEndpoint}
+use Rattle.status_reports.specs.declared.lent.LentEndpoint.TheVariants.{Null, Ipn, Dtn}
 use Rattle.status_reports.specs.declared.report6.Report6.{Report6}
 use Rattle.status_reports.specs.declared.report6.LentReport6.{LentReport6}
 use Rattle.status_reports.specs.declared.report7.Report7.{Report7}
 use Rattle.status_reports.specs.declared.report7.LentReport7.{LentReport7}
 
-abbrev pub source_of : Source → Endpoint
-source_of Null = endpoints.Null
-source_of (Ipn node service) = endpoints.Ipn node service
-source_of (Dtn ssp) = endpoints.Dtn ssp.now
+abbrev pub endpoint_of : LentEndpoint → Endpoint
+endpoint_of Null = endpoints.Null
+endpoint_of (Ipn node service) = endpoints.Ipn node service
+endpoint_of (Dtn ssp) = endpoints.Dtn ssp.now
 
 abbrev pub report6_lent : LentReport6 → Report6
 report6_lent lent = record {
@@ -24,14 +24,14 @@ report6_lent lent = record {
   times = lent.times;
   seconds = lent.seconds;
   sequence = lent.sequence;
-  source = source_of lent.source;
+  source = endpoint_of lent.source;
 }
 
 abbrev pub report7_lent : LentReport7 → Report7
 report7_lent lent = record {
   stamps = lent.stamps;
   reason = lent.reason;
-  source = source_of lent.source;
+  source = endpoint_of lent.source;
   millis = lent.millis;
   sequence = lent.sequence;
   fragment = lent.fragment;

@@ -17,12 +17,12 @@
 mod fault;
 mod field;
 mod laws;
+mod lent;
 mod pair_fault;
 mod pairing6;
 mod pairing7;
 mod report6;
 mod report7;
-mod source;
 mod source6;
 mod source7;
 mod writing6;
@@ -30,11 +30,11 @@ mod writing7;
 
 pub use fault::AdminFault;
 pub use laws::{one_spelling, reports_pair_off};
+pub use lent::LentEndpoint;
 pub use pair_fault::PairFault;
 pub use pairing6::{shared_from6, view6};
 pub use pairing7::{shared_from7, shared_with_rests, view7};
 pub use report6::{LentReport6, Report6, Time6, lend6, read6};
 pub use report7::{LentReport7, Report7, lend7, read7};
-pub use source::Source;
 pub use writing6::write6;
 pub use writing7::write7;

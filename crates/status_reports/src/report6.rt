@@ -15,7 +15,7 @@ ghost use Rattle.status_reports.specs.Views.{report6_lent, seen};
 
 use crate::fault::AdminFault;
 use crate::field::{Unfit, absent, number, number_below, octet};
-use crate::source::Source;
+use crate::lent::LentEndpoint;
 use crate::source6::source6_at;
 use bundle_meaning::Part;
 use endpoint::Endpoint;
@@ -65,7 +65,7 @@ pub struct LentReport6<'a> {
     /// Which of the bundles of that second the subject is.
     pub sequence: u64,
     /// Who sent the subject.
-    pub source: Source<'a>,
+    pub source: LentEndpoint<'a>,
 }
 
 impl LentReport6<'_> {

@@ -15,7 +15,7 @@ ghost use Rattle.status_reports.specs.Views.{report7_lent, seen};
 
 use crate::fault::AdminFault;
 use crate::field::{Unfit, absent, exactly, item, octet, unsigned};
-use crate::source::Source;
+use crate::lent::LentEndpoint;
 use crate::source7::source7_at;
 use bundle_meaning::{Part, Stamp};
 use endpoint::Endpoint;
@@ -47,7 +47,7 @@ pub struct LentReport7<'a> {
     /// The reason code.
     pub reason: u8,
     /// Who sent the subject.
-    pub source: Source<'a>,
+    pub source: LentEndpoint<'a>,
     /// When the subject was made, in milliseconds since the start of the year 2000 UTC.
     pub millis: u64,
     /// Which of the bundles of that millisecond the subject is.

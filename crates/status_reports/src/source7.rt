@@ -6,20 +6,20 @@ ghost use Rattle.wire_fields.specs.Gives.{Gives, IsOn};
 ghost use Rattle.bundle7.specs.Eid.{dtn_lead, ssp, dtn_name, ipn_name, scheme};
 ghost use Rattle.status_reports.specs.Causes.{with_cause};
 ghost use Rattle.status_reports.specs.Fields.{refusal, source7};
-ghost use Rattle.status_reports.specs.Views.{source_of};
+ghost use Rattle.status_reports.specs.Views.{endpoint_of};
 
 use crate::fault::AdminFault;
 use crate::field::{Unfit, absent, exactly, octets, unsigned};
-use crate::source::Source;
+use crate::lent::LentEndpoint;
 use endpoint::is_ssp;
 use wire_fields::{ARRAY, UnsignedOrText, unsigned_or_text_at};
 
 /// The endpoint: the number of its scheme, and what the scheme has.
 #[tactic(auto, unfolding(bundle7::specs::Eid::eid))]
-pub(crate) fn source7_at(text: &[u8], at: usize) -> Result<(Source<'_>, usize), Unfit>
+pub(crate) fn source7_at(text: &[u8], at: usize) -> Result<(LentEndpoint<'_>, usize), Unfit>
     requires { at ≤ length text.now }
     ensures within { IfOk result (λ x. IsOn at text.now x.1) }
-    ensures exact { Gives source_of refusal result (read source7 text.now at) }
+    ensures exact { Gives endpoint_of refusal result (read source7 text.now at) }
 {
     let (_, at) = exactly(text, at, ARRAY, 2)?;
     let (number, at) = scheme_at(text, at)?;
@@ -45,18 +45,18 @@ fn scheme_at(text: &[u8], at: usize) -> Result<(u64, usize), Unfit>
 
 /// What the scheme dtn has: 0 for nobody, or a text.
 #[tactic(auto, unfolding(bundle7::specs::Eid::dtn_name))]
-fn dtn_at(text: &[u8], at: usize) -> Result<(Source<'_>, usize), Unfit>
+fn dtn_at(text: &[u8], at: usize) -> Result<(LentEndpoint<'_>, usize), Unfit>
     requires { at ≤ length text.now }
     ensures within { IfOk result (λ x. IsOn at text.now x.1) }
-    ensures exact { Gives source_of refusal result
+    ensures exact { Gives endpoint_of refusal result
         (read (with_cause AdminFault.BadAdmin dtn_name) text.now at) }
 {
     let (lead, at) = dtn_lead_at(text, at)?;
     match lead {
-        UnsignedOrText::Unsigned(_) => Ok((Source::Null, at)),
+        UnsignedOrText::Unsigned(_) => Ok((LentEndpoint::Null, at)),
         UnsignedOrText::Text(count) => {
             let (ssp, at) = ssp_at(text, at, count)?;
-            Ok((Source::Dtn(ssp), at))
+            Ok((LentEndpoint::Dtn(ssp), at))
         }
     }
 }
@@ -92,14 +92,14 @@ fn ssp_at(text: &[u8], at: usize, count: u64) -> Result<(&[u8], usize), Unfit>
 
 /// What the scheme ipn has: the numbers of node and service.
 #[tactic(auto, unfolding(bundle7::specs::Eid::ipn_name))]
-fn ipn_at(text: &[u8], at: usize) -> Result<(Source<'_>, usize), Unfit>
+fn ipn_at(text: &[u8], at: usize) -> Result<(LentEndpoint<'_>, usize), Unfit>
     requires { at ≤ length text.now }
     ensures within { IfOk result (λ x. IsOn at text.now x.1) }
-    ensures exact { Gives source_of refusal result
+    ensures exact { Gives endpoint_of refusal result
         (read (with_cause AdminFault.BadAdmin ipn_name) text.now at) }
 {
     let (_, at) = exactly(text, at, ARRAY, 2)?;
     let (node, at) = unsigned(text, at)?;
     let (service, at) = unsigned(text, at)?;
-    Ok((Source::Ipn { node, service }, at))
+    Ok((LentEndpoint::Ipn { node, service }, at))
 }

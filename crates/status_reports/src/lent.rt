@@ -2,14 +2,14 @@
 
 ghost use Rattle.std.specs.Prelude.{◌≡◌, IfOk, OnErr};
 ghost use Rattle.endpoint.specs.Endpoints.{IsDtn};
-ghost use Rattle.status_reports.specs.Views.{source_of};
+ghost use Rattle.status_reports.specs.Views.{endpoint_of};
 
 use endpoint::{Endpoint, Octets};
 use std::alloc::{AllocError, Global};
 
 /// An endpoint whose octets are lent out of the body.
 #[derive(Clone, Copy, Debug)]
-pub enum Source<'a> {
+pub enum LentEndpoint<'a> {
     /// Nobody.
     Null,
     /// A name of the scheme ipn.
@@ -23,16 +23,16 @@ pub enum Source<'a> {
     Dtn(&'a [u8]),
 }
 
-impl Source<'_> {
+impl LentEndpoint<'_> {
     /// The endpoint, with octets of its own. Only a name of the scheme dtn takes memory.
     pub fn owned(self, alloc: Global) -> Result<Endpoint, AllocError>
-        ensures owned { IfOk result (λ endpoint. endpoint ≡ source_of self.entry) }
-        ensures memory { OnErr result (IsDtn (source_of self.entry)) }
+        ensures owned { IfOk result (λ endpoint. endpoint ≡ endpoint_of self.entry) }
+        ensures memory { OnErr result (IsDtn (endpoint_of self.entry)) }
     {
         Ok(match self {
-            Source::Null => Endpoint::Null,
-            Source::Ipn { node, service } => Endpoint::Ipn { node, service },
-            Source::Dtn(ssp) => Endpoint::Dtn(Octets::from_slice(alloc, ssp)?),
+            LentEndpoint::Null => Endpoint::Null,
+            LentEndpoint::Ipn { node, service } => Endpoint::Ipn { node, service },
+            LentEndpoint::Dtn(ssp) => Endpoint::Dtn(Octets::from_slice(alloc, ssp)?),
         })
     }
 }

@@ -1,4 +1,7 @@
 -- What public clauses cite, in reading order.
 pub mod Words
 pub mod Lines
+pub mod Events
 pub mod Fault
+-- What only ties code to it.
+pub mod Ties

@@ -1,16 +1,29 @@
-//! The lines of transcripts: what happened, as text.
+//! The lines of scripts and transcripts: what a script makes happen, and what happened.
 //!
-//! A line is words separated by single spaces, and LF: numbers are decimal without leading zeros,
-//! octets are hex in lower case and stand last. [`Line`] is what a line says, and [`write_line`]
-//! appends it to a transcript.
+//! [`read_line`] reads a line of a script for two engines and a gate between them, and
+//! [`read_node_line`] one for a single engine. A line is words separated by single spaces: numbers
+//! are decimal without leading zeros and below 2^64, octets are hex of either case. A line is
+//! judged before memory is taken for it, so that a refusal costs none.
 //!
-//! Which lines there are in a run, and in which order, is not known here.
+//! [`write_line`] appends a line of a transcript; its octets are written in lower case.
+//!
+//! Which line may follow which, where a run ends, and the lines of the other commands are not known
+//! here.
 #![tactic(auto)]
 
+mod event;
 mod fault;
+mod hexadecimal;
+mod judging;
 mod line;
+mod numeral;
+mod path;
+mod reading;
+mod words;
 mod writing;
 
+pub use event::{Event, NodeEvent};
 pub use fault::LineFault;
 pub use line::{Line, Route, Site};
+pub use reading::{read_line, read_node_line};
 pub use writing::write_line;

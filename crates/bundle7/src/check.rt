@@ -13,26 +13,14 @@ use crc_fields::{Register16, Register32};
 use wire_fields::BYTE_STRING;
 
 /// The check of this type at the end of the block that begins at `start`; nothing for type 0.
-#[tactic(auto, unfolding(crate::specs::Check::crc_field))]
 pub(crate) fn crc_at(text: &[u8], at: usize, crc: u8, start: usize) -> Result<((), usize), Refused7>
     requires place { at ≤ length text.now }
     requires order { start ≤ at }
     ensures within { IfOk result (λ x. IsOn at text.now x.1) }
     ensures exact { Gives (λ _. tt) refused result (read (crc_field crc start) text.now at) }
 {
-    match crc {
-        0 => Ok(((), at)),
-        1 => {
-            let (_, at) = exactly(text, at, BYTE_STRING, 2, Cause7::Crc)?;
-            let check = sixteen(&text[start..at]);
-            matches_at(text, at, &check)
-        }
-        _ => {
-            let (_, at) = exactly(text, at, BYTE_STRING, 4, Cause7::Crc)?;
-            let check = thirty_two(&text[start..at]);
-            matches_at(text, at, &check)
-        }
-    }
+    let sum = Sum::new(crc, start).up_to(text, at);
+    check_at(text, sum)
 }
 
 /// The octets of a check, which are these.

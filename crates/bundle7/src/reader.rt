@@ -47,9 +47,10 @@ pub(crate) struct Held {
 
 /// A reader of a stream of bundles, which keeps the octets of at most one unfinished bundle.
 ///
-/// How the stream is cut into pieces makes no difference, and a piece costs what its octets cost: no
-/// body is looked at before it is whole, none is looked at twice, and a check is computed once a block,
-/// as its octets come. Places count from the first octet that was taken.
+/// How the stream is cut into pieces makes no difference, and judging a piece costs what its octets
+/// cost: no body is looked at before it is whole, none is looked at twice, and a block is summed for its
+/// check as its octets come. [`Reader7::feed`] besides decodes a bundle when it is whole. Places count
+/// from the first octet that was taken.
 #[derive(Drop)]
 pub struct Reader7 {
     held: Held,

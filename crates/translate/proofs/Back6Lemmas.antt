@@ -115,6 +115,10 @@ before6-others full are =
     (residue-stands full (needs_residue6 full) refl).1
     (no-payloads6 (take (before_payload full) full.exts) (All-take IsExt (before_payload full) full.exts are))
 
+pub after6-others : (full : Full) → All IsExt full.exts → All (λ block. is_payload block ≡ false) (after6 full)
+unfolding after6
+after6-others full are = no-payloads6 (drop (before_payload full) full.exts) (All-drop IsExt (before_payload full) full.exts are)
+
 -- the payload of the view is that of the record
 pub payload6-back : (full : Full) → All IsExt full.exts → payload_in (blocks6_of full) ≡ payload6_of full
 payload6-back full are =

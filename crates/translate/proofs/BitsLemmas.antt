@@ -98,7 +98,7 @@ one_or_none zero hp is = refl
 one_or_none (suc zero) hp is = absurd (cc)
 one_or_none (suc (suc p)) hp is = absurd (omega (arith, hp))
 
-min-zero : (p q : ℕ) → q ≡ 0 → min p q ≡ 0
+pub min-zero : (p q : ℕ) → q ≡ 0 → min p q ≡ 0
 min-zero p q none = omega (arith, none)
 
 pub without-bit : (k f : ℕ) → f < 2 ^ 64 → has_bit k f ≡ false → is_without (2 ^ k) f ≡ true

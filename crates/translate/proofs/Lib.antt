@@ -13,3 +13,6 @@ pub mod ReadLemmas
 pub mod FewLemmas
 pub mod BackLaws
 pub mod LoopLemmas
+pub mod Legal6Lemmas
+pub mod Legal7Lemmas
+pub mod MadeLemmas

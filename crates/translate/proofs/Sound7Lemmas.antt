@@ -289,7 +289,7 @@ fragment-is (Some part) block is within payload =
     let one : (block.kind == 1) ≡ true = eq-eqb block.kind 1 payload in
     (is.1, leb-true (part.offset + length block.body) part.total (rw one at within))
 
-bit-zero : (flags : ℕ) → has_bit 0 flags ≡ is_fragment flags
+pub bit-zero : (flags : ℕ) → has_bit 0 flags ≡ is_fragment flags
 bit-zero flags = ap (λ n. eqb (n % 2) 1) (whole flags)
   where
     whole : (n : ℕ) → n / 1 ≡ n

@@ -170,12 +170,12 @@ wraps6-stand full sound = fine-by full (needs_residue6 full) refl sound
 
 -- ---- flags
 
-clear-within : (k m a : ℕ) → is_within m a ≡ true → bit_at m k ≡ 0 → bit_at a k ≡ 0
+pub clear-within : (k m a : ℕ) → is_within m a ≡ true → bit_at m k ≡ 0 → bit_at a k ≡ 0
 clear-within k m a within none =
     let same : bit_and a m ≡ a = eqb-true (bit_and a m) a within in
     ap (λ x. bit_at x k) (sym same) ∙ bit_at_and a m k ∙ ap (λ x. min (bit_at a k) x) none ∙ omega arith
 
-clear-without : (k m b : ℕ) → is_without m b ≡ true → bit_at m k ≡ 1 → bit_at b k ≡ 0
+pub clear-without : (k m b : ℕ) → is_without m b ≡ true → bit_at m k ≡ 1 → bit_at b k ≡ 0
 clear-without k m b without one =
     let none : bit_and b m ≡ 0 = eqb-true (bit_and b m) 0 without in
     let low : min (bit_at b k) 1 ≡ 0 = ap (λ x. min (bit_at b k) x) (sym one) ∙ sym (bit_at_and b m k) ∙ ap (λ x. bit_at x k) none ∙ bit_at-zero k in

@@ -9,5 +9,6 @@ pub mod Reading6
 pub mod Reading7
 pub mod Paired
 pub mod Translation
+pub mod Legal
 -- what only ties code to it
 pub mod Views

@@ -1,5 +1,6 @@
 //! Laws of the translation.
 
+ghost use Rattle.translate.specs.Legal.{View6IsLegal, View7IsLegal};
 ghost use Rattle.translate.specs.Translation.{ReadsSoundly6, ReadsSoundly7, View6Reads, View7Reads, NoMoreBlocks, ThereAndBack, SaysTheSame};
 
 /// A legal version 6 bundle that isn't refused reads as a sound record.
@@ -36,4 +37,14 @@ pub fn there_and_back()
 /// paired.
 pub fn says_the_same()
     ensures { SaysTheSame }
+{}
+
+/// A version 6 view is a legal bundle.
+pub fn view6_is_legal()
+    ensures { View6IsLegal }
+{}
+
+/// A version 7 view is a legal bundle.
+pub fn view7_is_legal()
+    ensures { View7IsLegal }
 {}

@@ -2,9 +2,15 @@ use Rattle.std.proofs.Common.{refl, sym, subst}
 use Rattle.bundle_meaning.specs.Valid.{IsValid}
 use Rattle.translate.proofs.Sound7Lemmas.{sound7}
 use Rattle.translate.proofs.BackLaws.{unrefused-own7}
+use Rattle.translate.proofs.MadeLemmas.{norm7-legal}
 use Rattle.translate.proofs.translation.norm7.Goals as goal
 
-pub bundle7_of-requires : goal.bundle7_of-requires
-bundle7_of-requires c =
+pub made7-requires : goal.made7-requires
+made7-requires c =
     subst IsValid (sym c.in_ok-full7-in-None.ensures)
     (sound7 c.args.bundle.now c.requires (c.in-None.ensures.octets refl) (unrefused-own7 c.args.bundle.now (sym c.in-None.ensures.exact))).valid
+
+pub returns-in_ok-made7-in-None-clause-legal : goal.returns-in_ok-made7-in-None-clause-legal
+returns-in_ok-made7-in-None-clause-legal c =
+    norm7-legal c.args.bundle.now c.in_ok-full7-in-None.field-0 c.in_ok-made7-in-None.field-0 c.requires (c.in-None.ensures.octets refl)
+    (sym c.in-None.ensures.exact) c.in_ok-full7-in-None.ensures c.in_ok-made7-in-None.ensures.view c.in_ok-made7-in-None.ensures.sized

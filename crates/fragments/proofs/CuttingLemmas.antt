@@ -64,7 +64,7 @@ lie-from full size i (suc n) =
     ∙ sym (take-add size (n * size) (drop (i * size) octets)) ∙ ap (λ k. take k (drop (i * size) octets)) sum
 
 -- there is room in them for all octets
-reaches-end : (size : ℕ) (octets : List ℕ) → 0 < size → length octets ≤ how_many size octets * size
+pub reaches-end : (size : ℕ) (octets : List ℕ) → 0 < size → length octets ≤ how_many size octets * size
 reaches-end size octets some =
     let low : length octets - 1 < (length octets - 1) / size * size + size = lt-div-mul-add some in
     let sum : ((length octets - 1) / size + 1) * size ≡ (length octets - 1) / size * size + size =

@@ -5,3 +5,4 @@ pub mod GapLemmas
 pub mod LogLemmas
 pub mod FilledLemmas
 pub mod JoinLemmas
+pub mod AgainLemmas

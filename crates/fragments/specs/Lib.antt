@@ -3,6 +3,7 @@ pub mod Cutting
 pub mod Ends
 pub mod Cells
 pub mod Joining
+pub mod Again
 pub mod Word
 -- What ties code to it.
 pub mod Laid

@@ -5,6 +5,7 @@ ghost use Rattle.bundle_meaning.specs.Valid.{IsValid};
 ghost use Rattle.fragments.specs.declared.limits.TheConstants.{TOTAL_MAX, NAMES_MAX};
 ghost use Rattle.fragments.specs.Cells.{stop_of};
 ghost use Rattle.fragments.specs.Cutting.{octets_of};
+ghost use Rattle.fragments.specs.Again.{JoinsAgain};
 ghost use Rattle.fragments.specs.Joining.{index_of, open_join, others, open_total, accepted, is_repeat, started, Adds, TakesIn};
 
 use crate::cutting::octets_of;
@@ -73,6 +74,19 @@ impl Joiner {
         requires valid { IsValid full.now }
 
         // What is answered, and what is kept then. A refusal leaves all as it was.
+        ensures adds { Adds self.old.joins full.now result self.new }
+
+        // The pieces of a record, in any order and with repeats, give it with the last that was missing.
+        ensures joins_again { JoinsAgain self.old.joins full.now result }
+        ensures bounded { length self.new.joins ≤ NAMES_MAX }
+    {
+        self.added(full)
+    }
+
+    /// The same, of which the law of pieces is a consequence.
+    fn added(&mut self, full: &Full) -> Result<Joined, JoinRefused>
+        requires whole { self.old.spent ≡ false }
+        requires valid { IsValid full.now }
         ensures adds { Adds self.old.joins full.now result self.new }
         ensures bounded { length self.new.joins ≤ NAMES_MAX }
     {

@@ -1,8 +1,15 @@
 //! Laws of the definitions. Each function does nothing: its contract is a law.
 
 ghost use Rattle.fragments.specs.Ends.{LieEndToEnd};
+ghost use Rattle.fragments.specs.Again.{PiecesJoinAgain};
 
 /// The octets of a record's pieces, one after another, are those of its payload.
 pub fn pieces_lie_end_to_end()
     ensures { LieEndToEnd }
+{}
+
+/// The pieces of a record, in any order and with repeats, give that record with the last one that was
+/// missing, and nothing before.
+pub fn pieces_join_again()
+    ensures { PiecesJoinAgain }
 {}

@@ -25,5 +25,5 @@ pub use cutting::cut;
 pub use fault::{CutRefused, JoinRefused};
 pub use fulls::Fulls;
 pub use joining::{Joined, Joiner};
-pub use laws::pieces_lie_end_to_end;
+pub use laws::{pieces_join_again, pieces_lie_end_to_end};
 pub use limits::{NAMES_MAX, TOTAL_MAX};

@@ -29,7 +29,7 @@ use Rattle.translate.proofs.ReadLemmas.{read6-is, read7-is}
 
 -- ---- version 6: where a residue is needed, there was one
 
-no-residue6 : (blocks : List Block6) → list_any is_residue6 blocks ≡ false → residue_in6 blocks ≡ no_residue6
+pub no-residue6 : (blocks : List Block6) → list_any is_residue6 blocks ≡ false → residue_in6 blocks ≡ no_residue6
 unfolding residue_in6
 no-residue6 [] none = refl
 no-residue6 (block ∷ blocks) none =

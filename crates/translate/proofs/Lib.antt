@@ -16,3 +16,4 @@ pub mod LoopLemmas
 pub mod Legal6Lemmas
 pub mod Legal7Lemmas
 pub mod MadeLemmas
+pub mod PlainLaws

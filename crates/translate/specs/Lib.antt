@@ -10,5 +10,6 @@ pub mod Reading7
 pub mod Paired
 pub mod Translation
 pub mod Legal
+pub mod Normal
 -- what only ties code to it
 pub mod Views

@@ -1,7 +1,8 @@
 //! Laws of the translation.
 
 ghost use Rattle.translate.specs.Legal.{View6IsLegal, View7IsLegal};
-ghost use Rattle.translate.specs.Translation.{ReadsSoundly6, ReadsSoundly7, View6Reads, View7Reads, NoMoreBlocks, ThereAndBack, SaysTheSame};
+ghost use Rattle.translate.specs.Normal.{ViewIsNormal};
+ghost use Rattle.translate.specs.Translation.{ReadsSoundly6, ReadsSoundly7, View6Reads, View7Reads, NoMoreBlocks, ThereAndBack, SaysTheSame, PlainIsNormal};
 
 /// A legal version 6 bundle that isn't refused reads as a sound record.
 pub fn reads_soundly6()
@@ -47,4 +48,14 @@ pub fn view6_is_legal()
 /// A version 7 view is a legal bundle.
 pub fn view7_is_legal()
     ensures { View7IsLegal }
+{}
+
+/// A bundle without blocks of the gateway's own is its normal form.
+pub fn plain_is_normal()
+    ensures { PlainIsNormal }
+{}
+
+/// A view is its normal form.
+pub fn view_is_normal()
+    ensures { ViewIsNormal }
 {}

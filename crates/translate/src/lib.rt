@@ -22,8 +22,8 @@ mod refused;
 mod translation;
 
 pub use laws::{
-    no_more_blocks, reads_soundly6, reads_soundly7, says_the_same, there_and_back, view6_is_legal,
-    view6_reads, view7_is_legal, view7_reads,
+    no_more_blocks, plain_is_normal, reads_soundly6, reads_soundly7, says_the_same, there_and_back,
+    view_is_normal, view6_is_legal, view6_reads, view7_is_legal, view7_reads,
 };
 pub use new_reading::from7;
 pub use new_view::view7;

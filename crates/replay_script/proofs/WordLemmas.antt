@@ -1,11 +1,15 @@
 -- The words of a line, cut at its first space.
 
-use Rattle.std.proofs.Common.{◌≡◌, ℕ, ◌+◌, Bool, true, false, List, [], ◌∷◌, length, take, drop, ltb, None, Some, refl, arith}
+use Rattle.std.proofs.Common.{ap, ◌∙◌, ◌≡◌, ℕ, ◌+◌, Bool, true, false, List, [], ◌∷◌, ◌++◌, length, take, drop, ltb, None, Some, refl, arith}
 use Rattle.std.proofs.lemmas.Bool.{ltb-true, ltb-false}
-use Rattle.std.proofs.lemmas.List.Splits.{slice_split_first, slice_split_none}
+use Rattle.std.proofs.lemmas.List.{append-nil}
+use Rattle.std.proofs.lemmas.List.Elements.{All-head, All-tail}
+use Rattle.std.proofs.lemmas.List.Splits.{slice_split_first, slice_split_none, slice_split_at, join_with_byte-slice_split}
 use Rattle.std.proofs.lemmas.List.Sums.{fails_before_first}
 use Rattle.std.specs.List.{position, position_or_len}
-use Rattle.replay_script.specs.Words.{is_space, words_of}
+use Rattle.std.specs.List.{join_with_byte}
+use Rattle.replay_script.specs.Laws.{HasNoSpace, LinesAreSpacedWords, SpacedWordsAreRead}
+use Rattle.replay_script.specs.Words.{is_space, words_of, spaced}
 
 pub words-some : (text : List ℕ) (at : ℕ) → position is_space text ≡ Some at → words_of text ≡ take at text ∷ words_of (drop (at + 1) text)
 unfolding words_of
@@ -27,3 +31,22 @@ words-none text is = by (ltb (position_or_len is_space text) (length text)) refl
     by false past =
         let all = ltb-false (position_or_len is_space text) (length text) past in
         slice_split_none is_space text (λ k d low. fails_before_first is_space text k d (omega (arith, all, low)))
+
+-- ---- the laws
+
+spaced-joined : (words : List (List ℕ)) → spaced words ≡ join_with_byte 32 words
+spaced-joined [] = refl
+spaced-joined (word ∷ []) = append-nil word
+spaced-joined (word ∷ next ∷ words) = ap (λ rest. word ++ (32 ∷ rest)) (spaced-joined (next ∷ words))
+
+pub lines_are_spaced_words : LinesAreSpacedWords
+unfolding words_of
+lines_are_spaced_words line = spaced-joined (words_of line) ∙ join_with_byte-slice_split 32 line
+
+pub spaced_words_are_read : SpacedWordsAreRead
+unfolding words_of
+spaced_words_are_read word [] all =
+    ap words_of (append-nil word) ∙ slice_split_none is_space word (All-head HasNoSpace word [] all)
+spaced_words_are_read word (next ∷ words) all =
+    slice_split_at is_space word 32 (spaced (next ∷ words)) (All-head HasNoSpace word (next ∷ words) all) refl
+    ∙ ap (λ rest. word ∷ rest) (spaced_words_are_read next words (All-tail HasNoSpace word (next ∷ words) all))

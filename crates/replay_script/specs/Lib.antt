@@ -3,5 +3,6 @@ pub mod Words
 pub mod Lines
 pub mod Events
 pub mod Fault
+pub mod Laws
 -- What only ties code to it.
 pub mod Ties

@@ -15,6 +15,7 @@ mod event;
 mod fault;
 mod hexadecimal;
 mod judging;
+pub mod laws;
 mod line;
 mod numeral;
 mod path;

@@ -37,7 +37,7 @@ use Rattle.fragments.proofs.CellLemmas.{cell-filled, length-filled, octet_in-non
 
 -- ---- cells
 
-cell-with : (cells : List (Option ℕ)) (offset : ℕ) (body : List ℕ) (k : ℕ)
+pub cell-with : (cells : List (Option ℕ)) (offset : ℕ) (body : List ℕ) (k : ℕ)
     → cell (with_octets cells offset body) k ≡ or_else (cell cells k) (octet_in offset body k)
 cell-with cells offset [] k = rw (octet_in-none offset k) (sym (or_else-none (cell cells k)))
 cell-with cells offset (octet ∷ body) k = cell-filled cells offset (octet ∷ body) k

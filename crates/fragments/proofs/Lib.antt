@@ -6,3 +6,4 @@ pub mod LogLemmas
 pub mod FilledLemmas
 pub mod JoinLemmas
 pub mod AgainLemmas
+pub mod BegunLemmas

@@ -1,6 +1,6 @@
 -- What the pieces of a record give when they are joined.
 
-use Rattle.std.specs.Prelude.{◌≡◌, ℕ, ◌<◌, ◌≤◌, ◌==◌, Bool, true, false, List, [], ◌∷◌, length, None, Result, Ok, Err, ◌⊎◌}
+use Rattle.std.specs.Prelude.{◌≡◌, ℕ, ◌<◌, ◌≤◌, ◌==◌, Bool, true, false, List, [], ◌∷◌, length, None, is_some, Result, Ok, Err, ◌⊎◌}
 use Rattle.std.specs.List.{list_any}
 use Rattle.endpoint.specs.declared.extent.Fragment.{Fragment}
 use Rattle.bundle_meaning.specs.declared.full.Full.{Full}
@@ -12,7 +12,8 @@ use Rattle.fragments.specs.declared.join.Join.{Join}
 use Rattle.fragments.specs.declared.joining.Joined.{Joined}
 use Rattle.fragments.specs.declared.joining.Joined.TheVariants as answers
 use Rattle.fragments.specs.Cutting.{octets_of, is_longer, how_many, piece}
-use Rattle.fragments.specs.Joining.{open_join, accepted, answer_to, joins_after}
+use Rattle.fragments.specs.Cells.{whole_octets}
+use Rattle.fragments.specs.Joining.{open_join, accepted, answer_to, joins_after, whole_of, joined_with}
 
 -- ---- one record after another
 
@@ -99,3 +100,18 @@ JoinsAgain state came result = (full : Full) (size : ℕ) (joins : List Join) (e
     → IsOpenAnswer result ⊎ (result ≡ Err refusals.Memory))
     × (HaveAll (count_of full size) (i ∷ earlier)
     → (result ≡ Ok (answers.Whole full)) ⊎ (result ≡ Err refusals.Memory))
+
+-- ---- a whole is there when each place came
+
+-- the joins once some records came, the last one first
+unfoldable pub after_records : List Full → List Join
+after_records [] = []
+after_records (full ∷ earlier) = after (after_records earlier) full
+
+-- With a record that is taken the whole is there if and only if each place below the total has an octet
+-- then: the first fragment with offset 0 came too.
+abbrev pub WholeWhenAllCame : Type 0
+WholeWhenAllCame = (earlier : List Full) (full : Full) (part : Fragment) → IsValid full
+    → accepted (after_records earlier) full.shared ≡ Ok part
+    → is_some (whole_of (joined_with (after_records earlier) full part))
+    ≡ is_some (whole_octets (joined_with (after_records earlier) full part).cells part.total)

@@ -1,7 +1,7 @@
 //! Laws of the definitions. Each function does nothing: its contract is a law.
 
 ghost use Rattle.fragments.specs.Ends.{LieEndToEnd};
-ghost use Rattle.fragments.specs.Again.{PiecesJoinAgain};
+ghost use Rattle.fragments.specs.Again.{PiecesJoinAgain, WholeWhenAllCame};
 
 /// The octets of a record's pieces, one after another, are those of its payload.
 pub fn pieces_lie_end_to_end()
@@ -12,4 +12,10 @@ pub fn pieces_lie_end_to_end()
 /// missing, and nothing before.
 pub fn pieces_join_again()
     ensures { PiecesJoinAgain }
+{}
+
+/// Whichever records came before: with a fragment that is taken the whole is there if and only if each
+/// place below its total has an octet then.
+pub fn whole_when_all_came()
+    ensures { WholeWhenAllCame }
 {}

@@ -7,6 +7,7 @@ use cbor_lite::CborFault;
 use endpoint::EndpointFault;
 use ltp_segment::{PolicyFault, SegmentCause};
 use sdnv::SdnvFault;
+use status_reports::{AdminFault, PairFault};
 use std::alloc::{AllocError, Global};
 use std::fmt::Display;
 use std::test::Fail;
@@ -168,6 +169,29 @@ fn words_of_eids(rt: HostRuntime) -> Result<(), Fail> {
 #[test]
 fn words_of_private_blocks(rt: HostRuntime) -> Result<(), Fail> {
     for (cause, name) in [(BlockFault::Bad, "Bad"), (BlockFault::Memory, "Memory")] {
+        assert!(rt; is_named(rt.alloc(), cause, cause.word(), name)?, "{name}");
+    }
+    Ok(())
+}
+
+/// Why the body of an administrative record is no status report.
+const REPORTS: &[(AdminFault, &str)] = &[
+    (AdminFault::CustodySignal, "CustodySignal"),
+    (AdminFault::AdminUnknown, "AdminUnknown"),
+    (AdminFault::CustodyReport, "CustodyReport"),
+    (AdminFault::BadAdmin, "BadAdmin"),
+    (AdminFault::Memory, "Memory"),
+];
+
+#[test]
+fn words_of_reports(rt: HostRuntime) -> Result<(), Fail> {
+    for &(cause, name) in REPORTS {
+        assert!(rt; is_named(rt.alloc(), cause, cause.word(), name)?, "{name}");
+    }
+    for (cause, name) in [
+        (PairFault::NoCounterpart, "NoCounterpart"),
+        (PairFault::Memory, "Memory"),
+    ] {
         assert!(rt; is_named(rt.alloc(), cause, cause.word(), name)?, "{name}");
     }
     Ok(())

@@ -6,6 +6,9 @@
 //! still to come settle from there. `drive` reads into one buffer, feeds, writes what is settled,
 //! and reads again. It holds the limit on the size of an input for all commands, and how a run
 //! went (`Ran`) is proved here once.
+//!
+//! A command that answers line by line gives a `LineStep`, which answers one line. `LineReader` is
+//! the task over it: it holds the numbers of lines, the limits on them, and the last line's end.
 #![tactic(auto)]
 
 mod driver;

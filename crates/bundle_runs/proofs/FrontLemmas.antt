@@ -6,11 +6,8 @@ use Rattle.bundle6.specs.declared.bundle.Bundle6.{Bundle6}
 use Rattle.bundle6.specs.Table as table6
 use Rattle.bundle7.specs.declared.bundle.Bundle7.{Bundle7}
 use Rattle.bundle7.specs.Table as table7
-use Rattle.bundle7.specs.declared.primary.Primary7.{Primary7}
-use Rattle.bundle7.proofs.SpellingLaws.{eid-spelled}
 use Rattle.bundle_runs.specs.declared.front.Cause.{Cause}
-use Rattle.bundle_runs.specs.Legal.{HasNames, IsLegalFront}
-use Rattle.bundle_runs.specs.Front.{stopped, IsWithin}
+use Rattle.bundle_runs.specs.Front.{stopped, IsWithin, Front}
 
 front-empty : (u v : List ℕ) → [] ≡ u ++ v → u ≡ []
 front-empty [] v is = refl
@@ -45,68 +42,3 @@ pub stopped-within : {C : Type 0} (cause : C → Cause) (at most : ℕ) (s : Sto
     → IsWithin most (stopped cause at s)
 stopped-within cause at most truncated within = within
 stopped-within cause at most (because c) within = within
-
--- ---- the endpoints of a bundle that was read
-
-primary-names : (front w : List ℕ) (p : Primary7) → Spells table7.primary front w p → HasNames p
-unfolding table7.primary table7.names
-primary-names front w p (
-  u,
-  v,
-  start,
-  parts,
-  place,
-  (
-    u1,
-    v1,
-    head,
-    parts1,
-    opening,
-    (
-      u2,
-      v2,
-      who,
-      parts2,
-      (x, y, destination, parts3, first, (x1, y1, source, parts4, second, (x2, y2, report_to, parts5, third, (none, who_is)))),
-      (
-        u3,
-        v3,
-        made,
-        parts6,
-        creation,
-        (
-          u4,
-          v4,
-          lifetime,
-          parts7,
-          number,
-          (
-            u5,
-            v5,
-            fragment,
-            parts8,
-            numbers,
-            (u6, v6, check, parts9, crc, (nothing, is)),
-          ),
-        ),
-      ),
-    ),
-  ),
-) =
-    rw (is, who_is) (record {
-      destination = (eid-spelled (front ++ u ++ u1) x destination first).legal;
-      source = (eid-spelled (front ++ u ++ u1 ++ x) x1 source second).legal;
-      report_to = (eid-spelled (front ++ u ++ u1 ++ x ++ x1) x2 report_to third).legal;
-    })
-
-seven-names : (most : ℕ) (w : List ℕ) (b : Bundle7) → Spells (table7.bundle most) [] w b → HasNames b.primary
-unfolding table7.bundle
-seven-names most w b (u, v, start, parts, mark, (u1, v1, main, parts1, primary, (u2, v2, blocks, parts2, all, (u3, v3, end, parts3, break, (nothing, is))))) =
-    rw is (primary-names u u1 main primary)
-
-pub seven-legal : (text : List ℕ) (b : Bundle7) (k : ℕ) → Begins (table7.bundle 64) text k b → HasNames b.primary
-seven-legal text b k begins = seven-names 64 (take k text) b begins.spells
-
-pub stopped-legal : {C : Type 0} (cause : C → Cause) (at : ℕ) (s : Stop C) → IsLegalFront (stopped cause at s)
-stopped-legal cause at truncated = tt
-stopped-legal cause at (because c) = tt

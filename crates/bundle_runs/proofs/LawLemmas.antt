@@ -1,11 +1,20 @@
--- Bundles and refusals at the front of octets, as the run meets them.
-use Rattle.std.proofs.Common.{◌≡◌, ℕ, zero, suc, ◌+◌, ◌<◌, ◌≤◌, Bool, true, false, eqb, List, [], ◌∷◌, ◌++◌, length, take, drop, slice_index, None, refl, ◌∙◌, ap, arith, Some}
-use Rattle.std.proofs.lemmas.Bool.{eqb-true}
+-- Bundles and refusals at the front of octets, as the run meets them, and the earliest place.
+use Rattle.std.proofs.Common.{◌≡◌, ℕ, zero, suc, ◌+◌, ◌-◌, ◌<◌, ◌≤◌, Bool, true, false, eqb, List, [], ◌∷◌, ◌++◌, length, take, drop, slice_index, Option, None, Some, refl, sym, ◌∙◌, ap, arith, length-drop, length-append, inl, inr}
+use Rattle.std.proofs.lemmas.Bool.{eqb-true, cases_lt}
+use Rattle.std.proofs.lemmas.List.{append-nil, drop-append-le, take-append-le}
+use Rattle.edge_traits.specs.declared.status.Status.{Status}
 use Rattle.edge_traits.specs.declared.status.Status.TheVariants as statuses
+use Rattle.edge_traits.specs.Content.{most_input}
+use Rattle.edge_traits.specs.Settled.{Ends, at_end, goes_on, Settled, nothing_yet, put_before, IsFrontOf, GoesOnAs}
+use Rattle.edge_traits.proofs.AnswerLemmas.{put_before-put_before}
+use Rattle.command_frame.specs.Task.{Settling, IsQuiet, over, GoesOnTo}
+use Rattle.command_frame.specs.Within.{within}
+use Rattle.command_frame.proofs.WithinLemmas.{within-long, within-text, within-now, within-over}
 use Rattle.wire_fields.specs.Format.{Spells}
-use Rattle.wire_fields.specs.Refusal.{Refusal, Begins, because}
+use Rattle.wire_fields.specs.Refusal.{Refusal, Begins, Stop, because, truncated}
 use Rattle.wire_fields.specs.Reading.{IsOctets}
 use Rattle.wire_fields.specs.Words.{needs}
+use Rattle.wire_fields.proofs.TextLemmas.{octets-drop}
 use Rattle.wire_fields.proofs.ReadLemmas.{read-refuses}
 use Rattle.wire_fields.proofs.StayLemmas.{begins-read}
 use Rattle.bundle6.specs.declared.fault.Cause6.{Cause6}
@@ -21,14 +30,12 @@ use Rattle.bundle_runs.specs.declared.front.Bundle.{Bundle}
 use Rattle.bundle_runs.specs.declared.front.Bundle.TheVariants as bundles
 use Rattle.bundle_runs.specs.declared.front.Cause.{Cause}
 use Rattle.bundle_runs.specs.declared.front.Cause.TheVariants as causes
-use Rattle.bundle_runs.specs.declared.front.Front.TheVariants.{Whole, Refused}
-use Rattle.bundle_runs.specs.Front.{front_of, word_of}
-use Rattle.bundle_runs.specs.Answering.{bundles_settle, due}
+use Rattle.bundle_runs.specs.Front.{Front, whole, cut_short, refused, front_of, stopped, word_of, IsWithin, IsFirm}
+use Rattle.bundle_runs.specs.Answering.{settles, settles_from, refused_by}
 use Rattle.bundle_runs.specs.WrittenLines.{bundle_line, refused_line}
-use Rattle.edge_traits.specs.Settled.{put_before}
-use Rattle.bundle_runs.specs.Laws.{TakesBundle6, TakesBundle7, StopsAt6, StopsAt7}
+use Rattle.bundle_runs.specs.Laws.{TakesBundle6, TakesBundle7, StopsAt6, StopsAt7, EndsInside6, EndsInside7, EarliestOctetDecides}
 use Rattle.bundle_runs.proofs.FrontLemmas.{six-within, seven-within}
-use Rattle.bundle_runs.proofs.AnsweringLemmas.{answers-bundle, answers-stop}
+use Rattle.bundle_runs.proofs.FrontsLemmas.{settles-none, settles-whole, settles-refused, settles-cut, front-stays, front-within}
 
 needs-true : {C : Type 0} (b : Bool) (c : C) → needs b c ≡ None → b ≡ true
 needs-true true c is = refl
@@ -55,60 +62,145 @@ unfolding table7.bundle
 first7 most k octets b (u, v, start, parts, (one, mark), rest) =
     front-first k octets u v [] start 0x9F parts one (eqb-true start 0x9F (needs-true (eqb start 0x9F) causes7.Start mark))
 
--- a bundle at the front is answered so
-module _ (command : Command) (longer : Bool) (n at : ℕ) (octets : List ℕ) where
-  takes : (bundle : Bundle) (k : ℕ) → 0 < k → k ≤ length octets → front_of octets ≡ Whole bundle k
-      → bundles_settle command longer 0 n at octets
-      ≡ put_before (bundle_line command bundle k) (bundles_settle command longer 0 (n + 1) (at + k) (drop k octets))
-  takes bundle k some within is =
-      answers-bundle command longer n at k octets (omega arith) some (rw is refl)
-      ∙ ap (λ front. put_before (due command longer n at front).text (bundles_settle command longer 0 (n + 1) (at + k) (drop k octets))) is
-
-  halts : (place : ℕ) (cause : Cause) → 0 < length octets → front_of octets ≡ Refused place cause
-      → bundles_settle command longer 0 n at octets
-      ≡ record { text = refused_line n (at + place) (word_of cause); ends = Some statuses.Refused }
-  halts place cause some is =
-      let stop : bundles_settle command longer 0 n at octets
-      ≡ record { text = (due command longer n at (front_of octets)).text; ends = Some statuses.Refused } =
-      answers-stop command longer n at statuses.Refused octets some (rw is refl) in
-      rw is at stop
-
 front-six : (octets : List ℕ) → slice_index octets 0 ≡ 6 → (b : Bundle6) (k : ℕ) → Begins (table6.bundle 64) octets k b
-    → front_of octets ≡ Whole (bundles.Six b) k
+    → front_of octets ≡ whole (bundles.Six b) k
 unfolding front_of
 front-six octets first b k begins = rw (first, begins-read (table6.bundle 64) octets k b begins) refl
 
 front-seven : (octets : List ℕ) → slice_index octets 0 ≡ 0x9F → (b : Bundle7) (k : ℕ) → Begins (table7.bundle 64) octets k b
-    → front_of octets ≡ Whole (bundles.Seven b) k
+    → front_of octets ≡ whole (bundles.Seven b) k
 unfolding front_of
 front-seven octets first b k begins = rw (first, begins-read (table7.bundle 64) octets k b begins) refl
 
 pub takes_bundle6 : TakesBundle6
-takes_bundle6 command longer n at k octets b begins =
+takes_bundle6 command ends n at k octets b begins =
     let size = six-within octets b k begins in
-    takes command longer n at octets (bundles.Six b) k size.0 size.1 (front-six octets (first6 64 k octets b begins.spells) b k begins)
+    settles-whole command n at ends octets (bundles.Six b) k (front-six octets (first6 64 k octets b begins.spells) b k begins) size.0 size.1
 
 pub takes_bundle7 : TakesBundle7
-takes_bundle7 command longer n at k octets b begins =
+takes_bundle7 command ends n at k octets b begins =
     let size = seven-within octets b k begins in
-    takes command longer n at octets (bundles.Seven b) k size.0 size.1 (front-seven octets (first7 64 k octets b begins.spells) b k begins)
+    settles-whole command n at ends octets (bundles.Seven b) k (front-seven octets (first7 64 k octets b begins.spells) b k begins) size.0 size.1
 
-front-refused6 : (octets : List ℕ) → slice_index octets 0 ≡ 6 → IsOctets octets → (place : ℕ) (cause : Cause6)
-    → Refusal (table6.bundle 64) [] octets place (because cause) → front_of octets ≡ Refused place (causes.Six cause)
+front-refused6 : (octets : List ℕ) → slice_index octets 0 ≡ 6 → IsOctets octets → (place : ℕ) (s : Stop Cause6)
+    → Refusal (table6.bundle 64) [] octets place s → front_of octets ≡ stopped causes.Six place s
 unfolding front_of
-front-refused6 octets first fits place cause refusal =
-    rw (first, read-refuses (table6.bundle 64) [] octets place (because cause) fits refusal) refl
+front-refused6 octets first fits place s refusal =
+    rw (first, read-refuses (table6.bundle 64) [] octets place s fits refusal) refl
 
-front-refused7 : (octets : List ℕ) → slice_index octets 0 ≡ 0x9F → IsOctets octets → (place : ℕ) (cause : Cause7)
-    → Refusal (table7.bundle 64) [] octets place (because cause) → front_of octets ≡ Refused place (causes.Seven cause)
+front-refused7 : (octets : List ℕ) → slice_index octets 0 ≡ 0x9F → IsOctets octets → (place : ℕ) (s : Stop Cause7)
+    → Refusal (table7.bundle 64) [] octets place s → front_of octets ≡ stopped causes.Seven place s
 unfolding front_of
-front-refused7 octets first fits place cause refusal =
-    rw (first, read-refuses (table7.bundle 64) [] octets place (because cause) fits refusal) refl
+front-refused7 octets first fits place s refusal =
+    rw (first, read-refuses (table7.bundle 64) [] octets place s fits refusal) refl
 
 pub stops_at6 : StopsAt6
-stops_at6 command longer n at place octets cause fits first refusal =
-    halts command longer n at octets place (causes.Six cause) (has-some octets 5 first) (front-refused6 octets first fits place cause refusal)
+stops_at6 command ends n at place octets cause fits first refusal =
+    settles-refused command n at ends octets place (causes.Six cause) (has-some octets 5 first) (front-refused6 octets first fits place (because cause) refusal)
 
 pub stops_at7 : StopsAt7
-stops_at7 command longer n at place octets cause fits first refusal =
-    halts command longer n at octets place (causes.Seven cause) (has-some octets 0x9E first) (front-refused7 octets first fits place cause refusal)
+stops_at7 command ends n at place octets cause fits first refusal =
+    settles-refused command n at ends octets place (causes.Seven cause) (has-some octets 0x9E first) (front-refused7 octets first fits place (because cause) refusal)
+
+pub ends_inside6 : EndsInside6
+ends_inside6 command ends n at place octets fits first refusal =
+    settles-cut command n at ends octets place (has-some octets 5 first) (front-refused6 octets first fits place truncated refusal)
+
+pub ends_inside7 : EndsInside7
+ends_inside7 command ends n at place octets fits first refusal =
+    settles-cut command n at ends octets place (has-some octets 0x9E first) (front-refused7 octets first fits place truncated refusal)
+
+-- ---- the earliest place
+
+-- what octets settle while others may follow, and from where what follows goes on
+pub data Goes (settling : Settling) (taken : List ℕ) : Type 0 where
+  waits : (text : List ℕ) (later : Settling) → IsQuiet later → GoesOnTo settling taken text later → Goes settling taken
+  stops : (text : List ℕ) (status : Status) → GoesOnTo settling taken text (over status) → Goes settling taken
+
+module _ (command : Command) where
+  pub goes-refused : (n at place : ℕ) (cause : Cause) (taken : List ℕ) → IsOctets taken → 0 < length taken
+      → front_of taken ≡ refused place cause
+      → GoesOnTo (settles_from command n at) taken (refused_line n (at + place) (word_of cause)) (over statuses.Refused)
+  goes-refused n at place cause taken fits some is ends more =
+      let line = refused_line n (at + place) (word_of cause) in
+      let stays = front-stays taken more fits some (rw is tt) in
+      settles-refused command n at ends (taken ++ more) place cause (omega (arith, length-append taken more, some)) (stays ∙ is)
+      ∙ ap (λ text. record { text = text; ends = Some statuses.Refused }) (sym (append-nil line))
+
+  pub goes-whole : (n at k : ℕ) (bundle : Bundle) (taken : List ℕ) → IsOctets taken → 0 < length taken
+      → front_of taken ≡ whole bundle k → 0 < k → k ≤ length taken → (ends : Ends) (more : List ℕ)
+      → settles_from command n at ends (taken ++ more)
+      ≡ put_before (bundle_line command bundle k) (settles_from command (n + 1) (at + k) ends (drop k taken ++ more))
+  goes-whole n at k bundle taken fits here is some inside ends more =
+      let stays = front-stays taken more fits here (rw is tt) in
+      settles-whole command n at ends (taken ++ more) bundle k (stays ∙ is) some (omega (arith, length-append taken more, inside))
+      ∙ ap (λ left. put_before (bundle_line command bundle k) (settles_from command (n + 1) (at + k) ends left)) (drop-append-le k taken more inside)
+
+  pub goes-cut : (n at place : ℕ) (taken : List ℕ) → 0 < length taken → front_of taken ≡ cut_short place
+      → IsQuiet (λ ends more. settles_from command n at ends (taken ++ more))
+  goes-cut n at place taken some is =
+      ap (settles_from command n at goes_on) (append-nil taken) ∙ settles-cut command n at goes_on taken place some is
+
+  after-whole : (n at k : ℕ) (bundle : Bundle) (taken : List ℕ) → IsOctets taken → 0 < length taken
+      → front_of taken ≡ whole bundle k → 0 < k → k ≤ length taken
+      → Goes (settles_from command (n + 1) (at + k)) (drop k taken) → Goes (settles_from command n at) taken
+  after-whole n at k bundle taken fits here is some inside (waits text later quiet goes) =
+      waits (bundle_line command bundle k ++ text) later quiet (λ ends more.
+      goes-whole n at k bundle taken fits here is some inside ends more
+      ∙ ap (put_before (bundle_line command bundle k)) (goes ends more)
+      ∙ put_before-put_before (bundle_line command bundle k) text (later ends more))
+  after-whole n at k bundle taken fits here is some inside (stops text status goes) =
+      stops (bundle_line command bundle k ++ text) status (λ ends more.
+      goes-whole n at k bundle taken fits here is some inside ends more
+      ∙ ap (put_before (bundle_line command bundle k)) (goes ends more)
+      ∙ put_before-put_before (bundle_line command bundle k) text (over status ends more))
+
+  by-front : (n at : ℕ) (taken : List ℕ) → IsOctets taken → 0 < length taken
+      → (front : Front) → front_of taken ≡ front → IsWithin (length taken) (front_of taken)
+      → ((k : ℕ) → 0 < k → Goes (settles_from command (n + 1) (at + k)) (drop k taken)) → Goes (settles_from command n at) taken
+  by-front n at taken fits here (whole bundle k) is low later =
+      let inside = rw is at low in
+      after-whole n at k bundle taken fits here is inside.0 inside.1 (later k inside.0)
+  by-front n at taken fits here (cut_short place) is low later =
+      waits [] (λ ends more. settles_from command n at ends (taken ++ more)) (goes-cut n at place taken here is) (λ ends more. refl)
+  by-front n at taken fits here (refused place cause) is low later =
+      stops (refused_line n (at + place) (word_of cause)) statuses.Refused (goes-refused n at place cause taken fits here is)
+
+  goes-most : (most n at : ℕ) (taken : List ℕ) → length taken ≤ most → IsOctets taken → Goes (settles_from command n at) taken
+  goes-most most n at [] low fits = waits [] (settles_from command n at) (settles-none command n at goes_on) (λ ends more. refl)
+  goes-most zero n at (octet ∷ octets) low fits = absurd (omega (arith, low))
+  goes-most (suc most) n at (octet ∷ octets) low fits =
+      by-front n at (octet ∷ octets) fits (omega arith) (front_of (octet ∷ octets)) refl (front-within (octet ∷ octets) fits)
+      (λ k some. goes-most most (n + 1) (at + k) (drop k (octet ∷ octets))
+      (omega (arith, low, some, length-drop k (octet ∷ octets))) (octets-drop k (octet ∷ octets) fits))
+
+  goes-front : (most : ℕ) (settling : Settling) (taken : List ℕ) → length taken ≤ most → Goes settling taken
+      → (ends : Ends) (more : List ℕ) → IsFrontOf (within most settling goes_on taken) (within most settling ends (taken ++ more))
+  goes-front most settling taken low (waits text later quiet goes) ends more =
+      rw (within-now settling later taken text goes most low quiet) (within-text settling later taken text goes most low ends more)
+  goes-front most settling taken low (stops text status goes) ends more =
+      let now = within-over settling taken text status goes most low goes_on [] in
+      rw (rw (append-nil taken) at now) (within-over settling taken text status goes most low ends more)
+
+  past-front : (most : ℕ) (settling : Settling) (taken : List ℕ) → most < length taken
+      → (ends : Ends) (more : List ℕ) → within most settling ends (taken ++ more) ≡ within most settling goes_on taken
+  past-front most settling taken past ends more =
+      let long : most < length (taken ++ more) = omega (arith, length-append taken more, past) in
+      rw (within-long most settling ends (taken ++ more) long, within-long most settling goes_on taken past, take-append-le most taken more (omega (arith, past))) refl
+
+  same-front : (s : Settled) → IsFrontOf s s
+  same-front s = by_ends s.ends
+    where
+      by_ends : (ends : Option Status) → GoesOnAs ends s s
+      by_ends None = ([], sym (append-nil s.text))
+      by_ends (Some status) = refl
+
+  earliest : (most : ℕ) (ends : Ends) (taken more : List ℕ) → IsOctets taken
+      → IsFrontOf (within most (settles_from command 1 0) goes_on taken) (within most (settles_from command 1 0) ends (taken ++ more))
+  earliest most ends taken more fits = elim (cases_lt most (length taken)) [
+    | inl past ↦ rw (past-front most (settles_from command 1 0) taken past ends more) (same-front (within most (settles_from command 1 0) goes_on taken))
+    | inr low ↦ goes-front most (settles_from command 1 0) taken low (goes-most (length taken) 1 0 taken (omega arith) fits) ends more
+  ]
+
+pub earliest_decides : (command : Command) → EarliestOctetDecides (settles command)
+earliest_decides command ends taken more fits = earliest command most_input ends taken more fits

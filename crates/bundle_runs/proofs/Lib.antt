@@ -1,6 +1,6 @@
 pub mod FrontLemmas
+pub mod FrontsLemmas
+pub mod TakingLemmas
+pub mod LawLemmas
 pub mod ShowLemmas
 pub mod TextLemmas
-pub mod AnsweringLemmas
-pub mod LawLemmas
-pub mod EndLemmas

@@ -1,68 +1,69 @@
--- What a command answers to an input: a line for each bundle, one after the other.
-use Rattle.std.specs.Prelude.{ℕ, zero, suc, ◌+◌, ◌-◌, nat_lt, Bool, true, false, List, [], ◌∷◌, take, length, codes, Some}
-use Rattle.edge_traits.specs.declared.status.Status.{Status}
+-- What a command answers to an input: its lines for each bundle, one after the other.
+use Rattle.std.specs.Prelude.{ℕ, ◌+◌, List, [], ◌∷◌, ◌++◌, codes, Some}
 use Rattle.edge_traits.specs.declared.status.Status.TheVariants as statuses
 use Rattle.edge_traits.specs.Content.{most_input}
-use Rattle.edge_traits.specs.Settled.{Ends, Settled, put_before, gathered}
+use Rattle.edge_traits.specs.Settled.{Ends, at_end, goes_on, Settled, nothing_yet, put_before}
+use Rattle.command_frame.specs.Within.{within}
 use Rattle.bundle_runs.specs.declared.commands.command.Command.{Command}
-use Rattle.bundle_runs.specs.declared.front.Front.{Front}
-use Rattle.bundle_runs.specs.declared.front.Front.TheVariants.{Whole, CutShort, Refused}
-use Rattle.bundle_runs.specs.declared.answering.Next.{Next}
-use Rattle.bundle_runs.specs.declared.answering.Next.TheVariants.{After, End}
-use Rattle.bundle_runs.specs.Front.{front_of, word_of}
-use Rattle.bundle_runs.specs.WrittenLines.{bundle_line, refused_line}
+use Rattle.bundle_runs.specs.declared.front.Bundle.{Bundle}
+use Rattle.bundle_runs.specs.Front.{word_of, Front, whole, cut_short, refused}
+use Rattle.bundle_runs.specs.Fronts.{fronts_of}
+use Rattle.bundle_runs.specs.WrittenLines.{bundle_line, refused_line, turned_down_line}
 
--- The run ends after the last bundle: an input that passes the limit is answered as such.
-abbrev pub ending : Bool → Status
-ending false = statuses.Done
-ending true = statuses.Limit
+-- ---- one bundle
 
--- a bundle's answer: its text, and how the run goes on
-pub record Due : Type 0 where
-  pub text : List ℕ
-  pub next : Next
+-- what a command says of a bundle: its lines, and the state after it; or the bundle is refused, by
+-- the cause's word
+pub data Said (S : Type 0) : Type 0 where
+  says : List ℕ → S → Said S
+  refuses : List ℕ → Said S
 
-abbrev pub stops : List ℕ → Status → Due
-stops text status = record { text = text; next = End status }
+-- a command says so of a bundle of so many octets that it meets in a state
+abbrev pub Step : Type 0 → Type 0
+Step S = S → Bundle → ℕ → Said S
 
--- The octets end inside bundle n. Where the input goes on past the limit, that is the reason, and
--- the bundle isn't refused.
-abbrev pub due_cut : Bool → ℕ → ℕ → Due
-due_cut false n at = stops (refused_line n at (codes "Truncated")) statuses.Refused
-due_cut true n at = stops [] statuses.Limit
+-- a last line, and the run's end
+abbrev pub refused_by : List ℕ → Settled
+refused_by line = record { text = line; ends = Some statuses.Refused }
 
--- the answer to bundle n, which begins at a place of the input; `longer` says that the input
--- passes the limit
-abbrev pub due : Command → Bool → ℕ → ℕ → Front → Due
-due command longer n at (Whole bundle size) =
-    record { text = bundle_line command bundle size; next = After size }
-due command longer n at (CutShort place) = due_cut longer n (at + place)
-due command longer n at (Refused place cause) =
-    stops (refused_line n (at + place) (word_of cause)) statuses.Refused
+-- what was said of bundle n stands before what follows; a refusal ends the run
+abbrev pub after_said : {S : Type 0} → ℕ → Said S → (S → Settled) → Settled
+after_said n (says text now) later = put_before text (later now)
+after_said n (refuses word) later = refused_by (turned_down_line n word)
 
-abbrev pub after : List ℕ → Next → (ℕ → Settled) → Settled
-after text (After size) later = put_before text (later size)
-after text (End status) later = record { text = text; ends = Some status }
+-- Bundle n is unfinished, in the field at a place: while the input goes on this settles nothing, and
+-- at its end the bundle is refused.
+abbrev pub unfinished : Ends → ℕ → ℕ → Settled
+unfinished goes_on n at = nothing_yet
+unfinished at_end n at = refused_by (refused_line n at (codes "Truncated"))
 
--- The answer to the octets from a place of the input on. So many of them still belong to the
--- bundle before, and are passed; after them bundle n begins.
-unfoldable pub bundles_settle : Command → Bool → (left n at : ℕ) → List ℕ → Settled
-bundles_settle command longer left n at [] = record { text = []; ends = Some (ending longer) }
-bundles_settle command longer (suc left) n at (octet ∷ octets) =
-    bundles_settle command longer left n (at + 1) octets
-bundles_settle command longer zero n at (octet ∷ octets) =
-    let answer = due command longer n at (front_of (octet ∷ octets)) in
-    after answer.text answer.next (λ size. bundles_settle command longer (size - 1) (n + 1) (at + 1) octets)
+-- After the last bundle the run is done, where the input ends.
+abbrev pub after_last : Ends → Settled
+after_last goes_on = nothing_yet
+after_last at_end = record { text = []; ends = Some statuses.Done }
 
--- the answer to an input, of which at most so many octets are looked at
-unfoldable pub answer_within : ℕ → Command → List ℕ → Settled
-answer_within most command input =
-    bundles_settle command (nat_lt most (length input)) 0 1 0 (take most input)
+-- ---- bundle by bundle
 
--- what a command answers to an input
-abbrev pub answer_to : Command → List ℕ → Settled
-answer_to command input = answer_within most_input command input
+-- What fronts settle, of which the first is bundle n and begins at a place of the input: a step for
+-- each bundle, and the first that is refused ends the run.
+unfoldable pub by_bundles : {S : Type 0} → Step S → Ends → S → (n at : ℕ) → List Front → Settled
+by_bundles step ends state n at [] = after_last ends
+by_bundles step ends state n at (whole bundle size ∷ fronts) =
+    after_said n (step state bundle size) (λ now. by_bundles step ends now (n + 1) (at + size) fronts)
+by_bundles step ends state n at (cut_short place ∷ fronts) = unfinished ends n (at + place)
+by_bundles step ends state n at (refused place cause ∷ fronts) =
+    refused_by (refused_line n (at + place) (word_of cause))
 
--- what octets settle of a command's answer: nothing before the input ends
+-- ---- the commands
+
+-- each bundle has its line, and nothing is remembered
+abbrev pub line_by : Command → Step (Unit {0})
+line_by command state bundle size = says (bundle_line command bundle size) tt
+
+-- what octets settle of which the first is at a place of the input, where bundle n begins
+unfoldable pub settles_from : Command → (n at : ℕ) → Ends → List ℕ → Settled
+settles_from command n at ends octets = by_bundles (line_by command) ends tt n at (fronts_of octets)
+
+-- what octets settle of a command's answer
 abbrev pub settles : Command → Ends → List ℕ → Settled
-settles command = gathered (answer_to command)
+settles command = within most_input (settles_from command 1 0)

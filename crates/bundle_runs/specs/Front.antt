@@ -10,8 +10,14 @@ use Rattle.bundle_runs.specs.declared.front.Bundle.{Bundle}
 use Rattle.bundle_runs.specs.declared.front.Bundle.TheVariants as bundles
 use Rattle.bundle_runs.specs.declared.front.Cause.{Cause}
 use Rattle.bundle_runs.specs.declared.front.Cause.TheVariants as causes
-use Rattle.bundle_runs.specs.declared.front.Front.{Front}
-use Rattle.bundle_runs.specs.declared.front.Front.TheVariants.{Whole, CutShort, Refused}
+
+-- What stands at the front of some octets: a bundle, and how many octets it has; or they end inside a
+-- field of a bundle, which begins at a place; or no bundle does, by the place of the first field that
+-- isn't there as it should be, and the cause.
+pub data Front : Type 0 where
+  whole : Bundle → ℕ → Front
+  cut_short : ℕ → Front
+  refused : ℕ → Cause → Front
 
 abbrev pub version_of : Bundle → ℕ
 version_of (bundles.Six bundle) = 6
@@ -24,13 +30,13 @@ word_of (causes.Seven cause) = cause7.word_of cause
 
 -- a refusal of a version's table
 abbrev pub stopped : {C : Type 0} → (C → Cause) → ℕ → Stop C → Front
-stopped cause at truncated = CutShort at
-stopped cause at (because c) = Refused at (cause c)
+stopped cause at truncated = cut_short at
+stopped cause at (because c) = refused at (cause c)
 
 -- what a version's table reads from the front of octets
 abbrev pub front_read : {B C : Type 0}
     → (B → Bundle) → (C → Cause) → Result (B × ℕ) (ℕ × Stop C) → Front
-front_read bundle cause (Ok x) = Whole (bundle x.0) x.1
+front_read bundle cause (Ok x) = whole (bundle x.0) x.1
 front_read bundle cause (Err s) = stopped cause s.0 s.1
 
 -- by the table of version 6, and by that of version 7, each with at most 64 blocks beside the payload
@@ -45,7 +51,7 @@ abbrev pub front_by : ℕ → List ℕ → Front
 front_by first octets =
     if first == 0x06 then front6 octets
     else if first == 0x9F then front7 octets
-    else Refused 0 causes.Version
+    else refused 0 causes.Version
 
 -- what stands at the front of octets, of which there is one
 unfoldable pub front_of : List ℕ → Front
@@ -53,6 +59,12 @@ front_of octets = front_by (slice_index octets 0) octets
 
 -- a bundle has an octet, and all that is said lies within so many octets
 abbrev pub IsWithin : ℕ → Front → Type 0
-IsWithin most (Whole bundle size) = (0 < size) × (size ≤ most)
-IsWithin most (CutShort at) = at ≤ most
-IsWithin most (Refused at cause) = at ≤ most
+IsWithin most (whole bundle size) = (0 < size) × (size ≤ most)
+IsWithin most (cut_short at) = at ≤ most
+IsWithin most (refused at cause) = at ≤ most
+
+-- a bundle and a refusal are settled, whatever octets follow
+abbrev pub IsFirm : Front → Type 0
+IsFirm (whole bundle size) = Unit {0}
+IsFirm (cut_short at) = ⊥
+IsFirm (refused at cause) = Unit {0}

@@ -1,8 +1,9 @@
 pub mod Front
+pub mod Fronts
 pub mod Show
 pub mod WrittenLines
 pub mod Answering
 pub mod Laws
 -- what only ties code to these
 pub mod Legal
-pub mod Written
+pub mod Taking

@@ -26,3 +26,7 @@ bundle_line Show bundle size = show_line bundle
 abbrev pub refused_line : ℕ → ℕ → List ℕ → List ℕ
 refused_line n at word = joined
     (codes "refused " ∷ decimal n ∷ codes " " ∷ decimal at ∷ codes " " ∷ word ∷ codes "\n" ∷ [])
+
+-- the command refuses bundle n, which is valid
+abbrev pub turned_down_line : ℕ → List ℕ → List ℕ
+turned_down_line n word = joined (codes "refused " ∷ decimal n ∷ codes " " ∷ word ∷ codes "\n" ∷ [])

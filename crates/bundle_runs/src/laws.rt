@@ -1,12 +1,23 @@
 //! The answer, in the words of the two formats.
-ghost use Rattle.bundle_runs.specs.Laws.{TakesBundle6, TakesBundle7, StopsAt6, StopsAt7};
+ghost use Rattle.bundle_runs.specs.Answering.{settles};
+ghost use Rattle.bundle_runs.specs.Laws.{TakesBundle6, TakesBundle7, StopsAt6, StopsAt7, EndsInside6, EndsInside7, EarliestOctetDecides};
+ghost use Rattle.bundle_runs.specs.declared.commands.command.Command.{Command};
 
 /// Where a bundle stands at the front of the octets that are left, the answer to them is its line
 /// and the answer to the octets after it; where they are refused for a cause, it is the line that
-/// says so, and the run's end.
+/// says so, and the run's end. Where they end inside a bundle they settle nothing while the input
+/// goes on, and at its end the bundle is refused as truncated.
 pub fn answers_bundle_by_bundle()
     ensures six { TakesBundle6 }
     ensures seven { TakesBundle7 }
     ensures refused6 { StopsAt6 }
     ensures refused7 { StopsAt7 }
+    ensures unfinished6 { EndsInside6 }
+    ensures unfinished7 { EndsInside7 }
+{}
+
+/// What octets settle while the input goes on is a front of what they settle with others after them,
+/// and once they settle how the run ends, nothing that follows changes it.
+pub fn earliest_place_decides()
+    ensures { (command : Command) → EarliestOctetDecides (settles command) }
 {}

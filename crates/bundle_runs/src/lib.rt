@@ -6,18 +6,21 @@
 //! octet of a bundle names its version. The first bundle that doesn't decode ends the run, with a
 //! line that says which one it is, the place in the input and the cause.
 //!
-//! What a command answers is one definition from the input to the text and the status
-//! (`specs/Answering.antt`). For now the whole input is read before the first line is written.
+//! What a command answers is one definition from octets to the text and the status
+//! (`specs/Answering.antt`). A [`BundleReader`] is told the octets as they come, and keeps those of at
+//! most one unfinished bundle; `command_frame` drives it, and writes what is settled before it reads on.
 #![tactic(auto)]
 
-mod answering;
+mod bundle_reader;
 mod commands;
 mod front;
 mod laws;
 mod show;
+mod unfinished;
 mod written_lines;
 
+pub use bundle_reader::BundleReader;
 pub use commands::bundles::bundles;
 pub use commands::command::Command;
 pub use front::{Bundle, Cause};
-pub use laws::answers_bundle_by_bundle;
+pub use laws::{answers_bundle_by_bundle, earliest_place_decides};

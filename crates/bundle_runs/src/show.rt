@@ -6,7 +6,8 @@ ghost use Rattle.serde_json.specs.Written.{compact_text};
 ghost use Rattle.std.specs.List.{All};
 ghost use Rattle.endpoint.specs.Endpoints.{IsEndpoint};
 ghost use Rattle.bundle6.specs.Legal.{IsLegal as IsLegalBundle6, IsLegalBlock as IsLegalBlock6};
-ghost use Rattle.bundle_runs.specs.Legal.{IsLegal, HasNames};
+ghost use Rattle.bundle7.specs.Legal.{IsLegalPrimary};
+ghost use Rattle.bundle_runs.specs.Legal.{IsLegal};
 ghost use Rattle.bundle_runs.specs.Show.{shown as data_of, bundle6, bundle7, block6, block7, list_of, name, body, part};
 
 use crate::front::Bundle;
@@ -59,7 +60,7 @@ fn bundle6_value(alloc: Global, bundle: &Bundle6) -> Result<Value, AllocError>
 /// A bundle of version 7.
 #[tactic(auto, unfolding(crate::specs::Show::bundle7))]
 fn bundle7_value(alloc: Global, bundle: &Bundle7) -> Result<Value, AllocError>
-    requires { HasNames bundle.now.primary }
+    requires { IsLegalPrimary bundle.now.primary }
     ensures { IfOk result (λ value. view value ≡ bundle7 bundle.now) }
 {
     let primary = &bundle.primary;

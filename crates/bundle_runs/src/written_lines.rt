@@ -2,39 +2,21 @@
 ghost use Rattle.std.specs.Prelude.{◌≡◌, ◌++◌, OnOk};
 ghost use Rattle.std.specs.String.{string_bytes};
 ghost use Rattle.bundle_runs.specs.Legal.{IsLegal};
-ghost use Rattle.bundle_runs.specs.WrittenLines.{check_line, show_line, bundle_line, refused_line};
+ghost use Rattle.bundle_runs.specs.WrittenLines.{check_line, show_line, refused_line};
 
-use crate::commands::command::Command;
 use crate::front::Bundle;
 use crate::show::shown;
 use std::alloc::{AllocError, Global};
 
-/// What the command says of a bundle of so many octets.
-pub fn write_line(
-    alloc: Global,
-    text: &mut String,
-    command: Command,
-    bundle: &Bundle,
-    size: usize,
-) -> Result<(), AllocError>
-    requires { IsLegal bundle.now }
-    ensures { OnOk result (string_bytes text.new ≡ string_bytes text.old ++ bundle_line command bundle.now size) }
-{
-    match command {
-        Command::Check => write_check(text, bundle.version(), size),
-        Command::Show => write_show(alloc, text, bundle),
-    }
-}
-
 /// The version of a bundle, and how many octets it has.
-fn write_check(text: &mut String, version: u8, size: usize) -> Result<(), AllocError>
+pub fn write_check(text: &mut String, version: u8, size: usize) -> Result<(), AllocError>
     ensures { OnOk result (string_bytes text.new ≡ string_bytes text.old ++ check_line version size) }
 {
     write!(text, "{version} {size}\n")
 }
 
 /// A bundle's values as JSON.
-fn write_show(alloc: Global, text: &mut String, bundle: &Bundle) -> Result<(), AllocError>
+pub fn write_show(alloc: Global, text: &mut String, bundle: &Bundle) -> Result<(), AllocError>
     requires { IsLegal bundle.now }
     ensures { OnOk result (string_bytes text.new ≡ string_bytes text.old ++ show_line bundle.now) }
 {

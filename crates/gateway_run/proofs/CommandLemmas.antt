@@ -15,6 +15,8 @@ use Rattle.command_frame.specs.Within.{within}
 use Rattle.command_frame.proofs.WithinLemmas.{within-front}
 use Rattle.command_frame.proofs.FrontLemmas.{lines_from-front}
 use Rattle.command_frame.proofs.DriveLemmas.{fault-front}
+use Rattle.bundle_runs.specs.Laws.{EarliestOctetDecides}
+use Rattle.bundle_runs.proofs.LawLemmas.{earliest_decides}
 use Rattle.gateway_run.proofs.TranscriptLemmas.{Lawful, received-law}
 
 -- ---- fronts
@@ -85,9 +87,9 @@ keeps_law (Some input) named commands.Receive status left before now is wrote =
 
 -- ---- fronts
 
-pub command-front : (command : Command) → EarliestDecides (settles command)
-command-front commands.Receive = receive-front the_limits most_input
-command-front (commands.Bundles command) = λ ends taken more. (_, refl)
+pub command-front : (command : Command) → EarliestOctetDecides (settles command)
+command-front commands.Receive = λ ends taken more octets. receive-front the_limits most_input ends taken more
+command-front (commands.Bundles command) = earliest_decides command
 
 -- ---- by how a run went
 

@@ -5,6 +5,7 @@ ghost use Rattle.gateway_run.specs.LineContent.{RedPiece};
 ghost use Rattle.command_frame.specs.Within.{within};
 ghost use Rattle.gateway_run.specs.ReceiverLaw.{IsFrontOfBlock};
 ghost use Rattle.edge_traits.specs.Settled.{EarliestDecides};
+ghost use Rattle.bundle_runs.specs.Laws.{EarliestOctetDecides};
 ghost use Rattle.command_frame.specs.Within.{within};
 ghost use Rattle.gateway_run.specs.Receive.{Limits, settles};
 ghost use Rattle.gateway_run.specs.Words.{settles as command_settles};
@@ -18,7 +19,8 @@ pub fn red_part_is_front_of_block()
 
 /// The earliest place decides: what octets settle while the input goes on is a front of what they
 /// settle with any octets after them, and once they settle how the run ends, nothing changes it.
+/// `receive` keeps this of any numbers, and commands on bundles of octets.
 pub fn earliest_place_decides()
     ensures receive { (limits : Limits) (most : ℕ) → EarliestDecides (within most (settles limits)) }
-    ensures commands { (command : Command) → EarliestDecides (command_settles command) }
+    ensures commands { (command : Command) → EarliestOctetDecides (command_settles command) }
 {}

@@ -12,9 +12,8 @@ use command_frame::{LineReader, drive};
 use edge_traits::{Clock, Link, Sink, Source, Status};
 use std::alloc::Global;
 
-/// Answers the command that the words name, from the source to the sink. `receive` writes what the
-/// octets read settle before it reads on; `check` and `show` read their input first. The links and
-/// the clock are for commands to come.
+/// Answers the command that the words name, from the source to the sink, and writes what the
+/// octets read settle before it reads on. The links and the clock are for commands to come.
 pub fn run<S: Source, K: Sink, L: Link, C: Clock>(
     alloc: Global,
     words: &[Word],

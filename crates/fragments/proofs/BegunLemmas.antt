@@ -113,11 +113,11 @@ begun-records (full ∷ earlier) = begun-after (after_records earlier) full (beg
 
 -- ---- what is taken
 
-record IsTaken (joins : List Join) (full : Full) (part : Fragment) : Type 0 where
-  own : full.shared.fragment ≡ Some part
-  same : (joined_with joins full part).total ≡ part.total
+pub record IsTaken (joins : List Join) (full : Full) (part : Fragment) : Type 0 where
+  pub own : full.shared.fragment ≡ Some part
+  pub same : (joined_with joins full part).total ≡ part.total
 
-is-taken : (joins : List Join) (full : Full) (part : Fragment) → accepted joins full.shared ≡ Ok part → IsTaken joins full part
+pub is-taken : (joins : List Join) (full : Full) (part : Fragment) → accepted joins full.shared ≡ Ok part → IsTaken joins full part
 is-taken joins full part taken = by full.shared.fragment (open_join full.shared joins) refl refl taken
   where
     total-of : (kept : Option Join) → open_join full.shared joins ≡ kept → (started kept full.shared part.total).total ≡ part.total → (joined_with joins full part).total ≡ part.total

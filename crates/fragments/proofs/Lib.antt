@@ -7,3 +7,4 @@ pub mod FilledLemmas
 pub mod JoinLemmas
 pub mod AgainLemmas
 pub mod BegunLemmas
+pub mod SmallLemmas

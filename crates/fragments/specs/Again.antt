@@ -1,7 +1,7 @@
 -- What the pieces of a record give when they are joined.
 
 use Rattle.std.specs.Prelude.{◌≡◌, ℕ, ◌<◌, ◌≤◌, ◌==◌, Bool, true, false, List, [], ◌∷◌, length, None, is_some, Result, Ok, Err, ◌⊎◌}
-use Rattle.std.specs.List.{list_any}
+use Rattle.std.specs.List.{list_any, All}
 use Rattle.endpoint.specs.declared.extent.Fragment.{Fragment}
 use Rattle.bundle_meaning.specs.declared.full.Full.{Full}
 use Rattle.bundle_meaning.specs.Valid.{IsValid}
@@ -115,3 +115,12 @@ WholeWhenAllCame = (earlier : List Full) (full : Full) (part : Fragment) → IsV
     → accepted (after_records earlier) full.shared ≡ Ok part
     → is_some (whole_of (joined_with (after_records earlier) full part))
     ≡ is_some (whole_octets (joined_with (after_records earlier) full part).cells part.total)
+
+-- ---- what is kept at most
+
+abbrev pub IsSmall : Join → Type 0
+IsSmall join = join.total ≤ TOTAL_MAX
+
+-- Whichever records came before: each total that is kept is one that is joined.
+abbrev pub TotalsAreSmall : Type 0
+TotalsAreSmall = (earlier : List Full) → All IsSmall (after_records earlier)

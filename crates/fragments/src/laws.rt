@@ -1,7 +1,7 @@
 //! Laws of the definitions. Each function does nothing: its contract is a law.
 
 ghost use Rattle.fragments.specs.Ends.{LieEndToEnd};
-ghost use Rattle.fragments.specs.Again.{PiecesJoinAgain, WholeWhenAllCame};
+ghost use Rattle.fragments.specs.Again.{PiecesJoinAgain, WholeWhenAllCame, TotalsAreSmall};
 
 /// The octets of a record's pieces, one after another, are those of its payload.
 pub fn pieces_lie_end_to_end()
@@ -18,4 +18,10 @@ pub fn pieces_join_again()
 /// place below its total has an octet then.
 pub fn whole_when_all_came()
     ensures { WholeWhenAllCame }
+{}
+
+/// Whichever records came before: each total that a joiner keeps is no more than
+/// [`crate::TOTAL_MAX`].
+pub fn totals_are_small()
+    ensures { TotalsAreSmall }
 {}

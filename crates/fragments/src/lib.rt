@@ -9,8 +9,8 @@
 //! Where extension blocks go is the project's own choice: the first piece has all of them, and each
 //! other one those that are to stand in every fragment.
 //!
-//! The laws of the definitions are [`pieces_lie_end_to_end`], [`pieces_join_again`] and
-//! [`whole_when_all_came`].
+//! The laws of the definitions are [`pieces_lie_end_to_end`], [`pieces_join_again`],
+//! [`whole_when_all_came`] and [`totals_are_small`].
 #![tactic(auto)]
 
 mod cells;
@@ -28,5 +28,5 @@ pub use cutting::cut;
 pub use fault::{CutRefused, JoinRefused};
 pub use fulls::Fulls;
 pub use joining::{Joined, Joiner};
-pub use laws::{pieces_join_again, pieces_lie_end_to_end, whole_when_all_came};
+pub use laws::{pieces_join_again, pieces_lie_end_to_end, totals_are_small, whole_when_all_came};
 pub use limits::{NAMES_MAX, TOTAL_MAX};

@@ -6,9 +6,10 @@
 //! keeps nothing but what came and what it handed up.
 //!
 //! What octets settle of an answer is one definition, with a flag for whether the input ends after
-//! them (`specs/Receive.antt`, `specs/Words.antt`). `receive` answers the octets of each read before
-//! the next, so another program can drive it through pipes, and its memory is that of the sessions
-//! and of one line. The links and the clock are for commands to come, and stay untouched.
+//! them (`specs/Receive.antt`, `specs/Words.antt`). A command is a task of `command_frame`, which
+//! answers the octets of each read before the next, so another program can drive it through pipes.
+//! The memory of `receive` is that of the sessions and of one line. The links and the clock are for
+//! commands to come, and stay untouched.
 #![tactic(auto)]
 
 mod commands;

@@ -196,6 +196,65 @@ fn a_checkpoint_within_the_red_part(rt: HostRuntime) -> Result<(), Fail> {
     Ok(())
 }
 
+/// A checkpoint comes before all other octets, and the red part goes on after it.
+const CHECKPOINT_FIRST: &[Row] = &[
+    (
+        0,
+        "010107000103030800646566",
+        "out 0801070008080600010303\ndue 10000\n",
+    ),
+    (1, "00010700010003616263", "due 10000\n"),
+    (
+        2,
+        "02010700010601090067",
+        "out 0801070009090700010007\nup 61626364656667\ndue 10002\n",
+    ),
+    (3, "0901070009", "over\n"),
+];
+
+#[test]
+fn a_checkpoint_may_come_before_all_data(rt: HostRuntime) -> Result<(), Fail> {
+    assert!(rt; goes(rt.alloc(), &Policy::default(), CHECKPOINT_FIRST)?);
+    Ok(())
+}
+
+/// The greatest serial number, of a checkpoint and of an acknowledgement that closes nothing.
+const GREATEST_SERIAL: &[Row] = &[
+    (
+        0,
+        "030107000100038fffffff7f00616263",
+        "out 08010700088fffffff7f0300010003\nup 616263\ndue 10000\n",
+    ),
+    (1, "090107008fffffff7f", "due 10000\n"),
+    (2, "0901070008", "over\n"),
+];
+
+#[test]
+fn a_serial_may_be_the_greatest(rt: HostRuntime) -> Result<(), Fail> {
+    assert!(rt; goes(rt.alloc(), &Policy::default(), GREATEST_SERIAL)?);
+    Ok(())
+}
+
+/// A moment at which a report was sent again, once more: nothing is due then.
+const STANDING_STILL: &[Row] = &[
+    (
+        0,
+        "030107000100030800616263",
+        "out 0801070008080300010003\nup 616263\ndue 10000\n",
+    ),
+    (0, "", "due 10000\n"),
+    (10_000, "", "out 0801070008080300010003\ndue 30000\n"),
+    (10_000, "", "due 30000\n"),
+    (10_000, "", "due 30000\n"),
+    (10_000, "0901070008", "over\n"),
+];
+
+#[test]
+fn a_moment_may_stand_still(rt: HostRuntime) -> Result<(), Fail> {
+    assert!(rt; goes(rt.alloc(), &Policy::default(), STANDING_STILL)?);
+    Ok(())
+}
+
 /// The red part's end stays where it is, and nothing comes after it. A checkpoint that comes again
 /// has a fresh report, in place of the one before it, and hands nothing up again.
 const MOVING_END: &[Row] = &[

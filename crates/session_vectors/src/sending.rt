@@ -229,6 +229,45 @@ fn what_is_unclaimed_is_sent_again(rt: HostRuntime) -> Result<(), Fail> {
     Ok(())
 }
 
+/// A report with the greatest serial number is answered as any other.
+const GREATEST_SERIAL: &[Row] = &[
+    (
+        1,
+        "080101008fffffff7f020300010201",
+        "out 090101008fffffff7f\nout 03010100010003038fffffff7f616263\ndue 10001\n",
+    ),
+    (
+        2,
+        "080101008fffffff7f030300010003",
+        "out 090101008fffffff7f\nnote Sent 1\nover\n",
+    ),
+];
+
+#[test]
+fn a_serial_may_be_the_greatest(rt: HostRuntime) -> Result<(), Fail> {
+    assert!(rt; goes(rt.alloc(), &Policy::default(), SMALL, GREATEST_SERIAL)?);
+    Ok(())
+}
+
+/// A moment at which the checkpoint was sent again, once more: nothing is due then.
+const STANDING_STILL: &[Row] = &[
+    (0, "", "due 10000\n"),
+    (10_000, "", "out 030101000100030200616263\ndue 30000\n"),
+    (10_000, "", "due 30000\n"),
+    (10_000, "", "due 30000\n"),
+    (
+        10_000,
+        "0801010002020300010003",
+        "out 0901010002\nnote Sent 1\nover\n",
+    ),
+];
+
+#[test]
+fn a_moment_may_stand_still(rt: HostRuntime) -> Result<(), Fail> {
+    assert!(rt; goes(rt.alloc(), &Policy::default(), SMALL, STANDING_STILL)?);
+    Ok(())
+}
+
 /// The receiver's cancel ends the session, and is acknowledged each time.
 const REFUSED: &[Row] = &[
     (1, "0d010100", "due 10000\n"),

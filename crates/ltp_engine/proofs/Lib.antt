@@ -1,0 +1,3 @@
+mod ClosedLemmas
+mod TableLemmas
+mod InboundLemmas

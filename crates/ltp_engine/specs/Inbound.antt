@@ -1,0 +1,128 @@
+-- The steps of the receiving side, over what the code keeps.
+
+use Rattle.std.specs.Prelude.{◌≡◌, ℕ, ◌+◌, Bool, true, false, nat_le, List, [], ◌∷◌, ◌++◌, length}
+use Rattle.std.specs.Prelude.{Option, None, Some, if◌then◌else◌}
+use Rattle.ltp_segment.specs.declared.session.Step.{Step}
+use Rattle.ltp_segment.specs.Policy.{PolicyValue}
+use Rattle.ltp_segment.specs.Values.{PieceValue}
+use Rattle.ltp_session.specs.Step.{Change, stays, keeps, ends, StepValue, noting, note_closed}
+use Rattle.ltp_session.specs.Receiver.{Receiving, Place, is_cancelling, piece_step}
+use Rattle.ltp_session.specs.Table.{find, settled, ticked, ended}
+use Rattle.ltp_session.specs.Engine.{untouched, untouched_all, longest_untouched}
+use Rattle.ltp_session.specs.Views.{answer_of}
+use Rattle.ltp_engine.specs.Closed.{ClosedValue, is_among, also_closed, all_closed}
+use Rattle.ltp_engine.specs.Values.{InboundValue}
+use Rattle.ltp_engine.specs.Tables.{table_of, live_all}
+use Rattle.ltp_engine.specs.Ticks.{receiver_change}
+use Rattle.ltp_engine.specs.declared.inbound.Inbound.{Inbound}
+
+abbrev pub inbound_of : Inbound → InboundValue
+inbound_of i = record {
+  receivers = table_of i.receivers.entries;
+  touched = i.touched.items;
+  closed = i.closed;
+}
+
+-- the code keeps this, and no session of it is over or spent
+pub record Keeps (peer : ℕ) (policy : PolicyValue) (i : Inbound) (v : InboundValue) : Type 0 where
+  pub receivers : i.receivers.entries ≡ live_all peer policy v.receivers
+  pub touched : i.touched.items ≡ v.touched
+  pub closed : i.closed ≡ v.closed
+
+-- the order of touch after a change of session n
+abbrev pub touched_after : ℕ → Change Receiving → List ℕ → List ℕ
+touched_after n stays touched = touched
+touched_after n (keeps r) touched = untouched n touched ++ n ∷ []
+touched_after n ends touched = untouched n touched
+
+-- the closed numbers after it
+abbrev pub closed_after : ℕ → Change Receiving → ClosedValue → ClosedValue
+closed_after n stays c = c
+closed_after n (keeps r) c = c
+closed_after n ends c = also_closed n c
+
+abbrev pub settled_in : InboundValue → ℕ → Change Receiving → InboundValue
+settled_in i n change = record {
+  receivers = settled n change i.receivers;
+  touched = touched_after n change i.touched;
+  closed = closed_after n change i.closed;
+}
+
+-- the session that makes room for another
+unfoldable pub evicted_in : InboundValue → Option ℕ
+evicted_in i =
+    if nat_le 64 (length i.receivers) then longest_untouched i.touched i.receivers else None
+
+abbrev pub with_room : InboundValue → Option ℕ → InboundValue
+with_room i None = i
+with_room i (Some n) = settled_in i n ends
+
+-- the session that is evicted, where one that wasn't kept opens
+abbrev pub evicted_for : InboundValue → Option Receiving → Change Receiving → Option ℕ
+evicted_for i None (keeps r) = evicted_in i
+evicted_for i kept change = None
+
+-- what a receiving session has to know of its engine
+abbrev pub place_in : InboundValue → ℕ → ℕ → Place
+place_in i most n = record {
+  session = n;
+  most = most;
+  closed = is_among i.closed n;
+  full = nat_le 65536 (i.closed.runs + length i.receivers);
+}
+
+-- ---- a step of a session
+
+-- the order of touch once a session is over, or was touched, or neither
+abbrev pub moved : ℕ → Bool → Bool → List ℕ → List ℕ
+moved n true touches touched = untouched n touched
+moved n false true touched = untouched n touched ++ n ∷ []
+moved n false false touched = touched
+
+abbrev pub closed_if : ℕ → Bool → ClosedValue → ClosedValue
+closed_if n true c = also_closed n c
+closed_if n false c = c
+
+-- session n did a step of its definition
+pub record Receives (peer : ℕ) (policy : PolicyValue) (n : ℕ) (step : StepValue Receiving)
+    (old new : Inbound) (told : Step) : Type 0 where
+  pub next : Keeps peer policy new (settled_in (inbound_of old) n step.next)
+  pub says : told ≡ answer_of (record { originator = peer; number = n }) step
+
+-- it did, and another was evicted where it opened
+pub record Takes (peer : ℕ) (policy : PolicyValue) (n : ℕ) (step : StepValue Receiving)
+    (old new : Inbound) (told : Option ℕ × Step) : Type 0 where
+  pub gone : told.0
+      ≡ evicted_for (inbound_of old) (find n (table_of old.receivers.entries)) step.next
+  pub next : Keeps peer policy new
+      (settled_in (with_room (inbound_of old) told.0) n step.next)
+  pub says : told.1 ≡ answer_of (record { originator = peer; number = n }) step
+
+-- what a kept session does about a piece
+abbrev pub kept_piece : PolicyValue → Receiving → PieceValue → ℕ → StepValue Receiving
+kept_piece policy r piece now =
+    if is_cancelling r.phase then noting stays [] note_closed else piece_step policy r piece now
+
+-- a piece came for a session that is kept: it did the definition's step; else nothing happened
+abbrev pub TakesKept : ℕ → PolicyValue → ℕ → PieceValue → ℕ → Inbound → Inbound
+    → Option Receiving → Option Step → Type 0
+TakesKept peer policy n piece now old new None None =
+    Keeps peer policy new (inbound_of old)
+TakesKept peer policy n piece now old new None (Some told) = ⊥
+TakesKept peer policy n piece now old new (Some r) None = ⊥
+TakesKept peer policy n piece now old new (Some r) (Some told) =
+    Receives peer policy n (kept_piece policy r piece now) old new told
+
+abbrev pub TakesNext : ℕ → PolicyValue → ℕ → PieceValue → ℕ → Inbound → Inbound
+    → Option Step → Type 0
+TakesNext peer policy n piece now old new told =
+    TakesKept peer policy n piece now old new (find n (table_of old.receivers.entries)) told
+
+-- ---- all sessions tick
+
+abbrev pub ticked_in : PolicyValue → ℕ → InboundValue → InboundValue
+ticked_in policy now i = record {
+  receivers = ticked (receiver_change policy now) i.receivers;
+  touched = untouched_all (ended (receiver_change policy now) i.receivers) i.touched;
+  closed = all_closed (ended (receiver_change policy now) i.receivers) i.closed;
+}

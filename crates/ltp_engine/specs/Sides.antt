@@ -1,0 +1,26 @@
+-- What a side does about a segment: its session's step, or nothing where it isn't for that side.
+
+use Rattle.std.specs.Prelude.{◌≡◌, ℕ, List, Option, None, Some}
+use Rattle.ltp_segment.specs.declared.session.Step.{Step}
+use Rattle.ltp_segment.specs.Policy.{PolicyValue}
+use Rattle.ltp_session.specs.Step.{StepValue}
+use Rattle.ltp_session.specs.Sender.{Sending}
+use Rattle.ltp_session.specs.Receiver.{Receiving}
+use Rattle.ltp_session.specs.Views.{SessionValue}
+use Rattle.ltp_engine.specs.Tables.{Does}
+use Rattle.ltp_engine.specs.Inbound.{Takes}
+use Rattle.ltp_engine.specs.declared.inbound.Inbound.{Inbound}
+
+abbrev pub SenderDoes : ℕ → PolicyValue → ℕ → Option (StepValue Sending)
+    → List (ℕ × SessionValue Sending) → List (ℕ × SessionValue Sending) → Option Step → Type 0
+SenderDoes own policy n None old new None = new ≡ old
+SenderDoes own policy n None old new (Some told) = ⊥
+SenderDoes own policy n (Some step) old new None = ⊥
+SenderDoes own policy n (Some step) old new (Some told) = Does own policy n step old new told
+
+abbrev pub ReceiverDoes : ℕ → PolicyValue → ℕ → Option (StepValue Receiving)
+    → Inbound → Inbound → Option (Option ℕ × Step) → Type 0
+ReceiverDoes peer policy n None old new None = new ≡ old
+ReceiverDoes peer policy n None old new (Some told) = ⊥
+ReceiverDoes peer policy n (Some step) old new None = ⊥
+ReceiverDoes peer policy n (Some step) old new (Some told) = Takes peer policy n step old new told

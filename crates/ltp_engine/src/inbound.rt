@@ -1,0 +1,540 @@
+//! The receiving side of an engine: its sessions, their order and the closed numbers.
+
+ghost use Rattle.std.specs.Prelude.{◌≡◌, ℕ, ◌<◌, ◌≤◌, ◌^◌, ◌∷◌, [], None, Some, false, length};
+ghost use Rattle.std.specs.Prelude.{IfOk, OnOk};
+ghost use Rattle.std.specs.Prelude.{◌+◌, ◌++◌, nat_le, true, if◌then◌else◌};
+ghost use Rattle.std.specs.BTreeMap.{insert_entry, keys, IsOrdered};
+ghost use Rattle.std.specs.Ordering.{nat_cmp};
+ghost use Rattle.ltp_segment.specs.declared.session.Note.TheVariants as notes;
+ghost use Rattle.ltp_segment.specs.declared.session.TheConstants.{BLOCK_MAX};
+ghost use Rattle.ltp_segment.specs.Kinds.{is_red};
+ghost use Rattle.ltp_segment.specs.Values.{a_receiver_cancel};
+ghost use Rattle.ltp_segment.specs.Policy.{PolicyValue};
+ghost use Rattle.ltp_segment.specs.PolicyViews.{policy_value};
+ghost use Rattle.ltp_segment.specs.Views.{piece_value};
+ghost use Rattle.ltp_session.specs.Cells.{stop_of, is_no_part};
+ghost use Rattle.ltp_session.specs.Table.{find};
+ghost use Rattle.ltp_session.specs.Receiver.{on_report_ack, on_sender_cancel};
+ghost use Rattle.ltp_session.specs.Receiver.{on_receiver_cancel_ack, on_piece, first_piece};
+ghost use Rattle.ltp_session.specs.Receiver.{piece_step, fresh, green_of, ends_block};
+ghost use Rattle.ltp_session.specs.Receiver.{on_receiver_tick, receiver_deadline};
+ghost use Rattle.ltp_session.specs.Step.{unreachable};
+ghost use Rattle.ltp_session.specs.Engine.{untouched, longest_untouched, untouched_all};
+ghost use Rattle.ltp_session.specs.Engine.{tick_segments, tick_remarks, least_deadline};
+ghost use Rattle.ltp_session.specs.Views.{datagrams_of, green_view};
+ghost use Rattle.ltp_engine.specs.Notes.{is_taken};
+ghost use Rattle.ltp_engine.specs.Tables.{table_of, AreLive, Does, swept, is_ended};
+ghost use Rattle.ltp_engine.specs.Closed.{all_closed};
+ghost use Rattle.ltp_engine.specs.Ticks.{receiver_ticked, with_ticks};
+
+use crate::closed::Closed;
+use crate::deadlines::earlier;
+use crate::effects::Effects;
+use crate::outbound::sending;
+use crate::terms::Terms;
+use crate::touched::{forget, touch};
+use endpoint::Octets;
+use ltp_receiver::Receiver;
+use ltp_segment::{
+    BLOCK_MAX, Green, Note, Outs, PieceKind, PieceView, Step, write_cancel, write_cancel_ack,
+};
+use std::alloc::{AllocError, Global};
+use std::collections::BTreeMap;
+
+/// The most receiving sessions that are kept.
+const MOST: usize = 64;
+/// The most runs of closed numbers and receiving sessions together.
+const HISTORY: u64 = 65_536;
+/// The client service that there is.
+const SERVICE: u64 = 1;
+/// The reason of a cancel: there is no such client service.
+const UNREACHABLE: u8 = 1;
+
+/// The receiving side.
+#[derive(Debug, Drop)]
+pub struct Inbound {
+    /// The sessions by their numbers. None of them is over.
+    pub receivers: BTreeMap<u64, Receiver>,
+    /// Their numbers, from the longest untouched to the last touched.
+    pub touched: Vec<u64>,
+    /// The numbers of those that are over.
+    pub closed: Closed,
+}
+
+/// An answer that only notes.
+fn noting(out: Outs, note: Note) -> Step
+    ensures { result ≡ record { out = out; up = None; green = None; note = Some note } }
+{
+    Step {
+        out,
+        up: None,
+        green: None,
+        note: Some(note),
+    }
+}
+
+impl Inbound {
+    ghost use Rattle.ltp_engine.specs.Values.{nothing_received};
+    ghost use Rattle.ltp_engine.specs.Inbound.{inbound_of, Keeps, moved, closed_if, Receives};
+    ghost use Rattle.ltp_engine.specs.Inbound.{Takes, TakesNext, evicted_in, with_room, place_in};
+    ghost use Rattle.ltp_engine.specs.Inbound.{ticked_in};
+
+    /// Nothing was received. It takes no memory.
+    pub fn new(alloc: Global) -> Inbound
+        ensures { (peer : ℕ) (policy : PolicyValue) → Keeps peer policy result nothing_received }
+    {
+        Inbound {
+            receivers: BTreeMap::new(alloc),
+            touched: Vec::new(alloc),
+            closed: Closed::new(alloc),
+        }
+    }
+
+    /// Puts a session in its place after a step: it may be over, or have been touched.
+    fn finish(&mut self, n: u64, over: bool, touches: bool) -> Result<(), AllocError>
+        requires { self.old.closed.runs < 2 ^ 32 }
+        ensures receivers { OnOk result
+            (self.new.receivers.entries ≡ swept n over self.old.receivers.entries) }
+        ensures touched { OnOk result
+            (self.new.touched.items ≡ moved n over touches self.old.touched.items) }
+        ensures closed { OnOk result (self.new.closed ≡ closed_if n over self.old.closed) }
+    {
+        if over {
+            self.receivers.remove(&n);
+            forget(&mut self.touched, n);
+            return self.closed.close(n);
+        }
+        if touches {
+            return touch(&mut self.touched, n);
+        }
+        Ok(())
+    }
+
+    /// The acknowledgement of a report came for a session, which is touched by it.
+    pub(crate) fn acknowledged(
+        &mut self,
+        terms: Terms,
+        n: u64,
+        serial: u64,
+    ) -> Result<Step, AllocError>
+        requires live { AreLive terms.originator (policy_value terms.policy)
+            self.old.receivers.entries }
+        requires runs { self.old.closed.runs < 2 ^ 32 }
+        ensures { IfOk result (Receives terms.originator (policy_value terms.policy) n
+            (on_report_ack (find n (table_of self.old.receivers.entries)) serial)
+            self.old self.new) }
+    {
+        let answer = sending(Outs::new(terms.alloc));
+        let Some(receiver) = self.receivers.get_mut(&n) else {
+            return Ok(answer);
+        };
+        receiver.acknowledged(serial);
+        let over = receiver.is_over();
+        self.finish(n, over, true)?;
+        Ok(answer)
+    }
+
+    /// The acknowledgement of a cancel came for a session.
+    pub(crate) fn cancel_came(&mut self, terms: Terms, n: u64) -> Result<Step, AllocError>
+        requires live { AreLive terms.originator (policy_value terms.policy)
+            self.old.receivers.entries }
+        requires runs { self.old.closed.runs < 2 ^ 32 }
+        ensures { IfOk result (Receives terms.originator (policy_value terms.policy) n
+            (on_receiver_cancel_ack (find n (table_of self.old.receivers.entries)))
+            self.old self.new) }
+    {
+        let answer = sending(Outs::new(terms.alloc));
+        let Some(receiver) = self.receivers.get_mut(&n) else {
+            return Ok(answer);
+        };
+        receiver.cancel_acknowledged();
+        let over = receiver.is_over();
+        self.finish(n, over, false)?;
+        Ok(answer)
+    }
+
+    /// The sender's cancel came for a session: it is acknowledged, and the session is over.
+    pub(crate) fn cancelled(&mut self, terms: Terms, n: u64, reason: u8) -> Result<Step, AllocError>
+        requires live { AreLive terms.originator (policy_value terms.policy)
+            self.old.receivers.entries }
+        requires runs { self.old.closed.runs < 2 ^ 32 }
+        ensures { IfOk result (Receives terms.originator (policy_value terms.policy) n
+            (on_sender_cancel (find n (table_of self.old.receivers.entries)) reason)
+            self.old self.new) }
+    {
+        let mut out = Outs::new(terms.alloc);
+        out.push(write_cancel_ack(terms.alloc, terms.originator, n, true)?)?;
+        // The contract of `len` tells that the numbers ascend.
+        let _kept = self.receivers.len();
+        if !self.receivers.contains_key(&n) {
+            return Ok(sending(out));
+        }
+        self.finish(n, true, false)?;
+        Ok(noting(out, Note::Cancelled { session: n, reason }))
+    }
+
+    /// Whether there is no room for a new session in the record of earlier ones.
+    fn is_full(&self) -> bool
+        requires { self.now.closed.runs < 2 ^ 32 }
+        ensures { result ≡ nat_le 65536
+            (self.now.closed.runs + length self.now.receivers.entries) }
+    {
+        self.closed.runs() + self.receivers.len() as u64 >= HISTORY
+    }
+
+    /// The session that is longest untouched, where it is kept.
+    fn longest_untouched(&self, terms: &Terms) -> Option<u64>
+        requires { AreLive terms.now.originator (policy_value terms.now.policy)
+            self.now.receivers.entries }
+        ensures { result ≡ longest_untouched self.now.touched.items
+            (table_of self.now.receivers.entries) }
+    {
+        let first = *self.touched.first()?;
+        if self.receivers.contains_key(&first) {
+            Some(first)
+        } else {
+            None
+        }
+    }
+
+    /// Makes room for another session: where 64 are kept, the longest untouched one is over.
+    fn make_room(&mut self, terms: Terms) -> Result<Option<u64>, AllocError>
+        requires live { AreLive terms.originator (policy_value terms.policy)
+            self.old.receivers.entries }
+        requires runs { self.old.closed.runs < 2 ^ 32 }
+        ensures gone { IfOk result (λ gone. gone ≡ evicted_in (inbound_of self.old)) }
+        ensures next { IfOk result (λ gone. Keeps terms.originator (policy_value terms.policy)
+            self.new (with_room (inbound_of self.old) gone)) }
+    {
+        if self.receivers.len() < MOST {
+            return Ok(None);
+        }
+        let Some(gone) = self.longest_untouched(&terms) else {
+            return Ok(None);
+        };
+        self.finish(gone, true, false)?;
+        Ok(Some(gone))
+    }
+
+    /// A session is kept from now on, and was touched.
+    fn open(&mut self, n: u64, receiver: Receiver) -> Result<(), AllocError>
+        ensures receivers { OnOk result (self.new.receivers.entries
+            ≡ insert_entry nat_cmp self.old.receivers.entries n receiver) }
+        ensures touched { OnOk result
+            (self.new.touched.items ≡ untouched n self.old.touched.items ++ n ∷ []) }
+        ensures closed { OnOk result (self.new.closed ≡ self.old.closed) }
+    {
+        if self.receivers.insert(n, receiver).is_err() {
+            return Err(AllocError);
+        }
+        touch(&mut self.touched, n)
+    }
+
+    /// A red piece came for a new session, which opens.
+    fn begin(
+        &mut self,
+        terms: Terms,
+        n: u64,
+        piece: &PieceView<'_>,
+        now: u64,
+    ) -> Result<(Option<u64>, Step), AllocError>
+        requires live { AreLive terms.originator (policy_value terms.policy)
+            self.old.receivers.entries }
+        requires runs { self.old.closed.runs < 2 ^ 32 }
+        requires some { 0 < length piece.now.body.now }
+        requires fits { stop_of piece.now.offset piece.now.body.now ≤ BLOCK_MAX }
+        requires moment { now < 2 ^ 62 }
+        requires red { is_red piece.now.kind ≡ true }
+        requires absent { find n (table_of self.old.receivers.entries) ≡ None }
+        ensures { IfOk result (Takes terms.originator (policy_value terms.policy) n
+            (piece_step (policy_value terms.policy) (fresh n) (piece_value piece.now) now)
+            self.old self.new) }
+    {
+        let Terms {
+            alloc,
+            originator,
+            policy,
+        } = terms;
+        let mut receiver = Receiver::new(alloc, originator, n, &policy);
+        let step = receiver.piece(piece, now)?;
+        let gone = self.make_room(terms)?;
+        self.open(n, receiver)?;
+        Ok((gone, step))
+    }
+
+    /// A piece came for a session that isn't kept.
+    fn first_piece(
+        &mut self,
+        terms: Terms,
+        n: u64,
+        piece: &PieceView<'_>,
+        now: u64,
+    ) -> Result<(Option<u64>, Step), AllocError>
+        requires live { AreLive terms.originator (policy_value terms.policy)
+            self.old.receivers.entries }
+        requires runs { self.old.closed.runs < 2 ^ 32 }
+        requires some { 0 < length piece.now.body.now }
+        requires fits { stop_of piece.now.offset piece.now.body.now ≤ BLOCK_MAX }
+        requires moment { now < 2 ^ 62 }
+        requires absent { find n (table_of self.old.receivers.entries) ≡ None }
+        ensures { IfOk result (Takes terms.originator (policy_value terms.policy) n
+            (first_piece (policy_value terms.policy) (place_in (inbound_of self.old) BLOCK_MAX n)
+            (piece_value piece.now) now) self.old self.new) }
+    {
+        let alloc = terms.alloc;
+        if !piece.kind.is_red() {
+            return Ok((None, handing_up(alloc, n, piece)?));
+        }
+        if self.closed.has(n) {
+            return Ok((None, noting(Outs::new(alloc), Note::Closed { session: n })));
+        }
+        if self.is_full() {
+            return Ok((
+                None,
+                noting(Outs::new(alloc), Note::HistoryFull { session: n }),
+            ));
+        }
+        self.begin(terms, n, piece, now)
+    }
+
+    /// A piece came for a session that is kept.
+    fn next_piece(
+        &mut self,
+        terms: Terms,
+        n: u64,
+        piece: &PieceView<'_>,
+        now: u64,
+    ) -> Result<Option<Step>, AllocError>
+        requires live { AreLive terms.originator (policy_value terms.policy)
+            self.old.receivers.entries }
+        requires runs { self.old.closed.runs < 2 ^ 32 }
+        requires some { 0 < length piece.now.body.now }
+        requires fits { stop_of piece.now.offset piece.now.body.now ≤ BLOCK_MAX }
+        requires moment { now < 2 ^ 62 }
+        ensures { IfOk result (TakesNext terms.originator (policy_value terms.policy) n
+            (piece_value piece.now) now self.old self.new) }
+    {
+        let Some(receiver) = self.receivers.get_mut(&n) else {
+            return Ok(None);
+        };
+        if receiver.is_cancelling() {
+            let answer = noting(Outs::new(terms.alloc), Note::Closed { session: n });
+            return Ok(Some(answer));
+        }
+        let step = receiver.piece(piece, now)?;
+        let over = receiver.is_over();
+        let taken = is_taken(&step.note);
+        self.finish(n, over, taken)?;
+        Ok(Some(step))
+    }
+
+    /// A piece came.
+    pub(crate) fn piece(
+        &mut self,
+        terms: Terms,
+        n: u64,
+        piece: &PieceView<'_>,
+        now: u64,
+    ) -> Result<(Option<u64>, Step), AllocError>
+        requires live { AreLive terms.originator (policy_value terms.policy)
+            self.old.receivers.entries }
+        requires runs { self.old.closed.runs < 2 ^ 32 }
+        requires range { stop_of piece.now.offset piece.now.body.now < 2 ^ 64 }
+        requires moment { now < 2 ^ 62 }
+        ensures { IfOk result (Takes terms.originator (policy_value terms.policy) n
+            (on_piece (policy_value terms.policy) (place_in (inbound_of self.old) BLOCK_MAX n)
+            (find n (table_of self.old.receivers.entries)) (piece_value piece.now) now)
+            self.old self.new) }
+    {
+        let alloc = terms.alloc;
+        if piece.service != SERVICE {
+            return Ok((None, refusing(terms, n, piece.service)?));
+        }
+        if is_no_part(piece) {
+            return Ok((
+                None,
+                noting(Outs::new(alloc), Note::BadBounds { session: n }),
+            ));
+        }
+        match self.next_piece(terms, n, piece, now)? {
+            Some(step) => Ok((None, step)),
+            None => self.first_piece(terms, n, piece, now),
+        }
+    }
+
+    /// The numbers of the sessions, in ascending order.
+    fn numbers(&self, terms: Terms) -> Result<Vec<u64>, AllocError>
+        ensures { IfOk result (λ numbers. numbers.items ≡ keys self.now.receivers) }
+    {
+        self.receivers.keys().copied().collect(terms.alloc)
+    }
+
+    /// Time has passed for all sessions, in ascending order. Those that are over are closed.
+    pub fn tick(&mut self, terms: Terms, now: u64, effects: Effects) -> Result<Effects, AllocError>
+        requires live { AreLive terms.originator (policy_value terms.policy)
+            self.old.receivers.entries }
+        requires runs { self.old.closed.runs + length self.old.receivers.entries < 2 ^ 32 }
+        requires moment { now < 2 ^ 62 }
+        ensures next { OnOk result (Keeps terms.originator (policy_value terms.policy) self.new
+            (ticked_in (policy_value terms.policy) now (inbound_of self.old))) }
+        ensures effects { IfOk result (λ told. told ≡ with_ticks effects
+            (tick_segments (receiver_ticked (policy_value terms.policy) now) terms.originator
+            (table_of self.old.receivers.entries))
+            (tick_remarks (receiver_ticked (policy_value terms.policy) now)
+            (table_of self.old.receivers.entries))) }
+    {
+        let mut told = effects;
+        let mut ended = Vec::new(terms.alloc);
+        'sessions: for n in self.numbers(terms)? {
+            let (step, over) = tick_one(&mut self.receivers, terms, n, now)?;
+            told = told.add(step)?;
+            add_ended(&mut ended, n, over)?;
+        }
+        self.close_all(ended)?;
+        Ok(told)
+    }
+
+    /// The sessions of these numbers are over.
+    fn close_all(&mut self, mut ended: Vec<u64>) -> Result<(), AllocError>
+        requires { self.old.closed.runs + length ended.items < 2 ^ 32 }
+        ensures receivers { OnOk result (self.new.receivers.entries
+            ≡ self.old.receivers.entries) }
+        ensures touched { OnOk result
+            (self.new.touched.items ≡ untouched_all ended.items self.old.touched.items) }
+        ensures closed { OnOk result
+            (self.new.closed ≡ all_closed ended.items self.old.closed) }
+    {
+        'closing: while let Some(n) = ended.pop() {
+            forget(&mut self.touched, n);
+            self.closed.close(n)?;
+        }
+        Ok(())
+    }
+
+    /// The least deadline.
+    pub fn next_deadline(&self, terms: Terms) -> Option<u64>
+        requires { AreLive terms.originator (policy_value terms.policy)
+            self.now.receivers.entries }
+        ensures { result ≡ least_deadline receiver_deadline
+            (table_of self.now.receivers.entries) }
+    {
+        let mut least = None;
+        'sessions: for receiver in self.receivers.values() {
+            least = earlier(least, receiver.deadline());
+        }
+        least
+    }
+}
+
+/// Adds the number of a session that is over.
+fn add_ended(ended: &mut Vec<u64>, n: u64, over: bool) -> Result<(), AllocError>
+    ensures { OnOk result (ended.new.items ≡ ended.old.items ++ (if over then n ∷ [] else [])) }
+{
+    if over {
+        ended.push(n)?;
+    }
+    Ok(())
+}
+
+/// Time has passed for a session. Answers whether it is over besides.
+fn tick_one(
+    receivers: &mut BTreeMap<u64, Receiver>,
+    terms: Terms,
+    n: u64,
+    now: u64,
+) -> Result<(Step, bool), AllocError>
+    requires live { AreLive terms.originator (policy_value terms.policy) receivers.old.entries }
+    requires moment { now < 2 ^ 62 }
+    ensures ordered { IsOrdered nat_cmp receivers.old }
+    ensures did { IfOk result (λ told. Does terms.originator (policy_value terms.policy) n
+        (on_receiver_tick (policy_value terms.policy)
+        (find n (table_of receivers.old.entries)) now)
+        receivers.old.entries receivers.new.entries told.0) }
+    ensures over { IfOk result (λ told. told.1 ≡ is_ended
+        (on_receiver_tick (policy_value terms.policy)
+        (find n (table_of receivers.old.entries)) now).next) }
+{
+    let Some(receiver) = receivers.get_mut(&n) else {
+        return Ok((sending(Outs::new(terms.alloc)), false));
+    };
+    let step = receiver.tick(now)?;
+    let over = receiver.is_over();
+    sweep(receivers, n, over);
+    Ok((step, over))
+}
+
+/// Takes a session out where it is over.
+fn sweep(receivers: &mut BTreeMap<u64, Receiver>, n: u64, over: bool)
+    ensures { receivers.new.entries ≡ swept n over receivers.old.entries }
+{
+    if over {
+        receivers.remove(&n);
+    }
+}
+
+/// Whether a session took a piece: it notes one that doesn't fit its block.
+fn is_taken(note: &Option<Note>) -> bool
+    ensures { result ≡ is_taken note.now }
+{
+    !matches!(note, Some(Note::BadBounds { .. }))
+}
+
+/// Whether a piece can't be one of any block: it is empty, or stops past the greatest block.
+fn is_no_part(piece: &PieceView<'_>) -> bool
+    requires { stop_of piece.now.offset piece.now.body.now < 2 ^ 64 }
+    ensures { result ≡ is_no_part BLOCK_MAX piece.now.offset piece.now.body.now }
+{
+    piece.body.is_empty() || piece.offset + piece.body.len() as u64 > BLOCK_MAX
+}
+
+/// A block for a client service that isn't there is refused.
+fn refusing(terms: Terms, n: u64, service: u64) -> Result<Step, AllocError>
+    ensures { IfOk result (λ step. step ≡ record {
+      out = datagrams_of (record { originator = terms.originator; number = n })
+          (a_receiver_cancel unreachable ∷ []);
+      up = None;
+      green = None;
+      note = Some (notes.Refused n service);
+    }) }
+{
+    let mut out = Outs::new(terms.alloc);
+    let reason = UNREACHABLE;
+    out.push(write_cancel(terms.alloc, terms.originator, n, false, reason)?)?;
+    Ok(noting(
+        out,
+        Note::Refused {
+            session: n,
+            service,
+        },
+    ))
+}
+
+/// Green data for a session that isn't kept is handed up as it is.
+fn handing_up(alloc: Global, n: u64, piece: &PieceView<'_>) -> Result<Step, AllocError>
+    ensures { IfOk result (λ step. step ≡ record {
+      out = [];
+      up = None;
+      green = Some (green_view n (green_of (piece_value piece.now)));
+      note = None;
+    }) }
+{
+    let green = Green {
+        session: n,
+        offset: piece.offset,
+        last: ends_block(piece.kind),
+        body: Octets::from_slice(alloc, piece.body)?,
+    };
+    Ok(Step {
+        out: Outs::new(alloc),
+        up: None,
+        green: Some(green),
+        note: None,
+    })
+}
+
+/// Whether the block ends with a piece of this kind.
+fn ends_block(kind: PieceKind) -> bool
+    ensures { result ≡ ends_block kind }
+{
+    matches!(kind, PieceKind::RedEndBlock | PieceKind::GreenEndBlock)
+}

@@ -9,6 +9,7 @@ fimdahol: a gateway between bundles of BPv6 and of BPv7, over LTP
 usage: fimdahol receive < DATAGRAMS      hands up the red parts of recorded LTP datagrams
        fimdahol check < BUNDLES          says the version and the size of each recorded bundle
        fimdahol show < BUNDLES           shows the values of each recorded bundle as JSON
+       fimdahol convert < BUNDLES        writes each recorded bundle in the other version
        fimdahol --help | --version
 
 receive reads one datagram in hex a line and writes
@@ -19,10 +20,12 @@ receive reads one datagram in hex a line and writes
   refused line LINE Hex          last, where a line is no hex
   refused line LINE AT CAUSE     last, where a datagram is no segment, and where
 
-check and show read the octets of bundles of both versions, end to end, and write
+check, show and convert read the octets of bundles of both versions, end to end, and write
   VERSION SIZE                   by check, of each bundle
   {..}                           by show, of each bundle: its values
+  HEX                            by convert, of each bundle: its octets in the other version
   refused BUNDLE AT CAUSE        last, where a bundle isn't one, and where in the input
+  refused BUNDLE CAUSE           last, by convert, where a bundle can't be translated
 
 limits: 67108864 octets of input; of receive 1000000 lines, 9000000 octets a line and 64
         unfinished sessions

@@ -46,6 +46,9 @@ fn usage(words: &[Word]) -> &'static str {
         [word, _file] if word.octets() == b"show".as_slice() => {
             "fimdahol: show reads standard input: fimdahol show < FILE\n"
         }
+        [word, _file] if word.octets() == b"convert".as_slice() => {
+            "fimdahol: convert reads standard input: fimdahol convert < FILE\n"
+        }
         _ => USAGE,
     }
 }

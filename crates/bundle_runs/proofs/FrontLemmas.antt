@@ -1,5 +1,5 @@
 -- What stands at a front lies within the octets, and a bundle has at least one.
-use Rattle.std.proofs.Common.{◌≡◌, ℕ, zero, suc, ◌<◌, ◌≤◌, List, [], ◌∷◌, ◌++◌, length, take, refl, sym, ◌∙◌, arith}
+use Rattle.std.proofs.Common.{◌≡◌, ℕ, zero, suc, ◌<◌, ◌≤◌, List, [], ◌∷◌, ◌++◌, length, refl, sym, ◌∙◌, arith}
 use Rattle.wire_fields.specs.Format.{Spells}
 use Rattle.wire_fields.specs.Refusal.{Stop, truncated, because, Begins}
 use Rattle.bundle6.specs.declared.bundle.Bundle6.{Bundle6}
@@ -7,7 +7,7 @@ use Rattle.bundle6.specs.Table as table6
 use Rattle.bundle7.specs.declared.bundle.Bundle7.{Bundle7}
 use Rattle.bundle7.specs.Table as table7
 use Rattle.bundle_runs.specs.declared.front.Cause.{Cause}
-use Rattle.bundle_runs.specs.Front.{stopped, IsWithin, Front}
+use Rattle.bundle_runs.specs.Front.{stopped, IsWithin}
 
 front-empty : (u v : List ℕ) → [] ≡ u ++ v → u ≡ []
 front-empty [] v is = refl

@@ -1,11 +1,11 @@
 -- Bundles and refusals at the front of octets, as the run meets them, and the earliest place.
-use Rattle.std.proofs.Common.{◌≡◌, ℕ, zero, suc, ◌+◌, ◌-◌, ◌<◌, ◌≤◌, Bool, true, false, eqb, List, [], ◌∷◌, ◌++◌, length, take, drop, slice_index, Option, None, Some, refl, sym, ◌∙◌, ap, arith, length-drop, length-append, inl, inr}
+use Rattle.std.proofs.Common.{◌≡◌, ℕ, zero, suc, ◌+◌, ◌<◌, ◌≤◌, Bool, true, false, eqb, List, [], ◌∷◌, ◌++◌, length, take, drop, slice_index, Option, None, Some, refl, sym, ◌∙◌, ap, arith, length-drop, length-append, inl, inr}
 use Rattle.std.proofs.lemmas.Bool.{eqb-true, cases_lt}
 use Rattle.std.proofs.lemmas.List.{append-nil, drop-append-le, take-append-le}
 use Rattle.edge_traits.specs.declared.status.Status.{Status}
 use Rattle.edge_traits.specs.declared.status.Status.TheVariants as statuses
 use Rattle.edge_traits.specs.Content.{most_input}
-use Rattle.edge_traits.specs.Settled.{Ends, at_end, goes_on, Settled, nothing_yet, put_before, IsFrontOf, GoesOnAs}
+use Rattle.edge_traits.specs.Settled.{Ends, goes_on, Settled, put_before, IsFrontOf, GoesOnAs}
 use Rattle.edge_traits.proofs.AnswerLemmas.{put_before-put_before}
 use Rattle.command_frame.specs.Task.{Settling, IsQuiet, over, GoesOnTo}
 use Rattle.command_frame.specs.Within.{within}
@@ -30,12 +30,13 @@ use Rattle.bundle_runs.specs.declared.front.Bundle.{Bundle}
 use Rattle.bundle_runs.specs.declared.front.Bundle.TheVariants as bundles
 use Rattle.bundle_runs.specs.declared.front.Cause.{Cause}
 use Rattle.bundle_runs.specs.declared.front.Cause.TheVariants as causes
-use Rattle.bundle_runs.specs.Front.{Front, whole, cut_short, refused, front_of, stopped, word_of, IsWithin, IsFirm}
-use Rattle.bundle_runs.specs.Answering.{settles, settles_from, refused_by}
-use Rattle.bundle_runs.specs.WrittenLines.{bundle_line, refused_line}
+use Rattle.bundle_runs.specs.Front.{Front, whole, cut_short, refused, front_of, stopped, word_of, IsWithin}
+use Rattle.bundle_runs.specs.Answering.{settles, settles_from, said_of}
+use Rattle.bundle_runs.specs.WrittenLines.{refused_line, turned_down_line}
+use Rattle.bundle_runs.specs.Said.{Said, says, refuses}
 use Rattle.bundle_runs.specs.Laws.{TakesBundle6, TakesBundle7, StopsAt6, StopsAt7, EndsInside6, EndsInside7, EarliestOctetDecides}
 use Rattle.bundle_runs.proofs.FrontLemmas.{six-within, seven-within}
-use Rattle.bundle_runs.proofs.FrontsLemmas.{settles-none, settles-whole, settles-refused, settles-cut, front-stays, front-within}
+use Rattle.bundle_runs.proofs.FrontsLemmas.{settles-none, settles-whole, settles-says, settles-turned-down, settles-refused, settles-cut, front-stays, front-within}
 
 needs-true : {C : Type 0} (b : Bool) (c : C) → needs b c ≡ None → b ≡ true
 needs-true true c is = refl
@@ -127,40 +128,57 @@ module _ (command : Command) where
       settles-refused command n at ends (taken ++ more) place cause (omega (arith, length-append taken more, some)) (stays ∙ is)
       ∙ ap (λ text. record { text = text; ends = Some statuses.Refused }) (sym (append-nil line))
 
-  pub goes-whole : (n at k : ℕ) (bundle : Bundle) (taken : List ℕ) → IsOctets taken → 0 < length taken
-      → front_of taken ≡ whole bundle k → 0 < k → k ≤ length taken → (ends : Ends) (more : List ℕ)
-      → settles_from command n at ends (taken ++ more)
-      ≡ put_before (bundle_line command bundle k) (settles_from command (n + 1) (at + k) ends (drop k taken ++ more))
-  goes-whole n at k bundle taken fits here is some inside ends more =
+  pub goes-says : (n at k : ℕ) (bundle : Bundle) (text taken : List ℕ) → IsOctets taken → 0 < length taken
+      → front_of taken ≡ whole bundle k → 0 < k → k ≤ length taken → said_of command bundle k ≡ says text tt
+      → (ends : Ends) (more : List ℕ) → settles_from command n at ends (taken ++ more)
+      ≡ put_before text (settles_from command (n + 1) (at + k) ends (drop k taken ++ more))
+  goes-says n at k bundle text taken fits here is some inside said ends more =
       let stays = front-stays taken more fits here (rw is tt) in
-      settles-whole command n at ends (taken ++ more) bundle k (stays ∙ is) some (omega (arith, length-append taken more, inside))
-      ∙ ap (λ left. put_before (bundle_line command bundle k) (settles_from command (n + 1) (at + k) ends left)) (drop-append-le k taken more inside)
+      settles-says command n at ends (taken ++ more) bundle k text (stays ∙ is) some (omega (arith, length-append taken more, inside)) said
+      ∙ ap (λ left. put_before text (settles_from command (n + 1) (at + k) ends left)) (drop-append-le k taken more inside)
+
+  pub goes-turned-down : (n at k : ℕ) (bundle : Bundle) (word taken : List ℕ) → IsOctets taken → 0 < length taken
+      → front_of taken ≡ whole bundle k → 0 < k → k ≤ length taken → said_of command bundle k ≡ refuses word
+      → GoesOnTo (settles_from command n at) taken (turned_down_line n word) (over statuses.Refused)
+  goes-turned-down n at k bundle word taken fits here is some inside said ends more =
+      let stays = front-stays taken more fits here (rw is tt) in
+      settles-turned-down command n at ends (taken ++ more) bundle k word (stays ∙ is) some (omega (arith, length-append taken more, inside)) said
+      ∙ ap (λ text. record { text = text; ends = Some statuses.Refused }) (sym (append-nil (turned_down_line n word)))
 
   pub goes-cut : (n at place : ℕ) (taken : List ℕ) → 0 < length taken → front_of taken ≡ cut_short place
       → IsQuiet (λ ends more. settles_from command n at ends (taken ++ more))
   goes-cut n at place taken some is =
       ap (settles_from command n at goes_on) (append-nil taken) ∙ settles-cut command n at goes_on taken place some is
 
+  after-says : (n at k : ℕ) (bundle : Bundle) (line taken : List ℕ) → IsOctets taken → 0 < length taken
+      → front_of taken ≡ whole bundle k → 0 < k → k ≤ length taken → said_of command bundle k ≡ says line tt
+      → Goes (settles_from command (n + 1) (at + k)) (drop k taken) → Goes (settles_from command n at) taken
+  after-says n at k bundle line taken fits here is some inside said (waits text later quiet goes) =
+      waits (line ++ text) later quiet (λ ends more.
+      goes-says n at k bundle line taken fits here is some inside said ends more
+      ∙ ap (put_before line) (goes ends more)
+      ∙ put_before-put_before line text (later ends more))
+  after-says n at k bundle line taken fits here is some inside said (stops text status goes) =
+      stops (line ++ text) status (λ ends more.
+      goes-says n at k bundle line taken fits here is some inside said ends more
+      ∙ ap (put_before line) (goes ends more)
+      ∙ put_before-put_before line text (over status ends more))
+
   after-whole : (n at k : ℕ) (bundle : Bundle) (taken : List ℕ) → IsOctets taken → 0 < length taken
       → front_of taken ≡ whole bundle k → 0 < k → k ≤ length taken
+      → (said : Said (Unit {0})) → said_of command bundle k ≡ said
       → Goes (settles_from command (n + 1) (at + k)) (drop k taken) → Goes (settles_from command n at) taken
-  after-whole n at k bundle taken fits here is some inside (waits text later quiet goes) =
-      waits (bundle_line command bundle k ++ text) later quiet (λ ends more.
-      goes-whole n at k bundle taken fits here is some inside ends more
-      ∙ ap (put_before (bundle_line command bundle k)) (goes ends more)
-      ∙ put_before-put_before (bundle_line command bundle k) text (later ends more))
-  after-whole n at k bundle taken fits here is some inside (stops text status goes) =
-      stops (bundle_line command bundle k ++ text) status (λ ends more.
-      goes-whole n at k bundle taken fits here is some inside ends more
-      ∙ ap (put_before (bundle_line command bundle k)) (goes ends more)
-      ∙ put_before-put_before (bundle_line command bundle k) text (over status ends more))
+  after-whole n at k bundle taken fits here is some inside (says line tt) said later =
+      after-says n at k bundle line taken fits here is some inside said later
+  after-whole n at k bundle taken fits here is some inside (refuses word) said later =
+      stops (turned_down_line n word) statuses.Refused (goes-turned-down n at k bundle word taken fits here is some inside said)
 
   by-front : (n at : ℕ) (taken : List ℕ) → IsOctets taken → 0 < length taken
       → (front : Front) → front_of taken ≡ front → IsWithin (length taken) (front_of taken)
       → ((k : ℕ) → 0 < k → Goes (settles_from command (n + 1) (at + k)) (drop k taken)) → Goes (settles_from command n at) taken
   by-front n at taken fits here (whole bundle k) is low later =
       let inside = rw is at low in
-      after-whole n at k bundle taken fits here is inside.0 inside.1 (later k inside.0)
+      after-whole n at k bundle taken fits here is inside.0 inside.1 (said_of command bundle k) refl (later k inside.0)
   by-front n at taken fits here (cut_short place) is low later =
       waits [] (λ ends more. settles_from command n at ends (taken ++ more)) (goes-cut n at place taken here is) (λ ends more. refl)
   by-front n at taken fits here (refused place cause) is low later =

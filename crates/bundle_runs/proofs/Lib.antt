@@ -4,3 +4,4 @@ pub mod TakingLemmas
 pub mod LawLemmas
 pub mod ShowLemmas
 pub mod TextLemmas
+pub mod ConvertLemmas

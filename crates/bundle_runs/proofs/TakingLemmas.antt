@@ -1,11 +1,11 @@
 -- What a piece makes of the reading.
-use Rattle.std.proofs.Common.{false, ◌≡◌, ℕ, zero, suc, ◌+◌, ◌-◌, ◌<◌, ◌≤◌, List, [], ◌∷◌, ◌++◌, length, take, drop, codes, slice_index, Option, None, Some, Result, Ok, Err, OnErr, ◌*◌, refl, sym, ◌∙◌, ap, arith, append_assoc, length-append, inl, inr}
+use Rattle.std.proofs.Common.{false, ◌≡◌, ℕ, zero, suc, ◌+◌, ◌-◌, ◌<◌, ◌≤◌, List, [], ◌∷◌, ◌++◌, length, drop, codes, slice_index, Option, None, Some, Result, Ok, Err, OnErr, ◌*◌, refl, sym, ◌∙◌, ap, arith, append_assoc, length-append, inl, inr}
 use Rattle.std.proofs.lemmas.List.{append-nil, take_all}
 use Rattle.edge_traits.specs.declared.status.Status.TheVariants as statuses
-use Rattle.edge_traits.specs.Settled.{Ends, at_end, goes_on, Settled, nothing_yet, put_before}
+use Rattle.edge_traits.specs.Settled.{Ends, at_end, goes_on, put_before}
 use Rattle.edge_traits.proofs.AnswerLemmas.{put_before-put_before}
-use Rattle.command_frame.specs.Task.{Settling, IsQuiet, over, GoesOnTo, Feeds, Finishes}
-use Rattle.wire_fields.specs.Refusal.{Stop, truncated, because}
+use Rattle.command_frame.specs.Task.{Settling, over, Feeds, Finishes}
+use Rattle.wire_fields.specs.Refusal.{truncated, because}
 use Rattle.wire_fields.specs.Reading.{read, IsOctets}
 use Rattle.bundle6.specs.declared.fault.Cause6.{Cause6}
 use Rattle.bundle6.specs.declared.bundle.Bundle6.{Bundle6}
@@ -21,16 +21,20 @@ use Rattle.bundle_runs.specs.declared.front.Bundle.TheVariants as bundles
 use Rattle.bundle_runs.specs.declared.front.Cause.{Cause}
 use Rattle.bundle_runs.specs.declared.front.Cause.TheVariants as causes
 use Rattle.bundle_runs.specs.declared.unfinished.Unfinished.{Unfinished}
-use Rattle.bundle_runs.specs.declared.commands.command.Command.TheVariants.{Check, Show}
+use Rattle.bundle_runs.specs.declared.commands.command.Command.TheVariants.{Check, Show, Convert}
 use Rattle.bundle_runs.specs.declared.unfinished.Unfinished.TheVariants.{Six, Seven}
-use Rattle.bundle_runs.specs.declared.unfinished.Given.TheVariants.{Whole, Part, Refused}
+use Rattle.bundle_runs.specs.declared.unfinished.Given.TheVariants.{Whole, Part, Refused, TurnedDown}
 use Rattle.bundle_runs.specs.declared.bundle_reader.Standing.{Standing}
-use Rattle.bundle_runs.specs.Front.{Front, whole, cut_short, refused, front_of, front_by, front6, front7, front_read, word_of, IsWithin}
-use Rattle.bundle_runs.specs.Answering.{settles_from}
-use Rattle.bundle_runs.specs.WrittenLines.{bundle_line, check_line, show_line, refused_line}
+use Rattle.bundle_runs.specs.Front.{whole, cut_short, refused, front_of, front_by, front6, front7, front_read, word_of, IsWithin}
+use Rattle.bundle_runs.specs.Answering.{settles_from, said_of}
+use Rattle.bundle_runs.specs.WrittenLines.{check_line, show_line, refused_line, turned_down_line}
+use Rattle.bundle_runs.specs.Said.{says, refuses}
+use Rattle.bundle_runs.specs.Convert.{converted6, converted7, Writes}
+use Rattle.translate.specs.declared.refused.Refused as translating
+use Rattle.translate.specs.Refusals as turned_down
 use Rattle.bundle_runs.specs.Taking.{kept_of, mark_of, front_in, kept_by, settling_of, settling_after, with_none, IsReady, IsSound, IsWaiting, IsAtHand, GoesAfter, EndsWith, Gives, SoFar, Stands}
 use Rattle.bundle_runs.proofs.FrontsLemmas.{settles-none, settles-refused, settles-cut, within6, within7}
-use Rattle.bundle_runs.proofs.LawLemmas.{goes-whole, goes-cut, goes-refused}
+use Rattle.bundle_runs.proofs.LawLemmas.{goes-says, goes-turned-down, goes-cut, goes-refused}
 
 -- ---- one reader
 
@@ -176,23 +180,23 @@ module _ (old : Standing) (bundle : Unfinished) (taken : ℕ) (left : List ℕ) 
         ap (λ (kept : List ℕ). settles_from old.command old.number old.at ends (kept ++ (left ++ more))) (sym here.kept)
         ∙ ap (settles_from old.command old.number old.at ends) (sym (append_assoc (kept_of bundle) left more))
 
-    pub goes-after-whole : (b : Bundle) (used : ℕ) (before now : List ℕ)
+    pub goes-after-whole : (b : Bundle) (used : ℕ) (text before now : List ℕ)
         → front_in bundle (kept_of bundle ++ left) ≡ whole b (length (kept_of bundle) + used) → used ≤ length left
-        → now ≡ before ++ bundle_line old.command b (length (kept_of bundle) + used)
+        → said_of old.command b (length (kept_of bundle) + used) ≡ says text tt → now ≡ before ++ text
         → GoesAfter old left used before (record { command = old.command; number = old.number + 1; at = old.at + (taken + used); taken = 0; unfinished = None }) now
-    goes-after-whole b used before now is inside added =
+    goes-after-whole b used text before now is inside said added =
         let k = length (kept_of bundle) + used in
         let low : k ≤ length (kept_of bundle ++ left) = omega (arith, inside, length-append (kept_of bundle) left) in
         let count : 0 < k = omega (arith, whole-some b used is, here.held) in
         let place : old.at + k ≡ old.at + (taken + used) = omega (arith, here.held) in
         record {
-          text = bundle_line old.command b k;
+          text = text;
           added = added;
           goes = λ ends more.
               from-old ends more
-              ∙ goes-whole old.command old.number old.at k b (kept_of bundle ++ left) all-octets all-some (marked ∙ is) count low ends more
-              ∙ ap (λ (t : List ℕ). put_before (bundle_line old.command b k) (settles_from old.command (old.number + 1) (old.at + k) ends (t ++ more))) (drop-past (kept_of bundle) left used)
-              ∙ ap (λ (p : ℕ). put_before (bundle_line old.command b k) (settles_from old.command (old.number + 1) p ends (drop used left ++ more))) place;
+              ∙ goes-says old.command old.number old.at k b text (kept_of bundle ++ left) all-octets all-some (marked ∙ is) count low said ends more
+              ∙ ap (λ (t : List ℕ). put_before text (settles_from old.command (old.number + 1) (old.at + k) ends (t ++ more))) (drop-past (kept_of bundle) left used)
+              ∙ ap (λ (p : ℕ). put_before text (settles_from old.command (old.number + 1) p ends (drop used left ++ more))) place;
           waiting = waiting-none _ refl;
         }
 
@@ -232,6 +236,18 @@ module _ (old : Standing) (bundle : Unfinished) (taken : ℕ) (left : List ℕ) 
           ∙ goes-refused old.command old.number old.at at cause (kept_of bundle ++ left) all-octets all-some (marked ∙ is) ends more;
     }
 
+    pub ends-turned-down : (b : Bundle) (size : ℕ) (word before now : List ℕ) → front_in bundle (kept_of bundle ++ left) ≡ whole b size
+        → said_of old.command b size ≡ refuses word
+        → now ≡ before ++ turned_down_line old.number word → EndsWith old left before now
+    ends-turned-down b size word before now is said added = record {
+      text = turned_down_line old.number word;
+      added = added;
+      goes = λ ends more.
+          let there = rw is at (front_in-within bundle (kept_of bundle ++ left) all-octets) in
+          from-old ends more
+          ∙ goes-turned-down old.command old.number old.at size b word (kept_of bundle ++ left) all-octets all-some (marked ∙ is) there.0 there.1 said ends more;
+    }
+
 front-unknown : (xs ys : List ℕ) → 0 < length xs → ((octets : List ℕ) → front_by (slice_index xs 0) octets ≡ refused 0 causes.Version)
     → front_of (xs ++ ys) ≡ refused 0 causes.Version
 unfolding front_of
@@ -246,13 +262,13 @@ module _ (old : Standing) (bundle : Unfinished) (taken : ℕ) (left : List ℕ) 
       → IsSound (record { command = old.command; number = old.number + 1; at = old.at + (taken + used); taken = 0; unfinished = None })
       × (((used ≤ length left) × (old.at + (taken + used) + 0 ≡ old.at + old.taken + used) × (0 < old.taken + 2 * used))
       × (IsWaiting old → GoesAfter old left used before (record { command = old.command; number = old.number + 1; at = old.at + (taken + used); taken = 0; unfinished = None }) now))
-  step-whole used (b, inside, is, added) =
+  step-whole used (b, text, inside, is, said, added) =
       let count = whole-some old bundle taken left some here sound fits b used is in
       let same = taken-same old bundle taken left some here sound fits in (
         sound-whole old bundle taken left some here sound fits b used is inside room,
         (
           (inside, omega (arith, same), omega (arith, same, count)),
-          λ waiting. goes-after-whole old bundle taken left some here sound fits waiting b used before now is inside added,
+          λ waiting. goes-after-whole old bundle taken left some here sound fits waiting b used text before now is inside said added,
         ),
       )
 
@@ -269,6 +285,13 @@ module _ (old : Standing) (bundle : Unfinished) (taken : ℕ) (left : List ℕ) 
       → IsWaiting old → EndsWith old left before after
   step-refused at cause after (is, same) added waiting =
       ends-with old bundle taken left some here sound fits waiting at cause before after is (added ∙ ap (λ (t : List ℕ). t ++ refused_line old.number (old.at + at) (word_of cause)) same)
+
+  pub step-turned-down : (cause : translating.Refused) (after : List ℕ) → Gives old.command bundle left before new now (TurnedDown cause)
+      → after ≡ now ++ turned_down_line old.number (turned_down.word_of cause)
+      → IsWaiting old → EndsWith old left before after
+  step-turned-down cause after (b, size, is, said, same) added waiting =
+      ends-turned-down old bundle taken left some here sound fits waiting b size (turned_down.word_of cause) before after is said
+      (added ∙ ap (λ (t : List ℕ). t ++ turned_down_line old.number (turned_down.word_of cause)) same)
 
   pub refused-place : (at : ℕ) (cause : Cause) → Gives old.command bundle left before new now (Refused at cause) → old.at + at ≤ 67108864
   refused-place at cause (is, same) =
@@ -296,15 +319,28 @@ module _ (longest : ℕ) (old new : streaming6.Reading) (piece : List ℕ) (star
       → now ≡ before ++ check_line 6 count → Gives Check (Six old) piece before (Six new) now (Whole used)
   checks6 used count before now (is, (b, spells, (low, fits, reads, legal, stands))) added = (
     bundles.Six b,
+    check_line 6 (length old.stream.kept + used),
     low,
     whole6 (old.stream.kept ++ piece) b (length old.stream.kept + used) reads,
+    refl,
     added ∙ ap (λ (n : ℕ). before ++ check_line 6 n) is,
   )
 
   pub shows6 : (used : ℕ) (b : Bundle6) (before now : List ℕ) → streaming6.Takes longest old.stream piece used (Some b) new.stream
       → now ≡ before ++ show_line (bundles.Six b) → Gives Show (Six old) piece before (Six new) now (Whole used)
   shows6 used b before now (low, fits, reads, legal, stands) added =
-      (bundles.Six b, low, whole6 (old.stream.kept ++ piece) b (length old.stream.kept + used) reads, added)
+      (bundles.Six b, show_line (bundles.Six b), low, whole6 (old.stream.kept ++ piece) b (length old.stream.kept + used) reads, refl, added)
+
+  pub converts6 : (used : ℕ) (b : Bundle6) (before now : List ℕ) → streaming6.Takes longest old.stream piece used (Some b) new.stream
+      → Writes (converted6 b) before now None → Gives Convert (Six old) piece before (Six new) now (Whole used)
+  converts6 used b before now (low, fits, reads, legal, stands) (text, said, added) =
+      (bundles.Six b, text, low, whole6 (old.stream.kept ++ piece) b (length old.stream.kept + used) reads, said, added)
+
+  pub turns-down6 : (used : ℕ) (b : Bundle6) (cause : translating.Refused) (before now : List ℕ)
+      → streaming6.Takes longest old.stream piece used (Some b) new.stream
+      → Writes (converted6 b) before now (Some cause) → Gives Convert (Six old) piece before (Six new) now (TurnedDown cause)
+  turns-down6 used b cause before now (low, fits, reads, legal, stands) (said, same) =
+      (bundles.Six b, length old.stream.kept + used, whole6 (old.stream.kept ++ piece) b (length old.stream.kept + used) reads, said, same)
 
   pub waits6 : (command : Command) (used : ℕ) (text : List ℕ) → streaming6.Takes longest old.stream piece used None new.stream
       → (new.refused ≡ None) × (new.spent ≡ false) → Gives command (Six old) piece text (Six new) text Part
@@ -319,22 +355,35 @@ module _ (longest : ℕ) (old new : streaming6.Reading) (piece : List ℕ) (star
 
   pub refuses6 : (command : Command) (at : ℕ) (cause : Cause6) (text : List ℕ) → length old.stream.kept + length piece ≤ longest
       → streaming6.Refuses longest old.stream piece at cause → Gives command (Six old) piece text (Six new) text (Refused at (causes.Six cause))
-  refuses6 command at cause text fits refuses = (refused6 longest old.stream piece fits start at cause refuses, refl)
+  refuses6 command at cause text fits found = (refused6 longest old.stream piece fits start at cause found, refl)
 
 module _ (longest : ℕ) (old new : streaming7.Reading) (piece : List ℕ) (start : old.stream.before ≡ 0) where
   pub checks7 : (used count : ℕ) (before now : List ℕ) → streaming7.TakesSize longest old.stream piece used (Some count) new.stream
       → now ≡ before ++ check_line 7 count → Gives Check (Seven old) piece before (Seven new) now (Whole used)
   checks7 used count before now (is, (b, spells, (low, fits, reads, legal, stands))) added = (
     bundles.Seven b,
+    check_line 7 (length old.stream.kept + used),
     low,
     whole7 (old.stream.kept ++ piece) b (length old.stream.kept + used) reads,
+    refl,
     added ∙ ap (λ (n : ℕ). before ++ check_line 7 n) is,
   )
 
   pub shows7 : (used : ℕ) (b : Bundle7) (before now : List ℕ) → streaming7.Takes longest old.stream piece used (Some b) new.stream
       → now ≡ before ++ show_line (bundles.Seven b) → Gives Show (Seven old) piece before (Seven new) now (Whole used)
   shows7 used b before now (low, fits, reads, legal, stands) added =
-      (bundles.Seven b, low, whole7 (old.stream.kept ++ piece) b (length old.stream.kept + used) reads, added)
+      (bundles.Seven b, show_line (bundles.Seven b), low, whole7 (old.stream.kept ++ piece) b (length old.stream.kept + used) reads, refl, added)
+
+  pub converts7 : (used : ℕ) (b : Bundle7) (before now : List ℕ) → streaming7.Takes longest old.stream piece used (Some b) new.stream
+      → Writes (converted7 b) before now None → Gives Convert (Seven old) piece before (Seven new) now (Whole used)
+  converts7 used b before now (low, fits, reads, legal, stands) (text, said, added) =
+      (bundles.Seven b, text, low, whole7 (old.stream.kept ++ piece) b (length old.stream.kept + used) reads, said, added)
+
+  pub turns-down7 : (used : ℕ) (b : Bundle7) (cause : translating.Refused) (before now : List ℕ)
+      → streaming7.Takes longest old.stream piece used (Some b) new.stream
+      → Writes (converted7 b) before now (Some cause) → Gives Convert (Seven old) piece before (Seven new) now (TurnedDown cause)
+  turns-down7 used b cause before now (low, fits, reads, legal, stands) (said, same) =
+      (bundles.Seven b, length old.stream.kept + used, whole7 (old.stream.kept ++ piece) b (length old.stream.kept + used) reads, said, same)
 
   pub waits7 : (command : Command) (used : ℕ) (text : List ℕ) → streaming7.Takes longest old.stream piece used None new.stream
       → (new.refused ≡ None) × (new.spent ≡ false) → Gives command (Seven old) piece text (Seven new) text Part
@@ -349,7 +398,7 @@ module _ (longest : ℕ) (old new : streaming7.Reading) (piece : List ℕ) (star
 
   pub refuses7 : (command : Command) (at : ℕ) (cause : Cause7) (text : List ℕ) → length old.stream.kept + length piece ≤ longest
       → streaming7.Refuses longest old.stream piece at cause → Gives command (Seven old) piece text (Seven new) text (Refused at (causes.Seven cause))
-  refuses7 command at cause text fits refuses = (refused7 longest old.stream piece fits start at cause refuses, refl)
+  refuses7 command at cause text fits found = (refused7 longest old.stream piece fits start at cause found, refl)
 
 -- ---- the steps so far
 

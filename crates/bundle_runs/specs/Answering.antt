@@ -1,26 +1,19 @@
 -- What a command answers to an input: its lines for each bundle, one after the other.
-use Rattle.std.specs.Prelude.{ℕ, ◌+◌, List, [], ◌∷◌, ◌++◌, codes, Some}
+use Rattle.std.specs.Prelude.{ℕ, ◌+◌, List, [], ◌∷◌, codes, Some}
 use Rattle.edge_traits.specs.declared.status.Status.TheVariants as statuses
 use Rattle.edge_traits.specs.Content.{most_input}
 use Rattle.edge_traits.specs.Settled.{Ends, at_end, goes_on, Settled, nothing_yet, put_before}
 use Rattle.command_frame.specs.Within.{within}
 use Rattle.bundle_runs.specs.declared.commands.command.Command.{Command}
+use Rattle.bundle_runs.specs.declared.commands.command.Command.TheVariants.{Check, Show, Convert}
 use Rattle.bundle_runs.specs.declared.front.Bundle.{Bundle}
-use Rattle.bundle_runs.specs.Front.{word_of, Front, whole, cut_short, refused}
+use Rattle.bundle_runs.specs.Front.{word_of, version_of, Front, whole, cut_short, refused}
 use Rattle.bundle_runs.specs.Fronts.{fronts_of}
-use Rattle.bundle_runs.specs.WrittenLines.{bundle_line, refused_line, turned_down_line}
+use Rattle.bundle_runs.specs.WrittenLines.{check_line, show_line, refused_line, turned_down_line}
+use Rattle.bundle_runs.specs.Said.{Said, says, refuses, Step}
+use Rattle.bundle_runs.specs.Convert.{converted}
 
 -- ---- one bundle
-
--- what a command says of a bundle: its lines, and the state after it; or the bundle is refused, by
--- the cause's word
-pub data Said (S : Type 0) : Type 0 where
-  says : List ℕ → S → Said S
-  refuses : List ℕ → Said S
-
--- a command says so of a bundle of so many octets that it meets in a state
-abbrev pub Step : Type 0 → Type 0
-Step S = S → Bundle → ℕ → Said S
 
 -- a last line, and the run's end
 abbrev pub refused_by : List ℕ → Settled
@@ -56,13 +49,19 @@ by_bundles step ends state n at (refused place cause ∷ fronts) =
 
 -- ---- the commands
 
--- each bundle has its line, and nothing is remembered
-abbrev pub line_by : Command → Step (Unit {0})
-line_by command state bundle size = says (bundle_line command bundle size) tt
+-- what a command says of a bundle of so many octets
+abbrev pub said_of : Command → Bundle → ℕ → Said (Unit {0})
+said_of Check bundle size = says (check_line (version_of bundle) size) tt
+said_of Show bundle size = says (show_line bundle) tt
+said_of Convert bundle size = converted bundle
+
+-- each bundle has its answer, and nothing is remembered
+abbrev pub step_of : Command → Step (Unit {0})
+step_of command state bundle size = said_of command bundle size
 
 -- what octets settle of which the first is at a place of the input, where bundle n begins
 unfoldable pub settles_from : Command → (n at : ℕ) → Ends → List ℕ → Settled
-settles_from command n at ends octets = by_bundles (line_by command) ends tt n at (fronts_of octets)
+settles_from command n at ends octets = by_bundles (step_of command) ends tt n at (fronts_of octets)
 
 -- what octets settle of a command's answer
 abbrev pub settles : Command → Ends → List ℕ → Settled

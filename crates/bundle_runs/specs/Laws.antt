@@ -1,7 +1,7 @@
--- The answer in the words of the two formats: a bundle at the front of the octets that are left has
--- its line, and a refusal at their front ends the run.
+-- The answer in the words of the two formats: what is said of a bundle at the front of the octets
+-- that are left stands before the rest, and a refusal at their front ends the run.
 use Rattle.std.specs.Prelude.{◌≡◌, ℕ, ◌+◌, List, [], ◌++◌, drop, slice_index}
-use Rattle.edge_traits.specs.Settled.{Ends, goes_on, Settled, put_before, IsFrontOf}
+use Rattle.edge_traits.specs.Settled.{Ends, goes_on, Settled, IsFrontOf}
 use Rattle.wire_fields.specs.Refusal.{Refusal, Begins, because, truncated}
 use Rattle.wire_fields.specs.Reading.{IsOctets}
 use Rattle.bundle6.specs.declared.fault.Cause6.{Cause6}
@@ -14,8 +14,8 @@ use Rattle.bundle7.specs.Cause as cause7
 use Rattle.bundle7.specs.Table as table7
 use Rattle.bundle_runs.specs.declared.commands.command.Command.{Command}
 use Rattle.bundle_runs.specs.declared.front.Bundle.TheVariants as bundles
-use Rattle.bundle_runs.specs.Answering.{settles_from, unfinished, refused_by}
-use Rattle.bundle_runs.specs.WrittenLines.{bundle_line, refused_line}
+use Rattle.bundle_runs.specs.Answering.{settles_from, said_of, after_said, unfinished, refused_by}
+use Rattle.bundle_runs.specs.WrittenLines.{refused_line}
 
 -- ---- what stands at the front of the octets from a place on, where bundle n begins
 
@@ -24,16 +24,16 @@ abbrev pub TakesBundle6 : Type 0
 TakesBundle6 = (command : Command) (ends : Ends) (n at k : ℕ) (octets : List ℕ) (bundle : Bundle6)
     → Begins (table6.bundle 64) octets k bundle
     → settles_from command n at ends octets
-    ≡ put_before (bundle_line command (bundles.Six bundle) k)
-    (settles_from command (n + 1) (at + k) ends (drop k octets))
+    ≡ after_said n (said_of command (bundles.Six bundle) k)
+    (λ done. settles_from command (n + 1) (at + k) ends (drop k octets))
 
 -- it is one of version 7
 abbrev pub TakesBundle7 : Type 0
 TakesBundle7 = (command : Command) (ends : Ends) (n at k : ℕ) (octets : List ℕ) (bundle : Bundle7)
     → Begins (table7.bundle 64) octets k bundle
     → settles_from command n at ends octets
-    ≡ put_before (bundle_line command (bundles.Seven bundle) k)
-    (settles_from command (n + 1) (at + k) ends (drop k octets))
+    ≡ after_said n (said_of command (bundles.Seven bundle) k)
+    (λ done. settles_from command (n + 1) (at + k) ends (drop k octets))
 
 -- they begin as one of version 6, and are refused at a place for a cause
 abbrev pub StopsAt6 : Type 0

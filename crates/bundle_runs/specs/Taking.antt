@@ -5,18 +5,18 @@ use Rattle.edge_traits.specs.declared.status.Status.TheVariants as statuses
 use Rattle.command_frame.specs.Task.{Settling, IsQuiet, over, GoesOnTo}
 use Rattle.bundle_runs.specs.declared.commands.command.Command.{Command}
 use Rattle.bundle_runs.specs.declared.front.Bundle.{Bundle}
-use Rattle.bundle_runs.specs.declared.front.Cause.{Cause}
 use Rattle.bundle_runs.specs.declared.front.Cause.TheVariants as causes
 use Rattle.bundle_runs.specs.declared.unfinished.Unfinished.{Unfinished}
 use Rattle.bundle_runs.specs.declared.unfinished.Unfinished.TheVariants.{Six, Seven}
 use Rattle.bundle_runs.specs.declared.unfinished.Given.{Given}
-use Rattle.bundle_runs.specs.declared.unfinished.Given.TheVariants.{Whole, Part, Refused}
+use Rattle.bundle_runs.specs.declared.unfinished.Given.TheVariants.{Whole, Part, Refused, TurnedDown}
 use Rattle.bundle_runs.specs.declared.bundle_reader.Standing.{Standing}
 use Rattle.bundle_runs.specs.declared.bundle_reader.Next.{Next}
 use Rattle.bundle_runs.specs.declared.bundle_reader.Next.TheVariants.{After, End}
 use Rattle.bundle_runs.specs.Front.{Front, whole, cut_short, refused, front_by, front6, front7}
-use Rattle.bundle_runs.specs.Answering.{settles_from}
-use Rattle.bundle_runs.specs.WrittenLines.{bundle_line}
+use Rattle.bundle_runs.specs.Answering.{settles_from, said_of}
+use Rattle.bundle_runs.specs.Said.{says, refuses}
+use Rattle.translate.specs.Refusals as turned_down
 
 -- ---- the unfinished bundle
 
@@ -48,9 +48,12 @@ Begun first (Some bundle) = (first ≡ mark_of bundle) × (kept_of bundle ≡ []
 -- What a piece gave of the unfinished bundle, and what was written.
 abbrev pub Gives : Command → Unfinished → List ℕ → List ℕ → Unfinished → List ℕ → Given → Type 0
 Gives command old piece before new now (Whole used) =
-    (bundle : Bundle) × (used ≤ length piece)
+    (bundle : Bundle) × (text : List ℕ) × (used ≤ length piece)
     × (front_in old (kept_of old ++ piece) ≡ whole bundle (length (kept_of old) + used))
-    × (now ≡ before ++ bundle_line command bundle (length (kept_of old) + used))
+    × (said_of command bundle (length (kept_of old) + used) ≡ says text tt) × (now ≡ before ++ text)
+Gives command old piece before new now (TurnedDown cause) =
+    (bundle : Bundle) × (size : ℕ) × (front_in old (kept_of old ++ piece) ≡ whole bundle size)
+    × (said_of command bundle size ≡ refuses (turned_down.word_of cause)) × (now ≡ before)
 Gives command old piece before new now Part =
     (at : ℕ) × (front_in old (kept_of old ++ piece) ≡ cut_short at) × IsReady new
     × (mark_of new ≡ mark_of old) × (kept_of new ≡ kept_of old ++ piece) × (now ≡ before)

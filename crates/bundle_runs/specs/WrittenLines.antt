@@ -3,10 +3,7 @@ use Rattle.std.specs.Prelude.{ℕ, List, [], ◌∷◌, ◌++◌, codes}
 use Rattle.std.specs.Fmt.{decimal}
 use Rattle.serde_json.specs.Written.{compact_text}
 use Rattle.edge_traits.specs.Content.{joined}
-use Rattle.bundle_runs.specs.declared.commands.command.Command.{Command}
-use Rattle.bundle_runs.specs.declared.commands.command.Command.TheVariants.{Check, Show}
 use Rattle.bundle_runs.specs.declared.front.Bundle.{Bundle}
-use Rattle.bundle_runs.specs.Front.{version_of}
 use Rattle.bundle_runs.specs.Show.{shown}
 
 -- the version of a bundle and how many octets it has
@@ -16,11 +13,6 @@ check_line version size = joined (decimal version ∷ codes " " ∷ decimal size
 -- its values as JSON
 abbrev pub show_line : Bundle → List ℕ
 show_line bundle = compact_text (shown bundle) ++ codes "\n"
-
--- what a command says of a bundle of so many octets
-abbrev pub bundle_line : Command → Bundle → ℕ → List ℕ
-bundle_line Check bundle size = check_line (version_of bundle) size
-bundle_line Show bundle size = show_line bundle
 
 -- bundle n is invalid, by the field at a place of the input
 abbrev pub refused_line : ℕ → ℕ → List ℕ → List ℕ

@@ -9,7 +9,7 @@ ghost use Rattle.bundle_runs.specs.Taking.{kept_by, settling_of, with_none, IsSo
 use crate::commands::command::Command;
 use crate::front::Cause;
 use crate::unfinished::{Given, Unfinished};
-use crate::written_lines::write_refused;
+use crate::written_lines::{write_refused, write_turned_down};
 use command_frame::Task;
 use edge_traits::{MOST_INPUT, Status};
 use std::alloc::{AllocError, Global};
@@ -175,6 +175,10 @@ impl Standing {
             }
             Given::Refused(at, cause) => {
                 write_refused(text, self.number, self.at + at, cause.word())?;
+                Ok(Next::End)
+            }
+            Given::TurnedDown(cause) => {
+                write_turned_down(text, self.number, cause.word())?;
                 Ok(Next::End)
             }
         }

@@ -3,10 +3,11 @@ ghost use Rattle.bundle_runs.specs.Answering.{settles};
 ghost use Rattle.bundle_runs.specs.Laws.{TakesBundle6, TakesBundle7, StopsAt6, StopsAt7, EndsInside6, EndsInside7, EarliestOctetDecides};
 ghost use Rattle.bundle_runs.specs.declared.commands.command.Command.{Command};
 
-/// Where a bundle stands at the front of the octets that are left, the answer to them is its line
-/// and the answer to the octets after it; where they are refused for a cause, it is the line that
-/// says so, and the run's end. Where they end inside a bundle they settle nothing while the input
-/// goes on, and at its end the bundle is refused as truncated.
+/// Where a bundle stands at the front of the octets that are left, the answer to them is what the
+/// command says of it and then the answer to the octets after it; where the command refuses it, the
+/// line that says so and the run's end. Octets that are refused for a cause end the run by such a
+/// line too. Where they end inside a bundle they settle nothing while the input goes on, and at its
+/// end the bundle is refused as truncated.
 pub fn answers_bundle_by_bundle()
     ensures six { TakesBundle6 }
     ensures seven { TakesBundle7 }

@@ -2,9 +2,11 @@
 //! (RFC 9171), end to end, in any mixture.
 //!
 //! [`bundles`] reads a source, and writes to a sink what a [`Command`] says of each bundle in
-//! turn: `check` its version and how many octets it has, `show` its values as JSON. The first
-//! octet of a bundle names its version. The first bundle that doesn't decode ends the run, with a
-//! line that says which one it is, the place in the input and the cause.
+//! turn: `check` its version and how many octets it has, `show` its values as JSON, `convert` the
+//! octets of the bundle of the other version that it becomes. The first octet of a bundle names its
+//! version. The first bundle that doesn't decode ends the run, with a line that says which one it is,
+//! the place in the input and the cause; so does the first that isn't translated, and its line has no
+//! place.
 //!
 //! What a command answers is one definition from octets to the text and the status
 //! (`specs/Answering.antt`). A [`BundleReader`] is told the octets as they come, and keeps those of at
@@ -13,6 +15,7 @@
 
 mod bundle_reader;
 mod commands;
+mod convert;
 mod front;
 mod laws;
 mod show;

@@ -4,11 +4,13 @@ ghost use Rattle.std.specs.String.{string_bytes};
 ghost use Rattle.bundle_runs.specs.Taking.{kept_of, IsReady, Begun, Gives, IsCutAt};
 
 use crate::commands::command::Command;
+use crate::convert::{convert_to_new, convert_to_old};
 use crate::front::{Bundle, Cause};
 use crate::written_lines::{write_check, write_show};
 use bundle6::{Fail6, Fed6, Judged6, Reader6};
 use bundle7::{Fail7, Fed7, Judged7, Reader7};
 use std::alloc::{AllocError, Global};
+use translate::Refused;
 
 /// The octet that a bundle of version 6 begins with: its version.
 const SIX: u8 = 0x06;
@@ -35,6 +37,8 @@ pub enum Given {
     /// No bundle: the place of the first field that isn't there as it should be, counted from where
     /// the bundle began, and the cause.
     Refused(usize, Cause),
+    /// A valid bundle that the command refuses.
+    TurnedDown(Refused),
 }
 
 impl Unfinished {
@@ -67,10 +71,12 @@ impl Unfinished {
             Unfinished::Six(reader) => match command {
                 Command::Check => check6(reader, piece, text),
                 Command::Show => show6(alloc, reader, piece, text),
+                Command::Convert => convert6(alloc, reader, piece, text),
             },
             Unfinished::Seven(reader) => match command {
                 Command::Check => check7(reader, piece, text),
                 Command::Show => show7(alloc, reader, piece, text),
+                Command::Convert => convert7(alloc, reader, piece, text),
             },
         }
     }
@@ -144,6 +150,34 @@ fn show6(
     }
 }
 
+/// `convert` of version 6.
+fn convert6(
+    alloc: Global,
+    reader: &mut Reader6,
+    piece: &[u8],
+    text: &mut String,
+) -> Result<Given, AllocError>
+    requires ready { IsReady (Unfinished.Six reader.old) }
+    requires few { length (kept_of (Unfinished.Six reader.old)) + length piece.now ≤ 67108864 }
+    ensures { IfOk result (Gives Command.Convert (Unfinished.Six reader.old) piece.now
+        (string_bytes text.old) (Unfinished.Six reader.new) (string_bytes text.new)) }
+{
+    match reader.feed(piece) {
+        Ok(
+            Fed6 {
+                used,
+                bundle: Some(bundle),
+            },
+        ) => match convert_to_new(alloc, text, &bundle)? {
+            None => Ok(Given::Whole(used)),
+            Some(cause) => Ok(Given::TurnedDown(cause)),
+        },
+        Ok(Fed6 { bundle: None, .. }) => Ok(Given::Part),
+        Err(Fail6::Refused { at, cause }) => Ok(Given::Refused(at, Cause::Six(cause))),
+        Err(Fail6::Memory) => Err(AllocError),
+    }
+}
+
 /// `check` of version 7.
 fn check7(reader: &mut Reader7, piece: &[u8], text: &mut String) -> Result<Given, AllocError>
     requires ready { IsReady (Unfinished.Seven reader.old) }
@@ -189,6 +223,34 @@ fn show7(
             write_show(alloc, text, &Bundle::Seven(bundle))?;
             Ok(Given::Whole(used))
         }
+        Ok(Fed7 { bundle: None, .. }) => Ok(Given::Part),
+        Err(Fail7::Refused { at, cause }) => Ok(Given::Refused(at, Cause::Seven(cause))),
+        Err(Fail7::Memory) => Err(AllocError),
+    }
+}
+
+/// `convert` of version 7.
+fn convert7(
+    alloc: Global,
+    reader: &mut Reader7,
+    piece: &[u8],
+    text: &mut String,
+) -> Result<Given, AllocError>
+    requires ready { IsReady (Unfinished.Seven reader.old) }
+    requires few { length (kept_of (Unfinished.Seven reader.old)) + length piece.now ≤ 67108864 }
+    ensures { IfOk result (Gives Command.Convert (Unfinished.Seven reader.old) piece.now
+        (string_bytes text.old) (Unfinished.Seven reader.new) (string_bytes text.new)) }
+{
+    match reader.feed(piece) {
+        Ok(
+            Fed7 {
+                used,
+                bundle: Some(bundle),
+            },
+        ) => match convert_to_old(alloc, text, &bundle)? {
+            None => Ok(Given::Whole(used)),
+            Some(cause) => Ok(Given::TurnedDown(cause)),
+        },
         Ok(Fed7 { bundle: None, .. }) => Ok(Given::Part),
         Err(Fail7::Refused { at, cause }) => Ok(Given::Refused(at, Cause::Seven(cause))),
         Err(Fail7::Memory) => Err(AllocError),

@@ -7,7 +7,7 @@ use Rattle.edge_traits.specs.Content.{most_input}
 use Rattle.edge_traits.specs.Settled.{Ends, at_end, Settled}
 use Rattle.edge_traits.specs.Outcome.{IsAnswer}
 use Rattle.command_frame.specs.Within.{within}
-use Rattle.bundle_runs.specs.declared.commands.command.Command.TheVariants.{Check, Show}
+use Rattle.bundle_runs.specs.declared.commands.command.Command.TheVariants.{Check, Show, Convert}
 use Rattle.bundle_runs.specs.Answering as bundles
 use Rattle.gateway_run.specs.declared.commands.command.Command.{Command}
 use Rattle.gateway_run.specs.declared.commands.command.Command.TheVariants as commands
@@ -24,6 +24,7 @@ one_word word =
     if is_word word (codes "receive") then Some commands.Receive
     else if is_word word (codes "check") then Some (commands.Bundles Check)
     else if is_word word (codes "show") then Some (commands.Bundles Show)
+    else if is_word word (codes "convert") then Some (commands.Bundles Convert)
     else None
 
 -- the command that the words name

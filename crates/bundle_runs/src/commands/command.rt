@@ -7,4 +7,6 @@ pub enum Command {
     Check,
     /// Its values, as one JSON text.
     Show,
+    /// The octets of the bundle of the other version that it becomes, in hex.
+    Convert,
 }

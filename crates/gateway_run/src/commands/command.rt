@@ -9,7 +9,7 @@ use crate::commands::word::Word;
 pub enum Command {
     /// `receive`: hands up the red parts of recorded datagrams.
     Receive,
-    /// `check` and `show`: what is said of recorded bundles.
+    /// `check`, `show` and `convert`: what is said of recorded bundles.
     Bundles(bundle_runs::Command),
 }
 
@@ -24,6 +24,9 @@ pub fn command_named(words: &[Word]) -> Option<Command>
         }
         [word] if word.octets() == b"show".as_slice() => {
             Some(Command::Bundles(bundle_runs::Command::Show))
+        }
+        [word] if word.octets() == b"convert".as_slice() => {
+            Some(Command::Bundles(bundle_runs::Command::Convert))
         }
         _ => None,
     }

@@ -1,4 +1,4 @@
-use Rattle.std.proofs.Common.{◌≡◌, ◌+◌, ◌<◌, ◌≤◌, Some, length, sym, ◌∙◌, ap, arith}
+use Rattle.std.proofs.Common.{◌≡◌, Some, sym, ◌∙◌, ap, arith}
 use Rattle.bundle_runs.specs.Taking.{kept_of, kept_by}
 use Rattle.bundle_runs.proofs.TakingLemmas.{finish-none, finish-cut, cut-inside, some-octets, in-any-err}
 use Rattle.bundle_runs.proofs.bundle_reader.Standing.finish.Goals as goal

@@ -1,5 +1,5 @@
-use Rattle.std.proofs.Common.{◌≡◌, ◌+◌, ◌≤◌, None, arith, rules}
-use Rattle.bundle_runs.proofs.TakingLemmas.{ends-unknown, step-whole, step-part, step-refused, refused-place}
+use Rattle.std.proofs.Common.{◌≡◌, None, arith, rules}
+use Rattle.bundle_runs.proofs.TakingLemmas.{ends-unknown, step-whole, step-part, step-refused, step-turned-down, refused-place}
 use Rattle.bundle_runs.proofs.bundle_reader.Standing.step.Goals as goal
 
 pub returns-in_default-clause-steps : goal.returns-in_default-clause-steps
@@ -58,3 +58,11 @@ returns-in_ok-write_refused-in-Refused-clause-steps c =
     step-refused c.args.self.now c.in-Some.unfinished c.in-Some.taken c.args.left.now c.requires.some c.in-Some.ensures.at_hand c.requires.sound
     (λ i. omega (arith, c.type_inv.left i)) c.feed.new.self _ _ c.requires.room c.in-Refused.at c.in-Refused.cause _ gives
     (rw (c.at_hand.ensures.none, c.word.ensures) at c.in_ok-write_refused-in-Refused.ensures)
+
+pub returns-in_ok-write_turned_down-in-TurnedDown-clause-steps :
+    goal.returns-in_ok-write_turned_down-in-TurnedDown-clause-steps
+returns-in_ok-write_turned_down-in-TurnedDown-clause-steps c =
+    let gives = rw (c.in-TurnedDown.is, c.at_hand.ensures.none) at c.in_ok-used.ensures in
+    step-turned-down c.args.self.now c.in-Some.unfinished c.in-Some.taken c.args.left.now c.requires.some c.in-Some.ensures.at_hand c.requires.sound
+    (λ i. omega (arith, c.type_inv.left i)) c.feed.new.self _ _ c.requires.room c.in-TurnedDown.cause _ gives
+    (rw (c.at_hand.ensures.none, c.word-in-TurnedDown.ensures) at c.in_ok-write_turned_down-in-TurnedDown.ensures)

@@ -1,0 +1,13 @@
+-- What a command says of a bundle.
+use Rattle.std.specs.Prelude.{ℕ, List}
+use Rattle.bundle_runs.specs.declared.front.Bundle.{Bundle}
+
+-- what a command says of a bundle: its lines, and the state after it; or the bundle is refused, by
+-- the cause's word
+pub data Said (S : Type 0) : Type 0 where
+  says : List ℕ → S → Said S
+  refuses : List ℕ → Said S
+
+-- a command says so of a bundle of so many octets that it meets in a state
+abbrev pub Step : Type 0 → Type 0
+Step S = S → Bundle → ℕ → Said S

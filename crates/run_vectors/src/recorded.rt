@@ -1,6 +1,6 @@
-//! Recorded bundles: what `check` and `show` say of them, and calls that fail.
+//! Recorded bundles: what `check`, `show` and `convert` say of them, and calls that fail.
 
-use crate::runs::{octets, surely};
+use crate::runs::{octets, surely, with_faults};
 use bundle_runs::{Cause, Command, bundles};
 use bundle6::Cause6;
 use bundle7::Cause7;
@@ -136,6 +136,32 @@ fn bundles_are_shown(rt: HostRuntime) -> Result<(), Fail> {
             "{text}"
         );
     }
+    Ok(())
+}
+
+/// Two bundles, each as [`SIX`].
+const TWO: &str =
+    "0681100d02010101000000008768053c000108036162630681100d02010101000000008768053c00010803616263";
+
+/// Both in version 7.
+const TWO_CONVERTED: &str = "\
+9f8907000182028202018202820101820100821a000f42450019ea5b425a46850101000043616263ff
+9f8907000182028202018202820101820100821a000f42450019ea5b425a46850101000043616263ff
+";
+
+#[test]
+fn what_was_read_before_a_failed_read_is_converted(rt: HostRuntime) -> Result<(), Fail> {
+    let input = octets(rt.alloc(), TWO)?;
+    assert!(rt;
+        with_faults(
+            rt.alloc(),
+            &["convert"],
+            &input,
+            (&[false, true], &[]),
+            TWO_CONVERTED,
+            Status::ReadFault
+        )?
+    );
     Ok(())
 }
 

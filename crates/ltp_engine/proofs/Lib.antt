@@ -1,3 +1,11 @@
 mod ClosedLemmas
 mod TableLemmas
 mod InboundLemmas
+mod SoundLemmas
+mod RunsLemmas
+mod KeepLemmas
+mod ShowLemmas
+mod EngineLemmas
+mod HearLemmas
+mod LegalLemmas
+mod BeginLemmas

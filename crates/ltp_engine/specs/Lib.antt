@@ -1,10 +1,15 @@
 -- what public clauses cite
 pub mod Closed
 pub mod Effects
+pub mod Refused
 pub mod Values
-pub mod Tables
+pub mod Shows
+pub mod Bounds
+pub mod Steps
+-- what ties the code to it
 pub mod Ticks
+pub mod Notes
+pub mod Tables
 pub mod Inbound
 pub mod Sides
--- what ties the code to it
-pub mod Notes
+pub mod Ties

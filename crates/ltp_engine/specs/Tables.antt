@@ -2,7 +2,8 @@
 
 use Rattle.std.specs.Prelude.{◌≡◌, ℕ, Bool, true, false, List, [], ◌∷◌, map, Option, None, Some}
 use Rattle.std.specs.Map.{remove_entry}
-use Rattle.std.specs.BTreeMap.{is_at}
+use Rattle.std.specs.Prelude.{is_some, if◌then◌else◌}
+use Rattle.std.specs.BTreeMap.{is_at, insert_entry}
 use Rattle.std.specs.Ordering.{nat_cmp}
 use Rattle.ltp_segment.specs.Policy.{PolicyValue}
 use Rattle.ltp_segment.specs.declared.session.Step.{Step}
@@ -55,3 +56,8 @@ abbrev pub is_ended : {S : Type 0} → Change S → Bool
 is_ended stays = false
 is_ended (keeps state) = false
 is_ended ends = true
+
+-- the sessions with one that begins, where it isn't over at once
+abbrev pub with_begun :
+    {S : Type 0} → ℕ → SessionValue S → List (ℕ × SessionValue S) → List (ℕ × SessionValue S)
+with_begun n v entries = if is_some v.kept then insert_entry nat_cmp entries n v else entries

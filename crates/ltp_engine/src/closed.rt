@@ -13,7 +13,7 @@ pub(crate) const LAST: u64 = u64::MAX;
 
 /// Which numbers of sessions are closed, as ranges.
 #[derive(Debug, Drop)]
-pub struct Closed {
+pub(crate) struct Closed {
     /// Those below the last one.
     places: Spans,
     /// Whether the last one is.

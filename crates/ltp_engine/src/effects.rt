@@ -164,7 +164,7 @@ impl Effects {
     ghost use Rattle.ltp_engine.specs.Effects.{effects_in, with_sent, only_noted, nothing_done};
 
     /// Nothing is done. It takes no memory.
-    pub fn none(alloc: Global) -> Effects
+    pub(crate) fn none(alloc: Global) -> Effects
         ensures { result ≡ nothing_done }
     {
         Effects {
@@ -176,7 +176,7 @@ impl Effects {
     }
 
     /// Nothing is done but a note.
-    pub fn noted(alloc: Global, note: Note) -> Result<Effects, AllocError>
+    pub(crate) fn noted(alloc: Global, note: Note) -> Result<Effects, AllocError>
         ensures { IfOk result (λ effects. effects ≡ only_noted note) }
     {
         let mut effects = Effects::none(alloc);
@@ -185,7 +185,7 @@ impl Effects {
     }
 
     /// The effects of a step of a session, before which another was evicted.
-    pub fn of(
+    pub(crate) fn of(
         alloc: Global,
         session: u64,
         evicted: Option<u64>,

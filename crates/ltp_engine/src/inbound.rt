@@ -52,7 +52,7 @@ const UNREACHABLE: u8 = 1;
 
 /// The receiving side.
 #[derive(Debug, Drop)]
-pub struct Inbound {
+pub(crate) struct Inbound {
     /// The sessions by their numbers. None of them is over.
     pub receivers: BTreeMap<u64, Receiver>,
     /// Their numbers, from the longest untouched to the last touched.
@@ -111,12 +111,7 @@ impl Inbound {
     }
 
     /// The acknowledgement of a report came for a session, which is touched by it.
-    pub(crate) fn acknowledged(
-        &mut self,
-        terms: Terms,
-        n: u64,
-        serial: u64,
-    ) -> Result<Step, AllocError>
+    pub fn acknowledged(&mut self, terms: Terms, n: u64, serial: u64) -> Result<Step, AllocError>
         requires live { AreLive terms.originator (policy_value terms.policy)
             self.old.receivers.entries }
         requires runs { self.old.closed.runs < 2 ^ 32 }
@@ -135,7 +130,7 @@ impl Inbound {
     }
 
     /// The acknowledgement of a cancel came for a session.
-    pub(crate) fn cancel_came(&mut self, terms: Terms, n: u64) -> Result<Step, AllocError>
+    pub fn cancel_came(&mut self, terms: Terms, n: u64) -> Result<Step, AllocError>
         requires live { AreLive terms.originator (policy_value terms.policy)
             self.old.receivers.entries }
         requires runs { self.old.closed.runs < 2 ^ 32 }
@@ -154,7 +149,7 @@ impl Inbound {
     }
 
     /// The sender's cancel came for a session: it is acknowledged, and the session is over.
-    pub(crate) fn cancelled(&mut self, terms: Terms, n: u64, reason: u8) -> Result<Step, AllocError>
+    pub fn cancelled(&mut self, terms: Terms, n: u64, reason: u8) -> Result<Step, AllocError>
         requires live { AreLive terms.originator (policy_value terms.policy)
             self.old.receivers.entries }
         requires runs { self.old.closed.runs < 2 ^ 32 }
@@ -329,7 +324,7 @@ impl Inbound {
     }
 
     /// A piece came.
-    pub(crate) fn piece(
+    pub fn piece(
         &mut self,
         terms: Terms,
         n: u64,

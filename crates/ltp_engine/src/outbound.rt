@@ -1,6 +1,6 @@
 //! The sessions that an engine began, by their numbers.
 
-ghost use Rattle.std.specs.Prelude.{◌≡◌, ◌<◌, ◌^◌, ◌∷◌, [], None, IfOk, OnOk};
+ghost use Rattle.std.specs.Prelude.{◌≡◌, ◌<◌, ◌^◌, ◌∷◌, [], None, false, IfOk, OnOk};
 ghost use Rattle.ltp_segment.specs.Legal.{IsReport};
 ghost use Rattle.ltp_segment.specs.PolicyViews.{policy_value};
 ghost use Rattle.ltp_segment.specs.Values.{a_report_ack, a_receiver_cancel_ack};
@@ -12,7 +12,7 @@ ghost use Rattle.ltp_session.specs.Engine.{tick_segments, tick_remarks, least_de
 ghost use Rattle.ltp_session.specs.Sender.{on_report, on_receiver_cancel, on_sender_cancel_ack};
 ghost use Rattle.ltp_session.specs.Sender.{on_sender_tick, sender_deadline};
 ghost use Rattle.ltp_session.specs.Views.{datagrams_of};
-ghost use Rattle.ltp_engine.specs.Tables.{table_of, live_all, AreLive, Does, swept};
+ghost use Rattle.ltp_engine.specs.Tables.{table_of, live_all, AreLive, Does, swept, with_begun};
 ghost use Rattle.ltp_engine.specs.Ticks.{sender_change, sender_ticked, with_ticks};
 
 use crate::deadlines::earlier;
@@ -24,7 +24,7 @@ use std::alloc::AllocError;
 use std::collections::BTreeMap;
 
 /// Sending sessions by their numbers. None of them is over.
-pub type Senders = BTreeMap<u64, Sender>;
+pub(crate) type Senders = BTreeMap<u64, Sender>;
 
 /// An answer that only sends.
 pub(crate) fn sending(out: Outs) -> Step
@@ -66,6 +66,20 @@ fn cancel_acknowledged(terms: Terms, n: u64) -> Result<Step, AllocError>
     let mut out = Outs::new(terms.alloc);
     out.push(write_cancel_ack(terms.alloc, terms.originator, n, false)?)?;
     Ok(sending(out))
+}
+
+/// A session that begins is kept, where it isn't over at once.
+pub(crate) fn keep(senders: &mut Senders, n: u64, sender: Sender) -> Result<(), AllocError>
+    requires { sender.spent ≡ false }
+    ensures { OnOk result (senders.new.entries ≡ with_begun n sender senders.old.entries) }
+{
+    if sender.is_over() {
+        return Ok(());
+    }
+    if senders.insert(n, sender).is_err() {
+        return Err(AllocError);
+    }
+    Ok(())
 }
 
 /// Takes a session out where it is over.
@@ -169,7 +183,7 @@ fn numbers(terms: Terms, senders: &Senders) -> Result<Vec<u64>, AllocError>
 }
 
 /// Time has passed for all sessions, in ascending order.
-pub fn tick(
+pub(crate) fn tick(
     senders: &mut Senders,
     terms: Terms,
     now: u64,
@@ -196,7 +210,7 @@ pub fn tick(
 }
 
 /// The least deadline.
-pub fn next_deadline(senders: &Senders, terms: Terms) -> Option<u64>
+pub(crate) fn next_deadline(senders: &Senders, terms: Terms) -> Option<u64>
     requires { AreLive terms.originator (policy_value terms.policy) senders.now.entries }
     ensures { result ≡ least_deadline sender_deadline (table_of senders.now.entries) }
 {

@@ -1,15 +1,14 @@
 //! Both sides of an engine: the sessions that it began, and those that its peer began.
 
-ghost use Rattle.std.specs.Prelude.{◌<◌, ◌^◌, None, Some, Ok, IfOk};
+ghost use Rattle.std.specs.Prelude.{◌<◌, ◌^◌, None, Some, IfOk};
 ghost use Rattle.ltp_segment.specs.declared.session.TheConstants.{BLOCK_MAX};
-ghost use Rattle.ltp_segment.specs.Legal.{IsContent};
 ghost use Rattle.ltp_segment.specs.PolicyViews.{policy_value};
 ghost use Rattle.ltp_segment.specs.Views.{content_value};
 ghost use Rattle.ltp_session.specs.Table.{find};
 ghost use Rattle.ltp_session.specs.Sender.{sender_answers};
 ghost use Rattle.ltp_session.specs.Receiver.{receiver_answers};
 ghost use Rattle.ltp_engine.specs.Tables.{table_of, AreLive};
-ghost use Rattle.ltp_engine.specs.Sides.{SenderDoes, ReceiverDoes};
+ghost use Rattle.ltp_engine.specs.Sides.{SenderDoes, ReceiverDoes, IsFit};
 ghost use Rattle.ltp_engine.specs.Inbound.{inbound_of, place_in};
 
 use crate::inbound::Inbound;
@@ -19,7 +18,7 @@ use ltp_segment::{BLOCK_MAX, Content, PieceView, ReportView, Step};
 use std::alloc::AllocError;
 
 /// A segment came for a session that the engine began. One that isn't an answer has none.
-pub fn to_sender(
+pub(crate) fn to_sender(
     senders: &mut Senders,
     terms: Terms,
     n: u64,
@@ -27,7 +26,7 @@ pub fn to_sender(
     now: u64,
 ) -> Result<Option<Step>, AllocError>
     requires live { AreLive terms.originator (policy_value terms.policy) senders.old.entries }
-    requires legal { IsContent (content_value content) }
+    requires legal { IsFit (content_value content) }
     requires moment { now < 2 ^ 62 }
     ensures { IfOk result (SenderDoes terms.originator (policy_value terms.policy) n
         (sender_answers (policy_value terms.policy) (find n (table_of senders.old.entries))
@@ -61,7 +60,7 @@ pub fn to_sender(
 
 /// A segment came for a session that the peer began. One that isn't what a sender sends has no
 /// answer.
-pub fn to_receiver(
+pub(crate) fn to_receiver(
     inbound: &mut Inbound,
     terms: Terms,
     n: u64,
@@ -71,7 +70,7 @@ pub fn to_receiver(
     requires live { AreLive terms.originator (policy_value terms.policy)
         inbound.old.receivers.entries }
     requires runs { inbound.old.closed.runs < 2 ^ 32 }
-    requires legal { IsContent (content_value content) }
+    requires legal { IsFit (content_value content) }
     requires moment { now < 2 ^ 62 }
     ensures { IfOk result (ReceiverDoes terms.originator (policy_value terms.policy) n
         (receiver_answers (policy_value terms.policy)

@@ -5,7 +5,7 @@ use std::alloc::Global;
 
 /// What all sessions of a side have in common.
 #[derive(Clone, Copy, Debug)]
-pub struct Terms {
+pub(crate) struct Terms {
     /// Where memory comes from.
     pub alloc: Global,
     /// The engine that began the sessions.

@@ -1,0 +1,33 @@
+-- What an engine keeps at the most.
+
+use Rattle.std.specs.Prelude.{◌≡◌, ℕ, ◌+◌, ◌^◌, ◌≤◌, Bool, true, false, ◌==◌, List, length}
+use Rattle.std.specs.Prelude.{is_some}
+use Rattle.std.specs.List.{list_any}
+use Rattle.ltp_session.specs.Table.{find, AreAscending}
+use Rattle.ltp_engine.specs.declared.closed.TheConstants.{LAST}
+use Rattle.ltp_engine.specs.Closed.{is_among}
+use Rattle.ltp_engine.specs.Values.{InboundValue, EngineValue}
+
+-- a number is among some numbers
+abbrev pub is_touched : ℕ → List ℕ → Bool
+is_touched n touched = list_any (λ m. m == n) touched
+
+-- 64 receiving sessions; 65,536 runs of closed numbers and receiving sessions together; exactly
+-- the sessions that are kept have a place in the order; none of them is closed; their numbers
+-- ascend, and are numbers that a session can have
+pub record IsInboundSound (i : InboundValue) : Type 0 where
+  pub receivers : length i.receivers ≤ 64
+  pub history : i.closed.runs + length i.receivers ≤ 65536
+  pub order : (n : ℕ) → is_touched n i.touched ≡ is_some (find n i.receivers)
+  pub unclosed : (n : ℕ) → is_some (find n i.receivers) ≡ true → is_among i.closed n ≡ false
+  pub range : (n : ℕ) → is_some (find n i.receivers) ≡ true → n ≤ LAST
+  pub limit : length i.closed.places ≡ LAST
+  pub ascending : AreAscending 0 i.receivers
+
+-- the numbers given so far; 64 sending sessions, whose numbers ascend
+pub record IsSound (v : EngineValue) : Type 0 where
+  pub begun : v.party.first ≤ v.next
+  pub numbers : v.next ≤ 2 ^ 32
+  pub senders : length v.senders ≤ 64
+  pub ascending : AreAscending 0 v.senders
+  pub inbound : IsInboundSound v.inbound

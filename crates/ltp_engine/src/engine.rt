@@ -1,0 +1,149 @@
+//! The engine of one end of a link.
+
+ghost use Rattle.std.specs.Prelude.{◌≡◌, ◌≢◌, ◌<◌, ◌≤◌, ◌^◌, false, true, length, IfOk, OnErr};
+ghost use Rattle.ltp_segment.specs.PolicyViews.{policy_value};
+ghost use Rattle.ltp_segment.specs.Reading.{segment_of};
+ghost use Rattle.ltp_session.specs.Engine.{datagram_step, submits, submit_step, tick_step};
+ghost use Rattle.ltp_engine.specs.Steps.{new_engine, deadline_of, Steps, Submits};
+
+use crate::effects::Effects;
+use crate::parts::Parts;
+use crate::refused::SubmitRefused;
+use ltp_segment::{BLOCK_MAX, Policy};
+use spans::Spans;
+use std::alloc::{AllocError, Global};
+use std::marker::Model;
+
+/// The most sending sessions that are kept.
+const MOST: usize = 64;
+/// No session that an engine begins has this number or a larger one.
+const NUMBERS: u64 = 1 << 32;
+
+/// All sessions of one end of a link.
+///
+/// After want of memory the value may only be dropped.
+#[derive(Debug, Drop)]
+pub struct Engine {
+    parts: Parts,
+    spent: bool,
+}
+
+impl Model for Engine {
+    ghost use Rattle.std.specs.Prelude.{◌≡◌, false};
+    ghost use Rattle.ltp_engine.specs.Values.{EngineValue};
+    ghost use Rattle.ltp_engine.specs.Ties.{value_of, IsWhole};
+
+    ghost Value = { EngineValue };
+
+    ghost view = { λ e. value_of e.spent e.parts };
+
+    ghost invariant = { λ e. e.spent ≡ false → IsWhole e.parts };
+}
+
+impl Engine {
+    /// An engine at its beginning: its own number and its peer's, the number of its first session,
+    /// and how it sends. It takes no memory.
+    pub fn new(alloc: Global, own: u64, peer: u64, first_session: u64, policy: Policy) -> Engine
+        requires apart { own ≢ peer }
+        requires first { 1 ≤ first_session }
+        requires numbers { first_session < 2 ^ 32 }
+        ensures { result ≡ new_engine own peer first_session (policy_value policy) }
+    {
+        Engine {
+            parts: Parts::new(alloc, own, peer, first_session, policy),
+            spent: false,
+        }
+    }
+
+    /// How many sessions are being sent, those that are cancelling counted. It takes no memory.
+    pub fn sending(&self) -> usize
+        requires { self.now.spent ≡ false }
+        ensures { result ≡ length self.now.senders }
+    {
+        let _ = self.spent;
+        self.parts.sending()
+    }
+
+    /// The number of the next session. It takes no memory.
+    pub fn next_session(&self) -> u64
+        ensures { result ≡ self.now.next }
+    {
+        self.parts.next
+    }
+
+    /// The closed receiving numbers below 2^64 - 1, which is the limit. It takes no memory.
+    pub fn closed(&self) -> &Spans
+        ensures { result.now ≡ self.now.inbound.closed.places }
+    {
+        self.parts.inbound.closed.places()
+    }
+
+    /// The least deadline of all sessions. It takes no memory.
+    pub fn next_deadline(&self) -> Option<u64>
+        requires { self.now.spent ≡ false }
+        ensures { result ≡ deadline_of self.now }
+    {
+        let _ = self.spent;
+        self.parts.next_deadline()
+    }
+
+    /// A block comes to be sent, of which the first `red` octets are its red part: a session
+    /// begins with the next number. A block without a red part is sent, and its session isn't
+    /// kept.
+    ///
+    /// A refusal other than `Memory` leaves the engine as it was.
+    pub fn submit(&mut self, block: &[u8], red: u64, now: u64) -> Result<Effects, SubmitRefused>
+        requires whole { self.old.spent ≡ false }
+        requires red { red ≤ length block.now }
+        requires moment { now < 2 ^ 62 }
+        ensures { Submits self.old self.new (λ e. submit_step self.old.party e
+            (submits self.old.party e block.now red now)) result }
+    {
+        let next = self.parts.next;
+        let sending = self.parts.sending();
+        if block.is_empty() {
+            return Err(SubmitRefused::Empty);
+        }
+        if block.len() as u64 > BLOCK_MAX {
+            return Err(SubmitRefused::TooLarge);
+        }
+        if next >= NUMBERS {
+            return Err(SubmitRefused::NumbersSpent);
+        }
+        if sending >= MOST {
+            return Err(SubmitRefused::Busy);
+        }
+        self.spent = true;
+        let effects = self.parts.begin(block, red, now)?;
+        self.spent = false;
+        Ok(effects)
+    }
+
+    /// A datagram comes: a segment of a session, or refused with a note.
+    pub fn arrive(&mut self, datagram: &[u8], now: u64) -> Result<Effects, AllocError>
+        requires whole { self.old.spent ≡ false }
+        requires moment { now < 2 ^ 62 }
+        ensures done { IfOk result (Steps self.old self.new
+            (λ e. datagram_step self.old.party e (segment_of datagram.now) now)) }
+        ensures err { OnErr result (self.new.spent ≡ true) }
+    {
+        self.spent = true;
+        let effects = self.parts.arrive(datagram, now)?;
+        self.spent = false;
+        Ok(effects)
+    }
+
+    /// Time has passed: the sending sessions tick in ascending order, then the receiving ones.
+    pub fn tick(&mut self, now: u64) -> Result<Effects, AllocError>
+        requires whole { self.old.spent ≡ false }
+        requires moment { now < 2 ^ 62 }
+        ensures done { IfOk result (Steps self.old self.new
+            (λ e. tick_step self.old.party e now)) }
+        ensures err { OnErr result (self.new.spent ≡ true) }
+    {
+        self.spent = true;
+        let effects = self.parts.tick(now)?;
+        self.spent = false;
+        Ok(effects)
+    }
+}

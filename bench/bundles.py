@@ -1,19 +1,23 @@
 #!/usr/bin/env python3
-"""How fast `check` and `show` read bundles that stand end to end, and how much memory they take.
+"""How fast `check`, `show` and `convert` read bundles that stand end to end, and how much memory they take.
 
 usage: bench/bundles.py [PROGRAM]    the program as this repository builds it, where none is named
 
 Each input but the last two is some 60 MB of one bundle again and again; the commands take 67,108,864 octets. Seconds
-are the processor's for the program alone. A row's lines in are its bundles.
+are the processor's for the program alone. A row's lines in are its bundles. What hex alone takes is told by basenc
+(coreutils) on the same octets, where it is installed; what `convert` is to write is told by tools/translate_model.py.
 """
 import json
 import os
+import shutil
 import sys
 
 sys.dont_write_bytecode = True
 from measure import ROOT, Bench, Wanted, program_of
 
 sys.path.insert(0, os.path.join(ROOT, "examples"))
+sys.path.insert(0, os.path.join(ROOT, "tools"))
+import translate_model
 from make_bundles import NOBODY, block6, block7, bundle6, bundle7, counted, ipn
 
 SIZE = 60_000_000
@@ -56,6 +60,12 @@ def shown(payload):
     return json.dumps(text, separators=(",", ":"), sort_keys=True).encode() + b"\n"
 
 
+def translated(bundle):
+    """What `convert` writes of a bundle."""
+    lines, _ = translate_model.answer(bundle, translate_model.translated)
+    return lines[0].encode() + b"\n"
+
+
 def main():
     bench = Bench(program_of(sys.argv[1:]))
 
@@ -77,9 +87,28 @@ def main():
     for size in (3, 1000):
         for kind in range(3):
             check(f"payloads of {size:,} octets, CRC type {kind}", 7, new(counted(size), kind))
+    for size in (3, 1000, 65_536):
+        for version, bundle in ((6, old(counted(size))), (7, new(counted(size), 2))):
+            row(f"convert, version {version}, payloads of {size:,} octets", "convert", bundle, translated(bundle))
     check("100,000 references, dictionary of 1 MB", 6, many_references(100_000, 1_000_000), 1)
     check("100,000 references to 1,023 octets", 6, one_long_name(100_000), 1)
+    if shutil.which("basenc"):
+        hex_alone(bench, old(counted(1000)))
     bench.end()
+
+
+def hex_alone(bench, bundle):
+    """The same octets in hex by another program: what `convert` can't be faster than."""
+    bench.program = shutil.which("basenc")
+    times = SIZE // len(bundle)
+
+    def write(file):
+        for _ in range(times):
+            file.write(bundle)
+        return times
+    width = 2 * len(bundle)
+    bench.row("basenc --base16, bundles of 1,000 octets", ["--base16", "-w", str(width)], write,
+              Wanted(0, times, lambda: bundle.hex().upper().encode() + b"\n"))
 
 
 main()

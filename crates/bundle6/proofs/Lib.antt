@@ -11,3 +11,4 @@ pub mod JudgeLemmas
 pub mod PassLemmas
 pub mod ReaderLemmas
 pub mod AnswerLemmas
+pub mod CuttingLemmas

@@ -6,6 +6,7 @@ pub mod Spelling
 pub mod Legal
 pub mod Cause
 pub mod Streaming
+pub mod Cutting
 -- What ties code to them.
 pub mod Seen
 pub mod Judging

@@ -7,6 +7,7 @@ ghost use Rattle.bundle6.specs.declared.bundle.Bundle6.{Bundle6};
 ghost use Rattle.bundle6.specs.Table.{bundle};
 ghost use Rattle.bundle6.specs.Spelling.{canon6, IsCounted};
 ghost use Rattle.bundle6.specs.Streaming.{HaveOneAnswer, CutsAlike};
+ghost use Rattle.bundle6.specs.Cutting.{TellAsOne, TellTheSame};
 ghost use Rattle.bundle6.specs.Legal.{IsLegal, Spells6, IsReadAgain, OnlyLegal};
 
 /// Of each text of octets exactly one holds: one front of it spells a bundle, with one value, or it is
@@ -28,7 +29,7 @@ pub fn canonical_spells()
     ensures again { (b : Bundle6) → IsLegal b → IsCounted b → IsReadAgain b (canon6 b) }
 {}
 
-/// How a stream is cut into pieces makes no difference. What a piece gives is said by
+/// What two pieces give is what both give as one piece. What a piece gives is said by
 /// [`crate::Reader6::feed`].
 pub fn cuts_alike()
     // A piece has one answer, or memory is wanted.
@@ -36,4 +37,14 @@ pub fn cuts_alike()
 
     // A piece that completes nothing and another after it give what both give as one piece.
     ensures alike { CutsAlike 67108864 }
+{}
+
+/// Whatever pieces a stream comes in, they tell the bundles of the whole stream, and its refusal at its
+/// place. [`crate::Reader6::feed`] and [`crate::Reader6::judge`] take one step of that.
+pub fn cuts_make_no_difference()
+    // Pieces tell what all their octets tell as one.
+    ensures whole { TellAsOne 67108864 }
+
+    // The same octets in other pieces tell the same.
+    ensures same { TellTheSame 67108864 }
 {}

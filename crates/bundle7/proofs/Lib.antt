@@ -9,6 +9,7 @@ pub mod BlockLaws
 pub mod JudgingLemmas
 pub mod ReaderLemmas
 pub mod AnswerLemmas
+pub mod CuttingLemmas
 pub mod KeepingLemmas
 pub mod PassLemmas
 pub mod SumLemmas

@@ -261,7 +261,7 @@ near-min k n piece is =
       | inr some ↦ ap (λ m. take m piece) (omega (arith, is, some))
     ]
 
-take-past : (n : ℕ) (xs ys : List ℕ) → length xs ≤ n → take n (xs ++ ys) ≡ xs ++ take (n - length xs) ys
+pub take-past : (n : ℕ) (xs ys : List ℕ) → length xs ≤ n → take n (xs ++ ys) ≡ xs ++ take (n - length xs) ys
 take-past n [] ys h = let none : n ≡ n - 0 = omega arith in ap (λ m. take m ys) none
 take-past zero (x ∷ xs) ys h = absurd (omega (arith, h))
 take-past (suc n) (x ∷ xs) ys h =

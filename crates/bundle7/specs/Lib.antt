@@ -8,6 +8,7 @@ pub mod Legal
 pub mod Spelling
 pub mod Calls
 pub mod Streaming
+pub mod Cutting
 -- What follows only ties code to the definitions.
 pub mod Lent
 pub mod Seen

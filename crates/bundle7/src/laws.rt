@@ -13,6 +13,7 @@ ghost use Rattle.bundle7.specs.Table.{bundle};
 ghost use Rattle.bundle7.specs.Spelling.{eid_octets, octets7};
 ghost use Rattle.bundle7.specs.Legal.{IsLegal7, Spells7};
 ghost use Rattle.bundle7.specs.Streaming.{HaveOneAnswer, CutsAlike};
+ghost use Rattle.bundle7.specs.Cutting.{TellAsOne, TellTheSame};
 
 /// Of each text of octets exactly one holds: one front of it spells a bundle, with one value, or it is
 /// refused at one place for one reason.
@@ -42,7 +43,7 @@ pub fn one_body()
     ensures only { (kind : ℕ) (w : List ℕ) → IsBody kind w → is_body kind w ≡ true }
 {}
 
-/// How a stream is cut into pieces makes no difference. What a piece gives is said by
+/// What two pieces give is what both give as one piece. What a piece gives is said by
 /// [`crate::Reader7::feed`].
 pub fn cuts_alike()
     // A piece has one answer, or memory is wanted.
@@ -50,4 +51,14 @@ pub fn cuts_alike()
 
     // A piece that completes nothing and another after it give what both give as one piece.
     ensures alike { CutsAlike 67108864 }
+{}
+
+/// Whatever pieces a stream comes in, they tell the bundles of the whole stream, and its refusal at its
+/// place. [`crate::Reader7::feed`] and [`crate::Reader7::judge`] take one step of that.
+pub fn cuts_make_no_difference()
+    // Pieces tell what all their octets tell as one.
+    ensures whole { TellAsOne 67108864 }
+
+    // The same octets in other pieces tell the same.
+    ensures same { TellTheSame 67108864 }
 {}

@@ -1,0 +1,8 @@
+use Rattle.bundle7.proofs.CuttingLemmas.{tell-as-one, tell-the-same}
+use Rattle.bundle7.proofs.laws.cuts_make_no_difference.Goals as goal
+
+pub returns-clause-whole : goal.returns-clause-whole
+returns-clause-whole c = tell-as-one 67108864
+
+pub returns-clause-same : goal.returns-clause-same
+returns-clause-same c = tell-the-same 67108864

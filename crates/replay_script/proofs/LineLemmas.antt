@@ -1,12 +1,12 @@
 -- The words of a line, one after another.
 
-use Rattle.std.proofs.Common.{◌≡◌, ℕ, List, [], ◌∷◌, ◌++◌, codes, None, Some, refl, sym, ap, ◌∙◌, append_assoc}
+use Rattle.std.proofs.Common.{◌≡◌, ℕ, List, [], ◌∷◌, ◌++◌, codes, Option, None, Some, refl, sym, ap, ◌∙◌, append_assoc}
 use Rattle.std.proofs.lemmas.List.{append-nil}
 use Rattle.hex.specs.Hex.{encode_lower}
 use Rattle.replay_script.specs.declared.line.Line.{Line}
 use Rattle.replay_script.specs.declared.line.Line.TheVariants as lines
 use Rattle.replay_script.specs.Words.{after_spaces, spaced}
-use Rattle.replay_script.specs.Lines.{head_of, octets_of, line_text}
+use Rattle.replay_script.specs.Lines.{head_of, octets_of, if_octets, line_text}
 
 pub after_spaces-append : (xs ys : List (List ℕ)) → after_spaces (xs ++ ys) ≡ after_spaces xs ++ after_spaces ys
 after_spaces-append [] ys = refl
@@ -97,3 +97,24 @@ words-written line out now head digits empty text is none words same nothing all
     let written : head ≡ spaced (head_of line) = same ∙ (words ∙ ap (λ t. t ++ spaced (head_of line)) none) in
     all
     ∙ ap (λ t. out ++ t) (ap (λ d. head ++ (d ++ codes "\n")) nothing ∙ (ap (λ h. h ++ codes "\n") written ∙ line-words line is))
+
+-- ---- a line as it is pushed to a text
+
+spaced-octets : (line : Line) (octets : Option (List ℕ)) (b : Begins (head_of line))
+    → spaced (head_of line ++ if_octets octets) ≡ spaced (head_of line) ++ after_spaces (if_octets octets)
+spaced-octets line octets b =
+    ap (λ ws. spaced (ws ++ if_octets octets)) b.is
+    ∙ (ap (λ t. b.first ++ t) (after_spaces-append b.rest (if_octets octets))
+    ∙ (sym (append_assoc b.first (after_spaces b.rest) (after_spaces (if_octets octets)))
+    ∙ ap (λ ws. spaced ws ++ after_spaces (if_octets octets)) (sym b.is)))
+
+pub line-pushed : (line : Line) (octets : Option (List ℕ)) (old head more now : List ℕ) → octets ≡ octets_of line
+    → head ≡ old ++ spaced (head_of line) → more ≡ head ++ after_spaces (if_octets octets) → now ≡ more ++ codes "\n"
+    → now ≡ old ++ line_text line
+unfolding line_text
+line-pushed line octets old head more now is words hex all =
+    let rest = after_spaces (if_octets octets) in
+    all
+    ∙ (ap (λ t. t ++ codes "\n") (hex ∙ (ap (λ t. t ++ rest) words ∙ append_assoc old (spaced (head_of line)) rest))
+    ∙ (append_assoc old (spaced (head_of line) ++ rest) (codes "\n")
+    ∙ ap (λ t. old ++ (t ++ codes "\n")) (sym (spaced-octets line octets (begins line)) ∙ ap (λ o. spaced (head_of line ++ if_octets o)) is)))

@@ -92,7 +92,10 @@ octets_of (lines.Green session offset last body) = Some body
 octets_of (lines.LinkNote old send) = None
 octets_of (lines.RefusedLine line at cause) = None
 
+-- octets in hex, as a word
+abbrev pub if_octets : Option (List ℕ) → List (List ℕ)
+if_octets octets = if_any (option_map encode_lower octets)
+
 -- a line: its words, its octets in hex as the last one, and LF
 unfoldable pub line_text : Line → List ℕ
-line_text line =
-    spaced (head_of line ++ if_any (option_map encode_lower (octets_of line))) ++ codes "\n"
+line_text line = spaced (head_of line ++ if_octets (octets_of line)) ++ codes "\n"

@@ -5,7 +5,8 @@
 //! are decimal without leading zeros and below 2^64, octets are hex of either case. A line is
 //! judged before memory is taken for it, so that a refusal costs none.
 //!
-//! [`write_line`] appends a line of a transcript; its octets are written in lower case.
+//! [`write_line`] appends a line of a transcript to octets, and [`push_line`] to a text; a line's
+//! octets are written in lower case. [`number_in`] reads a number, of a line or of a call.
 //!
 //! Which line may follow which, where a run ends, and the lines of the other commands are not known
 //! here.
@@ -26,5 +27,6 @@ mod writing;
 pub use event::{Event, NodeEvent};
 pub use fault::LineFault;
 pub use line::{Line, Route, Site};
+pub use numeral::number_in;
 pub use reading::{read_line, read_node_line};
-pub use writing::write_line;
+pub use writing::{push_line, write_line};

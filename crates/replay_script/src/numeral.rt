@@ -40,9 +40,9 @@ pub(crate) fn number(text: &[u8]) -> Option<u64>
     Some(value)
 }
 
-/// The same, where the number is in a range.
+/// The same, where the number is in a range, both ends included.
 #[tactic(auto, unfolding(crate::specs::Events::number_in))]
-pub(crate) fn number_in(least: u64, most: u64, text: &[u8]) -> Option<u64>
+pub fn number_in(least: u64, most: u64, text: &[u8]) -> Option<u64>
     ensures { result ≡ number_in least most text.now }
 {
     let number = number(text)?;

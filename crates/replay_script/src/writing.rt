@@ -4,7 +4,8 @@ ghost use Rattle.std.specs.Prelude.{◌≡◌, ◌++◌, ◌∷◌, [], length, 
 ghost use Rattle.std.specs.String.{string_bytes};
 ghost use Rattle.hex.specs.Hex.{encode_lower};
 ghost use Rattle.replay_script.specs.Words.{after_spaces, spaced};
-ghost use Rattle.replay_script.specs.Lines.{line_text, head_of, if_site, if_number, if_word};
+ghost use Rattle.std.specs.Option.{option_map};
+ghost use Rattle.replay_script.specs.Lines.{line_text, head_of, if_site, if_number, if_word, if_octets};
 ghost use Rattle.std.specs.Fmt.{decimal};
 ghost use Rattle.replay_script.specs.Lines.{numbers, side_word, call_word, bit_word, site_word};
 
@@ -25,6 +26,29 @@ pub fn write_line(alloc: Global, line: &Line, out: &mut Vec<u8>) -> Result<(), A
             append(out, head.as_bytes(), digits.as_bytes())
         }
         None => append(out, head.as_bytes(), b"".as_slice()),
+    }
+}
+
+/// Appends a line to a text, LF included. After a refusal the text may have a part of it.
+pub fn push_line(alloc: Global, line: &Line, text: &mut String) -> Result<(), AllocError>
+    ensures { OnOk result (string_bytes text.new ≡ string_bytes text.old ++ line_text line.now) }
+{
+    write_head(text, line)?;
+    write_octets(alloc, text, line.octets())?;
+    write!(text, "\n")
+}
+
+/// Appends a space and octets in hex, where there are some.
+fn write_octets(alloc: Global, text: &mut String, octets: Option<&[u8]>) -> Result<(), AllocError>
+    ensures { OnOk result (string_bytes text.new ≡ string_bytes text.old
+        ++ after_spaces (if_octets (option_map (λ o. o.now) octets.entry))) }
+{
+    match octets {
+        Some(octets) => {
+            let digits = hex::encode(alloc, octets)?;
+            write!(text, " {digits}")
+        }
+        None => Ok(()),
     }
 }
 

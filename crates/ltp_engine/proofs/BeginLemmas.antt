@@ -1,7 +1,9 @@
 -- A block is submitted, and a session begins.
 
-use Rattle.std.proofs.Common.{◌≡◌, ℕ, ◌+◌, ◌<◌, ◌≤◌, ◌^◌, Bool, true, false, ◌==◌, nat_lt, nat_le, List, [], length, Option, None, Some, Ok, refl, sym, ◌∙◌, ap, arith, subst, if◌then◌else◌}
+use Rattle.std.proofs.Common.{◌≡◌, ℕ, ◌+◌, ◌<◌, ◌≤◌, ◌^◌, Bool, true, false, ◌==◌, nat_lt, nat_le, List, [], length, Option, None, Some, Result, Ok, Err, refl, sym, ◌∙◌, ap, arith, subst, if◌then◌else◌}
+use Rattle.std.specs.List.{AllByRecursion}
 use Rattle.std.specs.Option.{option_map}
+use Rattle.std.specs.Result.{IsErr, IsErrAnd}
 use Rattle.std.specs.Ordering.{nat_cmp}
 use Rattle.std.specs.BTreeMap.{insert_entry}
 use Rattle.std.proofs.lemmas.Bool.{ne_eqb, eq-eqb}
@@ -13,7 +15,7 @@ use Rattle.ltp_session.specs.Step.{Change, stays, keeps, ends, after, note_sent}
 use Rattle.ltp_session.specs.Sender.{Sending, begin, opened, last_segment, red_segments, checkpoint_at}
 use Rattle.ltp_session.specs.Timer.{first_serial}
 use Rattle.ltp_session.specs.Table.{settled, AreAscending}
-use Rattle.ltp_session.specs.Engine.{Party, Engine, SubmitFault, submit_fault, submits, submit_step, notes_of, block_empty, block_too_large, numbers_spent, senders_busy}
+use Rattle.ltp_session.specs.Engine.{Party, Engine, EngineStep, SubmitFault, submit_fault, submits, submit_step, notes_of, block_empty, block_too_large, numbers_spent, senders_busy}
 use Rattle.ltp_session.specs.Views.{SessionValue, datagrams_of, note_of}
 use Rattle.ltp_sender.specs.Sender.{begun_with}
 use Rattle.link_laws.proofs.TableLemmas.{ascending-settled}
@@ -23,10 +25,14 @@ use Rattle.ltp_engine.specs.Refused.{refusal_of}
 use Rattle.ltp_engine.specs.Values.{EngineValue}
 use Rattle.ltp_engine.specs.Tables.{table_of, live, live_all, AreLive, with_begun}
 use Rattle.ltp_engine.specs.Effects.{effects_in}
+use Rattle.ltp_engine.specs.Bounds.{SendsAtMost}
 use Rattle.ltp_engine.specs.Shows.{Shows}
-use Rattle.ltp_engine.specs.Steps.{Steps, IsFault, IsSent}
+use Rattle.ltp_engine.specs.declared.refused.SubmitRefused.{SubmitRefused}
+use Rattle.ltp_engine.specs.declared.refused.SubmitRefused.TheVariants as causes
+use Rattle.ltp_engine.specs.Steps.{Steps, Sends, Submits, IsFault, IsNoFault, IsSent}
 use Rattle.ltp_engine.specs.Ties.{made_of, AreWhole, begun_step}
 use Rattle.ltp_engine.proofs.TableLemmas.{table_of-live_all, live-table, insert-live_all}
+use Rattle.ltp_engine.proofs.BlockLemmas.{all-settled, begin-within}
 use Rattle.ltp_engine.proofs.KeepLemmas.{length-put}
 use Rattle.ltp_engine.proofs.HearLemmas.{at_least, less}
 
@@ -58,10 +64,10 @@ begun-kept p next block red now senders senders' v are_live is put_in =
     put_in ∙ (ap (λ x. with_begun next x senders) is ∙ kept-begun p.own p.policy next (begin p.policy next block red now).next senders are_live (never-ends p.policy next block red now))
 
 pub begun-whole : (p : Party) (next : ℕ) (block : List ℕ) (red now : ℕ) (senders senders' : List (ℕ × SessionValue Sending)) (inbound : Inbound)
-    → AreWhole p next senders inbound → length (table_of senders) < 64 → next < 2 ^ 32
+    → AreWhole p next senders inbound → length (table_of senders) < 64 → next < 2 ^ 32 → length block ≤ p.most
     → senders' ≡ live_all p.own p.policy (settled next (begin p.policy next block red now).next (table_of senders))
     → AreWhole p (next + 1) senders' inbound
-begun-whole p next block red now senders senders' inbound whole room few is =
+begun-whole p next block red now senders senders' inbound whole room few small is =
     let change = (begin p.policy next block red now).next in
     let tab = ap (λ es. table_of es) is ∙ table_of-live_all p.own p.policy (settled next change (table_of senders)) in
     let more = length-begun next change (table_of senders) (never-ends p.policy next block red now) in
@@ -74,6 +80,9 @@ begun-whole p next block red now senders senders' inbound whole room few is =
         senders = rw tab (omega (arith, more, room));
         ascending = subst (λ t. AreAscending 0 t) (sym tab) (ascending-settled next 0 change (table_of senders) (omega arith) whole.sound.ascending);
         inbound = whole.sound.inbound;
+        sent = subst (λ t. AllByRecursion (SendsAtMost p.most) t) (sym tab)
+            (all-settled (SendsAtMost p.most) next change (table_of senders) whole.sound.sent (begin-within p.most next p.policy block red now small));
+        received = whole.sound.received;
       };
     }
 
@@ -171,11 +180,27 @@ refuses-busy u v block red now same some small few busy = subst (λ x. Refuses x
 pub submit-sent : (spent : Bool) (p : Party) (next : ℕ) (senders : List (ℕ × SessionValue Sending)) (inbound : Inbound) (v w : EngineValue) (block : List ℕ) (red now : ℕ) (effects : Effects)
     → made_of spent p next senders inbound ≡ v → (length block ≡ 0 → ⊥) → length block ≤ p.most → next < 2 ^ 32 → length (table_of senders) < 64
     → Steps (made_of false p next senders inbound) w (λ e. begun_step p e block red now) effects
-    → (e : Engine) → Shows v e → IsSent w effects (submit_step v.party e (submits v.party e block red now))
-submit-sent spent p next senders inbound v w block red now effects is some small few room steps e shows =
-    subst (λ x. Shows x e → IsSent w effects (submit_step x.party e (submits x.party e block red now))) is here shows where
-      here : Shows (made_of spent p next senders inbound) e → IsSent w effects (submit_step p e (submits p e block red now))
-      here shown =
+    → Sends v w (λ e. submit_step v.party e (submits v.party e block red now)) effects
+submit-sent spent p next senders inbound v w block red now effects is some small few room steps =
+    subst (λ x. Sends x w (λ e. submit_step x.party e (submits x.party e block red now)) effects) is
+    (record { whole = steps.whole; party = steps.party; next = here }) where
+      here : (e : Engine) → Shows (made_of spent p next senders inbound) e → IsSent w effects (submit_step p e (submits p e block red now))
+      here e shown =
           let again : Shows (made_of false p next senders inbound) e = record { next = shown.next; senders = shown.senders; inbound = shown.inbound } in
           subst (λ r. IsSent w effects r) (sym (is-begun p e block red now (fault-none p e block some small (omega (arith, shown.next, few)) (omega (arith, ap length shown.senders, room)))))
           (steps.next e again, steps.effects_are e again)
+
+-- a block is begun where there is no fault
+pub submit-begins : (u v : EngineValue) (block : List ℕ) (red now : ℕ)
+    → u ≡ v → (length block ≡ 0 → ⊥) → length block ≤ u.party.most → u.next < 2 ^ 32 → length u.senders < 64
+    → (e : Engine) → Shows v e → IsNoFault (submit_step v.party e (submits v.party e block red now))
+submit-begins u v block red now is some small few room e shows =
+    subst (λ x. Shows x e → IsNoFault (submit_step x.party e (submits x.party e block red now))) is here shows where
+      here : Shows u e → IsNoFault (submit_step u.party e (submits u.party e block red now))
+      here shown = rw (is-begun u.party e block red now (fault-none u.party e block some small (omega (arith, shown.next, few)) (omega (arith, ap length shown.senders, room)))) tt
+
+-- want of memory ends a submit that is no fault
+pub submit-wanted : (old new : EngineValue) (step : Engine → Result EngineStep SubmitFault) (r : Result Effects SubmitRefused)
+    → IsErr r × IsErrAnd r (λ e. e ≡ causes.Memory) → new.spent ≡ true → ((e : Engine) → Shows old e → IsNoFault (step e)) → Submits old new step r
+submit-wanted old new step (Ok effects) is spent begins = absurd is.1
+submit-wanted old new step (Err e) is spent begins = subst (λ x. Submits old new step (Err x)) (sym is.1) (spent, begins)

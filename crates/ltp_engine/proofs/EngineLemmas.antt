@@ -1,6 +1,7 @@
 -- What an engine keeps as a whole.
 
 use Rattle.std.proofs.Common.{◌≡◌, ℕ, ◌+◌, ◌<◌, ◌^◌, false, List, [], ◌∷◌, length, suc, refl, sym, ◌∙◌, ap, arith, subst}
+use Rattle.std.specs.List.{AllByRecursion}
 use Rattle.std.proofs.lemmas.List.{map-append}
 use Rattle.spans.proofs.Places.{length-uncovered}
 use Rattle.ltp_segment.specs.Policy.{PolicyValue}
@@ -14,7 +15,7 @@ use Rattle.ltp_engine.specs.declared.closed.TheConstants.{LAST}
 use Rattle.ltp_engine.specs.declared.effects.Effects.{Effects}
 use Rattle.ltp_engine.specs.declared.inbound.Inbound.{Inbound}
 use Rattle.ltp_engine.specs.Values.{InboundValue, nothing_received}
-use Rattle.ltp_engine.specs.Bounds.{IsInboundSound}
+use Rattle.ltp_engine.specs.Bounds.{IsInboundSound, SendsAtMost, ReceivesAtMost}
 use Rattle.ltp_engine.specs.Tables.{table_of, live_all, AreLive}
 use Rattle.ltp_engine.specs.Ticks.{sender_ticked, sender_change, receiver_ticked, receiver_change, with_ticks}
 use Rattle.ltp_engine.specs.Inbound.{inbound_of, Keeps, ticked_in}
@@ -24,6 +25,7 @@ use Rattle.ltp_engine.specs.Steps.{Steps}
 use Rattle.ltp_engine.specs.Ties.{made_of, AreWhole}
 use Rattle.ltp_engine.proofs.TableLemmas.{table_of-live_all, live-table}
 use Rattle.ltp_engine.proofs.KeepLemmas.{sound-ticked, length-ticked}
+use Rattle.ltp_engine.proofs.BlockLemmas.{all-ticked, sender-tick-within, receiver-tick-within}
 use Rattle.ltp_engine.proofs.ShowLemmas.{shows-ticked}
 
 -- what is kept is this value
@@ -55,6 +57,8 @@ new-whole p senders inbound none few keep = record {
     senders = rw none (omega arith);
     ascending = rw none tt;
     inbound = subst IsInboundSound (sym (inbound-is p.peer p.policy inbound nothing_received keep)) sound-none;
+    sent = rw none tt;
+    received = subst (λ i. AllByRecursion (ReceivesAtMost p.most) i.receivers) (sym (inbound-is p.peer p.policy inbound nothing_received keep)) tt;
   };
 }
 
@@ -90,6 +94,10 @@ tick-whole p next now senders senders' inbound inbound' whole is keep =
         ascending = subst (λ t. AreAscending 0 t) (sym tab) (ascending-ticked (sender_change p.policy now) 0 (table_of senders) whole.sound.ascending);
         inbound = subst IsInboundSound (sym (inbound-is p.peer p.policy inbound' (ticked_in p.policy now (inbound_of inbound)) keep))
             (sound-ticked (receiver_change p.policy now) (inbound_of inbound) whole.sound.inbound);
+        sent = subst (λ t. AllByRecursion (SendsAtMost p.most) t) (sym tab)
+            (all-ticked (SendsAtMost p.most) (sender_change p.policy now) (table_of senders) (λ n s within. sender-tick-within p.most n p.policy now s within) whole.sound.sent);
+        received = subst (λ i. AllByRecursion (ReceivesAtMost p.most) i.receivers) (sym (inbound-is p.peer p.policy inbound' (ticked_in p.policy now (inbound_of inbound)) keep))
+            (all-ticked (ReceivesAtMost p.most) (receiver_change p.policy now) (table_of inbound.receivers.entries) (λ n r within. receiver-tick-within p.most n p.policy now r within) whole.sound.received);
       };
     }
 

@@ -1,6 +1,7 @@
 -- A segment that comes, and what it does to an engine.
 
 use Rattle.std.proofs.Common.{◌≡◌, ℕ, ◌+◌, ◌<◌, ◌≤◌, Bool, true, false, not, ◌==◌, ◌&&◌, nat_lt, nat_le, List, [], ◌∷◌, length, Option, None, Some, is_some, map, refl, sym, ◌∙◌, ap, arith, subst, if◌then◌else◌}
+use Rattle.std.specs.List.{AllByRecursion}
 use Rattle.std.specs.Option.{option_map}
 use Rattle.ltp_segment.specs.Policy.{PolicyValue}
 use Rattle.ltp_segment.specs.Values.{PieceValue, ReportValue, ContentValue, a_piece, a_report, a_report_ack, a_sender_cancel, a_sender_cancel_ack, a_receiver_cancel, a_receiver_cancel_ack, SegmentValue}
@@ -22,14 +23,15 @@ use Rattle.std.proofs.Common.{Result, Ok, Err}
 use Rattle.ltp_segment.specs.declared.fault.SegmentCause.{SegmentCause}
 use Rattle.std.proofs.lemmas.Bool.{ne_eqb, eq-eqb}
 use Rattle.std.proofs.lemmas.Bool.Decides.{nat_tests}
+use Rattle.link_laws.specs.Kept.{IfKept, IfKeeps}
 use Rattle.link_laws.proofs.TableLemmas.{self_eqb, ascending-settled}
 use Rattle.link_laws.proofs.FrameLemmas.{senders-with_receiver, next-with_receiver}
 use Rattle.ltp_engine.specs.declared.closed.TheConstants.{LAST}
 use Rattle.ltp_engine.specs.declared.effects.Effects.{Effects}
 use Rattle.ltp_engine.specs.declared.effects.Up.{Up}
 use Rattle.ltp_engine.specs.declared.inbound.Inbound.{Inbound}
-use Rattle.ltp_engine.specs.Values.{EngineValue}
-use Rattle.ltp_engine.specs.Bounds.{IsInboundSound}
+use Rattle.ltp_engine.specs.Values.{InboundValue, EngineValue}
+use Rattle.ltp_engine.specs.Bounds.{IsInboundSound, SendsAtMost, ReceivesAtMost}
 use Rattle.ltp_engine.specs.Tables.{table_of}
 use Rattle.ltp_engine.specs.Inbound.{inbound_of, settled_in, with_room, place_in}
 use Rattle.ltp_engine.specs.Sides.{SenderDoes, ReceiverDoes}
@@ -39,6 +41,7 @@ use Rattle.ltp_engine.specs.Steps.{Steps}
 use Rattle.ltp_engine.specs.Ties.{made_of, AreWhole, own_step, peer_step, sent_of, handed_of}
 use Rattle.ltp_engine.proofs.TableLemmas.{table_of-live_all, live-table}
 use Rattle.ltp_engine.proofs.InboundLemmas.{opens}
+use Rattle.ltp_engine.proofs.BlockLemmas.{all-settled, all-find, sender-within, receiver-within}
 use Rattle.ltp_engine.proofs.KeepLemmas.{MayOpen, sound-step, length-put_found, length-without}
 use Rattle.ltp_engine.proofs.ShowLemmas.{StepsIn, shows-step, same-place}
 use Rattle.ltp_engine.proofs.EngineLemmas.{inbound-is}
@@ -143,6 +146,10 @@ own-whole p next n now content senders senders' inbound told whole does = by_ans
           senders = rw tab (omega (arith, few, whole.sound.senders));
           ascending = subst (λ t. AreAscending 0 t) (sym tab) (ascending-settled n 0 step.next (table_of senders) (omega arith) whole.sound.ascending);
           inbound = whole.sound.inbound;
+          sent = subst (λ t. AllByRecursion (SendsAtMost p.most) t) (sym tab)
+              (all-settled (SendsAtMost p.most) n step.next (table_of senders) whole.sound.sent
+              (sender-within p.most n p.policy (find n (table_of senders)) content now step unmoved is (all-find (SendsAtMost p.most) n (table_of senders) whole.sound.sent)));
+          received = whole.sound.received;
         };
       }
 
@@ -237,11 +244,15 @@ receiver-may p place a_sender_cancel_ack now step is = absurd (cc)
 receiver-may p place (a_receiver_cancel reason) now step is = absurd (cc)
 receiver-may p place a_receiver_cancel_ack now step is = some-is (λ s. MayOpen place s.next) _ step is tt
 
+all-room : (most : ℕ) (i : InboundValue) (gone : Option ℕ) → AllByRecursion (ReceivesAtMost most) i.receivers → AllByRecursion (ReceivesAtMost most) (with_room i gone).receivers
+all-room most i None all = all
+all-room most i (Some m) all = all-settled (ReceivesAtMost most) m ends i.receivers all tt
+
 pub peer-whole : (p : Party) (next n now : ℕ) (content : ContentValue) (senders : List (ℕ × SessionValue Sending)) (old new : Inbound) (told : Option (Option ℕ × Step))
-    → n ≤ LAST → AreWhole p next senders old
+    → p.most ≡ BLOCK_MAX → n ≤ LAST → AreWhole p next senders old
     → ReceiverDoes p.peer p.policy n (receiver_answers p.policy (place_in (inbound_of old) BLOCK_MAX n) (find n (table_of old.receivers.entries)) content now) old new told
     → AreWhole p next senders new
-peer-whole p next n now content senders old new told most whole does = by_answer (receiver_answers p.policy (place_in (inbound_of old) BLOCK_MAX n) (find n (table_of old.receivers.entries)) content now) refl told does where
+peer-whole p next n now content senders old new told greatest most whole does = by_answer (receiver_answers p.policy (place_in (inbound_of old) BLOCK_MAX n) (find n (table_of old.receivers.entries)) content now) refl told does where
   by_answer : (answer : Option (StepValue Receiving)) → receiver_answers p.policy (place_in (inbound_of old) BLOCK_MAX n) (find n (table_of old.receivers.entries)) content now ≡ answer
       → (told : Option (Option ℕ × Step)) → ReceiverDoes p.peer p.policy n answer old new told → AreWhole p next senders new
   by_answer None is None does = subst (λ i. AreWhole p next senders i) (sym does) whole
@@ -260,6 +271,13 @@ peer-whole p next n now content senders old new told most whole does = by_answer
           inbound = subst IsInboundSound (sym (inbound-is p.peer p.policy new after_it does.next))
               (sound-step (inbound_of old) n BLOCK_MAX t.0 step.next most whole.sound.inbound does.gone
               (λ absent. receiver-may p.policy (place_in (inbound_of old) BLOCK_MAX n) content now step (ap (λ kept. receiver_answers p.policy (place_in (inbound_of old) BLOCK_MAX n) kept content now) (sym absent) ∙ is)));
+          sent = whole.sound.sent;
+          received = subst (λ i. AllByRecursion (ReceivesAtMost p.most) i.receivers) (sym (inbound-is p.peer p.policy new after_it does.next))
+              (all-settled (ReceivesAtMost p.most) n step.next (with_room (inbound_of old) t.0).receivers
+              (all-room p.most (inbound_of old) t.0 whole.sound.received)
+              (subst (λ m. IfKeeps (λ r. ReceivesAtMost m (n, r)) step.next) (sym greatest)
+              (receiver-within n p.policy (place_in (inbound_of old) BLOCK_MAX n) (find n (table_of old.receivers.entries)) content now step is
+              (subst (λ m. IfKept (λ r. ReceivesAtMost m (n, r)) (find n (table_of old.receivers.entries))) greatest (all-find (ReceivesAtMost p.most) n (table_of old.receivers.entries) whole.sound.received)))));
         };
       }
 

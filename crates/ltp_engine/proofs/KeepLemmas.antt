@@ -286,7 +286,7 @@ ended_below change n low (e ∷ es) below is = by_change (change e.1) (ended_bel
   by_change (keeps r) rest = rest
   by_change ends rest = rw (ne_eqb e.0 n (λ h. absurd (omega (arith, h, is.0, below)))) rest
 
-closed-ended : (change : Receiving → Change Receiving) (m low : ℕ) (es : List (ℕ × Receiving)) → AreAscending low es → is_closed m (ended change es) ≡ is_over_by change (find m es)
+pub closed-ended : (change : Receiving → Change Receiving) (m low : ℕ) (es : List (ℕ × Receiving)) → AreAscending low es → is_closed m (ended change es) ≡ is_over_by change (find m es)
 unfolding ended find
 closed-ended change m low [] is = refl
 closed-ended change m low (e ∷ es) is = by_test (e.0 == m) refl (change e.1) refl (closed-ended change m (e.0 + 1) es is.1) where

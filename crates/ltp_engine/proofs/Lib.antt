@@ -2,6 +2,7 @@ mod ClosedLemmas
 mod TableLemmas
 mod InboundLemmas
 mod SoundLemmas
+mod BlockLemmas
 mod RunsLemmas
 mod KeepLemmas
 mod ShowLemmas
@@ -9,3 +10,4 @@ mod EngineLemmas
 mod HearLemmas
 mod LegalLemmas
 mod BeginLemmas
+mod RedPartLemmas

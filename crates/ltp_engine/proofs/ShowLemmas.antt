@@ -5,15 +5,35 @@ use Rattle.std.specs.Option.{option_map}
 use Rattle.ltp_session.specs.Step.{Change, stays, keeps, ends}
 use Rattle.ltp_session.specs.Receiver.{Receiving}
 use Rattle.ltp_session.specs.Table.{find, ticked, ended}
-use Rattle.ltp_session.specs.Engine.{Party, Engine, is_closed, with_receiver, longest_untouched, evicted_of, evicted_by, without_evicted, place_of, untouched_all}
+use Rattle.spans.proofs.PlaceLaws.{nothing_is_covered}
+use Rattle.ltp_session.specs.Engine.{Party, Engine, starts, is_closed, closed_runs, with_receiver, longest_untouched, evicted_of, evicted_by, without_evicted, place_of, untouched_all}
 use Rattle.ltp_engine.specs.declared.closed.TheConstants.{LAST}
-use Rattle.ltp_engine.specs.Closed.{all_closed}
-use Rattle.ltp_engine.specs.Values.{InboundValue}
+use Rattle.ltp_engine.specs.Closed.{all_closed, none_closed}
+use Rattle.ltp_engine.specs.Values.{InboundValue, nothing_received}
 use Rattle.ltp_engine.specs.Bounds.{IsInboundSound}
-use Rattle.ltp_engine.specs.Shows.{ShowsClosed, ShowsInbound}
+use Rattle.ltp_engine.specs.Shows.{ShowsClosed, ShowsInbound, Shows}
 use Rattle.ltp_engine.specs.Inbound.{settled_in, with_room, evicted_in, evicted_for, place_in}
 use Rattle.ltp_engine.proofs.RunsLemmas.{AllShown, shows-closed, shows-all, distinct-ended, ended-least}
 use Rattle.ltp_engine.proofs.KeepLemmas.{MayOpen, ticked_by}
+
+-- ---- the beginning
+
+shows-none : ShowsClosed none_closed []
+unfolding closed_runs
+shows-none = record {
+  each = λ n. rw ((nothing_is_covered LAST).0 n) refl;
+  runs = refl;
+  distinct = tt;
+}
+
+-- a new engine stands for the definition's engine at its beginning
+pub shows-start : (p : Party)
+    → Shows (record { spent = false; party = p; next = p.first; senders = []; inbound = nothing_received }) (starts p)
+shows-start p = record {
+  next = refl;
+  senders = refl;
+  inbound = record { receivers = refl; touched = refl; closed = shows-none };
+}
 
 -- ---- one change
 

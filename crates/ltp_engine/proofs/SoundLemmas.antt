@@ -1,11 +1,15 @@
 -- What the definitions keep: how many sessions there are, and which numbers are closed.
 
-use Rattle.std.proofs.Common.{◌≡◌, ℕ, ◌+◌, ◌≤◌, Bool, true, false, ◌==◌, ◌&&◌, ◌||◌, nat_lt, nat_le, length, refl, sym, ◌∙◌, arith, if◌then◌else◌}
+use Rattle.std.proofs.Common.{◌≡◌, ℕ, ◌+◌, ◌≤◌, Bool, true, false, ◌==◌, ◌&&◌, ◌||◌, nat_lt, nat_le, length, refl, sym, ◌∙◌, arith, subst, if◌then◌else◌}
+use Rattle.std.specs.List.{AllByRecursion}
 use Rattle.std.proofs.lemmas.Bool.{eqb-true, ne_eqb, eq-eqb}
 use Rattle.std.proofs.lemmas.Bool.Decides.{nat_tests}
 use Rattle.spans.specs.Places.{is_covered, with_covered, is_in}
 use Rattle.spans.proofs.Places.{is_covered-with_covered}
+use Rattle.ltp_segment.specs.declared.session.TheConstants.{BLOCK_MAX}
 use Rattle.ltp_engine.specs.declared.closed.TheConstants.{LAST}
+use Rattle.ltp_engine.specs.Values.{EngineValue}
+use Rattle.ltp_engine.specs.Bounds.{IsSound, IsBounded, SendsAtMost, ReceivesAtMost}
 use Rattle.ltp_engine.specs.Closed.{ClosedValue, is_among, also_closed}
 
 -- closing a number closes it and no other
@@ -55,3 +59,14 @@ among-also n c m most limit = by_last (n == LAST) refl where
           ors false false d = refl
         by_in true false h = absurd (cc)
         by_in false true h = absurd (cc)
+
+-- the bounds are among what is kept
+pub sound-bounded : (v : EngineValue) → v.party.most ≡ BLOCK_MAX → IsSound v → IsBounded v
+sound-bounded v greatest sound = record {
+  numbers = sound.numbers;
+  senders = sound.senders;
+  receivers = sound.inbound.receivers;
+  history = sound.inbound.history;
+  sent = subst (λ m. AllByRecursion (SendsAtMost m) v.senders) greatest sound.sent;
+  received = subst (λ m. AllByRecursion (ReceivesAtMost m) v.inbound.receivers) greatest sound.received;
+}

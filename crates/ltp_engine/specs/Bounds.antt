@@ -2,19 +2,41 @@
 
 use Rattle.std.specs.Prelude.{◌≡◌, ℕ, ◌+◌, ◌^◌, ◌≤◌, Bool, true, false, ◌==◌, List, length}
 use Rattle.std.specs.Prelude.{is_some}
-use Rattle.std.specs.List.{list_any}
+use Rattle.std.specs.List.{AllByRecursion, list_any}
+use Rattle.ltp_segment.specs.declared.session.TheConstants.{BLOCK_MAX}
+use Rattle.ltp_session.specs.Sender.{Sending}
+use Rattle.ltp_session.specs.Receiver.{Receiving}
 use Rattle.ltp_session.specs.Table.{find, AreAscending}
 use Rattle.ltp_engine.specs.declared.closed.TheConstants.{LAST}
 use Rattle.ltp_engine.specs.Closed.{is_among}
 use Rattle.ltp_engine.specs.Values.{InboundValue, EngineValue}
 
+-- the block of a sending session isn't longer than this
+abbrev pub SendsAtMost : ℕ → ℕ × Sending → Type 0
+SendsAtMost most entry = length entry.1.block ≤ most
+
+-- the octets of a receiving session's red part end here or before
+abbrev pub ReceivesAtMost : ℕ → ℕ × Receiving → Type 0
+ReceivesAtMost most entry = length entry.1.cells ≤ most
+
+-- all session numbers are below 2^32; 64 sessions a direction; 65,536 runs of closed numbers and
+-- receiving sessions together; and each session's octets are within the greatest block
+pub record IsBounded (v : EngineValue) : Type 0 where
+  pub numbers : v.next ≤ 2 ^ 32
+  pub senders : length v.senders ≤ 64
+  pub receivers : length v.inbound.receivers ≤ 64
+  pub history : v.inbound.closed.runs + length v.inbound.receivers ≤ 65536
+  pub sent : AllByRecursion (SendsAtMost BLOCK_MAX) v.senders
+  pub received : AllByRecursion (ReceivesAtMost BLOCK_MAX) v.inbound.receivers
+
+-- ---- what every call keeps, these bounds among it
+
 -- a number is among some numbers
 abbrev pub is_touched : ℕ → List ℕ → Bool
 is_touched n touched = list_any (λ m. m == n) touched
 
--- 64 receiving sessions; 65,536 runs of closed numbers and receiving sessions together; exactly
--- the sessions that are kept have a place in the order; none of them is closed; their numbers
--- ascend, and are numbers that a session can have
+-- exactly the sessions that are kept have a place in the order; none of them is closed; their
+-- numbers ascend, and are numbers that a session can have
 pub record IsInboundSound (i : InboundValue) : Type 0 where
   pub receivers : length i.receivers ≤ 64
   pub history : i.closed.runs + length i.receivers ≤ 65536
@@ -24,10 +46,12 @@ pub record IsInboundSound (i : InboundValue) : Type 0 where
   pub limit : length i.closed.places ≡ LAST
   pub ascending : AreAscending 0 i.receivers
 
--- the numbers given so far; 64 sending sessions, whose numbers ascend
+-- the numbers given so far; the sending sessions' numbers ascend
 pub record IsSound (v : EngineValue) : Type 0 where
   pub begun : v.party.first ≤ v.next
   pub numbers : v.next ≤ 2 ^ 32
   pub senders : length v.senders ≤ 64
   pub ascending : AreAscending 0 v.senders
   pub inbound : IsInboundSound v.inbound
+  pub sent : AllByRecursion (SendsAtMost v.party.most) v.senders
+  pub received : AllByRecursion (ReceivesAtMost v.party.most) v.inbound.receivers

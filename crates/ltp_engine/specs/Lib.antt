@@ -6,6 +6,8 @@ pub mod Values
 pub mod Shows
 pub mod Bounds
 pub mod Steps
+-- what an engine hands up, whoever is at the other end
+pub mod RedParts
 -- what ties the code to it
 pub mod Ticks
 pub mod Notes

@@ -44,16 +44,30 @@ abbrev pub IsFault : SubmitRefused → Result EngineStep SubmitFault → Type 0
 IsFault refused (Ok step) = ⊥
 IsFault refused (Err fault) = refused ≡ refusal_of fault
 
+-- the step is no fault
+abbrev pub IsNoFault : Result EngineStep SubmitFault → Type 0
+IsNoFault (Ok step) = Unit {0}
+IsNoFault (Err fault) = ⊥
+
 -- the step is no fault; the new value stands for the engine after it
 abbrev pub IsSent : EngineValue → Effects → Result EngineStep SubmitFault → Type 0
 IsSent new effects (Ok step) = Shows new step.engine × (effects ≡ effects_of step.effects)
 IsSent new effects (Err fault) = ⊥
 
--- a block is submitted: sent, or refused for the first fault that there is, which changes nothing
+-- a block is sent by every engine of the definition that the old value stands for
+pub record Sends
+    (old new : EngineValue) (step : Engine → Result EngineStep SubmitFault) (effects : Effects)
+    : Type 0 where
+  pub whole : new.spent ≡ false
+  pub party : new.party ≡ old.party
+  pub next : (e : Engine) → Shows old e → IsSent new effects (step e)
+
+-- a block is submitted: sent, or refused for the first fault that there is, which changes nothing;
+-- memory is wanted only where there is no fault
 abbrev pub Submits : EngineValue → EngineValue → (Engine → Result EngineStep SubmitFault)
     → Result Effects SubmitRefused → Type 0
-Submits old new step (Ok effects) =
-    (e : Engine) → Shows old e → IsSent new effects (step e)
-Submits old new step (Err causes.Memory) = new.spent ≡ true
+Submits old new step (Ok effects) = Sends old new step effects
+Submits old new step (Err causes.Memory) =
+    (new.spent ≡ true) × ((e : Engine) → Shows old e → IsNoFault (step e))
 Submits old new step (Err refused) =
     (new ≡ old) × ((e : Engine) → Shows old e → IsFault refused (step e))

@@ -1,9 +1,11 @@
 //! The engine of one end of a link.
 
-ghost use Rattle.std.specs.Prelude.{◌≡◌, ◌≢◌, ◌<◌, ◌≤◌, ◌^◌, false, true, length, IfOk, OnErr};
+ghost use Rattle.std.specs.Prelude.{◌≡◌, ◌≢◌, ◌<◌, ◌≤◌, ◌^◌, false, true, length, IfOk, OnOk, OnErr};
 ghost use Rattle.ltp_segment.specs.PolicyViews.{policy_value};
 ghost use Rattle.ltp_segment.specs.Reading.{segment_of};
-ghost use Rattle.ltp_session.specs.Engine.{datagram_step, submits, submit_step, tick_step};
+ghost use Rattle.ltp_session.specs.Engine.{starts, datagram_step, submits, submit_step, tick_step};
+ghost use Rattle.ltp_engine.specs.Shows.{Shows};
+ghost use Rattle.ltp_engine.specs.Bounds.{IsBounded};
 ghost use Rattle.ltp_engine.specs.Steps.{new_engine, deadline_of, Steps, Submits};
 
 use crate::effects::Effects;
@@ -47,7 +49,10 @@ impl Engine {
         requires apart { own ≢ peer }
         requires first { 1 ≤ first_session }
         requires numbers { first_session < 2 ^ 32 }
-        ensures { result ≡ new_engine own peer first_session (policy_value policy) }
+        ensures value { result ≡ new_engine own peer first_session (policy_value policy) }
+        // It stands for the engine of the definition that begins.
+        ensures shows { Shows result (starts result.party) }
+        ensures bounds { IsBounded result }
     {
         Engine {
             parts: Parts::new(alloc, own, peer, first_session, policy),
@@ -96,8 +101,9 @@ impl Engine {
         requires whole { self.old.spent ≡ false }
         requires red { red ≤ length block.now }
         requires moment { now < 2 ^ 62 }
-        ensures { Submits self.old self.new (λ e. submit_step self.old.party e
+        ensures does { Submits self.old self.new (λ e. submit_step self.old.party e
             (submits self.old.party e block.now red now)) result }
+        ensures bounds { OnOk result (IsBounded self.new) }
     {
         let next = self.parts.next;
         let sending = self.parts.sending();
@@ -125,6 +131,7 @@ impl Engine {
         requires moment { now < 2 ^ 62 }
         ensures done { IfOk result (Steps self.old self.new
             (λ e. datagram_step self.old.party e (segment_of datagram.now) now)) }
+        ensures bounds { OnOk result (IsBounded self.new) }
         ensures err { OnErr result (self.new.spent ≡ true) }
     {
         self.spent = true;
@@ -139,6 +146,7 @@ impl Engine {
         requires moment { now < 2 ^ 62 }
         ensures done { IfOk result (Steps self.old self.new
             (λ e. tick_step self.old.party e now)) }
+        ensures bounds { OnOk result (IsBounded self.new) }
         ensures err { OnErr result (self.new.spent ≡ true) }
     {
         self.spent = true;

@@ -15,6 +15,7 @@ mod deadlines;
 mod effects;
 mod engine;
 mod inbound;
+pub mod laws;
 mod outbound;
 mod parts;
 mod refused;

@@ -4,6 +4,7 @@ ghost use Rattle.std.specs.Prelude.{◌≡◌, ◌<◌, ◌≤◌, ◌^◌, fals
 ghost use Rattle.std.specs.Prelude.{◌==◌, None, Some, if◌then◌else◌};
 ghost use Rattle.ltp_segment.specs.PolicyViews.{policy_value};
 ghost use Rattle.ltp_segment.specs.declared.session.Note.TheVariants as notes;
+ghost use Rattle.ltp_segment.specs.declared.session.TheConstants.{BLOCK_MAX};
 ghost use Rattle.ltp_segment.specs.Reading.{segment_of};
 ghost use Rattle.ltp_segment.specs.Views.{content_value, segment_value};
 ghost use Rattle.ltp_engine.specs.Sides.{IsFit};
@@ -109,6 +110,7 @@ impl Parts {
         requires whole { IsWhole self.old }
         requires red { red ≤ length block.now }
         requires moment { now < 2 ^ 62 }
+        requires most { length block.now ≤ BLOCK_MAX }
         requires room { length (value_of false self.old).senders < 64 }
         requires numbers { self.old.next < 2 ^ 32 }
         ensures whole { OnOk result (IsWhole self.new) }

@@ -98,7 +98,7 @@ red-law policy r s piece now kept pieces handed agrees = record {
 
 -- ---- a piece comes
 
-piece-law : (policy : PolicyValue) (r : Receiving) (piece : PieceValue) (now : ℕ) (pieces : List RedPiece) → Stands r pieces
+pub piece-law : (policy : PolicyValue) (r : Receiving) (piece : PieceValue) (now : ℕ) (pieces : List RedPiece) → Stands r pieces
     → is_cancelling r.phase ≡ false
     → (red outside wrong : Bool) → is_red piece.kind ≡ red → is_outside r piece ≡ outside → is_miscoloured r piece ≡ wrong
     → ByLaw (piece_step policy r piece now) (Some r) pieces (if red && (not outside && not wrong) then red_piece piece ∷ pieces else pieces)
@@ -136,7 +136,7 @@ comes-law policy (Some r) piece now pieces stands = by_test (is_cancelling r.pha
 moved : (r : Receiving) (phase : ReceivingPhase) (pieces : List RedPiece) → Stands r pieces → Stands (record r { phase = phase }) pieces
 moved r phase pieces stands = record { agrees = stands.agrees; handed = stands.handed }
 
-ack-law : (r : Receiving) (serial : ℕ) (pieces : List RedPiece) → Stands r pieces
+pub ack-law : (r : Receiving) (serial : ℕ) (pieces : List RedPiece) → Stands r pieces
     → ByLaw (acknowledged r serial) (Some r) pieces pieces
 unfolding acknowledged
 ack-law r serial pieces stands = by_phase r.phase
@@ -152,7 +152,7 @@ ack-law r serial pieces stands = by_phase r.phase
         by_test true false named is = rw (named, is) (idle _ (Some r) pieces (moved r (receiver_open None) pieces stands) refl)
     by_phase (receiver_cancelling reason timer) = idle _ (Some r) pieces stands refl
 
-tick-law : (policy : PolicyValue) (r : Receiving) (now : ℕ) (pieces : List RedPiece) → Stands r pieces
+pub tick-law : (policy : PolicyValue) (r : Receiving) (now : ℕ) (pieces : List RedPiece) → Stands r pieces
     → ByLaw (receiver_tick policy r now) (Some r) pieces pieces
 unfolding receiver_tick
 tick-law policy r now pieces stands = by_phase r.phase
@@ -194,7 +194,7 @@ event-law policy (Some r) the_cancel_is_acknowledged pieces told = by_test (is_c
 event-law policy None (time_passes now) pieces told = idle _ None pieces tt refl
 event-law policy (Some r) (time_passes now) pieces told = tick-law policy r now pieces told
 
-nothing-stands : (session : ℕ) → Stands (fresh session) []
+pub nothing-stands : (session : ℕ) → Stands (fresh session) []
 nothing-stands session = record {
   agrees = nothing-agrees;
   handed = refl;

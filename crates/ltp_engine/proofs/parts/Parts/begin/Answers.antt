@@ -4,7 +4,7 @@ use Rattle.ltp_engine.proofs.parts.Parts.begin.Goals as goal
 
 pub returns-clause-whole : goal.returns-clause-whole
 returns-clause-whole c = begun-whole (party_of c.args.self.now) c.args.self.now.next c.args.block.now c.args.red c.args.now c.args.self.now.senders.entries c.keep.new.senders.entries c.args.self.now.inbound
-    c.requires.whole c.requires.room c.requires.numbers
+    c.requires.whole c.requires.room c.requires.numbers c.requires.most
     (begun-kept (party_of c.args.self.now) c.args.self.now.next c.args.block.now c.args.red c.args.now c.args.self.now.senders.entries c.keep.new.senders.entries c.in_ok-begun.begun.sender
     c.requires.whole.own c.in_ok-begun.ensures.sender c.in_ok-keep.ensures)
 

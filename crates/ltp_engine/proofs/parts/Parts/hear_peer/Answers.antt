@@ -6,7 +6,7 @@ use Rattle.ltp_engine.proofs.parts.Parts.hear_peer.Goals as goal
 
 pub returns-clause-whole : goal.returns-clause-whole
 returns-clause-whole c = peer-whole (party_of c.args.self.now) c.args.self.now.next c.args.n c.args.now (content_value c.args.content) c.args.self.now.senders.entries c.args.self.now.inbound c.to_receiver.new.inbound
-    c.in_ok-told.told (search rules) c.requires.whole c.in_ok-told.ensures
+    c.in_ok-told.told refl (search rules) c.requires.whole c.in_ok-told.ensures
 
 pub returns-clause-done : goal.returns-clause-done
 returns-clause-done c = peer-steps (party_of c.args.self.now) c.args.self.now.next c.args.n c.args.now (content_value c.args.content) c.args.self.now.senders.entries c.args.self.now.inbound c.to_receiver.new.inbound

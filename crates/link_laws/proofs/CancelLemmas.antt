@@ -42,7 +42,7 @@ piece-refuses policy r q now is = record {
       λ _. listening r _ is tt;
   filled = λ _ _. listening r _ is tt;
   serials_out = λ _ _. listening r _ is (refl, tt);
-  reported = λ _ _. listening r _ is (tt, tt);
+  reported = λ _ _ _. listening r _ is (tt, tt);
 }
 
 never : (r : Receiving) (p : Option Pending) → r.phase ≡ receiver_open p

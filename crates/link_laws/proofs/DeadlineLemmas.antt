@@ -148,7 +148,7 @@ piece-ahead policy c r q now waits low ahead =
       filled = λ _ _.
           ahead;
       serials_out = λ _ _. fresh_one;
-      reported = λ _ _. fresh_one;
+      reported = λ _ _ _. fresh_one;
     }
 
 segment-ahead : (policy : PolicyValue) (place : Place) (c : ℕ) (kept : Option Receiving)

@@ -97,7 +97,7 @@ piece-answers policy r q now = record {
   filled =
       λ _ _. tt;
   serials_out = λ _ _. (tt, tt);
-  reported = λ _ _. (tt, tt);
+  reported = λ _ _ _. (tt, tt);
 }
 
 segment-answers : (policy : PolicyValue) (place : Place) (kept : Option Receiving)

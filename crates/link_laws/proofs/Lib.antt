@@ -27,3 +27,4 @@ pub mod FactLemmas
 pub mod LogLemmas
 pub mod SegmentLemmas
 pub mod DeadlineLemmas
+pub mod WritableLemmas

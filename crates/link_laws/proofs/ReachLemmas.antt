@@ -445,7 +445,7 @@ piece-done policy red r q now done whole = record {
   filled =
       λ _ _. done;
   serials_out = λ _ _. inl refl;
-  reported = λ _ _. inr (_, refl, whole);
+  reported = λ _ _ _. inr (_, refl, whole);
 }
 
 whole-claimed : (red : ℕ) (known : Option ℕ) (claims : List Claim) → known ≡ Some red

@@ -91,7 +91,7 @@ green_parts block red z within = parts-from block red (length block) z _ red (dr
     (of-back block red) (omega arith)
     (λ some. omega (arith, length-drop red block))
 
-unclaimed-parts : (P : ℕ × List ℕ → Type 0) (claimed : List Bool) (parts : List (ℕ × List ℕ))
+pub unclaimed-parts : (P : ℕ × List ℕ → Type 0) (claimed : List Bool) (parts : List (ℕ × List ℕ))
     → AllByRecursion P parts → AllByRecursion P (unclaimed claimed parts)
 unfolding unclaimed
 unclaimed-parts P claimed [] all = tt
@@ -100,7 +100,7 @@ unclaimed-parts P claimed (part ∷ parts) all =
     (part ∷ unclaimed claimed parts)
     (unclaimed-parts P claimed parts all.1) (all.0, unclaimed-parts P claimed parts all.1)
 
-last-part : (P : ℕ × List ℕ → Type 0) (parts : List (ℕ × List ℕ)) → AllByRecursion P parts
+pub last-part : (P : ℕ × List ℕ → Type 0) (parts : List (ℕ × List ℕ)) → AllByRecursion P parts
     → IfKept P (last_segment parts)
 unfolding last_segment
 last-part P [] all = tt

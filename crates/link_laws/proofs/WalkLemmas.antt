@@ -39,7 +39,7 @@ pub record OnPiece (policy : PolicyValue) (r : Receiving) (q : PieceValue) (now 
   pub serials_out : is_red q.kind ≡ true → is_checkpoint q.kind ≡ true
       → P (rejects policy (with_handed_up (with_red r q)) 4 now (red_part (with_red r q)))
   pub reported : is_red q.kind ≡ true → is_checkpoint q.kind ≡ true
-      → P (reports policy (with_red r q) (report_of (with_red r q) q) now)
+      → is_past_serials r.serial ≡ false → P (reports policy (with_red r q) (report_of (with_red r q) q) now)
 
 pub walk-piece : (policy : PolicyValue) (r : Receiving) (q : PieceValue) (now : ℕ)
     (P : StepValue Receiving → Type 0) → OnPiece policy r q now P → P (piece_step policy r q now)
@@ -49,8 +49,8 @@ walk-piece policy r q now P on =
     (both_arms P (is_miscoloured r q) _ _ on.miscoloured
     (by_arms P (is_red q.kind) _ _
     (λ red_kind. by_arms P (is_checkpoint q.kind) _ _
-    (λ asks. both_arms P (is_past_serials r.serial) _ _ (on.serials_out red_kind asks)
-    (on.reported red_kind asks)) (λ plain. on.filled red_kind plain))
+    (λ asks. by_arms P (is_past_serials r.serial) _ _ (λ past. on.serials_out red_kind asks)
+    (λ more. on.reported red_kind asks more)) (λ plain. on.filled red_kind plain))
     (λ green_kind. on.greener green_kind)))
 
 -- ... of all that a segment does in a session, whose kept receiver, if there is one, is r

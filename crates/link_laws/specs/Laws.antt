@@ -2,6 +2,7 @@
 -- of anything ever sent in any order and number, and clocks.
 
 use Rattle.std.specs.Prelude.{◌≡◌, ℕ, List, slice_get, Some}
+use Rattle.ltp_segment.specs.Legal.{IsSegment}
 use Rattle.ltp_session.specs.Engine.{Party}
 use Rattle.ltp_session.specs.World.{ArePeers, End, Event, Sent, World, at_end, happens, run}
 use Rattle.ltp_session.specs.World.{starts_world}
@@ -12,6 +13,7 @@ use Rattle.link_laws.specs.HandUps.{up_by}
 use Rattle.link_laws.specs.Log.{HandsUpFronts, HasFacts, HasSession, hand_ups, submissions}
 use Rattle.link_laws.specs.Spelling.{IsRedPart}
 use Rattle.link_laws.specs.View.{View, said, view}
+use Rattle.link_laws.specs.Writable.{HasSmallNumbers}
 
 -- the facts F hold of every session in every run, with the block that was submitted for it; of a
 -- number that no session has yet nothing is kept, and nothing was said
@@ -68,3 +70,10 @@ EnginesAreWellFormed =
     (parties : Party × Party) (events : List Event) → ArePeers parties → (o : End)
     → IsWellFormed (at_end parties o)
     (at_end (run parties (starts_world parties) events).engines o)
+
+-- every segment that was ever sent can be written, so that it is read back as itself
+abbrev pub SegmentsCanBeWritten : Type 0
+SegmentsCanBeWritten =
+    (parties : Party × Party) (events : List Event) → ArePeers parties
+    → HasSmallNumbers parties.0 → HasSmallNumbers parties.1 → (k : ℕ) (d : Sent)
+    → slice_get (run parties (starts_world parties) events).sent k ≡ Some d → IsSegment d.segment

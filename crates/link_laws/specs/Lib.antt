@@ -16,6 +16,7 @@ pub mod Reach
 pub mod Completion
 pub mod Deadlines
 pub mod Engines
+pub mod Writable
 pub mod Facts
 -- what a run submits and hands up
 pub mod Log

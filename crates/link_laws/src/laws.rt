@@ -15,7 +15,8 @@ ghost use Rattle.link_laws.specs.Facts.{SessionFacts};
 ghost use Rattle.link_laws.specs.Engines.{ClosedFacts};
 ghost use Rattle.link_laws.specs.Laws.{EveryRun, SessionsAreApart, RedPartsAreFronts};
 ghost use Rattle.link_laws.specs.Laws.{HandedUpIsSent, EnginesAreWellFormed};
-ghost use Rattle.link_laws.specs.Laws.{SegmentsHaveSessions, DeadlinesAreAhead};
+ghost use Rattle.link_laws.specs.Laws.{SegmentsHaveSessions, SegmentsCanBeWritten};
+ghost use Rattle.link_laws.specs.Laws.{DeadlinesAreAhead};
 
 /// In any world, reached by a run or not, an event leaves each session alone that it isn't about:
 /// its view stays as it was, but that a receiver may be closed to make room for another.
@@ -114,4 +115,10 @@ pub fn segments_have_sessions()
 /// Every deadline is after the clock.
 pub fn deadlines_are_ahead()
     ensures { DeadlinesAreAhead }
+{}
+
+/// Every segment that was ever sent can be written: all its numbers fit, and a report's claims lie
+/// within its bounds. So its octets are read back as that segment.
+pub fn segments_can_be_written()
+    ensures { SegmentsCanBeWritten }
 {}

@@ -1,4 +1,5 @@
-//! The formats' tables of tests, over the public calls of the crates below.
+//! The tables of tests of numbers, items, checks, names, ranges, fields and segments, over the public
+//! calls of the crates below.
 //!
 //! Each module has the tables of one crate, a test for each subject and a row for each case. What
 //! octets mean and where they are refused comes from the formats' own documents and from outside,
@@ -18,21 +19,9 @@ mod items;
 #[cfg(test)]
 mod names;
 #[cfg(test)]
-mod new_bundles;
-#[cfg(test)]
-mod new_streams;
-#[cfg(test)]
 mod numbers;
 #[cfg(test)]
-mod old_bundles;
-#[cfg(test)]
-mod old_streams;
-#[cfg(test)]
 mod ranges;
-#[cfg(test)]
-mod records;
-#[cfg(test)]
-mod reports;
 #[cfg(test)]
 mod rows;
 #[cfg(test)]

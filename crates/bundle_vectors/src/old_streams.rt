@@ -1,7 +1,7 @@
 //! Streams of version 6 bundles, fed in pieces of several sizes.
 
 ghost use Rattle.std.specs.Prelude.{◌≡◌, ◌+◌, ◌<◌, ◌≤◌, ◌^◌, length, false, IfOk, IfSome};
-ghost use Rattle.vectors.specs.Streams.{IsAt6};
+ghost use Rattle.bundle_vectors.specs.Streams.{IsAt6};
 
 use crate::rows::octets;
 use bundle6::{Fail6, Reader6};

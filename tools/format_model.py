@@ -287,6 +287,89 @@ def block7(fields, fragment, earlier):
     return {"kind": kind, "number": number, "flags": flags, "crc": check, "body": body.hex()}
 
 
+# ---- status reports ----
+
+STATUSES = (1, 4, 8, 16)      # the bits of received, forwarded, delivered and deleted in version 6
+
+
+def sdnv_octets(value):
+    """The shortest spelling of a number (RFC 5050, section 4.1)."""
+    octets = [value & 127]
+    while value := value >> 7:
+        octets.append(value & 127 | 128)
+    return bytes(reversed(octets))
+
+
+class Shortest(Fields):
+    """Fields whose numbers stand in shortest form, all refused for one cause."""
+
+    def __init__(self, octets, cause):
+        super().__init__(octets)
+        self.cause = cause
+
+    def shortest(self, holds=lambda n: True):
+        start = self.at
+        value = self.sdnv(self.cause)
+        self.must(self.octets[start:self.at] == sdnv_octets(value) and holds(value), self.cause)
+        return value
+
+    def name(self):
+        """An endpoint as a text with its length before it."""
+        text = self.many(self.shortest())
+        scheme, colon, ssp = text.partition(b":")
+        name = named(scheme, ssp) if colon else None
+        self.must(name is not None, self.cause)
+        return name
+
+
+def report6(octets):
+    """A status report of version 6 (RFC 5050, section 6.1.1). A status that isn't set has the time None."""
+    fields = Shortest(octets, "BadAdmin")
+    lead = fields.octet()
+    fields.must(lead >> 4 != 2, "CustodySignal")
+    fields.must(lead >> 4 == 1, "AdminUnknown")
+    fields.must(lead & 15 <= 1, "BadAdmin")
+    status = fields.octet()
+    fields.must(not status & 2, "CustodyReport")
+    fields.must(status < 32, "BadAdmin")
+    reason = fields.octet()
+    fragment = [fields.shortest(), fields.shortest()] if lead & 1 else None
+    times = [[fields.shortest(), fields.shortest(lambda n: n < 1_000_000_000)] if status & bit else None
+             for bit in STATUSES]
+    creation = [fields.shortest(), fields.shortest()]
+    source = fields.name()
+    fields.must(fields.left() == 0, "BadAdmin")
+    return {"times": times, "reason": reason, "source": source, "creation": creation, "fragment": fragment}
+
+
+def stamp7(fields):
+    """[false], [true] or [true, time]: False, True or the time."""
+    items = fields.head(ARRAY, "BadAdmin")
+    fields.must(items in (1, 2), "BadAdmin")
+    said = fields.octet()
+    fields.must(said == 0xF5 or said == 0xF4 and items == 1, "BadAdmin")
+    return [fields.unsigned("BadAdmin")] if items == 2 else said == 0xF5
+
+
+def report7(octets):
+    """A status report of version 7 (RFC 9171, section 6.1)."""
+    fields = Fields(octets)
+    fields.must(fields.head(ARRAY, "BadAdmin") == 2, "BadAdmin")
+    fields.must(fields.unsigned("BadAdmin") == 1, "AdminUnknown")
+    items = fields.head(ARRAY, "BadAdmin")
+    fields.must(items in (4, 6), "BadAdmin")
+    fields.must(fields.head(ARRAY, "BadAdmin") == 4, "BadAdmin")
+    stamps = [stamp7(fields) for _ in STATUSES]
+    reason = fields.unsigned("BadAdmin")
+    fields.must(reason <= 255, "BadAdmin")
+    source = eid(fields)
+    fields.must(fields.head(ARRAY, "BadAdmin") == 2, "BadAdmin")
+    creation = [fields.unsigned("BadAdmin"), fields.unsigned("BadAdmin")]
+    fragment = [fields.unsigned("BadAdmin"), fields.unsigned("BadAdmin")] if items == 6 else None
+    fields.must(fields.left() == 0, "BadAdmin")
+    return {"stamps": stamps, "reason": reason, "source": source, "creation": creation, "fragment": fragment}
+
+
 # ---- recorded bundles ----
 
 def bundles(word, octets):

@@ -5,10 +5,9 @@ usage: tools/translate_model.py convert|norm < INPUT     bundles end to end; a l
        tools/translate_model.py HEX..                    one line for each: the other version's octets, or the refusal
        tools/translate_model.py --make COUNT SEED        as many bundles, a line of hex for each, the same for a seed
        tools/translate_model.py --laws COUNT SEED        made bundles go there and back, and must be their normal form
-       tools/translate_model.py --vectors FILE           rows as json lines, of which those without reports are run
+       tools/translate_model.py --vectors FILE           rows as json lines
 
 It shares no code with the program: each rule of docs/translation.md is written down once, in the order of the page.
-Administrative bundles are refused as AdminUnknown; reports are another matter.
 """
 import json
 import os
@@ -19,7 +18,7 @@ sys.dont_write_bytecode = True
 sys.path.insert(0, os.path.dirname(os.path.abspath(__file__)))
 sys.path.insert(0, os.path.join(os.path.dirname(os.path.dirname(os.path.abspath(__file__))), "examples"))
 import format_model
-from format_model import Fields, Refused
+from format_model import Fields, Refused, Shortest, STATUSES
 from make_bundles import block7, bundle7, dtn, head, ipn, sdnv, NOBODY
 
 COMMON, BLOCK_COMMON = 0x74027, 0x17
@@ -67,15 +66,16 @@ def canonical6(bundle):
     return octets
 
 
+def eid_of(name):
+    if name == NONE:
+        return NOBODY
+    return ipn(*map(int, name[4:].split("."))) if name.startswith("ipn:") else dtn(name[4:])
+
+
 def octets7(bundle):
     """The octets of a version 7 bundle."""
-    def eid(name):
-        if name == NONE:
-            return NOBODY
-        return ipn(*map(int, name[4:].split("."))) if name.startswith("ipn:") else dtn(name[4:])
-
     blocks = [block7(b["kind"], b["number"], b["flags"], b["crc"], bytes.fromhex(b["body"])) for b in bundle["blocks"]]
-    return bundle7(bundle["flags"], bundle["crc"], [eid(bundle[k]) for k in ("destination", "source", "report_to")],
+    return bundle7(bundle["flags"], bundle["crc"], [eid_of(bundle[k]) for k in ("destination", "source", "report_to")],
                    bundle["creation"], bundle["lifetime"], blocks, bundle["fragment"] or ())
 
 
@@ -85,29 +85,9 @@ def marked(block):
     return block["kind"] in (RESIDUE, WRAP) and bytes.fromhex(block["body"]).startswith(MARK)
 
 
-class Body(Fields):
-    """The fields of a private body."""
-
-    def shortest(self, holds=lambda n: True):
-        start = self.at
-        value = self.sdnv()
-        self.must(self.octets[start:self.at] == sdnv(value) and holds(value), "Bad")
-        return value
-
-    def name(self):
-        text = self.many(self.shortest())
-        scheme, colon, ssp = text.partition(b":")
-        name = format_model.named(scheme, ssp) if colon else None
-        self.must(name is not None, "Bad")
-        return name
-
-    def rest(self):
-        return self.many(self.left()).hex()
-
-
 def read(body, fields):
     """What a private body says, or None where it is bad."""
-    text = Body(bytes.fromhex(body))
+    text = Shortest(bytes.fromhex(body), "Bad")
     try:
         text.must(text.many(4) == MARK, "Bad")
         value = fields(text)
@@ -141,14 +121,14 @@ def wrap_old(text):
     kind = text.shortest(lambda n: n != 1)
     number = text.shortest(lambda n: n >= 2)
     return {"kind": kind, "number": number, "flags": text.shortest(), "crc": text.shortest(lambda n: n <= 2),
-            "body": text.rest()}
+            "body": text.many(text.left()).hex()}
 
 
 def wrap_new(text):
     kind = text.shortest(lambda n: n <= 255 and n != 1)
     flags = text.shortest(lambda n: n & 72 == 0)
     refs = [text.name() for _ in range(text.shortest())]
-    return {"kind": kind, "flags": flags, "refs": refs, "body": text.rest()}
+    return {"kind": kind, "flags": flags, "refs": refs, "body": text.many(text.left()).hex()}
 
 
 def private(kind, flags, *parts):
@@ -158,6 +138,87 @@ def private(kind, flags, *parts):
 
 def text_of(name):
     return sdnv(len(name)) + name.encode()
+
+
+# ---- status reports ----
+
+MILLI = 1_000_000      # nanoseconds
+NO_RESTS = [0, 0, 0, 0]
+
+
+def report_in(flags, body, reader):
+    """The status report that an administrative bundle carries, or None."""
+    may(flags & 3 == 3, "AdminFragment")
+    if not flags & 2:
+        return None
+    try:
+        return reader(bytes.fromhex(body))
+    except Refused as refusal:
+        may(refusal.cause in ("CustodySignal", "CustodyReport", "AdminUnknown"), refusal.cause)
+        raise Untranslated("BadAdmin")
+
+
+def takes_mask(report, mask):
+    """Whether the statuses of a mask are set ones with the time 0, 0."""
+    return not mask or report is not None and all(
+        time == [0, 0] for bit, time in zip(STATUSES, report["times"]) if mask & bit)
+
+
+def takes_rests(report, rests):
+    """Whether parts of times below one millisecond other than 0 stand for times alone."""
+    return rests == NO_RESTS or report is not None and all(
+        isinstance(stamp, list) for stamp, rest in zip(report["stamps"], rests) if rest)
+
+
+def said6(report, mask):
+    """What a report of version 6 says: each status False, True or its time in milliseconds, and the rests."""
+    (seconds, sequence), times = report["creation"], report["times"]
+    whole = [time and [1000 * time[0] + time[1] // MILLI] for time in times]
+    may(any(time and time[0] >= TOP for time in whole) or 1000 * seconds + sequence % 1000 >= TOP, "BadAdmin")
+    return {"stamps": [time is not None and (True if mask & bit else time) for bit, time in zip(STATUSES, whole)],
+            "rests": [time[1] % MILLI if time else 0 for time in times], "reason": report["reason"],
+            "source": report["source"], "creation": [1000 * seconds + sequence % 1000, sequence // 1000],
+            "fragment": report["fragment"]}
+
+
+def said7(report, rests):
+    millis, sequence = report["creation"]
+    may(1000 * sequence + millis % 1000 >= TOP, "BadAdmin")
+    return {**report, "rests": rests}
+
+
+def body6(report):
+    """A report's octets in version 6."""
+    (millis, sequence), part = report["creation"], report["fragment"]
+    status = sum(bit for bit, stamp in zip(STATUSES, report["stamps"]) if stamp)
+    octets = bytes([0x11 if part else 0x10, status, report["reason"]]) + b"".join(map(sdnv, part or []))
+    for stamp, rest in zip(report["stamps"], report["rests"]):
+        if stamp:
+            time = [0, 0] if stamp is True else [stamp[0] // 1000, stamp[0] % 1000 * MILLI + rest]
+            octets += b"".join(map(sdnv, time))
+    return octets + sdnv(millis // 1000) + sdnv(1000 * sequence + millis % 1000) + text_of(report["source"])
+
+
+def body7(report):
+    """A report's octets in version 7."""
+    part = report["fragment"]
+    octets = head(4, 2) + head(0, 1) + head(4, 6 if part else 4) + head(4, 4)
+    for stamp in report["stamps"]:
+        timed = isinstance(stamp, list)
+        octets += head(4, 2 if timed else 1) + (b"\xf5" if stamp else b"\xf4") + (head(0, stamp[0]) if timed else b"")
+    octets += head(0, report["reason"]) + eid_of(report["source"]) + head(4, 2)
+    return octets + b"".join(head(0, n) for n in report["creation"] + (part or []))
+
+
+def payload(shared, body):
+    """A payload's octets: those of the report in a version, or the ones that were read."""
+    return body(shared["report"]).hex() if shared["report"] else shared["body"]
+
+
+def bare(shared):
+    """The mask of the report's statuses without a time."""
+    stamps = shared["report"]["stamps"] if shared["report"] else []
+    return sum(bit for bit, stamp in zip(STATUSES, stamps) if stamp is True)
 
 
 # ---- records ----
@@ -174,11 +235,6 @@ def may(condition, cause):
     """A refusal, where its condition holds."""
     if condition:
         raise Untranslated(cause)
-
-
-def administrative(flags):
-    may(flags & 3 == 3, "AdminFragment")
-    may(flags & 2, "AdminUnknown")
 
 
 def one_residue(blocks, fields, legal):
@@ -221,8 +277,10 @@ def from6(bundle):
     millis = 1000 * seconds + sequence % 1000
     may(millis >= TOP or 1000 * lifetime - sequence % 1000 >= TOP, "TimeTooLarge")
     may(payload["refs"], "PayloadRefs")
-    administrative(flags)
-    residue = one_residue(others, residue_old, lambda value: value["mask"] == 0
+    report = report_in(flags, payload["body"], format_model.report6)
+    if report:
+        said6(report, 0)
+    residue = one_residue(others, residue_old, lambda value: takes_mask(report, value["mask"])
                           and value["slack"] + sequence % 1000 < 1000 * lifetime)
     before = unwrapped(bundle["blocks"][:at], 6, wrap_old)
     exts = unwrapped(others, 6, wrap_old)
@@ -230,7 +288,8 @@ def from6(bundle):
               "millis": millis, "sequence": sequence // 1000,
               "expiry": 1000 * (seconds + lifetime) - (residue["slack"] if residue else 0),
               "flags": flags & COMMON, "fragment": bundle["fragment"],
-              "payload_flags": payload["flags"] & BLOCK_COMMON, "body": payload["body"]}
+              "payload_flags": payload["flags"] & BLOCK_COMMON, "body": None if report else payload["body"],
+              "report": report and said6(report, residue["mask"] if residue else 0)}
     extra6 = {"flags": flags & ~COMMON, "custodian": bundle["custodian"],
               "payload_flags": payload["flags"] & ~BLOCK_COMMON, "after": len(exts) - len(before)}
     return {"shared": shared, "extra6": extra6, "extra7": residue["extra7"] if residue else DEFAULT7, "exts": exts}
@@ -243,13 +302,16 @@ def from7(bundle):
     may(millis < 1000, "Clockless")
     may(lifetime == 0, "LifetimeZero")
     may(1000 * sequence + millis % 1000 >= TOP, "SequenceTooLarge")
-    administrative(flags)
-    residue = one_residue(others, residue_new, lambda value: value["rests"] == [0, 0, 0, 0])
+    report = report_in(flags, payload["body"], format_model.report7)
+    if report:
+        said7(report, NO_RESTS)
+    residue = one_residue(others, residue_new, lambda value: takes_rests(report, value["rests"]))
     exts = unwrapped(others, 7, wrap_new)
     shared = {"destination": bundle["destination"], "source": bundle["source"], "report_to": bundle["report_to"],
               "millis": millis, "sequence": sequence, "expiry": millis + lifetime, "flags": flags & COMMON,
               "fragment": bundle["fragment"], "payload_flags": payload["flags"] & BLOCK_COMMON,
-              "body": payload["body"]}
+              "body": None if report else payload["body"],
+              "report": report and said7(report, residue["rests"] if residue else NO_RESTS)}
     extra6 = dict(residue["extra6"]) if residue else default6(shared)
     extra6["after"] = min(extra6["after"], len(exts))
     extra7 = {"flags": flags & ~COMMON, "crc": bundle["crc"], "payload_crc": payload["crc"],
@@ -267,9 +329,9 @@ def view6(full):
                     if 1000 * (seconds + n) >= shared["expiry"])
     slack = 1000 * (seconds + lifetime) - shared["expiry"]
     blocks = []
-    if extra7 != DEFAULT7 or slack:
+    if extra7 != DEFAULT7 or slack or bare(shared):
         blocks.append(private(RESIDUE, 1, slack, extra7["flags"], extra7["crc"], extra7["payload_crc"],
-                              extra7["payload_flags"], 0))
+                              extra7["payload_flags"], bare(shared)))
     for version, block in full["exts"]:
         if version == 7:
             block = private(WRAP, block["flags"] & BLOCK_COMMON, block["kind"], block["number"], block["flags"],
@@ -277,9 +339,8 @@ def view6(full):
         blocks.append(block)
     may(len(blocks) > 64, "TooManyBlocks")
     blocks = [{"refs": [], **block} for block in blocks]
-    payload = {"kind": 1, "flags": shared["payload_flags"] | extra6["payload_flags"], "refs": [],
-               "body": shared["body"]}
-    blocks.insert(len(blocks) - extra6["after"], payload)
+    blocks.insert(len(blocks) - extra6["after"], {"kind": 1, "flags": shared["payload_flags"] | extra6["payload_flags"],
+                                                  "refs": [], "body": payload(shared, body6)})
     return {"version": 6, "flags": shared["flags"] | extra6["flags"], "destination": shared["destination"],
             "source": shared["source"], "report_to": shared["report_to"], "custodian": extra6["custodian"],
             "creation": [seconds, 1000 * shared["sequence"] + shared["millis"] % 1000], "lifetime": lifetime,
@@ -292,10 +353,11 @@ def view7(full):
     taken = {block["number"] for version, block in full["exts"] if version == 7}
     free = iter(n for n in range(2, 300) if n not in taken)
     blocks = []
-    if extra6 != default6(shared):
+    rests = shared["report"]["rests"] if shared["report"] else NO_RESTS
+    if extra6 != default6(shared) or rests != NO_RESTS:
         blocks.append({"number": next(free), "crc": 0,
                        **private(RESIDUE, 1, extra6["flags"], text_of(extra6["custodian"]), extra6["payload_flags"],
-                                 extra6["after"], 0, 0, 0, 0)})
+                                 extra6["after"], *rests)})
     for version, block in full["exts"]:
         if version == 6:
             refs = b"".join(map(text_of, block["refs"]))
@@ -304,12 +366,12 @@ def view7(full):
                                len(block["refs"]), refs, bytes.fromhex(block["body"]))}
         blocks.append(block)
     may(len(blocks) > 64, "TooManyBlocks")
-    payload = {"kind": 1, "number": 1, "flags": shared["payload_flags"] | extra7["payload_flags"],
-               "crc": extra7["payload_crc"], "body": shared["body"]}
+    blocks.append({"kind": 1, "number": 1, "flags": shared["payload_flags"] | extra7["payload_flags"],
+                   "crc": extra7["payload_crc"], "body": payload(shared, body7)})
     return {"version": 7, "flags": shared["flags"] | extra7["flags"], "crc": extra7["crc"],
             "destination": shared["destination"], "source": shared["source"], "report_to": shared["report_to"],
             "creation": [shared["millis"], shared["sequence"]], "lifetime": shared["expiry"] - shared["millis"],
-            "fragment": shared["fragment"], "blocks": blocks + [payload]}
+            "fragment": shared["fragment"], "blocks": blocks}
 
 
 def record(bundle):
@@ -352,8 +414,17 @@ def answer(octets, change):
     return lines, 0
 
 
+def made_report(draw):
+    """A report that both versions can say."""
+    stamps = [draw.choice([False, True, [draw.choice([0, 999, 1000, 10 ** 12 + 7, TOP - 1])]]) for _ in STATUSES]
+    rests = [draw.choice([0, 0, 1, MILLI - 1]) if isinstance(stamp, list) else 0 for stamp in stamps]
+    return {"stamps": stamps, "rests": rests, "reason": draw.randrange(256),
+            "source": draw.choice([NONE, "ipn:1.2", "dtn:a/~b"]), "fragment": draw.choice([None, [3, 9]]),
+            "creation": [draw.randrange(TOP), draw.randrange(TOP // 1000 - 1)]}
+
+
 def makes(count, seed):
-    """Bundles of both versions, most of which translate, and views of them."""
+    """Bundles of both versions, most of which translate, and views of them; some carry a report."""
     from make_inputs import new_bundle, old_bundle
     draw = random.Random(seed)
     while count:
@@ -365,6 +436,10 @@ def makes(count, seed):
                 bundle["creation"][0] = bundle["creation"][0] % (TOP // 1000) + 1000
                 bundle["creation"][1] %= TOP // 1000 - 1
                 bundle["lifetime"] = bundle["lifetime"] % (TOP // 1000 - 1) + 1
+            if draw.random() < 0.3:
+                bundle["flags"], bundle["fragment"] = bundle["flags"] & ~1 | 2, None
+                spelled = (body6 if bundle["version"] == 6 else body7)(made_report(draw))
+                next(block for block in bundle["blocks"] if block["kind"] == 1)["body"] = spelled.hex()
             if draw.random() < 0.5:
                 bundle = translated(bundle)
             yield octets_of(bundle)
@@ -401,8 +476,6 @@ def vectors(path):
     passed = failed = 0
     for number, line in enumerate(open(path), 1):
         row = json.loads(line)
-        if not row["since"].endswith("4"):     # those that came later have reports
-            continue
         lines, status = answer(bytes.fromhex(row["input_hex"]), translated)
         if ("".join(text + "\n" for text in lines), status) == (row["output"], row["status"]):
             passed += 1

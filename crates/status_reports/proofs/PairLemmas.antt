@@ -17,7 +17,7 @@ use Rattle.bundle_meaning.specs.declared.creation.Id7.{Id7}
 use Rattle.endpoint.specs.declared.name.Endpoint.{Endpoint}
 use Rattle.status_reports.specs.declared.report7.Report7.{Report7}
 use Rattle.status_reports.specs.Legal.{IsTime, AreTimes, IsReport6, IsReport7}
-use Rattle.status_reports.specs.Pairing.{millis_of, rest_of, stamp_of, bit_of, stamped, stamps_of, rests_of, statuses_of, times_of, shared_of6, report6_of, Pair6, may_lack, takes, fits, times_fit, no_rests, takes_rests}
+use Rattle.status_reports.specs.Pairing.{millis_of, rest_of, stamp_of, bit_of, stamped, stamps_of, rests_of, statuses_of, times_of, shared_of6, report6_of, Pair6, may_lack, takes, fits, times_fit, has_counterpart6, report7_of, no_rests, takes_rests, has_counterpart7}
 use Rattle.status_reports.proofs.FieldLemmas.{four-list}
 
 -- ---- four bits
@@ -204,6 +204,10 @@ mask-back statuses bare times takes =
       timeless-is (is_set 8 statuses) (is_set 8 bare) t2 takes.delivered,
       timeless-is (is_set 16 statuses) (is_set 16 bare) t3 takes.deleted,
     ) (whole bare takes.status)
+
+-- where no residue says otherwise, none is without a time
+pub none-bare : (statuses : ℕ) (times : List Time6) → no_time (stamps_of statuses 0 times) ≡ 0
+none-bare statuses times = mask-back statuses 0 times (takes-parts statuses times 0 (takes-none statuses times))
 
 times-back : (statuses bare : ℕ) (times : List Time6) → AreTimes statuses times → Takes statuses times bare
     → times_of (stamps_of statuses bare times) (rests_of times) ≡ times
@@ -505,6 +509,52 @@ report6-takes shared =
       lack-valid (get_or stamps 2 No) (get_or rests 2 0),
       lack-valid (get_or stamps 3 No) (get_or rests 3 0),
     ) refl
+
+-- each time and the name of the subject come from version 7
+fits-valid : (s : Stamp) (rest : ℕ) → IsStamp s → is_rest s rest ≡ true → fits (stamped s rest) ≡ true
+fits-valid No rest said is = refl
+fits-valid Yes rest said is = refl
+fits-valid (At millis) rest said is =
+    let small = small-rest (At millis) rest is in
+    let same : 1000 * (millis / 1000) + (millis % 1000 * 1000000 + rest) / 1000000 ≡ millis = omega (arith, small) in
+    lt-ltb _ (2 ^ 64) (omega (arith, same, said))
+
+pub report6-fits : (shared : Report) → IsReport shared → has_counterpart6 (report6_of shared) ≡ true
+unfolding times_fit times_of
+report6-fits shared is =
+    let are = rests-parts shared is in
+    let four = is.four_stamps in
+    let name = lt-ltb (1000 * (shared.millis / 1000) + (1000 * shared.sequence + shared.millis % 1000) % 1000) (2 ^ 64)
+    (omega (arith, millis-of shared.millis shared.sequence, is.millis)) in
+    rw (
+      name,
+      fits-valid (get_or shared.stamps 0 No) (get_or shared.rests 0 0) (is.stamps 0 No (omega (arith, four))) are.received,
+      fits-valid (get_or shared.stamps 1 No) (get_or shared.rests 1 0) (is.stamps 1 No (omega (arith, four))) are.forwarded,
+      fits-valid (get_or shared.stamps 2 No) (get_or shared.rests 2 0) (is.stamps 2 No (omega (arith, four))) are.delivered,
+      fits-valid (get_or shared.stamps 3 No) (get_or shared.rests 3 0) (is.stamps 3 No (omega (arith, four))) are.deleted,
+    ) refl
+
+-- ---- to version 7
+
+pub report7-legal : (shared : Report) → IsReport shared → IsReport7 (report7_of shared)
+report7-legal shared is = record {
+  four = is.four_stamps;
+  stamps = is.stamps;
+  reason = is.reason;
+  source = is.source;
+  millis = is.millis;
+  sequence = let small = is.counterpart in omega (arith, small);
+  fragment = is.fragment;
+}
+
+pub report7-takes : (shared : Report) → IsReport shared → takes_rests shared.stamps shared.rests ≡ true
+unfolding takes_rests
+report7-takes shared is =
+    let are = rests-parts shared is in
+    rw (are.received, are.forwarded, are.delivered, are.deleted) refl
+
+pub report7-fits : (shared : Report) → IsReport shared → has_counterpart7 (report7_of shared) ≡ true
+report7-fits shared is = lt-ltb _ (2 ^ 64) is.counterpart
 
 -- ---- what code puts together
 

@@ -30,6 +30,27 @@ impl LentReport6<'_> {
     {
         takes(self.status, &self.times, no_time)
     }
+
+    /// What the report says, which has a counterpart in version 7. The statuses of the mask
+    /// `no_time` are those without a time, as for [`shared_from6`].
+    pub fn shared(&self, alloc: Global, no_time: u8) -> Result<Report, AllocError>
+        requires legal { IsReport6 (report6_lent self.now) }
+        requires counterpart { has_counterpart6 (report6_lent self.now) ≡ true }
+        requires mask { takes self.now.status self.now.times no_time ≡ true }
+        // The two are a pair, so the way back gives the report and the mask.
+        ensures paired { IfOk result (Pair6 (report6_lent self.now) no_time) }
+        ensures memory { OnErr result (IsDtn (report6_lent self.now).source) }
+    {
+        Ok(Report {
+            stamps: stamps_of(self.status, no_time, &self.times),
+            rests: rests_of(&self.times),
+            reason: self.reason,
+            source: self.source.owned(alloc)?,
+            millis: 1000 * self.seconds + self.sequence % 1000,
+            sequence: self.sequence / 1000,
+            fragment: self.fragment,
+        })
+    }
 }
 
 impl Report6 {

@@ -27,6 +27,23 @@ impl LentReport7<'_> {
     {
         takes_rests(&self.stamps, rests)
     }
+
+    /// What the report says, with these parts of its times below one millisecond.
+    pub fn shared(&self, alloc: Global, rests: [u32; 4]) -> Result<Report, AllocError>
+        // The two are a pair, so the way back gives the report and these parts.
+        ensures paired { IfOk result (Pair7 (report7_lent self.now) rests) }
+        ensures memory { OnErr result (IsDtn (report7_lent self.now).source) }
+    {
+        Ok(Report {
+            stamps: self.stamps,
+            rests,
+            reason: self.reason,
+            source: self.source.owned(alloc)?,
+            millis: self.millis,
+            sequence: self.sequence,
+            fragment: self.fragment,
+        })
+    }
 }
 
 impl Report7 {

@@ -1,6 +1,6 @@
 -- A view has no more extension blocks than the bundle that was read.
 
-use Rattle.std.proofs.Common.{◌≡◌, ℕ, zero, suc, ◌+◌, ◌≤◌, min, Bool, true, false, not, cond, ◌==◌, if◌then◌else◌, List, [], ◌∷◌, ◌++◌, map, length, take, drop, refl, ap, arith, eqb-true, eq-eqb, length-append, take-append-drop}
+use Rattle.std.proofs.Common.{◌≡◌, ℕ, zero, suc, ◌+◌, ◌≤◌, min, Bool, true, false, not, cond, ◌==◌, if◌then◌else◌, List, [], ◌∷◌, ◌++◌, map, length, take, drop, refl, ap, ◌∙◌, arith, eqb-true, eq-eqb, length-append, take-append-drop}
 use Rattle.std.proofs.lemmas.Bool.{and_parts, ne_eqb}
 use Rattle.std.proofs.lemmas.List.Sums.{sum_by-cons}
 use Rattle.std.specs.List.{list_any, list_all}
@@ -16,10 +16,13 @@ use Rattle.bundle_meaning.specs.declared.full.Full.{Full}
 use Rattle.bundle_meaning.specs.Blocks.{mark}
 use Rattle.bundle_meaning.specs.Defaults.{default6_of, default7_of}
 use Rattle.bundle_meaning.specs.Expiry.{slack_of}
+use Rattle.bundle_meaning.specs.Reports.{no_time_of}
+use Rattle.translate.specs.Admin.{content6, content7}
+use Rattle.translate.proofs.AdminLemmas.{no-bare, no-parts}
 use Rattle.translate.specs.View6.{needs_residue6, residue6, block6_of, payload6_of, before_payload, blocks6_of}
-use Rattle.translate.specs.View7.{needs_residue7, next_free7, residue7_at, number_after7, blocks7_of, exts7_of}
-use Rattle.translate.specs.Reading6.{no_residue6, residue_in6, residue6_of, is_residue6, is_wrap_legal6, are_apart6, ext6_of, exts_in6, shared6_of, full6_of}
-use Rattle.translate.specs.Reading7.{default_residue7, residue_in7, is_residue7, is_wrap_legal7, ext7_of, exts_in7, shared7_of, full7_of}
+use Rattle.translate.specs.View7.{has_no_rest, needs_residue7, next_free7, residue7_at, number_after7, blocks7_of, exts7_of}
+use Rattle.translate.specs.Reading6.{payload_in, carried6, content6_of, no_residue6, residue_in6, residue6_of, is_residue6, is_wrap_legal6, are_apart6, ext6_of, exts_in6, shared6_of, full6_of}
+use Rattle.translate.specs.Reading7.{carried7, content7_of, no_residue7, residue_in7, is_residue7, is_wrap_legal7, ext7_of, exts_in7, shared7_of, full7_of}
 use Rattle.translate.specs.Translation.{NoMoreBlocks}
 use Rattle.translate.proofs.Blocks6Lemmas.{nothing, holds, stands, form, few}
 use Rattle.translate.proofs.Residue6Lemmas.{or-false}
@@ -44,7 +47,10 @@ unneeded6 b none =
     let residue = no-residue6 b.blocks none in
     let extra : (residue6_of b).extra7 ≡ default7_of = ap (λ r. r.extra7) residue in
     let slack = no-slack b (ap (λ r. r.slack) residue) in
-    rw (extra, slack) refl
+    let bare : (residue6_of b).no_time ≡ 0 = ap (λ r. r.no_time) residue in
+    let timed : no_time_of (content6_of b) ≡ 0 =
+    ap (λ n. no_time_of (content6 (carried6 b) n (payload_in b.blocks).body)) bare ∙ no-bare (carried6 b) (payload_in b.blocks).body in
+    rw (extra, slack, timed) refl
 
 -- a residue is another block than the payload
 residue-other : (block : Block6) → is_residue6 block ≡ true → is_payload block ≡ false
@@ -173,11 +179,13 @@ no-residue7 other (block ∷ blocks) none =
 
 pub unneeded7 : (b : Bundle7) → list_any is_residue7 b.exts ≡ false → needs_residue7 (full7_of b) ≡ false
 unneeded7 b none =
-    let residue = no-residue7 (default_residue7 (shared7_of b)) b.exts none in
+    let residue = no-residue7 (no_residue7 b) b.exts none in
+    let whole : has_no_rest (content7_of b) ≡ true =
+    ap (λ r. has_no_rest (content7 (carried7 b) r.rests b.payload.body)) residue ∙ no-parts (carried7 b) b.payload.body in
     let flags = (default6_of (shared7_of b)).flags in
     let same : (flags == flags) ≡ true = eq-eqb flags flags refl in
     let least : min 0 (length (exts_in7 b.exts)) ≡ 0 = omega arith in
-    rw (residue, same, least) refl
+    rw (whole, residue, same, least) refl
 
 one-each7 : (block : Block7) → is_wrap_legal7 block ≡ true → length (ext7_of block) ≤ 1
 one-each7 block fine = elim (form7 block fine) [

@@ -21,11 +21,10 @@ use Rattle.bundle_meaning.specs.declared.blocks.Ext.TheVariants.{Six, Seven}
 use Rattle.bundle_meaning.specs.declared.full.Full.{Full}
 use Rattle.bundle_meaning.specs.Bits.{is_within, is_without, common, block_common, not_own6, block_not_own6, block_marks}
 use Rattle.bundle_meaning.specs.Blocks.{IsExt}
-use Rattle.bundle_meaning.specs.Reports.{is_report}
 use Rattle.bundle_meaning.specs.Valid.{IsFragment, IsValid}
 use Rattle.bundle_meaning.proofs.RecordLemmas.{within-le}
 use Rattle.translate.specs.Legal.{IsSized6, View6IsLegal}
-use Rattle.translate.specs.View6.{primary6_of, needs_residue6, residue6, block6_of, payload6_of, before_payload, blocks6_of, bytes_of}
+use Rattle.translate.specs.View6.{primary6_of, needs_residue6, residue6, block6_of, payload6_of, before_payload, blocks6_of, octets6_of}
 use Rattle.translate.proofs.BitsLemmas.{min-zero}
 use Rattle.translate.proofs.Back6Lemmas.{residue-block, before6, after6, blocks6-parts, before6-others, after6-others}
 use Rattle.translate.proofs.View6Laws.{clear-within, clear-without}
@@ -193,28 +192,28 @@ other-within : (part : Option Fragment) (block : Block6) → is_payload block �
 other-within None block other = tt
 other-within (Some part) block other = λ payload. let no = sym payload ∙ other in absurd (cc)
 
-payload-within : (part : Option Fragment) (content : Content) (block : Block6) → IsFragment part content → is_report content ≡ false
-    → block.body ≡ bytes_of content → IsWithin part block
-payload-within None content block is bytes same = tt
-payload-within (Some part) (contents.Bytes octets) block is bytes same = λ payload. let long = ap length same in omega (arith, is.1, long)
-payload-within (Some part) (contents.Report report) block is bytes same = absurd is
+payload-within : (part : Option Fragment) (content : Content) (block : Block6) → IsFragment part content → block.body ≡ octets6_of content
+    → IsWithin part block
+payload-within None content block is same = tt
+payload-within (Some part) (contents.Bytes octets) block is same = λ payload. let long = ap length same in omega (arith, is.1, long)
+payload-within (Some part) (contents.Report report) block is same = absurd is
 
-all-within : (full : Full) → IsValid full → is_report full.shared.content ≡ false
+all-within : (full : Full) → IsValid full
     → All (IsWithin full.shared.fragment) (before6 full ++ payload6_of full ∷ after6 full)
-all-within full valid bytes =
+all-within full valid =
     let part = full.shared.fragment in
     All-append (IsWithin part) (before6 full) (payload6_of full ∷ after6 full)
     (All-weaker (λ block. is_payload block ≡ false) (IsWithin part) (λ block other. other-within part block other)
     (before6 full) (before6-others full valid.exts))
     (All-cons (IsWithin part) (payload6_of full) (after6 full)
-    (payload-within part full.shared.content (payload6_of full) valid.shared.fragment bytes refl)
+    (payload-within part full.shared.content (payload6_of full) valid.shared.fragment refl)
     (All-weaker (λ block. is_payload block ≡ false) (IsWithin part) (λ block other. other-within part block other)
     (after6 full) (after6-others full valid.exts)))
 
 -- ---- together
 
 pub view6-legal : View6IsLegal
-view6-legal full sound bytes fits sizes =
+view6-legal full sound fits sizes =
     let valid = sound.valid in
     let shaped = blocks-shaped full valid in
     let parts = blocks6-parts full in
@@ -224,5 +223,5 @@ view6-legal full sound bytes fits sizes =
       one_payload = ap (count_by is_payload) parts
           ∙ one-paid (before6 full) (after6 full) (payload6_of full) (before6-others full valid.exts) (after6-others full valid.exts) refl;
       others_are_few = omega (arith, others-view6 full, leb-true _ 64 fits);
-      within = subst (λ blocks. All (IsWithin full.shared.fragment) blocks) (sym parts) (all-within full valid bytes);
+      within = subst (λ blocks. All (IsWithin full.shared.fragment) blocks) (sym parts) (all-within full valid);
     }

@@ -18,12 +18,10 @@ use Rattle.bundle_meaning.specs.declared.blocks.Ext.TheVariants.{Six, Seven}
 use Rattle.bundle_meaning.specs.declared.full.Full.{Full}
 use Rattle.bundle_meaning.specs.Bits.{common, block_common}
 use Rattle.bundle_meaning.specs.Blocks.{IsExt, IsBlock7, sevens, are_apart, collide}
-use Rattle.bundle_meaning.specs.Reports.{is_report}
-use Rattle.bundle_meaning.specs.Valid.{IsFragment, IsContent, IsValid}
+use Rattle.bundle_meaning.specs.Valid.{IsFragment, IsValid}
 use Rattle.translate.specs.Sound.{IsSound, HasBody}
 use Rattle.translate.specs.Legal.{IsSized7, View7IsLegal}
-use Rattle.translate.specs.View6.{bytes_of}
-use Rattle.translate.specs.View7.{primary7_of, needs_residue7, has_number7, is_taken7, free_from7, next_free7, plain7, wrap7, blocks7_of, residue7_at, exts7_of, payload7_of}
+use Rattle.translate.specs.View7.{primary7_of, needs_residue7, has_number7, is_taken7, free_from7, next_free7, plain7, wrap7, blocks7_of, residue7_at, exts7_of, octets7_of, payload7_of}
 use Rattle.translate.proofs.FewLemmas.{length-view7}
 use Rattle.translate.proofs.Sound6Lemmas.{no}
 use Rattle.translate.proofs.Sound7Lemmas.{bit-zero}
@@ -432,11 +430,7 @@ primary-is full valid =
       fragment = part-is full.shared.fragment full.shared.content shared.fragment;
     }
 
-content-fits : (content : Content) → is_report content ≡ false → IsContent content → length (bytes_of content) < 2 ^ 64
-content-fits (contents.Bytes octets) bytes is = is
-content-fits (contents.Report report) bytes is = absurd (cc)
-
-payload-within : (part : Option Fragment) (content : Content) → IsFragment part content → is_within part 1 (length (bytes_of content)) ≡ true
+payload-within : (part : Option Fragment) (content : Content) → IsFragment part content → is_within part 1 (length (octets7_of content)) ≡ true
 payload-within None content is = refl
 payload-within (Some part) (contents.Bytes octets) is = le-leb (part.offset + length octets) part.total is.1
 payload-within (Some part) (contents.Report report) is = absurd is
@@ -448,9 +442,9 @@ payload-body octets = record {
   if_hop_count = λ is. absurd (omega (arith, is));
 }
 
-payload-legal : (full : Full) → IsValid full → is_report full.shared.content ≡ false
+payload-legal : (full : Full) → IsValid full → IsSized7 (payload7_of full)
     → IsLegalBlock full.shared.fragment (seen_of (exts7_of full)) (payload7_of full)
-payload-legal full valid bytes =
+payload-legal full valid size =
     let shared = full.shared in
     record {
       kind = omega arith;
@@ -459,18 +453,18 @@ payload-legal full valid bytes =
       number_fits = omega arith;
       flags = or-fits block_common shared.payload_flags full.extra7.payload_flags (omega arith) valid.shared.payload_flags valid.extra7.payload_flags_fit;
       crc = valid.extra7.payload_crc;
-      size = content-fits shared.content bytes valid.shared.content;
+      size = size;
       within = payload-within shared.fragment shared.content valid.shared.fragment;
-      body = payload-body (bytes_of shared.content);
+      body = payload-body (octets7_of shared.content);
     }
 
 -- ---- together
 
 pub view7-legal : View7IsLegal
-view7-legal full sound bytes fits sizes = record {
+view7-legal full sound fits sizes = record {
   primary = primary-is full sound.valid;
   few = omega (arith, length-view7 full (needs_residue7 full) refl, leb-true _ 64 fits);
-  exts = exts-by full (needs_residue7 full) refl sound sizes;
-  payload = payload-legal full sound.valid bytes;
+  exts = exts-by full (needs_residue7 full) refl sound sizes.exts;
+  payload = payload-legal full sound.valid sizes.payload;
   payload_kind = refl;
 }

@@ -1,3 +1,4 @@
+pub mod AdminLemmas
 pub mod BodyLemmas
 pub mod NumberLemmas
 pub mod BitsLemmas
@@ -9,6 +10,7 @@ pub mod View7Laws
 pub mod Sound6Lemmas
 pub mod Sound7Lemmas
 pub mod RefusalLemmas
+pub mod CauseLemmas
 pub mod ReadLemmas
 pub mod FewLemmas
 pub mod BackLaws

@@ -7,12 +7,11 @@ use Rattle.bundle7.specs.declared.bundle.Bundle7.{Bundle7}
 use Rattle.bundle6.specs.Legal.{IsLegal}
 use Rattle.bundle7.specs.Legal.{IsLegal7}
 use Rattle.bundle_meaning.specs.declared.full.Full.{Full}
-use Rattle.bundle_meaning.specs.Reports.{is_report}
 use Rattle.translate.specs.declared.refused.Refused.{Refused}
 use Rattle.translate.specs.declared.refused.Refused.TheVariants as causes
 use Rattle.translate.specs.Refusals.{first_that_holds}
 use Rattle.translate.specs.Sound.{IsSound}
-use Rattle.translate.specs.Legal.{IsSized6, IsSized7}
+use Rattle.translate.specs.Legal.{IsSized6, AreSized7}
 use Rattle.translate.specs.View6.{view6_of, fits6}
 use Rattle.translate.specs.View7.{view7_of, fits7}
 use Rattle.translate.specs.Reading6.{full6_of, refusals6}
@@ -28,16 +27,16 @@ use Rattle.translate.proofs.Legal7Lemmas.{view7-legal}
 -- ---- one view
 
 made6-legal : (said full : Full) (made : Bundle6) → full ≡ said → made ≡ view6_of full → All IsSized6 made.blocks
-    → IsSound said → is_report said.shared.content ≡ false → fits6 said ≡ true → IsLegal made
-made6-legal said full made same is sizes sound bytes fits =
+    → IsSound said → fits6 said ≡ true → IsLegal made
+made6-legal said full made same is sizes sound fits =
     let whole : made ≡ view6_of said = is ∙ ap view6_of same in
-    subst IsLegal (sym whole) (view6-legal said sound bytes fits (subst (λ (b : Bundle6). All IsSized6 b.blocks) whole sizes))
+    subst IsLegal (sym whole) (view6-legal said sound fits (subst (λ (b : Bundle6). All IsSized6 b.blocks) whole sizes))
 
-made7-legal : (said full : Full) (made : Bundle7) → full ≡ said → made ≡ view7_of full → All IsSized7 made.exts
-    → IsSound said → is_report said.shared.content ≡ false → fits7 said ≡ true → IsLegal7 made
-made7-legal said full made same is sizes sound bytes fits =
+made7-legal : (said full : Full) (made : Bundle7) → full ≡ said → made ≡ view7_of full → AreSized7 made
+    → IsSound said → fits7 said ≡ true → IsLegal7 made
+made7-legal said full made same is sizes sound fits =
     let whole : made ≡ view7_of said = is ∙ ap view7_of same in
-    subst IsLegal7 (sym whole) (view7-legal said sound bytes fits (subst (λ (b : Bundle7). All IsSized7 b.exts) whole sizes))
+    subst IsLegal7 (sym whole) (view7-legal said sound fits (subst AreSized7 whole sizes))
 
 -- ---- there is room
 
@@ -49,25 +48,25 @@ room one false none is = let some = last-true one causes.TooManyBlocks true none
 -- ---- the four calls
 
 pub new-legal : (b : Bundle6) (full : Full) (made : Bundle7) → IsLegal b → HoldsOctets6 b → to_new_refusal b ≡ None
-    → full ≡ full6_of b → made ≡ view7_of full → All IsSized7 made.exts → IsLegal7 made
+    → full ≡ full6_of b → made ≡ view7_of full → AreSized7 made → IsLegal7 made
 new-legal b full made legal octets none same is sizes =
     let read = unrefused-read6 b none in
-    made7-legal (full6_of b) full made same is sizes (sound6 b legal octets read) refl (room (refusals6 b) (fits7 (full6_of b)) read none)
+    made7-legal (full6_of b) full made same is sizes (sound6 b legal octets read) (room (refusals6 b) (fits7 (full6_of b)) read none)
 
 pub old-legal : (b : Bundle7) (full : Full) (made : Bundle6) → IsLegal7 b → HoldsOctets7 b → to_old_refusal b ≡ None
     → full ≡ full7_of b → made ≡ view6_of full → All IsSized6 made.blocks → IsLegal made
 old-legal b full made legal octets none same is sizes =
     let read = unrefused-read7 b none in
-    made6-legal (full7_of b) full made same is sizes (sound7 b legal octets read) refl (room (refusals7 b) (fits6 (full7_of b)) read none)
+    made6-legal (full7_of b) full made same is sizes (sound7 b legal octets read) (room (refusals7 b) (fits6 (full7_of b)) read none)
 
 pub norm6-legal : (b : Bundle6) (full : Full) (made : Bundle6) → IsLegal b → HoldsOctets6 b → norm6_refusal b ≡ None
     → full ≡ full6_of b → made ≡ view6_of full → All IsSized6 made.blocks → IsLegal made
 norm6-legal b full made legal octets none same is sizes =
     let read = unrefused-own6 b none in
-    made6-legal (full6_of b) full made same is sizes (sound6 b legal octets read) refl (fits-own6 b legal read)
+    made6-legal (full6_of b) full made same is sizes (sound6 b legal octets read) (fits-own6 b legal read)
 
 pub norm7-legal : (b : Bundle7) (full : Full) (made : Bundle7) → IsLegal7 b → HoldsOctets7 b → norm7_refusal b ≡ None
-    → full ≡ full7_of b → made ≡ view7_of full → All IsSized7 made.exts → IsLegal7 made
+    → full ≡ full7_of b → made ≡ view7_of full → AreSized7 made → IsLegal7 made
 norm7-legal b full made legal octets none same is sizes =
     let read = unrefused-own7 b none in
-    made7-legal (full7_of b) full made same is sizes (sound7 b legal octets read) refl (fits-own7 b legal read)
+    made7-legal (full7_of b) full made same is sizes (sound7 b legal octets read) (fits-own7 b legal read)

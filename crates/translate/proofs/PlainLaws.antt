@@ -7,6 +7,7 @@ use Rattle.std.proofs.lemmas.List.Sums.{sum_by-cons}
 use Rattle.std.specs.List.{list_any, list_all, count_by, before_first, after_first, position_or_len}
 use Rattle.endpoint.specs.declared.name.Endpoint.{Endpoint}
 use Rattle.endpoint.specs.Endpoints.{begins}
+use Rattle.wire_fields.specs.Reading.{IsOctets}
 use Rattle.bundle6.specs.declared.primary.Primary6.{Primary6}
 use Rattle.bundle6.specs.declared.block.Block6.{Block6}
 use Rattle.bundle6.specs.declared.bundle.Bundle6.{Bundle6}
@@ -25,16 +26,17 @@ use Rattle.translate.specs.Private.{is_residue, is_wrap}
 use Rattle.translate.specs.View6.{primary6_of, residue6, block6_of, payload6_of, before_payload, blocks6_of, view6_of}
 use Rattle.translate.specs.View7.{primary7_of, blocks7_of, exts7_of, payload7_of, view7_of}
 use Rattle.translate.specs.Reading6.{residue6_of, is_residue6, payload_in, ext6_of, exts_in6, shared6_of, full6_of}
-use Rattle.translate.specs.Reading7.{is_residue7, ext7_of, exts_in7, full7_of}
-use Rattle.translate.specs.Translation.{IsPlain6, IsPlain7, IsTranslatable6, IsTranslatable7, PlainIsNormal, norm6_of, norm7_of}
+use Rattle.translate.specs.Reading7.{residue7_of, is_residue7, ext7_of, exts_in7, full7_of}
+use Rattle.translate.specs.Translation.{HoldsOctets6, IsPlain6, IsPlain7, IsTranslatable6, IsTranslatable7, PlainIsNormal, norm6_of, norm7_of}
 use Rattle.translate.specs.Normal.{ViewIsNormal}
+use Rattle.translate.proofs.AdminLemmas.{octets6-back, octets7-back}
 use Rattle.translate.proofs.BitsLemmas.{whole-or}
 use Rattle.translate.proofs.Blocks6Lemmas.{six_of, around, prefix-more}
 use Rattle.translate.proofs.Back6Lemmas.{parts-unmarked}
 use Rattle.translate.proofs.FewLemmas.{no-residue6, unneeded6, unneeded7}
 use Rattle.translate.proofs.ReadLemmas.{read6-is, read7-is}
 use Rattle.translate.proofs.BackLaws.{unrefused-read6}
-use Rattle.translate.proofs.Sound6Lemmas.{no, paid, unrefused6}
+use Rattle.translate.proofs.Sound6Lemmas.{no, paid, Unrefused6, unrefused6, takes6}
 use Rattle.translate.proofs.Sound7Lemmas.{seven_of}
 use Rattle.translate.proofs.View6Laws.{view6-reads}
 use Rattle.translate.proofs.View7Laws.{view7-reads}
@@ -125,15 +127,17 @@ no-refs : (refs : List Endpoint) → (length refs == 0) ≡ true → refs ≡ []
 no-refs [] is = refl
 no-refs (ref ∷ refs) is = let none = eqb-true (length (ref ∷ refs)) 0 is in absurd (omega (arith, none))
 
-payload-back6 : (b : Bundle6) → IsLegal b → (length (payload_in b.blocks).refs == 0) ≡ true → payload6_of (full6_of b) ≡ payload_in b.blocks
-payload-back6 b legal bare =
+payload-back6 : (b : Bundle6) → IsLegal b → HoldsOctets6 b → Unrefused6 b → payload6_of (full6_of b) ≡ payload_in b.blocks
+payload-back6 b legal octets un =
     let payload = payload_in b.blocks in
     let is = paid IsLegalBlock b.blocks legal.blocks legal.one_payload in
     let kind : payload.kind ≡ 1 = eqb-true payload.kind 1 is.1 in
-    let refs = no-refs payload.refs bare in
+    let refs = no-refs payload.refs un.refs in
+    let fits = paid (λ x. IsOctets x.body) b.blocks octets legal.one_payload in
+    let body = octets6-back b.primary.flags (residue6_of b).no_time payload.body fits.0 (takes6 b un) in
     let flags = whole-or block_common payload.flags is.0.flags in
     let eta : payload ≡ record { kind = payload.kind; flags = payload.flags; refs = payload.refs; body = payload.body } = refl in
-    sym (eta ∙ rw (kind, refs) (rw flags refl))
+    sym (eta ∙ rw (kind, refs) (rw (flags, body) refl))
 
 -- the extension blocks before the payload, and those after it
 before-back : (b : Bundle6) → before_payload (full6_of b) ≡ length (exts_in6 (before_first is_payload b.blocks))
@@ -142,8 +146,8 @@ before-back b =
     let parts = length-append (exts_in6 (before_first is_payload b.blocks)) (exts_in6 (after_first is_payload b.blocks)) in
     omega (arith, whole, parts)
 
-blocks-back6 : (b : Bundle6) → IsLegal b → IsPlain6 b → (length (payload_in b.blocks).refs == 0) ≡ true → blocks6_of (full6_of b) ≡ b.blocks
-blocks-back6 b legal plain bare =
+blocks-back6 : (b : Bundle6) → IsLegal b → HoldsOctets6 b → IsPlain6 b → Unrefused6 b → blocks6_of (full6_of b) ≡ b.blocks
+blocks-back6 b legal octets plain un =
     let front = exts_in6 (before_first is_payload b.blocks) in
     let back = exts_in6 (after_first is_payload b.blocks) in
     let whole : exts_in6 b.blocks ≡ front ++ back = sym (around b.blocks) in
@@ -154,7 +158,7 @@ blocks-back6 b legal plain bare =
     ∙ ap (λ es. map block6_of (take (length front) es) ++ payload6_of (full6_of b) ∷ map block6_of (drop (length front) es)) whole
     ∙ ap (λ es. map block6_of es ++ payload6_of (full6_of b) ∷ map block6_of (drop (length front) (front ++ back))) (take-append_seam front back)
     ∙ ap (λ es. map block6_of front ++ payload6_of (full6_of b) ∷ map block6_of es) (drop-append_seam front back)
-    ∙ ap (λ p. map block6_of front ++ p ∷ map block6_of back) (payload-back6 b legal bare)
+    ∙ ap (λ p. map block6_of front ++ p ∷ map block6_of back) (payload-back6 b legal octets un)
     ∙ again-same b.blocks plain legal.one_payload
 
 seconds-back : (s n : ℕ) → ((1000 * s + n % 1000) / 1000 ≡ s) × (1000 * (n / 1000) + (1000 * s + n % 1000) % 1000 ≡ n)
@@ -175,7 +179,7 @@ plain6 : (b : Bundle6) → IsTranslatable6 b → IsPlain6 b → norm6_of b ≡ b
 plain6 b is plain =
     let un = unrefused6 b (unrefused-read6 b is.unrefused) in
     let primary = primary-back6 b is.legal plain in
-    let blocks = blocks-back6 b is.legal plain un.refs in
+    let blocks = blocks-back6 b is.legal is.octets plain un in
     bundle (primary6_of (full6_of b)) b.primary (blocks6_of (full6_of b)) b.blocks primary blocks
   where
     made : Primary6 → List Block6 → Bundle6
@@ -222,20 +226,21 @@ primary-back7 b legal =
     let lifetime = left-over b.primary.millis b.primary.lifetime in
     rw (flags, lifetime) refl
 
-payload-back7 : (b : Bundle7) → IsLegal7 b → payload7_of (full7_of b) ≡ b.payload
-payload-back7 b legal =
+payload-back7 : (b : Bundle7) → IsLegal7 b → IsOctets b.payload.body → payload7_of (full7_of b) ≡ b.payload
+payload-back7 b legal octets =
+    let body = octets7-back b.primary.flags (residue7_of b).rests b.payload.body octets in
     let kind = legal.payload_kind in
     let flags = whole-or block_common b.payload.flags legal.payload.flags in
     let one : is_number 1 (seen_of b.exts) b.payload.number ≡ true = ap (λ k. is_number k (seen_of b.exts) b.payload.number) (sym kind) ∙ legal.payload.number in
     let number : b.payload.number ≡ 1 = eqb-true b.payload.number 1 one in
     let eta : b.payload ≡ record { kind = b.payload.kind; number = b.payload.number; flags = b.payload.flags; crc = b.payload.crc; body = b.payload.body } = refl in
-    sym (eta ∙ rw (kind, number) (rw flags refl))
+    sym (eta ∙ rw (kind, number) (rw (flags, body) refl))
 
 plain7-is : (b : Bundle7) → IsTranslatable7 b → IsPlain7 b → norm7_of b ≡ b
 plain7-is b is plain =
     let exts = exts7-back b plain in
     let primary = primary-back7 b is.legal in
-    let payload = payload-back7 b is.legal in
+    let payload = payload-back7 b is.legal is.octets.payload in
     let f = full7_of b in
     let eta : b ≡ record { primary = b.primary; exts = b.exts; payload = b.payload } = refl in
     sym (eta ∙ sym (rw (primary, exts, payload) refl))
@@ -247,6 +252,6 @@ plain_is_normal = (plain6, plain7-is)
 
 pub view_is_normal : ViewIsNormal
 view_is_normal = (
-  λ full sound bytes lifetime. ap view6_of (read6-is (view6_of full) full (view6-reads full sound bytes lifetime)),
-  λ full sound bytes. ap view7_of (read7-is (view7_of full) full (view7-reads full sound.valid bytes)),
+  λ full sound lifetime. ap view6_of (read6-is (view6_of full) full (view6-reads full sound lifetime)),
+  λ full sound. ap view7_of (read7-is (view7_of full) full (view7-reads full sound.valid)),
 )

@@ -25,7 +25,8 @@ use Rattle.bundle_meaning.specs.Valid.{IsValid}
 use Rattle.bundle_meaning.proofs.SpellingLemmas.{residue_old-spells}
 use Rattle.bundle_meaning.proofs.RecordLemmas.{residue_old-is}
 use Rattle.translate.specs.View6.{is_same7, needs_residue6, block6_of, payload6_of, before_payload, blocks6_of, view6_of}
-use Rattle.translate.specs.Reading6.{no_residue6, residue_in6, is_residue6, are_residues6}
+use Rattle.translate.specs.Admin.{takes_mask}
+use Rattle.translate.specs.Reading6.{no_residue6, residue_in6, is_residue6, are_residues6, carried6}
 use Rattle.translate.proofs.Back6Lemmas.{parts-unmarked, residue-block}
 
 -- ---- times
@@ -138,19 +139,21 @@ in-view full false needed valid =
 pub residue6-back : (full : Full) → IsValid full → residue_in6 (blocks6_of full) ≡ residue_old_of full
 residue6-back full valid = in-view full (needs_residue6 full) refl valid
 
-stand-in-view : (full : Full) (b : Bool) → needs_residue6 full ≡ b → IsValid full → no_time_of full.shared.content ≡ 0
+stand-in-view : (full : Full) (b : Bool) → needs_residue6 full ≡ b → IsValid full
+    → takes_mask (carried6 (view6_of full)) (no_time_of full.shared.content) ≡ true
     → are_residues6 (view6_of full) (blocks6_of full) ≡ true
 unfolding are_residues6
-stand-in-view full true needed valid untimed =
+stand-in-view full true needed valid takes =
     let made : blocks6_of full ≡ residue-block full ∷ others6 full = rw needed refl in
     let late = lt-ltb (slack_of full.shared + (1000 * full.shared.sequence + full.shared.millis % 1000) % 1000) (1000 * lifetime6_of full.shared)
     (slack-leaves full.shared valid.shared.lives) in
     let none = list_any_none is_residue6 (others6 full) (others6-free full valid.exts) in
-    ap (are_residues6 (view6_of full)) made ∙ rw (residue-begins full, residue-read full valid, late, untimed, none) refl
-stand-in-view full false needed valid untimed =
+    ap (are_residues6 (view6_of full)) made ∙ rw (residue-begins full, residue-read full valid, late, takes, none) refl
+stand-in-view full false needed valid takes =
     let made : blocks6_of full ≡ others6 full = rw needed refl in
     ap (are_residues6 (view6_of full)) made ∙ none-stand (view6_of full) (others6 full) (others6-free full valid.exts)
 
-pub residue6-stands : (full : Full) → IsValid full → no_time_of full.shared.content ≡ 0
+pub residue6-stands : (full : Full) → IsValid full
+    → takes_mask (carried6 (view6_of full)) (no_time_of full.shared.content) ≡ true
     → are_residues6 (view6_of full) (blocks6_of full) ≡ true
-residue6-stands full valid untimed = stand-in-view full (needs_residue6 full) refl valid untimed
+residue6-stands full valid takes = stand-in-view full (needs_residue6 full) refl valid takes

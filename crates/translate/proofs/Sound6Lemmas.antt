@@ -1,6 +1,6 @@
 -- A legal version 6 bundle that isn't refused reads as a sound record.
 
-use Rattle.std.proofs.Common.{◌≡◌, ◌≢◌, ℕ, zero, suc, ◌+◌, ◌-◌, ◌*◌, ◌/◌, ◌%◌, ◌^◌, ◌<◌, ◌≤◌, Bool, true, false, ◌&&◌, ◌||◌, not, ltb, cond, ◌==◌, List, [], ◌∷◌, ◌++◌, length, Option, Some, None, Result, Ok, Err, refl, sym, ap, ◌∙◌, arith, bit_and, length-append}
+use Rattle.std.proofs.Common.{◌≡◌, ◌≢◌, ℕ, zero, suc, ◌+◌, ◌-◌, ◌*◌, ◌/◌, ◌%◌, ◌^◌, ◌<◌, ◌≤◌, Bool, true, false, ◌&&◌, ◌||◌, not, ltb, cond, ◌==◌, List, [], ◌∷◌, ◌++◌, length, Option, Some, None, is_some, Result, Ok, Err, refl, sym, ap, ◌∙◌, arith, bit_and, length-append}
 use Rattle.std.proofs.lemmas.Bool.{and_parts, or_parts, ltb-true, leb-false}
 use Rattle.std.proofs.lemmas.List.Sums.{sum_by-cons}
 use Rattle.std.proofs.lemmas.List.Folds.{list_any-append}
@@ -20,7 +20,6 @@ use Rattle.bundle7.specs.Body.{is_body}
 use Rattle.bundle7.proofs.BodyLemmas.{body-found}
 use Rattle.bundle_meaning.specs.declared.fault.BlockFault.{BlockFault}
 use Rattle.bundle_meaning.specs.declared.fault.BlockFault.TheVariants.{Bad}
-use Rattle.bundle_meaning.specs.declared.shared.Content.TheVariants as contents
 use Rattle.bundle_meaning.specs.declared.residue.ResidueOld.{ResidueOld}
 use Rattle.bundle_meaning.specs.declared.blocks.Block7Like.{Block7Like}
 use Rattle.bundle_meaning.specs.declared.blocks.Ext.{Ext}
@@ -34,8 +33,11 @@ use Rattle.bundle_meaning.proofs.FactLemmas.{wrap_old-block, wrap_old-octets, re
 use Rattle.translate.specs.declared.refused.Refused.{Refused}
 use Rattle.translate.specs.Refusals.{first_that_holds}
 use Rattle.translate.specs.Sound.{IsSound, HasBody}
-use Rattle.translate.specs.Reading6.{refusals6, is_late6, no_residue6, residue_in6, is_residue6, are_residues6, may_stand6, payload_in, are_wraps6, is_wrap_legal6, are_apart6, collide6, collide_held, may_be_held7, wrapped7, ext6_of, exts_in6, stand_after6, shared6_of, extra6_of, full6_of}
+use Rattle.translate.specs.Private.{value_or}
+use Rattle.translate.specs.Admin.{report6_in, lacks_report6, takes_mask, content6}
+use Rattle.translate.specs.Reading6.{carried6, refusals6, is_late6, no_residue6, residue_in6, is_residue6, are_residues6, may_stand6, payload_in, are_wraps6, is_wrap_legal6, are_apart6, collide6, collide_held, may_be_held7, wrapped7, ext6_of, exts_in6, stand_after6, shared6_of, extra6_of, full6_of}
 use Rattle.translate.specs.Translation.{HoldsOctets6}
+use Rattle.translate.proofs.AdminLemmas.{takes-zero, report-bit6, content6-is}
 use Rattle.translate.proofs.BitsLemmas.{within-and, without-own, without-kept, without-or, without-bit, has_bit-and}
 use Rattle.translate.proofs.Blocks6Lemmas.{nothing, holds, stands, form, few, around, reading, six_of}
 
@@ -72,20 +74,22 @@ pub record Unrefused6 (b : Bundle6) : Type 0 where
   pub lives : (b.primary.lifetime == 0) ≡ false
   pub late : is_late6 b ≡ false
   pub refs : (length (payload_in b.blocks).refs == 0) ≡ true
-  pub admin : has_bit 1 b.primary.flags ≡ false
+  pub fragment : (has_bit 0 b.primary.flags && has_bit 1 b.primary.flags) ≡ false
+  pub report : lacks_report6 b.primary.flags (payload_in b.blocks).body ≡ false
   pub residues : are_residues6 b b.blocks ≡ true
   pub wraps : are_wraps6 b.blocks ≡ true
 
 pub unrefused6 : (b : Bundle6) → first_that_holds (refusals6 b) ≡ None → Unrefused6 b
 unrefused6 b none =
-    let (custody, (clock, (lives, (late, (refs, (fragment, (admin, (residues, (wraps, end))))))))) = none-holds (refusals6 b) none in
+    let (custody, (clock, (lives, (late, (refs, (fragment, (report, (residues, (wraps, end))))))))) = none-holds (refusals6 b) none in
     record {
       custody = custody;
       clock = clock;
       lives = lives;
       late = late;
       refs = not-true (length (payload_in b.blocks).refs == 0) refs;
-      admin = admin;
+      fragment = fragment;
+      report = report;
       residues = not-true (are_residues6 b b.blocks) residues;
       wraps = not-true (are_wraps6 b.blocks) wraps;
     }
@@ -118,7 +122,7 @@ Stands6 b residue = (residue.slack + b.primary.sequence % 1000 < 1000 * b.primar
 read-stands : (b : Bundle6) (body : List ℕ) (r : Result ResidueOld (ℕ × Stop BlockFault)) → read_whole residue_old Bad body ≡ r
     → IsOctets body → may_stand6 b r ≡ true → (residue : ResidueOld) × (r ≡ Ok residue) × Stands6 b residue
 read-stands b body (Ok residue) is octets may =
-    let both = and_parts (ltb (residue.slack + b.primary.sequence % 1000) (1000 * b.primary.lifetime)) (residue.no_time == 0) may in (
+    let both = and_parts (ltb (residue.slack + b.primary.sequence % 1000) (1000 * b.primary.lifetime)) (takes_mask (carried6 b) residue.no_time) may in (
       residue,
       refl,
       (ltb-true _ _ both.0, residue_old-extra body residue (whole-found residue_old Bad body residue octets is)),
@@ -153,6 +157,30 @@ residue-stands b [] lives octets stand = (omega (arith, lives), extra7-default)
 residue-stands b (block ∷ blocks) lives octets stand =
     residue-by b block blocks (is_residue6 block) refl (All-head (λ x. IsOctets x.body) block blocks octets) stand
     (λ more. residue-stands b blocks lives (All-tail (λ x. IsOctets x.body) block blocks octets) more)
+
+-- the statuses that it names may be without a time
+read-takes : (b : Bundle6) (r : Result ResidueOld (ℕ × Stop BlockFault)) → may_stand6 b r ≡ true
+    → takes_mask (carried6 b) (value_or no_residue6 r).no_time ≡ true
+read-takes b (Ok residue) may = (and_parts _ (takes_mask (carried6 b) residue.no_time) may).1
+read-takes b (Err e) may = absurd (cc)
+
+takes-by : (b : Bundle6) (block : Block6) (blocks : List Block6) (t : Bool) → is_residue6 block ≡ t → are_residues6 b (block ∷ blocks) ≡ true
+    → (are_residues6 b blocks ≡ true → takes_mask (carried6 b) (residue_in6 blocks).no_time ≡ true)
+    → takes_mask (carried6 b) (residue_in6 (block ∷ blocks)).no_time ≡ true
+unfolding are_residues6 residue_in6
+takes-by b block blocks true is stand rest =
+    let here : (may_stand6 b (read_whole residue_old Bad block.body) && not (list_any is_residue6 blocks)) ≡ true = rw is at stand in
+    let both = and_parts _ _ here in
+    rw is (read-takes b (read_whole residue_old Bad block.body) both.0)
+takes-by b block blocks false is stand rest = rw is (rest (rw is at stand))
+
+takes-stand : (b : Bundle6) (blocks : List Block6) → are_residues6 b blocks ≡ true → takes_mask (carried6 b) (residue_in6 blocks).no_time ≡ true
+unfolding residue_in6
+takes-stand b [] stand = takes-zero (carried6 b)
+takes-stand b (block ∷ blocks) stand = takes-by b block blocks (is_residue6 block) refl stand (λ more. takes-stand b blocks more)
+
+pub takes6 : (b : Bundle6) → Unrefused6 b → takes_mask (carried6 b) (residue_in6 b.blocks).no_time ≡ true
+takes6 b un = takes-stand b b.blocks un.residues
 
 -- ---- the extension blocks
 
@@ -275,10 +303,14 @@ payload6-clear f fits last refs =
 
 -- ---- the record
 
-fragment-is : (part : Option Fragment) (block : Block6) → IsPart part → IsWithin part block → is_payload block ≡ true
-    → IsFragment part (contents.Bytes block.body)
-fragment-is None block is within payload = tt
-fragment-is (Some part) block is within payload = (is.1, within payload)
+-- a fragment holds octets
+fragment-is : (flags bare : ℕ) (part : Option Fragment) (block : Block6) → has_bit 0 flags ≡ is_some part
+    → (has_bit 0 flags && has_bit 1 flags) ≡ false → IsPart part → IsWithin part block → is_payload block ≡ true
+    → IsFragment part (content6 (report6_in flags block.body) bare block.body)
+fragment-is flags bare None block bit plain is within payload = tt
+fragment-is flags bare (Some part) block bit plain is within payload =
+    let bytes : has_bit 1 flags ≡ false = rw bit at plain in
+    rw bytes (is.1, within payload)
 
 -- the times of a record, in numbers
 pub record AreTimes (millis sequence expiry : ℕ) : Type 0 where
@@ -310,11 +342,15 @@ times6 b legal un good =
     times-are b.primary.seconds b.primary.sequence b.primary.lifetime (residue_in6 b.blocks).slack
     (not-zero b.primary.seconds un.clock) (leb-false (2 ^ 64) _ late.0) legal.primary.sequence (leb-false (2 ^ 64) _ late.1) good.0
 
-shared6-is : (b : Bundle6) → IsLegal b → Unrefused6 b → Stands6 b (residue_in6 b.blocks) → IsShared (shared6_of b)
-shared6-is b legal un good =
+shared6-is : (b : Bundle6) → IsLegal b → HoldsOctets6 b → Unrefused6 b → Stands6 b (residue_in6 b.blocks) → IsShared (shared6_of b)
+shared6-is b legal octets un good =
     let times = times6 b legal un good in
     let block = paid IsLegalBlock b.blocks legal.blocks legal.one_payload in
     let within = paid (IsWithin b.primary.fragment) b.blocks legal.within legal.one_payload in
+    let fits = paid (λ x. IsOctets x.body) b.blocks octets legal.one_payload in
+    let flags = b.primary.flags in
+    let payload = payload_in b.blocks in
+    let bare = (residue_in6 b.blocks).no_time in
     record {
       destination = legal.primary.destination;
       source = legal.primary.source;
@@ -327,9 +363,9 @@ shared6-is b legal un good =
       flags = within-and common b.primary.flags;
       payload_flags = within-and block_common (payload_in b.blocks).flags;
       fragment_bit = has_bit-and 0 common b.primary.flags refl ∙ legal.primary.fragment_bit;
-      report_bit = has_bit-and 1 common b.primary.flags refl ∙ un.admin;
-      fragment = fragment-is b.primary.fragment (payload_in b.blocks) legal.primary.fragment within.0 within.1;
-      content = block.0.size;
+      report_bit = has_bit-and 1 common flags refl ∙ report-bit6 flags bare payload.body un.report;
+      fragment = fragment-is flags bare b.primary.fragment payload legal.primary.fragment_bit un.fragment legal.primary.fragment within.0 within.1;
+      content = content6-is flags bare payload.body block.0.size fits.0 (takes6 b un) un.report;
     }
 
 extra6-is : (b : Bundle6) → IsLegal b → Unrefused6 b → stand_after6 b.blocks ≤ 64 → IsExtra6 (extra6_of b)
@@ -361,7 +397,7 @@ sound6 b legal octets none =
     let after = after-few b.blocks in
     record {
       valid = record {
-        shared = shared6-is b legal un residue;
+        shared = shared6-is b legal octets un residue;
         extra6 = extra6-is b legal un (omega (arith, most, after, legal.others_are_few));
         extra7 = residue.1;
         exts = exts.0;

@@ -1,11 +1,12 @@
 -- A legal version 7 bundle that isn't refused reads as a sound record.
 
-use Rattle.std.proofs.Common.{◌≡◌, ◌≢◌, ℕ, ◌+◌, ◌/◌, ◌%◌, ◌^◌, ◌<◌, ◌≤◌, Bool, true, false, ◌&&◌, ◌||◌, not, eqb, leb, ◌==◌, if◌then◌else◌, List, [], ◌∷◌, ◌++◌, map, length, Option, Some, None, Result, Ok, Err, refl, ap, ◌∙◌, arith, eqb-true, eq-eqb, length-append}
+use Rattle.std.proofs.Common.{◌≡◌, ◌≢◌, ℕ, ◌+◌, ◌/◌, ◌%◌, ◌^◌, ◌<◌, ◌≤◌, Bool, true, false, ◌&&◌, ◌||◌, not, eqb, leb, ◌==◌, if◌then◌else◌, List, [], ◌∷◌, ◌++◌, map, length, Option, Some, None, is_some, Result, Ok, Err, refl, ap, ◌∙◌, arith, eqb-true, eq-eqb, length-append}
 use Rattle.std.proofs.lemmas.Bool.{and_parts, ltb-false, leb-true, leb-false, ne_eqb}
 use Rattle.std.proofs.lemmas.List.Elements.{All-head, All-tail, All-nil, All-cons}
 use Rattle.std.specs.List.{All, list_any, list_all}
 use Rattle.endpoint.specs.declared.extent.Fragment.{Fragment}
 use Rattle.endpoint.specs.Endpoints.{begins, is_singleton}
+use Rattle.wire_fields.specs.Format.{Spells}
 use Rattle.wire_fields.specs.Refusal.{Stop}
 use Rattle.wire_fields.specs.Reading.{IsOctets}
 use Rattle.wire_fields.specs.Whole.{read_whole}
@@ -27,15 +28,17 @@ use Rattle.bundle_meaning.specs.Bits.{is_without, common, block_common, not_own6
 use Rattle.bundle_meaning.specs.Blocks.{mark, is_marked, IsExt, IsBlock6, IsBlock7, sevens, are_apart, collide}
 use Rattle.bundle_meaning.specs.Creation.{id6_of}
 use Rattle.bundle_meaning.specs.Defaults.{default6_of}
-use Rattle.bundle_meaning.specs.Residue.{residue_new}
+use Rattle.bundle_meaning.specs.Residue.{four_rests, residue_new}
 use Rattle.bundle_meaning.specs.Wrap.{wrap_new}
 use Rattle.bundle_meaning.specs.Valid.{IsShared, IsExtra6, IsExtra7, IsFragment}
 use Rattle.bundle_meaning.proofs.FactLemmas.{wrap_new-block, residue_new-extra}
 use Rattle.translate.specs.Refusals.{first_that_holds}
+use Rattle.translate.specs.Admin.{report7_in, lacks_report7, takes_parts, content7}
 use Rattle.translate.specs.Private.{is_residue, is_wrap}
 use Rattle.translate.specs.Sound.{IsSound, HasBody}
-use Rattle.translate.specs.Reading7.{refusals7, default_residue7, residue_in7, residue7_of, is_residue7, are_residues7, may_stand7, may_be_held6, is_wrap_legal7, ext7_of, exts_in7, shared7_of, extra7_of, extra6_of_residue, full7_of}
+use Rattle.translate.specs.Reading7.{refusals7, no_residue7, residue_in7, residue7_of, is_residue7, are_residues7, may_stand7, may_be_held6, is_wrap_legal7, ext7_of, exts_in7, carried7, shared7_with, shared7_of, extra7_of, extra6_of_residue, full7_of}
 use Rattle.translate.specs.Translation.{HoldsOctets7}
+use Rattle.translate.proofs.AdminLemmas.{parts-zero, report-bit7, content7-is}
 use Rattle.translate.proofs.BitsLemmas.{within-and, without-own, has_bit-and}
 use Rattle.translate.proofs.Blocks6Lemmas.{or-true, not_marked}
 use Rattle.translate.proofs.Sound6Lemmas.{none-holds, not-true, no, not-zero, own-fits, Stand, stand-append}
@@ -46,19 +49,21 @@ pub record Unrefused7 (b : Bundle7) : Type 0 where
   pub clock : 1000 ≤ b.primary.millis
   pub lives : b.primary.lifetime ≢ 0
   pub counterpart : (id6_of b.primary.millis b.primary.sequence).sequence < 2 ^ 64
-  pub admin : has_bit 1 b.primary.flags ≡ false
-  pub residues : are_residues7 b.exts ≡ true
+  pub fragment : (has_bit 0 b.primary.flags && has_bit 1 b.primary.flags) ≡ false
+  pub report : lacks_report7 b.primary.flags b.payload.body ≡ false
+  pub residues : are_residues7 b b.exts ≡ true
   pub wraps : list_all is_wrap_legal7 b.exts ≡ true
 
 pub unrefused7 : (b : Bundle7) → first_that_holds (refusals7 b) ≡ None → Unrefused7 b
 unrefused7 b none =
-    let (clock, (lives, (sequence, (fragment, (admin, (residues, (wraps, end))))))) = none-holds (refusals7 b) none in
+    let (clock, (lives, (sequence, (fragment, (report, (residues, (wraps, end))))))) = none-holds (refusals7 b) none in
     record {
       clock = ltb-false b.primary.millis 1000 clock;
       lives = not-zero b.primary.lifetime lives;
       counterpart = leb-false (2 ^ 64) _ sequence;
-      admin = admin;
-      residues = not-true (are_residues7 b.exts) residues;
+      fragment = fragment;
+      report = report;
+      residues = not-true (are_residues7 b b.exts) residues;
       wraps = not-true (list_all is_wrap_legal7 b.exts) wraps;
     }
 
@@ -80,30 +85,64 @@ extra6-default shared =
       after_fits = omega arith;
     }
 
-read-is : (body : List ℕ) (r : Result ResidueNew (ℕ × Stop BlockFault)) → read_whole residue_new Bad body ≡ r
-    → IsOctets body → may_stand7 r ≡ true → (residue : ResidueNew) × (r ≡ Ok residue) × IsExtra6 residue.extra6
-read-is body (Ok residue) is octets may =
-    (residue, refl, residue_new-extra body residue (whole-found residue_new Bad body residue octets is))
-read-is body (Err e) is octets may = absurd (cc)
+-- what is read is what version 6 may say, and has four parts of times that the report may have
+pub record Stands7 (b : Bundle7) (residue : ResidueNew) : Type 0 where
+  pub extra : IsExtra6 residue.extra6
+  pub four : length residue.rests ≡ 4
+  pub takes : takes_parts (carried7 b) residue.rests ≡ true
 
-residue-by : (other : ResidueNew) (block : Block7) (blocks : List Block7) (t : Bool) → is_residue7 block ≡ t → IsOctets block.body
-    → are_residues7 (block ∷ blocks) ≡ true
-    → (are_residues7 blocks ≡ true → IsExtra6 (residue_in7 other blocks).extra6) → IsExtra6 (residue_in7 other (block ∷ blocks)).extra6
+four-spelled : (front w rests : List ℕ) → Spells four_rests front w rests → length rests ≡ 4
+unfolding four_rests
+four-spelled front w rests spells =
+    let (u1, v1, a, e1, s1, r1) = spells in
+    let (u2, v2, b, e2, s2, r2) = r1 in
+    let (u3, v3, c, e3, s3, r3) = r2 in
+    let (u4, v4, d, e4, s4, r4) = r3 in
+    rw r4.1 refl
+
+residue-four : (w : List ℕ) (residue : ResidueNew) → Spells residue_new [] w residue → length residue.rests ≡ 4
+unfolding residue_new
+residue-four w residue spells =
+    let (u1, v1, m, e1, s1, r1) = spells in
+    let (u2, v2, flags, e2, s2, r2) = r1 in
+    let (u3, v3, custodian, e3, s3, r3) = r2 in
+    let (u4, v4, payload_flags, e4, s4, r4) = r3 in
+    let (u5, v5, after, e5, s5, r5) = r4 in
+    let (u6, v6, rests, e6, s6, r6) = r5 in
+    rw r6.1 (four-spelled _ u6 rests s6)
+
+read-is : (b : Bundle7) (body : List ℕ) (r : Result ResidueNew (ℕ × Stop BlockFault)) → read_whole residue_new Bad body ≡ r
+    → IsOctets body → may_stand7 b r ≡ true → (residue : ResidueNew) × (r ≡ Ok residue) × Stands7 b residue
+read-is b body (Ok residue) is octets may =
+    let spells = whole-found residue_new Bad body residue octets is in
+    (residue, refl, record { extra = residue_new-extra body residue spells; four = residue-four body residue spells; takes = may })
+read-is b body (Err e) is octets may = absurd (cc)
+
+residue-by : (b : Bundle7) (other : ResidueNew) (block : Block7) (blocks : List Block7) (t : Bool) → is_residue7 block ≡ t → IsOctets block.body
+    → are_residues7 b (block ∷ blocks) ≡ true
+    → (are_residues7 b blocks ≡ true → Stands7 b (residue_in7 other blocks)) → Stands7 b (residue_in7 other (block ∷ blocks))
 unfolding are_residues7 residue_in7
-residue-by other block blocks true is octets stand rest =
-    let here : (may_stand7 (read_whole residue_new Bad block.body) && not (list_any is_residue7 blocks)) ≡ true = rw is at stand in
+residue-by b other block blocks true is octets stand rest =
+    let here : (may_stand7 b (read_whole residue_new Bad block.body) && not (list_any is_residue7 blocks)) ≡ true = rw is at stand in
     let both = and_parts _ _ here in
-    let (residue, read, good) = read-is block.body (read_whole residue_new Bad block.body) refl octets both.0 in
+    let (residue, read, good) = read-is b block.body (read_whole residue_new Bad block.body) refl octets both.0 in
     rw (is, read) good
-residue-by other block blocks false is octets stand rest = rw is (rest (rw is at stand))
+residue-by b other block blocks false is octets stand rest = rw is (rest (rw is at stand))
 
-residue-is : (other : ResidueNew) (blocks : List Block7) → IsExtra6 other.extra6 → All (λ block. IsOctets block.body) blocks
-    → are_residues7 blocks ≡ true → IsExtra6 (residue_in7 other blocks).extra6
+residue-is : (b : Bundle7) (other : ResidueNew) (blocks : List Block7) → Stands7 b other → All (λ block. IsOctets block.body) blocks
+    → are_residues7 b blocks ≡ true → Stands7 b (residue_in7 other blocks)
 unfolding residue_in7
-residue-is other [] good octets stand = good
-residue-is other (block ∷ blocks) good octets stand =
-    residue-by other block blocks (is_residue7 block) refl (All-head (λ x. IsOctets x.body) block blocks octets) stand
-    (λ more. residue-is other blocks good (All-tail (λ x. IsOctets x.body) block blocks octets) more)
+residue-is b other [] good octets stand = good
+residue-is b other (block ∷ blocks) good octets stand =
+    residue-by b other block blocks (is_residue7 block) refl (All-head (λ x. IsOctets x.body) block blocks octets) stand
+    (λ more. residue-is b other blocks good (All-tail (λ x. IsOctets x.body) block blocks octets) more)
+
+default-stands : (b : Bundle7) → Stands7 b (no_residue7 b)
+default-stands b = record {
+  extra = extra6-default (shared7_with b (contents.Bytes b.payload.body));
+  four = refl;
+  takes = parts-zero (carried7 b);
+}
 
 -- ---- for which extension blocks the blocks stand
 
@@ -282,12 +321,16 @@ apart-read7 part earlier (block ∷ blocks) legal fine =
 
 -- ---- the record
 
-fragment-is : (part : Option Fragment) (block : Block7) → IsPart part → is_within part block.kind (length block.body) ≡ true → block.kind ≡ 1
-    → IsFragment part (contents.Bytes block.body)
-fragment-is None block is within payload = tt
-fragment-is (Some part) block is within payload =
+-- a fragment holds octets
+fragment-is : (flags : ℕ) (rests : List ℕ) (part : Option Fragment) (block : Block7) → has_bit 0 flags ≡ is_some part
+    → (has_bit 0 flags && has_bit 1 flags) ≡ false → IsPart part
+    → is_within part block.kind (length block.body) ≡ true → block.kind ≡ 1
+    → IsFragment part (content7 (report7_in flags block.body) rests block.body)
+fragment-is flags rests None block bit plain is within payload = tt
+fragment-is flags rests (Some part) block bit plain is within payload =
+    let bytes : has_bit 1 flags ≡ false = rw bit at plain in
     let one : (block.kind == 1) ≡ true = eq-eqb block.kind 1 payload in
-    (is.1, leb-true (part.offset + length block.body) part.total (rw one at within))
+    rw bytes (is.1, leb-true (part.offset + length block.body) part.total (rw one at within))
 
 pub bit-zero : (flags : ℕ) → has_bit 0 flags ≡ is_fragment flags
 bit-zero flags = ap (λ n. eqb (n % 2) 1) (whole flags)
@@ -295,8 +338,8 @@ bit-zero flags = ap (λ n. eqb (n % 2) 1) (whole flags)
     whole : (n : ℕ) → n / 1 ≡ n
     whole n = omega arith
 
-shared7-is : (b : Bundle7) → IsLegal7 b → Unrefused7 b → IsShared (shared7_of b)
-shared7-is b legal un = record {
+shared7-is : (b : Bundle7) → IsLegal7 b → HoldsOctets7 b → Unrefused7 b → Stands7 b (residue7_of b) → IsShared (shared7_of b)
+shared7-is b legal octets un good = record {
   destination = legal.primary.destination;
   source = legal.primary.source;
   report_to = legal.primary.report_to;
@@ -308,9 +351,10 @@ shared7-is b legal un = record {
   flags = within-and common b.primary.flags;
   payload_flags = within-and block_common b.payload.flags;
   fragment_bit = has_bit-and 0 common b.primary.flags refl ∙ bit-zero b.primary.flags ∙ legal.primary.fragment_bit;
-  report_bit = has_bit-and 1 common b.primary.flags refl ∙ un.admin;
-  fragment = fragment-is b.primary.fragment b.payload legal.primary.fragment legal.payload.within legal.payload_kind;
-  content = legal.payload.size;
+  report_bit = has_bit-and 1 common b.primary.flags refl ∙ report-bit7 b.primary.flags (residue7_of b).rests b.payload.body un.report;
+  fragment = fragment-is b.primary.flags (residue7_of b).rests b.primary.fragment b.payload
+      (bit-zero b.primary.flags ∙ legal.primary.fragment_bit) un.fragment legal.primary.fragment legal.payload.within legal.payload_kind;
+  content = content7-is b.primary.flags (residue7_of b).rests b.payload.body legal.payload.size octets.payload good.four good.takes un.report;
 }
 
 extra7-is : (b : Bundle7) → IsLegal7 b → IsExtra7 (extra7_of b)
@@ -337,13 +381,13 @@ extra6-is residue exts good = record {
 pub sound7 : (b : Bundle7) → IsLegal7 b → HoldsOctets7 b → first_that_holds (refusals7 b) ≡ None → IsSound (full7_of b)
 sound7 b legal octets none =
     let un = unrefused7 b none in
-    let residue = residue-is (default_residue7 (shared7_of b)) b.exts (extra6-default (shared7_of b)) octets un.residues in
-    let exts = exts-stand b.primary.fragment [] b.exts legal.exts octets un.wraps in
+    let residue = residue-is b (no_residue7 b) b.exts (default-stands b) octets.exts un.residues in
+    let exts = exts-stand b.primary.fragment [] b.exts legal.exts octets.exts un.wraps in
     let most = few7 b.exts un.wraps in
     record {
       valid = record {
-        shared = shared7-is b legal un;
-        extra6 = extra6-is (residue7_of b) (length (exts_in7 b.exts)) residue;
+        shared = shared7-is b legal octets un residue;
+        extra6 = extra6-is (residue7_of b) (length (exts_in7 b.exts)) residue.extra;
         extra7 = extra7-is b legal;
         exts = exts.0;
         few = omega (arith, most, legal.few);

@@ -1,6 +1,6 @@
 -- A version 6 view is read as the record of which it is the view.
 
-use Rattle.std.proofs.Common.{◌≡◌, ℕ, ◌+◌, ◌*◌, ◌/◌, ◌%◌, ◌^◌, Bool, true, false, ◌&&◌, ◌||◌, not, eqb, List, [], ◌∷◌, ◌++◌, map, take, drop, length, Option, Some, None, refl, sym, ap, ◌∙◌, arith, eqb-true, eq-eqb, bit_and, bit_or, max, min, take-append-drop, ◌==◌}
+use Rattle.std.proofs.Common.{◌≡◌, ℕ, ◌+◌, ◌*◌, ◌/◌, ◌%◌, ◌^◌, Bool, true, false, ◌&&◌, ◌||◌, not, eqb, List, [], ◌∷◌, ◌++◌, map, take, drop, length, Option, Some, None, is_some, refl, sym, ap, ◌∙◌, arith, eqb-true, eq-eqb, bit_and, bit_or, max, min, take-append-drop, ◌==◌}
 use Rattle.std.proofs.lemmas.Bool.{and_parts, lt-leb, ne_eqb}
 use Rattle.std.proofs.lemmas.List.Elements.{All-head, All-tail, All-nil, All-cons}
 use Rattle.std.proofs.lemmas.List.Folds.{list_all-append}
@@ -18,19 +18,24 @@ use Rattle.bundle_meaning.specs.declared.blocks.Ext.TheVariants.{Six, Seven}
 use Rattle.bundle_meaning.specs.declared.full.Full.{Full}
 use Rattle.bundle_meaning.specs.Blocks.{mark, IsExt, IsBlock7, sevens, are_apart, collide}
 use Rattle.translate.specs.Sound.{IsSound, HasBody}
-use Rattle.translate.specs.View6.{needs_residue6, block6_of, payload6_of, before_payload, blocks6_of, bytes_of, view6_of}
-use Rattle.translate.specs.Reading6.{wrapped7, collide_held, collide6, are_apart6, are_wraps6, is_wrap_legal6, is_late6, payload_in, shared6_of, extra6_of, refusals6, Reads6}
+use Rattle.translate.specs.View6.{needs_residue6, block6_of, octets6_of, payload6_of, before_payload, blocks6_of, view6_of}
+use Rattle.translate.specs.Admin.{report6_in, lacks_report6, takes_mask, content6}
+use Rattle.translate.specs.Reading6.{residue_in6, carried6, content6_of, shared6_with, wrapped7, collide_held, collide6, are_apart6, are_wraps6, is_wrap_legal6, is_late6, payload_in, shared6_of, extra6_of, refusals6, Reads6}
 use Rattle.std.specs.Int.Bits.{and_zero_l}
 use Rattle.std.proofs.lemmas.Nat.{and_assoc}
 use Rattle.std.proofs.lemmas.Nat.Bits.{bit_at_and, bit_at_or, bit_at-zero}
 use Rattle.bundle_meaning.specs.Bits.{has_bit, is_within, is_without, common, block_common, not_own6, block_not_own6}
 use Rattle.bundle_meaning.specs.Expiry.{lifetime6_of}
 use Rattle.bundle_meaning.specs.Reports.{is_report, no_time_of}
+use Rattle.bundle_meaning.specs.Valid.{IsFragment, IsShared, IsValid}
+use Rattle.endpoint.specs.declared.extent.Fragment.{Fragment}
+use Rattle.translate.specs.declared.refused.Refused.{Refused}
 use Rattle.translate.specs.declared.refused.Refused.TheVariants as causes
 use Rattle.translate.specs.Refusals.{first_that_holds}
 use Rattle.translate.specs.Translation.{HasLifetime}
 use Rattle.translate.proofs.BitsLemmas.{common-or, own-or}
 use Rattle.translate.proofs.Residue6Lemmas.{others6, residue6-back, residue6-stands, expiry-back, lifetime-some}
+use Rattle.translate.proofs.AdminLemmas.{content6-back, takes6-back, lacks6-back}
 use Rattle.translate.proofs.Back6Lemmas.{parts-unmarked, residue-block, wrap-begins, wrap-read, payload6-back, exts6-back, after6-back}
 
 -- ---- wraps
@@ -211,12 +216,34 @@ creation-back : (shared : Shared) → (1000 * (shared.millis / 1000) + (1000 * s
     × ((1000 * shared.sequence + shared.millis % 1000) / 1000 ≡ shared.sequence)
 creation-back shared = (omega arith, omega arith)
 
-pub content-back : (content : Content) → is_report content ≡ false → contents.Bytes (bytes_of content) ≡ content
-content-back (contents.Bytes octets) is = refl
-content-back (contents.Report report) is = absurd (cc)
+-- flag bit 1 of the view stands exactly with a report
+report-bit : (full : Full) → IsValid full → has_bit 1 (bit_or full.shared.flags full.extra6.flags) ≡ is_report full.shared.content
+report-bit full valid = same-bit1 full.shared.flags full.extra6.flags valid.extra6.flags ∙ valid.shared.report_bit
 
-pub shared6-back : (full : Full) → IsSound full → is_report full.shared.content ≡ false → shared6_of (view6_of full) ≡ full.shared
-shared6-back full sound bytes =
+payload-octets : (full : Full) → IsValid full → (payload_in (blocks6_of full)).body ≡ octets6_of full.shared.content
+payload-octets full valid = ap (λ block. block.body) (payload6-back full valid.exts)
+
+content-back : (full : Full) → IsValid full → content6_of (view6_of full) ≡ full.shared.content
+content-back full valid =
+    let flags = bit_or full.shared.flags full.extra6.flags in
+    ap (λ octets. content6 (report6_in flags octets) (residue_in6 (blocks6_of full)).no_time octets) (payload-octets full valid)
+    ∙ ap (λ r. content6 (report6_in flags (octets6_of full.shared.content)) r.no_time (octets6_of full.shared.content)) (residue6-back full valid)
+    ∙ content6-back flags full.shared.content (report-bit full valid) valid.shared.content
+
+takes-back : (full : Full) → IsValid full → takes_mask (carried6 (view6_of full)) (no_time_of full.shared.content) ≡ true
+takes-back full valid =
+    let flags = bit_or full.shared.flags full.extra6.flags in
+    ap (λ octets. takes_mask (report6_in flags octets) (no_time_of full.shared.content)) (payload-octets full valid)
+    ∙ takes6-back flags full.shared.content (report-bit full valid) valid.shared.content
+
+lacks-back : (full : Full) → IsValid full
+    → lacks_report6 (bit_or full.shared.flags full.extra6.flags) (payload_in (blocks6_of full)).body ≡ false
+lacks-back full valid =
+    let flags = bit_or full.shared.flags full.extra6.flags in
+    ap (lacks_report6 flags) (payload-octets full valid) ∙ lacks6-back flags full.shared.content (report-bit full valid) valid.shared.content
+
+pub shared6-back : (full : Full) → IsSound full → shared6_of (view6_of full) ≡ full.shared
+shared6-back full sound =
     let valid = sound.valid in
     let shared = full.shared in
     let creation = creation-back shared in
@@ -227,8 +254,8 @@ shared6-back full sound bytes =
     let flags = common-or common shared.flags full.extra6.flags valid.shared.flags own in
     let payload_own = without-fewer block_not_own6 block_common full.extra6.payload_flags refl valid.extra6.payload_flags in
     let payload_flags = common-or block_common shared.payload_flags full.extra6.payload_flags valid.shared.payload_flags payload_own in
-    let content = content-back shared.content bytes in
-    rw (residue, payload, creation.0, creation.1, expiry, flags, payload_flags, content) refl
+    ap (shared6_with (view6_of full)) (content-back full valid)
+    ∙ rw (residue, payload, creation.0, creation.1, expiry, flags, payload_flags) refl
 
 pub extra6-back : (full : Full) → IsSound full → extra6_of (view6_of full) ≡ full.extra6
 extra6-back full sound =
@@ -243,45 +270,58 @@ extra6-back full sound =
 
 -- ---- it isn't refused
 
-none-refused : (b1 b2 b3 b4 b5 b6 b7 b8 b9 : Bool) → b1 ≡ false → b2 ≡ false → b3 ≡ false → b4 ≡ false → b5 ≡ false → b6 ≡ false → b7 ≡ false
+none-refused : (admin : Refused) (b1 b2 b3 b4 b5 b6 b7 b8 b9 : Bool) → b1 ≡ false → b2 ≡ false → b3 ≡ false → b4 ≡ false → b5 ≡ false → b6 ≡ false → b7 ≡ false
     → b8 ≡ false → b9 ≡ false
     → first_that_holds ((causes.CustodyAsked, b1) ∷ (causes.Clockless, b2) ∷ (causes.LifetimeZero, b3) ∷ (causes.TimeTooLarge, b4)
-    ∷ (causes.PayloadRefs, b5) ∷ (causes.AdminFragment, b6) ∷ (causes.AdminUnknown, b7) ∷ (causes.ResidueBad, b8) ∷ (causes.WrapBad, b9) ∷ []) ≡ None
-none-refused b1 b2 b3 b4 b5 b6 b7 b8 b9 e1 e2 e3 e4 e5 e6 e7 e8 e9 = rw (e1, e2, e3, e4, e5, e6, e7, e8, e9) refl
+    ∷ (causes.PayloadRefs, b5) ∷ (causes.AdminFragment, b6) ∷ (admin, b7) ∷ (causes.ResidueBad, b8) ∷ (causes.WrapBad, b9) ∷ []) ≡ None
+none-refused admin b1 b2 b3 b4 b5 b6 b7 b8 b9 e1 e2 e3 e4 e5 e6 e7 e8 e9 = rw (e1, e2, e3, e4, e5, e6, e7, e8, e9) refl
 
-pub and-false : (p q : Bool) → q ≡ false → (p && q) ≡ false
-and-false true q is = is
-and-false false q is = refl
+-- a report is no fragment
+pub no-admin-fragment : (shared : Shared) → IsShared shared → (is_some shared.fragment && is_report shared.content) ≡ false
+no-admin-fragment shared is = by shared.fragment shared.content is.fragment
+  where
+    by : (part : Option Fragment) (content : Content) → IsFragment part content → (is_some part && is_report content) ≡ false
+    by None content fits = refl
+    by (Some part) (contents.Bytes octets) fits = refl
+    by (Some part) (contents.Report report) fits = absurd fits
 
-untimed : (content : Content) → is_report content ≡ false → no_time_of content ≡ 0
-untimed (contents.Bytes octets) is = refl
-untimed (contents.Report report) is = absurd (cc)
+same-bit0 : (a b : ℕ) → is_without not_own6 b ≡ true → has_bit 0 (bit_or a b) ≡ has_bit 0 a
+same-bit0 a b without =
+    let q = clear-without 0 not_own6 b without refl in
+    ap (λ x. eqb x 1) (bit_at_or a b 0 ∙ ap (λ x. max (bit_at a 0) x) q ∙ omega arith)
 
-pub view6-unrefused : (full : Full) → IsSound full → is_report full.shared.content ≡ false → HasLifetime full
-    → first_that_holds (refusals6 (view6_of full)) ≡ None
-view6-unrefused full sound bytes lifetime =
+-- the conditions before those on a payload, but for those on time
+pub view6-no-custody : (full : Full) → IsValid full → has_bit 3 (bit_or full.shared.flags full.extra6.flags) ≡ false
+view6-no-custody full valid = no-custody full.shared.flags full.extra6.flags valid.shared.flags valid.extra6.flags
+
+pub view6-clock : (full : Full) → IsValid full → (full.shared.millis / 1000 == 0) ≡ false
+view6-clock full valid = ne_eqb (full.shared.millis / 1000) 0 (λ none. omega (arith, none, valid.shared.clock))
+
+pub view6-lives : (full : Full) → IsValid full → (lifetime6_of full.shared == 0) ≡ false
+view6-lives full valid = ne_eqb (lifetime6_of full.shared) 0 (λ none. omega (arith, none, lifetime-some full.shared valid.shared.lives))
+
+pub view6-unrefused : (full : Full) → IsSound full → HasLifetime full → first_that_holds (refusals6 (view6_of full)) ≡ None
+view6-unrefused full sound lifetime =
     let valid = sound.valid in
     let shared = full.shared in
     let creation = creation-back shared in
-    let admin : has_bit 1 (bit_or shared.flags full.extra6.flags) ≡ false =
-    same-bit1 shared.flags full.extra6.flags valid.extra6.flags ∙ valid.shared.report_bit ∙ bytes in
+    let fragment : (has_bit 0 (bit_or shared.flags full.extra6.flags) && has_bit 1 (bit_or shared.flags full.extra6.flags)) ≡ false =
+    rw (same-bit0 shared.flags full.extra6.flags valid.extra6.flags, valid.shared.fragment_bit, report-bit full valid) (no-admin-fragment shared valid.shared) in
     let late : is_late6 (view6_of full) ≡ false =
     rw (creation.0, lt-leb (2 ^ 64) shared.millis valid.shared.millis) (lt-leb (2 ^ 64) _ lifetime) in
     let refs : not (length (payload_in (blocks6_of full)).refs == 0) ≡ false = rw (payload6-back full valid.exts) refl in
-    none-refused _ _ _ _ _ _ _ _ _
-    (no-custody shared.flags full.extra6.flags valid.shared.flags valid.extra6.flags)
-    (ne_eqb (shared.millis / 1000) 0 (λ none. omega (arith, none, valid.shared.clock)))
-    (ne_eqb (lifetime6_of shared) 0 (λ none. omega (arith, none, lifetime-some shared valid.shared.lives)))
-    late refs (and-false _ _ admin) admin
-    (ap not (residue6-stands full valid (untimed shared.content bytes)))
+    none-refused _ _ _ _ _ _ _ _ _ _
+    (view6-no-custody full valid) (view6-clock full valid) (view6-lives full valid)
+    late refs fragment (lacks-back full valid)
+    (ap not (residue6-stands full valid (takes-back full valid)))
     (ap not (wraps6-stand full sound))
 
 -- ---- together
 
-pub view6-reads : (full : Full) → IsSound full → is_report full.shared.content ≡ false → HasLifetime full → Reads6 (view6_of full) full
-view6-reads full sound bytes lifetime = record {
-  unrefused = view6-unrefused full sound bytes lifetime;
-  shared = sym (shared6-back full sound bytes);
+pub view6-reads : (full : Full) → IsSound full → HasLifetime full → Reads6 (view6_of full) full
+view6-reads full sound lifetime = record {
+  unrefused = view6-unrefused full sound lifetime;
+  shared = sym (shared6-back full sound);
   extra6 = sym (extra6-back full sound);
   extra7 = sym (ap (λ r. r.extra7) (residue6-back full sound.valid));
   exts = sym (exts6-back full sound.valid.exts);

@@ -1,5 +1,6 @@
 -- what a reader must believe, in this order
 pub mod Sound
+pub mod Admin
 pub mod View6
 pub mod View7
 pub mod Refusals

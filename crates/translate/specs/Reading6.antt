@@ -12,7 +12,7 @@ use Rattle.bundle6.specs.Table.{is_payload}
 use Rattle.bundle7.specs.Body.{is_body}
 use Rattle.bundle_meaning.specs.declared.fault.BlockFault.TheVariants.{Bad}
 use Rattle.bundle_meaning.specs.declared.creation.Id7.{Id7}
-use Rattle.bundle_meaning.specs.declared.shared.Content.TheVariants as contents
+use Rattle.bundle_meaning.specs.declared.shared.Content.{Content}
 use Rattle.bundle_meaning.specs.declared.shared.Shared.{Shared}
 use Rattle.bundle_meaning.specs.declared.extra.Extra6.{Extra6}
 use Rattle.bundle_meaning.specs.declared.blocks.Block7Like.{Block7Like}
@@ -26,6 +26,9 @@ use Rattle.bundle_meaning.specs.Creation.{id7_of}
 use Rattle.bundle_meaning.specs.Defaults.{default7_of}
 use Rattle.bundle_meaning.specs.Residue.{residue_old}
 use Rattle.bundle_meaning.specs.Wrap.{wrap_old}
+use Rattle.status_reports.specs.declared.report6.Report6.{Report6}
+use Rattle.status_reports.specs.Order.{answer6}
+use Rattle.translate.specs.Admin.{admin_cause, report6_in, lacks_report6, takes_mask, content6}
 use Rattle.translate.specs.Private.{is_residue, is_wrap, value_or}
 use Rattle.translate.specs.declared.refused.Refused.{Refused}
 use Rattle.translate.specs.declared.refused.Refused.TheVariants as causes
@@ -87,8 +90,17 @@ payload_in (block ∷ blocks) = if is_payload block then block else payload_in b
 abbrev pub creation6 : Bundle6 → Id7
 creation6 b = id7_of b.primary.seconds b.primary.sequence
 
-abbrev pub shared6_of : Bundle6 → Shared
-shared6_of b = record {
+-- the status report that it carries
+abbrev pub carried6 : Bundle6 → Option Report6
+carried6 b = report6_in b.primary.flags (payload_in b.blocks).body
+
+-- a report where it carries one, and else the payload's octets
+abbrev pub content6_of : Bundle6 → Content
+content6_of b = content6 (carried6 b) (residue6_of b).no_time (payload_in b.blocks).body
+
+-- with this as what the payload says
+abbrev pub shared6_with : Bundle6 → Content → Shared
+shared6_with b content = record {
   destination = b.primary.destination;
   source = b.primary.source;
   report_to = b.primary.report_to;
@@ -98,8 +110,11 @@ shared6_of b = record {
   flags = bit_and b.primary.flags common;
   fragment = b.primary.fragment;
   payload_flags = bit_and (payload_in b.blocks).flags block_common;
-  content = contents.Bytes (payload_in b.blocks).body;
+  content = content;
 }
+
+abbrev pub shared6_of : Bundle6 → Shared
+shared6_of b = shared6_with b (content6_of b)
 
 -- so many extension blocks stand after the payload
 abbrev pub extra6_with : Bundle6 → ℕ → Extra6
@@ -123,10 +138,11 @@ full6_of b = record {
 
 -- ---- when it is refused
 
--- a residue that leaves some lifetime; without a report the no-time mask is 0
+-- a residue that leaves some lifetime, and speaks of no status but of those that may be without a time
 abbrev pub may_stand6 : {E : Type 0} → Bundle6 → Result ResidueOld E → Bool
 may_stand6 b (Ok residue) =
-    nat_lt (residue.slack + b.primary.sequence % 1000) (1000 * b.primary.lifetime) && residue.no_time == 0
+    nat_lt (residue.slack + b.primary.sequence % 1000) (1000 * b.primary.lifetime)
+    && takes_mask (carried6 b) residue.no_time
 may_stand6 b (Err fault) = false
 
 abbrev pub is_residue6 : Block6 → Bool
@@ -191,8 +207,8 @@ refusals6 b =
     ∷ (causes.TimeTooLarge, is_late6 b)
     ∷ (causes.PayloadRefs, not (length (payload_in b.blocks).refs == 0))
     ∷ (causes.AdminFragment, has_bit 0 b.primary.flags && has_bit 1 b.primary.flags)
-    -- no administrative record is read yet
-    ∷ (causes.AdminUnknown, has_bit 1 b.primary.flags)
+    -- CustodySignal, CustodyReport, AdminUnknown or BadAdmin, by what reading the payload answers
+    ∷ (admin_cause (answer6 (payload_in b.blocks).body), lacks_report6 b.primary.flags (payload_in b.blocks).body)
     ∷ (causes.ResidueBad, not (are_residues6 b b.blocks))
     ∷ (causes.WrapBad, not (are_wraps6 b.blocks))
     ∷ []

@@ -1,6 +1,6 @@
 -- What a version 7 bundle says: its fields, its residue and its wraps, and when it is refused.
 
-use Rattle.std.specs.Prelude.{◌≡◌, ℕ, ◌+◌, ◌-◌, ◌^◌, ◌==◌, Bool, true, false, ◌&&◌, ◌||◌, not, nat_lt, nat_le, min, if◌then◌else◌, List, [], ◌∷◌, length, None, Result, Ok, Err}
+use Rattle.std.specs.Prelude.{◌≡◌, ℕ, ◌+◌, ◌-◌, ◌^◌, ◌==◌, Bool, true, false, ◌&&◌, ◌||◌, not, nat_lt, nat_le, min, if◌then◌else◌, List, [], ◌∷◌, length, Option, None, Result, Ok, Err}
 use Rattle.std.specs.Int.Bits.{bit_and}
 use Rattle.std.specs.List.{list_any, list_all, flat_map}
 use Rattle.wire_fields.specs.Whole.{read_whole}
@@ -8,6 +8,7 @@ use Rattle.bundle6.specs.Bits.{has_bit}
 use Rattle.bundle7.specs.declared.block.Block7.{Block7}
 use Rattle.bundle7.specs.declared.bundle.Bundle7.{Bundle7}
 use Rattle.bundle_meaning.specs.declared.fault.BlockFault.TheVariants.{Bad}
+use Rattle.bundle_meaning.specs.declared.shared.Content.{Content}
 use Rattle.bundle_meaning.specs.declared.shared.Content.TheVariants as contents
 use Rattle.bundle_meaning.specs.declared.shared.Shared.{Shared}
 use Rattle.bundle_meaning.specs.declared.extra.Extra6.{Extra6}
@@ -23,6 +24,10 @@ use Rattle.bundle_meaning.specs.Creation.{id6_of}
 use Rattle.bundle_meaning.specs.Defaults.{default6_of}
 use Rattle.bundle_meaning.specs.Residue.{residue_new}
 use Rattle.bundle_meaning.specs.Wrap.{wrap_new}
+use Rattle.status_reports.specs.declared.report7.Report7.{Report7}
+use Rattle.status_reports.specs.Order.{answer7}
+use Rattle.status_reports.specs.Pairing.{no_rests}
+use Rattle.translate.specs.Admin.{admin_cause, report7_in, lacks_report7, takes_parts, content7}
 use Rattle.translate.specs.declared.refused.Refused.{Refused}
 use Rattle.translate.specs.declared.refused.Refused.TheVariants as causes
 use Rattle.translate.specs.Private.{is_residue, is_wrap, value_or}
@@ -30,8 +35,9 @@ use Rattle.translate.specs.Refusals.{first_that_holds}
 
 -- ---- the fields
 
-abbrev pub shared7_of : Bundle7 → Shared
-shared7_of b = record {
+-- with this as what the payload says
+abbrev pub shared7_with : Bundle7 → Content → Shared
+shared7_with b content = record {
   destination = b.primary.destination;
   source = b.primary.source;
   report_to = b.primary.report_to;
@@ -41,7 +47,7 @@ shared7_of b = record {
   flags = bit_and b.primary.flags common;
   fragment = b.primary.fragment;
   payload_flags = bit_and b.payload.flags block_common;
-  content = contents.Bytes b.payload.body;
+  content = content;
 }
 
 abbrev pub extra7_of : Bundle7 → Extra7
@@ -54,9 +60,9 @@ extra7_of b = record {
 
 -- ---- the residue
 
--- what a bundle without a residue says in its place
-abbrev pub default_residue7 : Shared → ResidueNew
-default_residue7 shared = record { extra6 = default6_of shared; rests = 0 ∷ 0 ∷ 0 ∷ 0 ∷ [] }
+-- what a bundle without a residue says in its place; the default depends on the destination alone
+abbrev pub no_residue7 : Bundle7 → ResidueNew
+no_residue7 b = record { extra6 = default6_of (shared7_with b (contents.Bytes b.payload.body)); rests = no_rests }
 
 -- what the first residue among the blocks says, or another residue in its place
 unfoldable pub residue_in7 : ResidueNew → List Block7 → ResidueNew
@@ -67,7 +73,20 @@ residue_in7 other (block ∷ blocks) =
     else residue_in7 other blocks
 
 abbrev pub residue7_of : Bundle7 → ResidueNew
-residue7_of b = residue_in7 (default_residue7 (shared7_of b)) b.exts
+residue7_of b = residue_in7 (no_residue7 b) b.exts
+
+-- ---- the payload
+
+-- the status report that the bundle carries
+abbrev pub carried7 : Bundle7 → Option Report7
+carried7 b = report7_in b.primary.flags b.payload.body
+
+-- a report where it carries one, and else the payload's octets
+abbrev pub content7_of : Bundle7 → Content
+content7_of b = content7 (carried7 b) (residue7_of b).rests b.payload.body
+
+abbrev pub shared7_of : Bundle7 → Shared
+shared7_of b = shared7_with b (content7_of b)
 
 -- ---- the extension blocks
 
@@ -115,21 +134,21 @@ full7_of b = record {
 
 -- ---- when it is refused
 
--- without a report the rests are 0
-abbrev pub may_stand7 : {E : Type 0} → Result ResidueNew E → Bool
-may_stand7 (Ok residue) = list_all (λ rest. rest == 0) residue.rests
-may_stand7 (Err fault) = false
+-- a residue whose parts of times the report may have
+abbrev pub may_stand7 : {E : Type 0} → Bundle7 → Result ResidueNew E → Bool
+may_stand7 b (Ok residue) = takes_parts (carried7 b) residue.rests
+may_stand7 b (Err fault) = false
 
 abbrev pub is_residue7 : Block7 → Bool
 is_residue7 block = is_residue block.kind block.body
 
 -- there is none, or the first may stand there and no other follows
-unfoldable pub are_residues7 : List Block7 → Bool
-are_residues7 [] = true
-are_residues7 (block ∷ blocks) =
+unfoldable pub are_residues7 : Bundle7 → List Block7 → Bool
+are_residues7 b [] = true
+are_residues7 b (block ∷ blocks) =
     if is_residue7 block
-    then may_stand7 (read_whole residue_new Bad block.body) && not (list_any is_residue7 blocks)
-    else are_residues7 blocks
+    then may_stand7 b (read_whole residue_new Bad block.body) && not (list_any is_residue7 blocks)
+    else are_residues7 b blocks
 
 -- a block that may be held in a wrap: it isn't marked itself
 abbrev pub may_be_held6 : {E : Type 0} → Result Block6Like E → Bool
@@ -149,9 +168,9 @@ refusals7 b =
     ∷ (causes.LifetimeZero, b.primary.lifetime == 0)
     ∷ (causes.SequenceTooLarge, nat_le (2 ^ 64) (id6_of b.primary.millis b.primary.sequence).sequence)
     ∷ (causes.AdminFragment, has_bit 0 b.primary.flags && has_bit 1 b.primary.flags)
-    -- no administrative record is read yet
-    ∷ (causes.AdminUnknown, has_bit 1 b.primary.flags)
-    ∷ (causes.ResidueBad, not (are_residues7 b.exts))
+    -- AdminUnknown or BadAdmin, by what reading the payload answers
+    ∷ (admin_cause (answer7 b.payload.body), lacks_report7 b.primary.flags b.payload.body)
+    ∷ (causes.ResidueBad, not (are_residues7 b b.exts))
     ∷ (causes.WrapBad, not (list_all is_wrap_legal7 b.exts))
     ∷ []
 

@@ -1,6 +1,6 @@
 -- Translation there and back.
 
-use Rattle.std.specs.Prelude.{◌≡◌, ◌+◌, ◌-◌, ◌*◌, ◌%◌, ◌^◌, ◌<◌, ◌≤◌, true, false, not, length, [], ◌∷◌, ◌++◌, Option, None}
+use Rattle.std.specs.Prelude.{◌≡◌, ◌+◌, ◌-◌, ◌*◌, ◌%◌, ◌^◌, ◌<◌, ◌≤◌, true, not, length, [], ◌∷◌, ◌++◌, Option, Some, None}
 use Rattle.std.specs.List.{All, list_all}
 use Rattle.wire_fields.specs.Reading.{IsOctets}
 use Rattle.bundle6.specs.declared.bundle.Bundle6.{Bundle6}
@@ -12,7 +12,6 @@ use Rattle.bundle_meaning.specs.declared.full.Full.{Full}
 use Rattle.bundle_meaning.specs.Blocks.{is_marked}
 use Rattle.bundle_meaning.specs.Creation.{id6_of}
 use Rattle.bundle_meaning.specs.Expiry.{lifetime6_of, slack_of}
-use Rattle.bundle_meaning.specs.Reports.{is_report}
 use Rattle.translate.specs.declared.refused.Refused.{Refused}
 use Rattle.translate.specs.declared.refused.Refused.TheVariants as causes
 use Rattle.translate.specs.Sound.{IsSound}
@@ -58,9 +57,9 @@ norm7_refusal b = first_that_holds (refusals7 b ++ (causes.TooManyBlocks, not (f
 abbrev pub HoldsOctets6 : Bundle6 → Type 0
 HoldsOctets6 b = All (λ block. IsOctets block.body) b.blocks
 
--- and those of all extension blocks
-abbrev pub HoldsOctets7 : Bundle7 → Type 0
-HoldsOctets7 b = All (λ block. IsOctets block.body) b.exts
+pub record HoldsOctets7 (b : Bundle7) : Type 0 where
+  pub exts : All (λ block. IsOctets block.body) b.exts
+  pub payload : IsOctets b.payload.body
 
 abbrev pub ReadsSoundly6 : Type 0
 ReadsSoundly6 = (b : Bundle6) → six.IsLegal b → HoldsOctets6 b
@@ -97,15 +96,13 @@ abbrev pub HasLifetime : Full → Type 0
 HasLifetime full =
     1000 * lifetime6_of full.shared - (id6_of full.shared.millis full.shared.sequence).sequence % 1000 < 2 ^ 64
 
--- a version 6 view is read as the record of which it is the view; so far the record holds no report
+-- a version 6 view is read as the record of which it is the view
 abbrev pub View6Reads : Type 0
-View6Reads = (full : Full) → IsSound full → is_report full.shared.content ≡ false
-    → HasLifetime full → Reads6 (view6_of full) full
+View6Reads = (full : Full) → IsSound full → HasLifetime full → Reads6 (view6_of full) full
 
 -- and a version 7 view
 abbrev pub View7Reads : Type 0
-View7Reads = (full : Full) → IsSound full → is_report full.shared.content ≡ false
-    → Reads7 (view7_of full) full
+View7Reads = (full : Full) → IsSound full → Reads7 (view7_of full) full
 
 -- a view has no more extension blocks than a bundle that reads as its record
 abbrev pub NoMoreBlocks : Type 0
@@ -118,6 +115,13 @@ abbrev pub ThereAndBack : Type 0
 ThereAndBack =
     ((b : Bundle6) → IsTranslatable6 b → (to_old_refusal (there6 b) ≡ None) × (there7 (there6 b) ≡ norm6_of b))
     × ((b : Bundle7) → IsTranslatable7 b → (to_new_refusal (there7 b) ≡ None) × (there6 (there7 b) ≡ norm7_of b))
+
+-- a version 7 bundle whose lifetime, lengthened to whole seconds, is no number of version 7 is
+-- translated, and what it becomes is refused on the way back
+abbrev pub LateIsRefused : Type 0
+LateIsRefused = (b : Bundle7) → seven.IsLegal7 b → HoldsOctets7 b → to_old_refusal b ≡ None
+    → 2 ^ 64 ≤ b.primary.lifetime + slack_of (full7_of b).shared
+    → to_new_refusal (there7 b) ≡ Some causes.TimeTooLarge
 
 -- a bundle, what it becomes, and its normal form say the same
 abbrev pub SaysTheSame : Type 0

@@ -20,6 +20,8 @@ use Rattle.bundle_meaning.specs.Expiry.{lifetime6_of, slack_of}
 use Rattle.bundle_meaning.specs.Reports.{no_time_of}
 use Rattle.bundle_meaning.specs.Residue.{residue_old_of, residue_old_octets}
 use Rattle.bundle_meaning.specs.Wrap.{wrap_old_octets}
+use Rattle.status_reports.specs.Spelling.{report6_octets}
+use Rattle.status_reports.specs.Pairing.{report6_of}
 
 -- ---- the primary block
 
@@ -70,17 +72,17 @@ block6_of (Seven block) = record {
   body = wrap_old_octets block;
 }
 
--- the octets of a payload; reports are not written yet
-abbrev pub bytes_of : Content → List ℕ
-bytes_of (contents.Bytes octets) = octets
-bytes_of (contents.Report report) = []
+-- the octets of a payload; a report is written as version 6 spells it
+abbrev pub octets6_of : Content → List ℕ
+octets6_of (contents.Bytes octets) = octets
+octets6_of (contents.Report report) = report6_octets (report6_of report)
 
 abbrev pub payload6_of : Full → Block6
 payload6_of full = record {
   kind = 1;
   flags = bit_or full.shared.payload_flags full.extra6.payload_flags;
   refs = [];
-  body = bytes_of full.shared.content;
+  body = octets6_of full.shared.content;
 }
 
 -- how many of the extension blocks stand before the payload

@@ -23,7 +23,8 @@ use Rattle.bundle_meaning.specs.Blocks.{residue_kind, wrap_kind}
 use Rattle.bundle_meaning.specs.Defaults.{default6_of}
 use Rattle.bundle_meaning.specs.Residue.{residue_new_of, residue_new_octets}
 use Rattle.bundle_meaning.specs.Wrap.{wrap_new_octets}
-use Rattle.translate.specs.View6.{bytes_of}
+use Rattle.status_reports.specs.Spelling.{report7_octets}
+use Rattle.status_reports.specs.Pairing.{report7_of}
 
 -- ---- the primary block
 
@@ -135,13 +136,18 @@ exts7_of full =
     ∷ blocks7_of full.exts (next_free7 full.exts 2 + 1) full.exts
     else blocks7_of full.exts 2 full.exts
 
+-- the octets of a payload; a report is written as version 7 spells it
+abbrev pub octets7_of : Content → List ℕ
+octets7_of (contents.Bytes octets) = octets
+octets7_of (contents.Report report) = report7_octets (report7_of report)
+
 abbrev pub payload7_of : Full → Block7
 payload7_of full = record {
   kind = 1;
   number = 1;
   flags = bit_or full.shared.payload_flags full.extra7.payload_flags;
   crc = full.extra7.payload_crc;
-  body = bytes_of full.shared.content;
+  body = octets7_of full.shared.content;
 }
 
 -- ---- the view

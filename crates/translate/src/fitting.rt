@@ -1,7 +1,6 @@
 //! Whether a translation has at most 64 extension blocks, decided before memory is taken.
 
-ghost use Rattle.std.specs.Prelude.{◌≡◌, ◌≤◌, ◌+◌, not, length, if◌then◌else◌};
-ghost use Rattle.endpoint.specs.Endpoints.{is_singleton};
+ghost use Rattle.std.specs.Prelude.{◌≡◌, ◌≤◌, ◌+◌, not, length};
 ghost use Rattle.wire_fields.specs.Whole.{read_whole};
 ghost use Rattle.bundle_meaning.specs.declared.fault.BlockFault.TheVariants.{Bad};
 ghost use Rattle.bundle_meaning.specs.Expiry.{slack_of};
@@ -11,15 +10,16 @@ ghost use Rattle.translate.specs.View7.{is_default6, needs_residue7, fits7};
 ghost use Rattle.translate.specs.Reading6.{held7, ext6_of, exts_in6, shared6_of, extra6_of, full6_of};
 ghost use Rattle.translate.specs.Reading7.{held6, ext7_of, exts_in7, shared7_of, full7_of};
 
-use crate::new_reading::{extra7, is_residue7};
+use crate::new_reading::{default_flags6, extra7, is_residue7};
+use crate::new_report::no_time7;
 use crate::new_view::is_null;
 use crate::old_reading::{PAYLOAD, around_payload, is_residue6, own, payload, payload_flags};
+use crate::old_report::has_no_rest6;
 use crate::old_view::{BLOCK_COMMON, COMMON, MOST, is_same7};
 use crate::private::is_wrap;
 use bundle_meaning::{Extra7, lend_wrap_new, lend_wrap_old};
 use bundle6::{Block6, Bundle6};
 use bundle7::{Block7, Bundle7};
-use endpoint::Endpoint;
 
 /// Whether the version 7 bundle that a version 6 one becomes has at most 64 extension blocks.
 pub(crate) fn fits_new(bundle: &Bundle6) -> bool
@@ -123,7 +123,7 @@ fn holds6(wrap: &[u8]) -> usize
 fn needs_new(bundle: &Bundle6) -> bool
     ensures { result ≡ needs_residue7 (full6_of bundle.now) }
 {
-    !says_default6(bundle)
+    !says_default6(bundle) || !has_no_rest6(bundle)
 }
 
 /// Whether a bundle says nothing that only version 6 has but its default.
@@ -139,17 +139,6 @@ fn says_default6(bundle: &Bundle6) -> bool
         && count6(after) == 0
 }
 
-/// The flags that version 6 has by default: priority normal, and whether the destination is one receiver.
-fn default_flags6(destination: &Endpoint) -> u64
-    ensures { result ≡ 0x80 + (if is_singleton destination.now then 0x10 else 0) }
-{
-    if destination.is_singleton() {
-        0x90
-    } else {
-        0x80
-    }
-}
-
 /// Whether a version 6 bundle needs a residue for what a version 7 one says.
 fn needs_old(bundle: &Bundle7) -> bool
     ensures { result ≡ needs_residue6 (full7_of bundle.now) }
@@ -160,7 +149,7 @@ fn needs_old(bundle: &Bundle7) -> bool
         payload_crc: 0,
         payload_flags: 0,
     };
-    !is_same7(&extra7(bundle), &default) || slack7(bundle) != 0
+    !is_same7(&extra7(bundle), &default) || slack7(bundle) != 0 || no_time7(bundle) != 0
 }
 
 /// How many milliseconds after a bundle expires the second is over.

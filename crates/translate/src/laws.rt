@@ -2,7 +2,7 @@
 
 ghost use Rattle.translate.specs.Legal.{View6IsLegal, View7IsLegal};
 ghost use Rattle.translate.specs.Normal.{ViewIsNormal};
-ghost use Rattle.translate.specs.Translation.{ReadsSoundly6, ReadsSoundly7, View6Reads, View7Reads, NoMoreBlocks, ThereAndBack, SaysTheSame, PlainIsNormal};
+ghost use Rattle.translate.specs.Translation.{ReadsSoundly6, ReadsSoundly7, View6Reads, View7Reads, NoMoreBlocks, ThereAndBack, LateIsRefused, SaysTheSame, PlainIsNormal};
 
 /// A legal version 6 bundle that isn't refused reads as a sound record.
 pub fn reads_soundly6()
@@ -32,6 +32,12 @@ pub fn no_more_blocks()
 /// A bundle that is translated comes back as its normal form.
 pub fn there_and_back()
     ensures { ThereAndBack }
+{}
+
+/// A version 7 bundle whose lifetime reaches 2^64 once it is lengthened to whole seconds is translated,
+/// and refused on the way back.
+pub fn late_is_refused()
+    ensures { LateIsRefused }
 {}
 
 /// A bundle, what it becomes, and its normal form have names, expiry, payload, endpoints and fragment

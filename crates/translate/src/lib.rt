@@ -8,22 +8,27 @@
 //! there and back is its normal form ([`there_and_back`]), and says the same ([`says_the_same`]). A legal
 //! bundle that isn't refused reads as a sound record ([`reads_soundly6`], [`reads_soundly7`]).
 //!
-//! Administrative bundles are refused so far.
+//! Of administrative bundles those with a status report are translated, report and all; custody
+//! transfer is refused, and so are other administrative records (RFC 5050, section 6.1; RFC 9171,
+//! section 6.1).
 #![tactic(auto)]
 
 mod fitting;
 mod laws;
 mod new_reading;
+mod new_report;
 mod new_view;
 mod old_reading;
+mod old_report;
 mod old_view;
 mod private;
 mod refused;
 mod translation;
 
 pub use laws::{
-    no_more_blocks, plain_is_normal, reads_soundly6, reads_soundly7, says_the_same, there_and_back,
-    view_is_normal, view6_is_legal, view6_reads, view7_is_legal, view7_reads,
+    late_is_refused, no_more_blocks, plain_is_normal, reads_soundly6, reads_soundly7,
+    says_the_same, there_and_back, view_is_normal, view6_is_legal, view6_reads, view7_is_legal,
+    view7_reads,
 };
 pub use new_reading::from7;
 pub use new_view::view7;

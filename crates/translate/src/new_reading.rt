@@ -1,6 +1,6 @@
 //! The record that a version 7 bundle stands for.
 
-ghost use Rattle.std.specs.Prelude.{◌≡◌, ◌++◌, ◌≤◌, ◌<◌, ◌^◌, ◌+◌, true, None, length, IfOk, OnOk};
+ghost use Rattle.std.specs.Prelude.{◌≡◌, ◌++◌, ◌≤◌, ◌<◌, ◌^◌, ◌+◌, true, None, length, if◌then◌else◌, IfOk, OnOk};
 ghost use Rattle.std.specs.List.{All, list_all, list_any};
 ghost use Rattle.wire_fields.specs.Reading.{IsOctets};
 ghost use Rattle.wire_fields.specs.Whole.{read_whole};
@@ -10,19 +10,23 @@ ghost use Rattle.bundle_meaning.specs.Residue.{residue_new};
 ghost use Rattle.bundle_meaning.specs.Wrap.{wrap_new};
 ghost use Rattle.translate.specs.Sound.{IsSound};
 ghost use Rattle.translate.specs.Translation.{HoldsOctets7};
+ghost use Rattle.endpoint.specs.Endpoints.{is_singleton};
+ghost use Rattle.translate.specs.Admin.{content7};
 ghost use Rattle.translate.specs.Answers.{Translates};
 ghost use Rattle.translate.specs.Refusals.{first_that_holds};
-ghost use Rattle.translate.specs.Reading7.{refusals7, residue_in7, default_residue7, is_residue7, may_stand7, are_residues7, may_be_held6, is_wrap_legal7, ext7_of, exts_in7, shared7_of, extra7_of, extra6_of_residue, full7_of};
+ghost use Rattle.translate.specs.Reading7.{refusals7, residue_in7, no_residue7, carried7, is_residue7, may_stand7, are_residues7, may_be_held6, is_wrap_legal7, ext7_of, exts_in7, shared7_with, extra7_of, extra6_of_residue, full7_of};
 
+use crate::new_report::{admin_refusal7, content7, takes_parts};
 use crate::old_reading::{ADMINISTRATIVE, FRAGMENT, has_bit, own};
 use crate::old_view::{BLOCK_COMMON, COMMON};
-use crate::private::{is_marked, is_residue, is_wrap};
+use crate::private::{holds_octets, is_marked, is_residue, is_wrap};
 use crate::refused::Refused;
 use bundle_meaning::{
-    Block7Like, BlockFault, Content, Ext, Extra6, Extra7, Exts, Full, ResidueNew, Shared, default6,
-    id_to_old, lend_residue_new, lend_wrap_new, read_residue_new, read_wrap_new,
+    Block7Like, BlockFault, Ext, Extra6, Extra7, Exts, Full, ResidueNew, Shared, id_to_old,
+    lend_residue_new, lend_wrap_new, read_residue_new, read_wrap_new,
 };
 use bundle7::{Block7, Bundle7};
+use endpoint::Endpoint;
 use std::alloc::{AllocError, Global};
 
 /// The record that a version 7 bundle stands for.
@@ -52,11 +56,11 @@ pub(crate) fn refusal7(bundle: &Bundle7) -> Option<Refused>
         Some(Refused::SequenceTooLarge)
     } else if has_bit(primary.flags, FRAGMENT) && has_bit(primary.flags, ADMINISTRATIVE) {
         Some(Refused::AdminFragment)
-    } else if has_bit(primary.flags, ADMINISTRATIVE) {
-        Some(Refused::AdminUnknown)
-    } else if !are_residues7(bundle.exts.as_slice()) {
+    } else if let Some(cause) = admin_refusal7(bundle) {
+        Some(cause)
+    } else if !are_residues7(bundle, bundle.exts.as_slice()) {
         Some(Refused::ResidueBad)
-    } else if !are_wraps7(bundle.exts.as_slice()) {
+    } else if !are_wraps7(bundle) {
         Some(Refused::WrapBad)
     } else {
         None
@@ -70,12 +74,12 @@ pub(crate) fn is_residue7(block: &Block7) -> bool
     is_residue(block.kind, block.body.as_slice())
 }
 
-/// Whether a residue speaks of no report.
-fn may_stand7(residue: &[u8]) -> bool
-    ensures { result ≡ may_stand7 (read_whole residue_new BlockFault.Bad residue.now) }
+/// Whether a residue has parts of times that the bundle's report may have.
+fn may_stand7(bundle: &Bundle7, residue: &[u8]) -> bool
+    ensures { result ≡ may_stand7 bundle.now (read_whole residue_new BlockFault.Bad residue.now) }
 {
     match lend_residue_new(residue) {
-        Ok(residue) => residue.rests.iter().all(|rest| *rest == 0),
+        Ok(residue) => takes_parts(bundle, &residue.rests),
         Err(_) => false,
     }
 }
@@ -89,13 +93,13 @@ fn has_residue7(blocks: &[Block7]) -> bool
 
 /// Whether there is no residue, or one that may stand in this bundle.
 #[tactic(auto, unfolding(crate::specs::Reading7::are_residues7))]
-fn are_residues7(blocks: &[Block7]) -> bool
-    ensures { result ≡ are_residues7 blocks.now }
+fn are_residues7(bundle: &Bundle7, blocks: &[Block7]) -> bool
+    ensures { result ≡ are_residues7 bundle.now blocks.now }
 {
     for i in 0..blocks.len() {
         let block = &blocks[i];
         if is_residue7(block) {
-            return may_stand7(block.body.as_slice()) && !has_residue7(&blocks[i + 1..]);
+            return may_stand7(bundle, block.body.as_slice()) && !has_residue7(&blocks[i + 1..]);
         }
     }
     true
@@ -121,7 +125,16 @@ fn is_wrap_legal7(block: &Block7) -> bool
 }
 
 /// Whether each wrap holds a block.
-fn are_wraps7(blocks: &[Block7]) -> bool
+fn are_wraps7(bundle: &Bundle7) -> bool
+    ensures exact { result ≡ list_all is_wrap_legal7 bundle.now.exts }
+    ensures octets { result ≡ true → HoldsOctets7 bundle.now }
+{
+    holds_octets(bundle.payload.body.as_slice());
+    all_wraps7(bundle.exts.as_slice())
+}
+
+/// Whether each wrap among some blocks holds a block.
+fn all_wraps7(blocks: &[Block7]) -> bool
     ensures exact { result ≡ list_all is_wrap_legal7 blocks.now }
     ensures octets { result ≡ true → All (λ block. IsOctets block.body) blocks.now }
 {
@@ -137,8 +150,8 @@ fn are_wraps7(blocks: &[Block7]) -> bool
 pub(crate) fn full7(alloc: Global, bundle: &Bundle7) -> Result<Full, AllocError>
     ensures { IfOk result (λ full. full ≡ full7_of bundle.now) }
 {
-    let shared = shared7(alloc, bundle)?;
-    let residue = residue7(alloc, &shared, bundle.exts.as_slice())?;
+    let residue = residue7(alloc, bundle, bundle.exts.as_slice())?;
+    let shared = shared7(alloc, bundle, residue.rests)?;
     let mut exts = Vec::with_capacity(alloc, bundle.exts.len())?;
     push_exts7(alloc, bundle.exts.as_slice(), &mut exts)?;
     let extra6 = Extra6 {
@@ -154,8 +167,9 @@ pub(crate) fn full7(alloc: Global, bundle: &Bundle7) -> Result<Full, AllocError>
 }
 
 /// What both versions say.
-fn shared7(alloc: Global, bundle: &Bundle7) -> Result<Shared, AllocError>
-    ensures { IfOk result (λ shared. shared ≡ shared7_of bundle.now) }
+fn shared7(alloc: Global, bundle: &Bundle7, rests: [u32; 4]) -> Result<Shared, AllocError>
+    ensures { IfOk result (λ shared. shared
+        ≡ shared7_with bundle.now (content7 (carried7 bundle.now) rests bundle.now.payload.body)) }
 {
     let primary = &bundle.primary;
     Ok(Shared {
@@ -168,7 +182,7 @@ fn shared7(alloc: Global, bundle: &Bundle7) -> Result<Shared, AllocError>
         flags: primary.flags & COMMON,
         fragment: primary.fragment,
         payload_flags: bundle.payload.flags & BLOCK_COMMON,
-        content: Content::Bytes(bundle.payload.body.copy(alloc)?),
+        content: content7(alloc, bundle, rests)?,
     })
 }
 
@@ -185,30 +199,46 @@ pub(crate) fn extra7(bundle: &Bundle7) -> Extra7
 }
 
 /// What a bundle without a residue says in its place.
-fn no_residue7(shared: &Shared) -> ResidueNew
-    ensures { result ≡ default_residue7 shared.now }
+fn no_residue7(bundle: &Bundle7) -> ResidueNew
+    ensures { result ≡ no_residue7 bundle.now }
 {
     ResidueNew {
-        extra6: default6(shared),
+        extra6: Extra6 {
+            flags: default_flags6(&bundle.primary.destination),
+            custodian: Endpoint::Null,
+            payload_flags: 0,
+            after: 0,
+        },
         rests: [0; 4],
+    }
+}
+
+/// The flags that version 6 has by default: priority normal, and whether the destination is one receiver.
+pub(crate) fn default_flags6(destination: &Endpoint) -> u64
+    ensures { result ≡ 0x80 + (if is_singleton destination.now then 0x10 else 0) }
+{
+    if destination.is_singleton() {
+        0x90
+    } else {
+        0x80
     }
 }
 
 /// What the first residue says, or what a bundle without one says in its place.
 #[tactic(auto, unfolding(crate::specs::Reading7::residue_in7))]
-fn residue7(alloc: Global, shared: &Shared, blocks: &[Block7]) -> Result<ResidueNew, AllocError>
-    ensures { IfOk result (λ residue. residue ≡ residue_in7 (default_residue7 shared.now) blocks.now) }
+fn residue7(alloc: Global, bundle: &Bundle7, blocks: &[Block7]) -> Result<ResidueNew, AllocError>
+    ensures { IfOk result (λ residue. residue ≡ residue_in7 (no_residue7 bundle.now) blocks.now) }
 {
     for block in blocks {
         if is_residue7(block) {
             return match read_residue_new(alloc, block.body.as_slice()) {
                 Ok(residue) => Ok(residue),
-                Err(BlockFault::Bad) => Ok(no_residue7(shared)),
+                Err(BlockFault::Bad) => Ok(no_residue7(bundle)),
                 Err(BlockFault::Memory) => Err(AllocError),
             };
         }
     }
-    Ok(no_residue7(shared))
+    Ok(no_residue7(bundle))
 }
 
 /// Adds the extension blocks for which some blocks stand.

@@ -2,20 +2,20 @@
 
 ghost use Rattle.std.specs.Prelude.{◌≡◌, ◌+◌, ◌↔◌, ◌++◌, ◌∷◌, [], ◌≤◌, ◌<◌, ◌^◌, false, length, map, IfOk, OnOk, Err};
 ghost use Rattle.std.specs.List.{All};
-ghost use Rattle.bundle_meaning.specs.Reports.{is_report};
-ghost use Rattle.bundle_meaning.specs.Valid.{IsValid};
+ghost use Rattle.bundle_meaning.specs.Valid.{IsContent, IsValid};
 ghost use Rattle.bundle_meaning.specs.Blocks.{IsBlock6, IsExt};
 ghost use Rattle.translate.specs.Sound.{IsSound};
-ghost use Rattle.translate.specs.View7.{primary7_of, is_null, is_default6, has_no_rest, needs_residue7, has_number7, is_taken7, next_free7, residue7_at, plain7, wrap7, block7_at, number_after7, blocks7_of, exts7_of, payload7_of, view7_of, fits7};
+ghost use Rattle.translate.specs.View7.{primary7_of, is_null, is_default6, has_no_rest, needs_residue7, has_number7, is_taken7, next_free7, residue7_at, plain7, wrap7, block7_at, number_after7, blocks7_of, exts7_of, octets7_of, payload7_of, view7_of, fits7};
 
-use crate::old_view::{BLOCK_COMMON, MOST, bytes};
+use crate::old_view::{BLOCK_COMMON, MOST};
 use crate::refused::ViewRefused;
 use bundle_meaning::{
     Block6Like, Block7Like, Content, Ext, Extra6, Full, Shared, default6, write_residue_new,
     write_wrap_new,
 };
 use bundle7::{Block7, Blocks7, Bundle7, Primary7};
-use endpoint::Endpoint;
+use endpoint::{Endpoint, Octets};
+use status_reports::write7;
 use std::alloc::{AllocError, Global};
 
 /// The type of a residue.
@@ -23,10 +23,9 @@ pub(crate) const RESIDUE: u64 = 192;
 /// The type of a wrap.
 pub(crate) const WRAP: u64 = 193;
 
-/// The version 7 bundle that stands for a record. So far the record holds no report.
+/// The version 7 bundle that stands for a record.
 pub fn view7(alloc: Global, full: &Full) -> Result<Bundle7, ViewRefused>
-    requires sound { IsSound full.now }
-    requires bytes { is_report full.now.shared.content ≡ false }
+    requires { IsSound full.now }
     ensures view { IfOk result (λ bundle. bundle ≡ view7_of full.now) }
     ensures too_many { (result ≡ Err ViewRefused.TooManyBlocks) ↔ (fits7 full.now ≡ false) }
 {
@@ -254,6 +253,7 @@ fn wrap7(alloc: Global, number: u64, block: &Block6Like) -> Result<Block7, Alloc
 
 /// The payload block.
 fn payload7(alloc: Global, full: &Full) -> Result<Block7, AllocError>
+    requires { IsValid full.now }
     ensures { IfOk result (λ block. block ≡ payload7_of full.now) }
 {
     Ok(Block7 {
@@ -261,6 +261,17 @@ fn payload7(alloc: Global, full: &Full) -> Result<Block7, AllocError>
         number: 1,
         flags: full.shared.payload_flags | full.extra7.payload_flags,
         crc: full.extra7.payload_crc,
-        body: bytes(alloc, &full.shared.content)?,
+        body: octets7(alloc, &full.shared.content)?,
     })
+}
+
+/// The octets of a payload. A report is written as version 7 spells it.
+fn octets7(alloc: Global, content: &Content) -> Result<Octets, AllocError>
+    requires { IsContent content.now }
+    ensures { IfOk result (λ octets. octets ≡ octets7_of content.now) }
+{
+    match content {
+        Content::Bytes(octets) => octets.copy(alloc),
+        Content::Report(report) => write7(alloc, &status_reports::view7(alloc, report)?),
+    }
 }

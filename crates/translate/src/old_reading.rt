@@ -20,16 +20,17 @@ ghost use Rattle.translate.specs.Sound.{IsSound};
 ghost use Rattle.translate.specs.Translation.{HoldsOctets6};
 ghost use Rattle.translate.specs.Views.{payload_found, is_refused};
 
+use crate::old_report::{admin_refusal6, content6, takes_mask};
 use crate::old_view::{BLOCK_COMMON, COMMON};
 use crate::private::{is_marked, is_residue, is_wrap};
 use crate::refused::Refused;
 use bundle_meaning::{
-    Block6Like, BlockFault, Content, Ext, Extra6, Extra7, Exts, Full, LentBlock7, ResidueOld,
-    Shared, id_to_new, lend_wrap_old, read_residue_old, read_wrap_old,
+    Block6Like, BlockFault, Ext, Extra6, Extra7, Exts, Full, LentBlock7, ResidueOld, Shared,
+    id_to_new, lend_wrap_old, read_residue_old, read_wrap_old,
 };
 use bundle6::{Block6, Bundle6};
 use bundle7::{EidFault, age_of, hop_of, previous_of};
-use endpoint::{Endpoint, Octets};
+use endpoint::Endpoint;
 use std::alloc::{AllocError, Global};
 
 /// The type of the payload block.
@@ -89,8 +90,8 @@ pub(crate) fn refusal6(alloc: Global, bundle: &Bundle6) -> Option<Refused>
         Some(Refused::PayloadRefs)
     } else if has_bit(primary.flags, FRAGMENT) && has_bit(primary.flags, ADMINISTRATIVE) {
         Some(Refused::AdminFragment)
-    } else if has_bit(primary.flags, ADMINISTRATIVE) {
-        Some(Refused::AdminUnknown)
+    } else if let Some(cause) = admin_refusal6(bundle) {
+        Some(cause)
     } else if !are_residues6(bundle, bundle.blocks.as_slice()) {
         Some(Refused::ResidueBad)
     } else if !are_wraps6(alloc, bundle.blocks.as_slice()) {
@@ -125,7 +126,8 @@ pub(crate) fn is_residue6(block: &Block6) -> bool
     is_residue(u64::from(block.kind), block.body.as_slice())
 }
 
-/// Whether a residue leaves the bundle some lifetime, and speaks of no report.
+/// Whether a residue leaves the bundle some lifetime, and speaks of no status but of those that may be
+/// without a time.
 fn may_stand6(bundle: &Bundle6, residue: &[u8]) -> bool
     ensures { result ≡ may_stand6 bundle.now (read_whole residue_old BlockFault.Bad residue.now) }
 {
@@ -133,7 +135,9 @@ fn may_stand6(bundle: &Bundle6, residue: &[u8]) -> bool
     let lifetime = 1000 * u128::from(primary.lifetime);
     let late = u128::from(primary.sequence % 1000);
     match read_residue_old(residue) {
-        Ok(residue) => u128::from(residue.slack) + late < lifetime && residue.no_time == 0,
+        Ok(residue) => {
+            u128::from(residue.slack) + late < lifetime && takes_mask(bundle, residue.no_time)
+        }
         Err(_) => false,
     }
 }
@@ -333,7 +337,7 @@ fn are_wraps6(alloc: Global, blocks: &[Block6]) -> bool
 
 /// What a bundle that isn't refused says.
 pub(crate) fn full6(alloc: Global, bundle: &Bundle6) -> Result<Full, AllocError>
-    requires { is_late6 bundle.now ≡ false }
+    requires { first_that_holds (refusals6 bundle.now) ≡ None }
     ensures { IfOk result (λ full. full ≡ full6_of bundle.now) }
 {
     let (exts, after) = exts6(alloc, bundle.blocks.as_slice())?;
@@ -399,11 +403,12 @@ pub(crate) fn own(flags: u64, mask: u64) -> u64
 
 /// What both versions say.
 fn shared6(alloc: Global, bundle: &Bundle6) -> Result<Shared, AllocError>
-    requires { is_late6 bundle.now ≡ false }
+    requires { first_that_holds (refusals6 bundle.now) ≡ None }
     ensures { IfOk result (λ shared. shared ≡ shared6_of bundle.now) }
 {
     let primary = &bundle.primary;
     let blocks = bundle.blocks.as_slice();
+    let residue = residue6(blocks);
     let end = 1000 * (u128::from(primary.seconds) + u128::from(primary.lifetime));
     Ok(Shared {
         destination: primary.destination.copy(alloc)?,
@@ -411,11 +416,11 @@ fn shared6(alloc: Global, bundle: &Bundle6) -> Result<Shared, AllocError>
         report_to: primary.report_to.copy(alloc)?,
         millis: 1000 * primary.seconds + primary.sequence % 1000,
         sequence: primary.sequence / 1000,
-        expiry: end.saturating_sub(u128::from(residue6(blocks).slack)),
+        expiry: end.saturating_sub(u128::from(residue.slack)),
         flags: primary.flags & COMMON,
         fragment: primary.fragment,
         payload_flags: payload_flags(payload(blocks)) & BLOCK_COMMON,
-        content: Content::Bytes(payload_body(alloc, payload(blocks))?),
+        content: content6(alloc, bundle, residue.no_time)?,
     })
 }
 
@@ -442,16 +447,6 @@ pub(crate) fn payload_flags(payload: Option<&Block6>) -> u64
     match payload {
         Some(block) => block.flags,
         None => 0,
-    }
-}
-
-/// The payload's octets.
-fn payload_body(alloc: Global, payload: Option<&Block6>) -> Result<Octets, AllocError>
-    ensures { IfOk result (λ body. body ≡ (payload_found payload.entry).body) }
-{
-    match payload {
-        Some(block) => block.body.copy(alloc),
-        None => Ok(Octets::new(alloc)),
     }
 }
 

@@ -1,12 +1,11 @@
 //! The version 6 view of a record.
 
 ghost use Rattle.std.specs.Prelude.{◌≡◌, ◌↔◌, ◌++◌, ◌≤◌, ◌<◌, ◌^◌, false, length, map, IfOk, OnOk, Err};
-ghost use Rattle.bundle_meaning.specs.Reports.{is_report};
-ghost use Rattle.bundle_meaning.specs.Valid.{IsValid};
+ghost use Rattle.bundle_meaning.specs.Valid.{IsContent, IsValid};
 ghost use Rattle.bundle_meaning.specs.Blocks.{IsExt};
 ghost use Rattle.std.specs.List.{All};
 ghost use Rattle.translate.specs.Sound.{IsSound};
-ghost use Rattle.translate.specs.View6.{primary6_of, is_same7, needs_residue6, residue6, block6_of, payload6_of, bytes_of, blocks6_of, view6_of, fits6};
+ghost use Rattle.translate.specs.View6.{primary6_of, is_same7, needs_residue6, residue6, block6_of, octets6_of, payload6_of, blocks6_of, view6_of, fits6};
 
 use crate::refused::ViewRefused;
 use bundle_meaning::{
@@ -15,6 +14,7 @@ use bundle_meaning::{
 };
 use bundle6::{Block6, Blocks6, Bundle6, Primary6};
 use endpoint::{Octets, Refs};
+use status_reports::write6;
 use std::alloc::{AllocError, Global};
 
 /// The most blocks besides the payload. Own rule of the formats.
@@ -28,10 +28,9 @@ pub(crate) const COMMON: u64 = 0x74027;
 /// The block flags that both versions have: bits 0, 1, 2 and 4.
 pub(crate) const BLOCK_COMMON: u64 = 0x17;
 
-/// The version 6 bundle that stands for a record. So far the record holds no report.
+/// The version 6 bundle that stands for a record.
 pub fn view6(alloc: Global, full: &Full) -> Result<Bundle6, ViewRefused>
-    requires sound { IsSound full.now }
-    requires bytes { is_report full.now.shared.content ≡ false }
+    requires { IsSound full.now }
     ensures view { IfOk result (λ bundle. bundle ≡ view6_of full.now) }
     ensures too_many { (result ≡ Err ViewRefused.TooManyBlocks) ↔ (fits6 full.now ≡ false) }
 {
@@ -172,16 +171,17 @@ fn payload6(alloc: Global, full: &Full) -> Result<Block6, AllocError>
         kind: 1,
         flags: full.shared.payload_flags | full.extra6.payload_flags,
         refs: Refs::new(alloc),
-        body: bytes(alloc, &full.shared.content)?,
+        body: octets6(alloc, &full.shared.content)?,
     })
 }
 
-/// The octets of a payload. Those of a report are a layer above, so far.
-pub(crate) fn bytes(alloc: Global, content: &Content) -> Result<Octets, AllocError>
-    ensures { IfOk result (λ octets. octets ≡ bytes_of content.now) }
+/// The octets of a payload. A report is written as version 6 spells it.
+fn octets6(alloc: Global, content: &Content) -> Result<Octets, AllocError>
+    requires { IsContent content.now }
+    ensures { IfOk result (λ octets. octets ≡ octets6_of content.now) }
 {
     match content {
         Content::Bytes(octets) => octets.copy(alloc),
-        Content::Report(_) => Ok(Octets::new(alloc)),
+        Content::Report(report) => write6(alloc, &status_reports::view6(alloc, report)?),
     }
 }

@@ -13,6 +13,11 @@ pub(crate) const RESIDUE: u64 = 192;
 /// The type of a wrap, in both versions.
 pub(crate) const WRAP: u64 = 193;
 
+/// Says that what a body holds are octets.
+pub(crate) fn holds_octets(body: &[u8])
+    ensures { IsOctets body.now }
+{}
+
 /// Whether a body begins with the mark.
 fn begins(body: &[u8]) -> bool
     ensures { result ≡ begins mark body.now }

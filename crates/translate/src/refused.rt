@@ -37,7 +37,7 @@ pub enum Refused {
     /// The status report speaks of custody.
     #[error("CustodyReport")]
     CustodyReport,
-    /// The administrative record is of another type. So far every administrative bundle is refused so.
+    /// The administrative record is of another type.
     #[error("AdminUnknown")]
     AdminUnknown,
     /// The administrative record isn't spelled as it should be, or has no counterpart.

@@ -7,7 +7,7 @@ ghost use Rattle.bundle7.specs.Legal.{IsLegal7};
 ghost use Rattle.bundle_meaning.specs.Valid.{IsValid};
 ghost use Rattle.translate.specs.View6.{view6_of};
 ghost use Rattle.translate.specs.View7.{view7_of};
-ghost use Rattle.translate.specs.Legal.{IsSized6, IsSized7};
+ghost use Rattle.translate.specs.Legal.{IsSized6, IsSized7, AreSized7};
 ghost use Rattle.translate.specs.Answers.{Translates};
 ghost use Rattle.translate.specs.Translation.{HoldsOctets6, HoldsOctets7, there6, there7, norm6_of, norm7_of, to_new_refusal, to_old_refusal, norm6_refusal, norm7_refusal};
 
@@ -128,10 +128,11 @@ fn made6(alloc: Global, full: &Full) -> Result<Bundle6, AllocError>
 fn made7(alloc: Global, full: &Full) -> Result<Bundle7, AllocError>
     requires { IsValid full.now }
     ensures view { IfOk result (λ bundle. bundle ≡ view7_of full.now) }
-    ensures sized { IfOk result (λ bundle. All IsSized7 bundle.exts) }
+    ensures sized { IfOk result AreSized7 }
 {
     let bundle = bundle7_of(alloc, full)?;
     sized7(bundle.exts.as_slice());
+    sized(bundle.payload.body.as_slice());
     Ok(bundle)
 }
 

@@ -2,4 +2,4 @@ use Rattle.translate.proofs.Legal6Lemmas.{view6-legal}
 use Rattle.translate.proofs.laws.view6_is_legal.Goals as goal
 
 pub returns : goal.returns
-returns c = λ full sound bytes fits sizes. view6-legal full sound bytes fits sizes
+returns c = view6-legal

@@ -2,4 +2,4 @@ use Rattle.translate.proofs.View6Laws.{view6-reads}
 use Rattle.translate.proofs.laws.view6_reads.Goals as goal
 
 pub returns : goal.returns
-returns c = λ full sound bytes lifetime. view6-reads full sound bytes lifetime
+returns c = view6-reads

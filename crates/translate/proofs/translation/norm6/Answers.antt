@@ -1,5 +1,10 @@
-use Rattle.std.proofs.Common.{refl, sym, subst}
+use Rattle.std.proofs.Common.{not, ◌++◌, [], ◌∷◌, refl, sym, subst}
 use Rattle.bundle_meaning.specs.Valid.{IsValid}
+use Rattle.translate.specs.declared.refused.Refused.TheVariants as causes
+use Rattle.translate.specs.Translation.{norm6_of}
+use Rattle.translate.specs.View6.{fits6}
+use Rattle.translate.specs.Reading6.{refusals6, full6_of}
+use Rattle.translate.proofs.CauseLemmas.{refused, are-causes6, are-more}
 use Rattle.translate.proofs.Sound6Lemmas.{sound6}
 use Rattle.translate.proofs.BackLaws.{unrefused-own6}
 use Rattle.translate.proofs.MadeLemmas.{norm6-legal}
@@ -14,3 +19,12 @@ pub returns-in_ok-made6-in-None-clause-legal : goal.returns-in_ok-made6-in-None-
 returns-in_ok-made6-in-None-clause-legal c =
     norm6-legal c.args.bundle.now c.in_ok-full6-in-None.field-0 c.in_ok-made6-in-None.field-0 c.requires (c.in-None.ensures.octets refl)
     (sym c.in-None.ensures.exact) c.in_ok-full6-in-None.ensures c.in_ok-made6-in-None.ensures.view c.in_ok-made6-in-None.ensures.sized
+
+pub returns-in-Some-clause-exact : goal.returns-in-Some-clause-exact
+returns-in-Some-clause-exact c =
+    let wide = not (fits6 (full6_of c.args.bundle.now)) in
+    refused (refusals6 c.args.bundle.now ++ (causes.TooManyBlocks, wide) ∷ []) (norm6_of c.args.bundle.now) c.in-Some.cause
+    (are-more (refusals6 c.args.bundle.now) wide (are-causes6 c.args.bundle.now)) c.in-Some.ensures.exact
+
+pub full6-requires : goal.full6-requires
+full6-requires c = unrefused-own6 c.args.bundle.now (sym c.in-None.ensures.exact)

@@ -3,7 +3,7 @@ use Rattle.wire_fields.specs.Reading.{IsOctets}
 use Rattle.bundle7.specs.declared.block.Block7.{Block7}
 use Rattle.translate.specs.Reading7.{is_wrap_legal7}
 use Rattle.translate.proofs.LoopLemmas.{all-step, have-step, have-all}
-use Rattle.translate.proofs.new_reading.are_wraps7.Goals as goal
+use Rattle.translate.proofs.new_reading.all_wraps7.Goals as goal
 
 pub loop-block-preserved : goal.loop-block-preserved
 loop-block-preserved c = record {

@@ -2,7 +2,7 @@ use Rattle.std.proofs.Common.{◌≡◌, take, drop}
 use Rattle.std.specs.List.{All, list_all}
 use Rattle.wire_fields.specs.Reading.{IsOctets}
 use Rattle.translate.specs.Reading7.{is_wrap_legal7}
-use Rattle.translate.proofs.new_reading.are_wraps7.Given as goal
+use Rattle.translate.proofs.new_reading.all_wraps7.Given as goal
 
 abbrev pub invariant-loop-block : goal.invariant-loop-block
 invariant-loop-block l = record {

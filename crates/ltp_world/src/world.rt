@@ -1,0 +1,201 @@
+//! Two engines, everything that was ever sent, and a clock.
+
+ghost use Rattle.std.specs.Prelude.{◌≡◌, ◌<◌, ◌≤◌, ◌^◌, false, [], ◌∷◌, length, IfOk, OnErr};
+ghost use Rattle.std.specs.Prelude.{List, true, ◌||◌};
+ghost use Rattle.ltp_session.specs.World.{ArePeers, Event, clock, deliver};
+ghost use Rattle.ltp_world.specs.Ends.{link_end};
+ghost use Rattle.ltp_world.specs.Values.{WorldValue, parties_of};
+ghost use Rattle.ltp_world.specs.Shows.{IsNew, ShowsRun};
+ghost use Rattle.ltp_world.specs.Steps.{Submits, Delivers, Ticks};
+ghost use Rattle.ltp_world.specs.RedParts.{HandsUpFronts};
+ghost use Rattle.ltp_world.specs.Ties.{SubmitsAt, HearsAt};
+
+use crate::effects::{EndEffects, WorldEffects};
+use crate::ends::End;
+use crate::refused::DeliverRefused;
+use crate::sent::{Sent, keep};
+use ltp_engine::{Effects, Engine, SubmitRefused};
+use std::alloc::{AllocError, Global};
+use std::marker::Model;
+
+/// Two engines on a link, the list of every datagram that was ever sent, and a clock.
+///
+/// After want of memory the value may only be dropped.
+#[derive(Debug, Drop)]
+pub struct LinkWorld {
+    alloc: Global,
+    first: Engine,
+    second: Engine,
+    sent: Vec<Sent>,
+    moment: u64,
+    /// Memory ran out before all that was sent was kept.
+    broken: bool,
+}
+
+impl Model for LinkWorld {
+    ghost use Rattle.std.specs.Prelude.{◌||◌, ◌<◌, ◌^◌};
+    ghost use Rattle.ltp_world.specs.Values.{WorldValue};
+
+    ghost Value = { WorldValue };
+
+    ghost view = { λ w. record {
+      spent = w.broken || (w.first.spent || w.second.spent);
+      engines = (w.first, w.second);
+      sent = w.sent.items;
+      moment = w.moment;
+    } };
+
+    ghost invariant = { λ w. w.moment < 2 ^ 62 };
+}
+
+impl LinkWorld {
+    /// Two engines at their beginning, at a moment below 2^62. Each one's own number is the
+    /// other's peer number, and they cut segments of at least one octet. Nothing was sent yet.
+    ///
+    /// It takes no memory.
+    pub fn new(alloc: Global, first: Engine, second: Engine, now: u64) -> LinkWorld
+        requires first { IsNew first }
+        requires second { IsNew second }
+        requires peers { ArePeers (first.party, second.party) }
+        requires moment { now < 2 ^ 62 }
+        ensures whole { result.spent ≡ false }
+        ensures parties { parties_of result ≡ (first.party, second.party) }
+        // It stands where a link stands at its beginning, once its clock is set.
+        ensures shows { ShowsRun result (clock now ∷ []) }
+    {
+        LinkWorld {
+            alloc,
+            first,
+            second,
+            sent: Vec::new(alloc),
+            moment: now,
+            broken: false,
+        }
+    }
+
+    /// The clock. It takes no memory.
+    pub fn now(&self) -> u64
+        ensures { result ≡ self.now.moment }
+    {
+        self.moment
+    }
+
+    /// How many datagrams were sent. It takes no memory.
+    pub fn sent(&self) -> usize
+        ensures { result ≡ length self.now.sent }
+    {
+        self.sent.len()
+    }
+
+    /// An end submits a block, of which the first `red` octets are its red part.
+    ///
+    /// A refusal other than `Memory` leaves the world as it was.
+    pub fn submit(&mut self, end: End, block: &[u8], red: u64) -> Result<Effects, SubmitRefused>
+        requires whole { self.old.spent ≡ false }
+        requires red { red ≤ length block.now }
+        ensures { Submits self.old self.new end block.now red result }
+    {
+        let now = self.moment;
+        let effects = submit_at(&mut self.first, &mut self.second, end, block, red, now)?;
+        self.broken = true;
+        keep(self.alloc, &mut self.sent, end, effects.out.as_slice())?;
+        self.broken = false;
+        Ok(effects)
+    }
+
+    /// Datagram `k` of all that were ever sent comes to the end that didn't send it, as often as
+    /// this is called.
+    ///
+    /// A datagram that there isn't leaves the world as it was.
+    pub fn deliver(&mut self, k: usize) -> Result<EndEffects, DeliverRefused>
+        requires whole { self.old.spent ≡ false }
+        ensures does { Delivers self.old self.new k result }
+        // What is handed up is the front of a submitted block, once.
+        ensures fronts { IfOk result (λ told. (events : List Event) → ShowsRun self.old events
+            → HandsUpFronts self.old events (deliver k) told.effects.ups) }
+    {
+        let now = self.moment;
+        if k >= self.sent.len() {
+            return Err(DeliverRefused::NoSuchDatagram);
+        }
+        let sent = &self.sent[k];
+        let from = sent.from;
+        let end = from.other();
+        let datagram = sent.datagram.as_slice();
+        let effects = hear_at(&mut self.first, &mut self.second, end, datagram, now)?;
+        self.broken = true;
+        keep(self.alloc, &mut self.sent, end, effects.out.as_slice())?;
+        self.broken = false;
+        Ok(EndEffects { end, effects })
+    }
+
+    /// The clock is set to a moment below 2^62, and both ends tick, the first one first. A clock
+    /// that would go back stays, and nothing is done.
+    pub fn clock(&mut self, now: u64) -> Result<WorldEffects, AllocError>
+        requires whole { self.old.spent ≡ false }
+        requires moment { now < 2 ^ 62 }
+        ensures done { IfOk result (Ticks self.old self.new now) }
+        ensures err { OnErr result (self.new.spent ≡ true) }
+    {
+        if now < self.moment {
+            return Ok(WorldEffects::none(self.alloc));
+        }
+        self.broken = true;
+        let first = self.first.tick(now)?;
+        let second = self.second.tick(now)?;
+        keep(self.alloc, &mut self.sent, End::First, first.out.as_slice())?;
+        keep(
+            self.alloc,
+            &mut self.sent,
+            End::Second,
+            second.out.as_slice(),
+        )?;
+        let told = WorldEffects::of(self.alloc, first, second)?;
+        self.moment = now;
+        self.broken = false;
+        Ok(told)
+    }
+}
+
+/// An end's engine is told to send a block.
+fn submit_at(
+    first: &mut Engine,
+    second: &mut Engine,
+    end: End,
+    block: &[u8],
+    red: u64,
+    now: u64,
+) -> Result<Effects, SubmitRefused>
+    requires first { first.old.spent ≡ false }
+    requires second { second.old.spent ≡ false }
+    requires red { red ≤ length block.now }
+    requires moment { now < 2 ^ 62 }
+    ensures { SubmitsAt end (first.old, second.old) (first.new, second.new) block.now red now
+        result }
+{
+    match end {
+        End::First => first.submit(block, red, now),
+        End::Second => second.submit(block, red, now),
+    }
+}
+
+/// A datagram comes to an end's engine.
+fn hear_at(
+    first: &mut Engine,
+    second: &mut Engine,
+    end: End,
+    datagram: &[u8],
+    now: u64,
+) -> Result<Effects, AllocError>
+    requires first { first.old.spent ≡ false }
+    requires second { second.old.spent ≡ false }
+    requires moment { now < 2 ^ 62 }
+    ensures done { IfOk result (HearsAt end (first.old, second.old) (first.new, second.new)
+        datagram.now now) }
+    ensures err { OnErr result ((first.new.spent || second.new.spent) ≡ true) }
+{
+    match end {
+        End::First => first.arrive(datagram, now),
+        End::Second => second.arrive(datagram, now),
+    }
+}

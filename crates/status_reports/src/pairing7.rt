@@ -131,10 +131,10 @@ fn is_rest(stamp: Stamp, rest: u32) -> bool
 /// The report of version 7 that says the same, but for the parts of the times below one
 /// millisecond.
 pub fn view7(alloc: Global, report: &Report) -> Result<Report7, AllocError>
-    requires { IsReport report.now }
     // The two are a pair, so the way back with these parts gives the report.
     ensures paired { IfOk result (λ new. Pair7 new report.now.rests report.now) }
-    ensures legal { IfOk result IsReport7 }
+    // The report of a valid record is one that version 7 can spell.
+    ensures legal { IsReport report.now → IfOk result IsReport7 }
     ensures memory { OnErr result (IsDtn report.now.source) }
 {
     Ok(Report7 {

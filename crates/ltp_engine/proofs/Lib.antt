@@ -10,4 +10,5 @@ mod EngineLemmas
 mod HearLemmas
 mod LegalLemmas
 mod BeginLemmas
+mod QuietLemmas
 mod RedPartLemmas

@@ -1,6 +1,7 @@
 -- What the calls of an engine promise, by the steps of the definition.
 
-use Rattle.std.specs.Prelude.{◌≡◌, ℕ, true, false, [], Option, Result, Ok, Err}
+use Rattle.std.specs.Prelude.{◌≡◌, ℕ, Bool, true, false, nat_le, [], Option, None, Some, Result}
+use Rattle.std.specs.Prelude.{Ok, Err}
 use Rattle.ltp_segment.specs.Policy.{PolicyValue}
 use Rattle.ltp_segment.specs.declared.session.TheConstants.{BLOCK_MAX}
 use Rattle.ltp_session.specs.Sender.{sender_deadline}
@@ -29,6 +30,11 @@ abbrev pub deadline_of : EngineValue → Option ℕ
 deadline_of v =
     earlier (least_deadline sender_deadline v.senders)
     (least_deadline receiver_deadline v.inbound.receivers)
+
+-- a deadline is there, and is due at this moment
+abbrev pub is_due_at : ℕ → Option ℕ → Bool
+is_due_at now None = false
+is_due_at now (Some deadline) = nat_le deadline now
 
 -- each engine of the definition that the old value stands for does this step; the new value stands
 -- for the engine after it, and the effects are that step's

@@ -6,7 +6,7 @@ ghost use Rattle.ltp_segment.specs.Reading.{segment_of};
 ghost use Rattle.ltp_session.specs.Engine.{starts, datagram_step, submits, submit_step, tick_step};
 ghost use Rattle.ltp_engine.specs.Shows.{Shows};
 ghost use Rattle.ltp_engine.specs.Bounds.{IsBounded};
-ghost use Rattle.ltp_engine.specs.Steps.{new_engine, deadline_of, Steps, Submits};
+ghost use Rattle.ltp_engine.specs.Steps.{new_engine, deadline_of, is_due_at, Steps, Submits};
 
 use crate::effects::Effects;
 use crate::parts::Parts;
@@ -141,14 +141,19 @@ impl Engine {
     }
 
     /// Time has passed: the sending sessions tick in ascending order, then the receiving ones.
+    /// Where no timer is due nothing is done, and no memory is wanted.
     pub fn tick(&mut self, now: u64) -> Result<Effects, AllocError>
         requires whole { self.old.spent ≡ false }
         requires moment { now < 2 ^ 62 }
         ensures done { IfOk result (Steps self.old self.new
             (λ e. tick_step self.old.party e now)) }
         ensures bounds { OnOk result (IsBounded self.new) }
+        ensures wanted { OnErr result (is_due_at now (deadline_of self.old) ≡ true) }
         ensures err { OnErr result (self.new.spent ≡ true) }
     {
+        if !self.parts.is_due(now) {
+            return Ok(self.parts.nothing());
+        }
         self.spent = true;
         let effects = self.parts.tick(now)?;
         self.spent = false;

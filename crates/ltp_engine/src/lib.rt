@@ -8,6 +8,9 @@
 //! A datagram is decoded here, and only here: nothing above sees an octet of a header. Sessions
 //! are in ordered maps, since strangers choose the numbers; the receiving ones have an order of
 //! last touch besides. Numbers of sessions that are over are kept as ranges.
+//!
+//! A new engine shows the definition's engine at its beginning, so each later value shows what the
+//! steps make of that. [`laws`] says what an engine hands up, whoever is at the other end.
 #![tactic(auto)]
 
 mod closed;

@@ -11,7 +11,8 @@ ghost use Rattle.ltp_engine.specs.Sides.{IsFit};
 ghost use Rattle.ltp_engine.specs.Ties.{own_step, peer_step, begun_step};
 ghost use Rattle.ltp_engine.specs.Ties.{sent_of, handed_of};
 ghost use Rattle.ltp_session.specs.Engine.{datagram_step, tick_step};
-ghost use Rattle.ltp_engine.specs.Steps.{new_engine, deadline_of, Steps};
+ghost use Rattle.ltp_engine.specs.Steps.{new_engine, deadline_of, is_due_at, Steps};
+ghost use Rattle.ltp_engine.specs.Effects.{nothing_done};
 
 use crate::deadlines::earlier;
 use crate::effects::Effects;
@@ -77,6 +78,24 @@ impl Parts {
             outbound::next_deadline(&self.senders, self.own_terms()),
             self.inbound.next_deadline(self.peer_terms()),
         )
+    }
+
+    /// Whether a timer is due.
+    pub fn is_due(&self, now: u64) -> bool
+        requires { IsWhole self.now }
+        ensures { result ≡ is_due_at now (deadline_of (value_of false self.now)) }
+    {
+        match self.next_deadline() {
+            Some(deadline) => deadline <= now,
+            None => false,
+        }
+    }
+
+    /// Nothing is done. It takes no memory.
+    pub fn nothing(&self) -> Effects
+        ensures { result ≡ nothing_done }
+    {
+        Effects::none(self.alloc)
     }
 
     /// Time has passed: the sending sessions tick in ascending order, then the receiving ones.

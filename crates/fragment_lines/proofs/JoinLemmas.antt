@@ -1,0 +1,84 @@
+-- What `join` writes of a bundle.
+use Rattle.std.proofs.Common.{◌≡◌, ℕ, false, List, ◌++◌, codes, Option, Some, None, Result, Ok, Err, IfOk, sym, ap, subst}
+use Rattle.bundle6.specs.declared.bundle.Bundle6.{Bundle6}
+use Rattle.bundle7.specs.declared.bundle.Bundle7.{Bundle7}
+use Rattle.bundle_meaning.specs.declared.full.Full.{Full}
+use Rattle.translate.specs.declared.refused.Refused.{Refused}
+use Rattle.translate.specs.Refusals.{first_that_holds}
+use Rattle.translate.specs.Reading6.{refusals6, full6_of}
+use Rattle.translate.specs.Reading7.{refusals7, full7_of}
+use Rattle.fragments.specs.declared.fault.JoinRefused.{JoinRefused}
+use Rattle.fragments.specs.declared.join.Join.{Join}
+use Rattle.fragments.specs.declared.joining.Joined.{Joined}
+use Rattle.fragments.specs.declared.joining.Joined.TheVariants as answers
+use Rattle.fragments.specs.Joining.{Joining}
+use Rattle.fragments.specs.Again.{answer, after}
+use Rattle.fragment_lines.specs.declared.joining.Answer.{Answer}
+use Rattle.fragment_lines.specs.declared.joining.Answer.TheVariants.{Word, Whole}
+use Rattle.fragment_lines.specs.declared.turned_down.TurnedDown.{TurnedDown}
+use Rattle.fragment_lines.specs.declared.turned_down.TurnedDown.TheVariants.{Untranslated}
+use Rattle.fragment_lines.specs.Said.{Said, says}
+use Rattle.fragment_lines.specs.Lines.{spelled_old, spelled_new, unless_refused, Writes}
+use Rattle.fragment_lines.specs.Joins.{join6, join7, said_whole, said_joined, taken_as}
+use Rattle.fragment_lines.specs.Writable.{Reads, Tells, said_answer}
+use Rattle.fragment_lines.proofs.ReadLemmas.{said-read, said-unread}
+
+-- what is told of an answer has its line
+tells-said : {S : Type 0} (spelled : Full → Option (List ℕ)) (given : Result Joined JoinRefused) (said : Answer) (now : S)
+    → Tells given said → said_joined spelled given now ≡ said_answer spelled said now
+tells-said spelled (Ok answers.Waiting) (Word word) now is = ap (λ w. says (w ++ codes "\n") now) (sym is)
+tells-said spelled (Ok answers.Repeat) (Word word) now is = ap (λ w. says (w ++ codes "\n") now) (sym is)
+tells-said spelled (Ok (answers.Whole whole)) (Whole same) now (is, small) = ap (λ f. said_whole (spelled f) now) (sym is)
+tells-said spelled (Err refused) (Word word) now (other, is) = ap (λ w. says (w ++ codes "\n") now) (sym is)
+tells-said spelled (Ok answers.Waiting) (Whole whole) now tells = absurd tells
+tells-said spelled (Ok answers.Repeat) (Whole whole) now tells = absurd tells
+tells-said spelled (Ok (answers.Whole whole)) (Word word) now tells = absurd tells
+tells-said spelled (Err refused) (Whole whole) now tells = absurd tells
+
+-- it is written of the record, and so of the bundle that reads as it
+said-taken : (spelled : Full → Option (List ℕ)) (first : Option Refused) (value full : Full) (joins : List Join) (said : Answer) (new : Joining)
+    (before now : List ℕ) (cause : Option TurnedDown) → first ≡ None → full ≡ value → Tells (answer joins full) said
+    → new ≡ record { joins = after joins full; spent = false }
+    → ((state : List Join) → Writes (said_answer spelled said state) before now state cause)
+    → Writes (unless_refused first (taken_as spelled joins value)) before now new.joins cause
+said-taken spelled first value full joins said new before now cause none is tells kept writes =
+    let own : Writes (taken_as spelled joins full) before now (after joins full) cause =
+    subst (λ (s : Said (List Join)). Writes s before now (after joins full) cause)
+    (sym (tells-said spelled (answer joins full) said (after joins full) tells)) (writes (after joins full)) in
+    let state : Writes (taken_as spelled joins full) before now new.joins cause =
+    subst (λ (j : Joining). Writes (taken_as spelled joins full) before now j.joins cause) (sym kept) own in
+    said-read first (taken_as spelled joins) full value before now new.joins cause none is state
+
+pub join-read6 : {E : Type 0} (joins : List Join) (b : Bundle6) (full : Full) (said : Answer) (new : Joining) (before now : List ℕ)
+    (result : Result (Option TurnedDown) E)
+    → Reads (first_that_holds (refusals6 b)) (full6_of b) (Ok full) → Tells (answer joins full) said
+    → new ≡ record { joins = after joins full; spent = false }
+    → IfOk result (λ cause. (state : List Join) → Writes (said_answer spelled_old said state) before now state cause)
+    → IfOk result (Writes (join6 joins b) before now new.joins)
+unfolding join6
+join-read6 joins b full said new before now (Ok cause) (none, is) tells kept writes =
+    said-taken spelled_old (first_that_holds (refusals6 b)) (full6_of b) full joins said new before now cause none is tells kept writes
+join-read6 joins b full said new before now (Err e) reads tells kept writes = tt
+
+pub join-read7 : {E : Type 0} (joins : List Join) (b : Bundle7) (full : Full) (said : Answer) (new : Joining) (before now : List ℕ)
+    (result : Result (Option TurnedDown) E)
+    → Reads (first_that_holds (refusals7 b)) (full7_of b) (Ok full) → Tells (answer joins full) said
+    → new ≡ record { joins = after joins full; spent = false }
+    → IfOk result (λ cause. (state : List Join) → Writes (said_answer spelled_new said state) before now state cause)
+    → IfOk result (Writes (join7 joins b) before now new.joins)
+unfolding join7
+join-read7 joins b full said new before now (Ok cause) (none, is) tells kept writes =
+    said-taken spelled_new (first_that_holds (refusals7 b)) (full7_of b) full joins said new before now cause none is tells kept writes
+join-read7 joins b full said new before now (Err e) reads tells kept writes = tt
+
+pub join-unread6 : (joins : List Join) (b : Bundle6) (text : List ℕ) (cause : Refused)
+    → Reads (first_that_holds (refusals6 b)) (full6_of b) (Err cause) → Writes (join6 joins b) text text joins (Some (Untranslated cause))
+unfolding join6
+join-unread6 joins b text cause is =
+    said-unread (first_that_holds (refusals6 b)) (taken_as spelled_old joins (full6_of b)) text joins cause is
+
+pub join-unread7 : (joins : List Join) (b : Bundle7) (text : List ℕ) (cause : Refused)
+    → Reads (first_that_holds (refusals7 b)) (full7_of b) (Err cause) → Writes (join7 joins b) text text joins (Some (Untranslated cause))
+unfolding join7
+join-unread7 joins b text cause is =
+    said-unread (first_that_holds (refusals7 b)) (taken_as spelled_new joins (full7_of b)) text joins cause is

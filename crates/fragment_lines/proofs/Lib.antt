@@ -1,0 +1,5 @@
+pub mod ReadLemmas
+pub mod RoomLemmas
+pub mod CutLemmas
+pub mod HeadLemmas
+pub mod JoinLemmas

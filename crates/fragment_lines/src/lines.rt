@@ -1,0 +1,22 @@
+//! The lines that are written.
+
+ghost use Rattle.std.specs.Prelude.{◌≡◌, ◌++◌, codes, OnOk};
+ghost use Rattle.std.specs.String.{string_bytes};
+ghost use Rattle.fragment_lines.specs.Lines.{hex_line};
+
+use std::alloc::{AllocError, Global};
+
+/// Octets in hex of lower case, as a line.
+pub fn write_hex(alloc: Global, text: &mut String, octets: &[u8]) -> Result<(), AllocError>
+    ensures { OnOk result (string_bytes text.new ≡ string_bytes text.old ++ hex_line octets.now) }
+{
+    let digits = hex::encode(alloc, octets)?;
+    write!(text, "{digits}\n")
+}
+
+/// A word as a line.
+pub(crate) fn write_word(text: &mut String, word: &str) -> Result<(), AllocError>
+    ensures { OnOk result (string_bytes text.new ≡ string_bytes text.old ++ (word.now ++ codes "\n")) }
+{
+    write!(text, "{word}\n")
+}

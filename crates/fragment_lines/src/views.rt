@@ -1,0 +1,56 @@
+//! The octets of the bundle that stands for a record.
+
+ghost use Rattle.std.specs.Prelude.{◌≡◌, ◌<◌, ◌^◌, length, IfOk};
+ghost use Rattle.std.specs.List.{All};
+ghost use Rattle.translate.specs.Legal.{IsSized6};
+ghost use Rattle.translate.specs.Sound.{IsSound};
+ghost use Rattle.fragment_lines.specs.Lines.{spelled_old, spelled_new};
+
+use bundle_meaning::Full;
+use bundle6::{Block6, encode6};
+use bundle7::encode7;
+use endpoint::Octets;
+use std::alloc::{AllocError, Global};
+use translate::{ViewRefused, view6, view6_is_legal, view7};
+
+/// The octets of the version 6 bundle that stands for a record, where there is room for its blocks.
+pub(crate) fn spelled_old(alloc: Global, full: &Full) -> Result<Option<Octets>, AllocError>
+    requires { IsSound full.now }
+    ensures { IfOk result (λ octets. octets ≡ spelled_old full.now) }
+{
+    match view6(alloc, full) {
+        Ok(bundle) => {
+            sized6(bundle.blocks.as_slice());
+            view6_is_legal();
+            Ok(Some(encode6(alloc, &bundle)?))
+        }
+        Err(ViewRefused::TooManyBlocks) => Ok(None),
+        Err(ViewRefused::Memory) => Err(AllocError),
+    }
+}
+
+/// The octets of the version 7 bundle that stands for a record, where there is room for its blocks.
+pub(crate) fn spelled_new(alloc: Global, full: &Full) -> Result<Option<Octets>, AllocError>
+    requires { IsSound full.now }
+    ensures { IfOk result (λ octets. octets ≡ spelled_new full.now) }
+{
+    match view7(alloc, full) {
+        Ok(bundle) => Ok(Some(encode7(alloc, &bundle)?)),
+        Err(ViewRefused::TooManyBlocks) => Ok(None),
+        Err(ViewRefused::Memory) => Err(AllocError),
+    }
+}
+
+/// Says of each block that a number counts its octets, as one counts those of every slice.
+fn sized6(blocks: &[Block6])
+    ensures { All IsSized6 blocks.now }
+{
+    'telling: for block in blocks {
+        sized(block.body.as_slice());
+    }
+}
+
+/// Says that a number counts the octets.
+pub(crate) fn sized(octets: &[u8])
+    ensures { length octets.now < 2 ^ 64 }
+{}

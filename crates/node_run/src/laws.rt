@@ -1,0 +1,20 @@
+//! What `node` hands up, whoever is at the other end. Each law is the contract of a function that
+//! does nothing but cite that of an engine.
+
+ghost use Rattle.node_run.specs.RedParts.{HandsUpRedParts, HandsUpEachOnce};
+
+/// The red part of a session of the peer is handed up with the line after which its length is known
+/// and each place below it is filled, and with no other. Place by place it is the first octet that
+/// came in a red piece that was taken.
+pub fn hands_up_red_parts()
+    ensures { HandsUpRedParts }
+{
+    ltp_engine::laws::hands_up_red_parts();
+}
+
+/// No session's red part is handed up twice.
+pub fn hands_up_each_once()
+    ensures { HandsUpEachOnce }
+{
+    ltp_engine::laws::hands_up_each_once();
+}

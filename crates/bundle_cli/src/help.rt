@@ -10,6 +10,7 @@ usage: fimdahol receive < DATAGRAMS      hands up the red parts of recorded LTP 
        fimdahol check < BUNDLES          says the version and the size of each recorded bundle
        fimdahol show < BUNDLES           shows the values of each recorded bundle as JSON
        fimdahol convert < BUNDLES        writes each recorded bundle in the other version
+       fimdahol node OWN PEER < EVENTS   is one end of an LTP link, by the numbers of two engines
        fimdahol --help | --version
 
 receive reads one datagram in hex a line and writes
@@ -27,8 +28,18 @@ check, show and convert read the octets of bundles of both versions, end to end,
   refused BUNDLE AT CAUSE        last, where a bundle isn't one, and where in the input
   refused BUNDLE CAUSE           last, by convert, where a bundle can't be translated
 
-limits: 67108864 octets of input; of receive 1000000 lines, 9000000 octets a line and 64
-        unfinished sessions
+node reads one event a line, in HEX (a datagram comes), send HEX (a block is to be sent) or
+clock MS (time passes), and writes what the engine does
+  out HEX                        a datagram is sent
+  up SESSION HEX                 a red part is handed up
+  green SESSION OFFSET LAST HEX  a piece of a green part is handed up; LAST is 1 where the
+                                 block ends with it, else 0
+  note NAME ..                   what an operator may want to know
+  refused CAUSE                  a block isn't sent
+  refused line LINE CAUSE        last, where a line is no event
+
+limits: 67108864 octets of input; of receive and node 1000000 lines and 9000000 octets a line;
+        of receive 64 unfinished sessions; of node a clock of 4611686018427387903 ms
 
 status: 0 done, 1 the input was refused, 2 wrong usage, 3 a read failed, 4 a write failed,
         6 the input passes a limit, 7 memory ran out; standard error says more of 2 to 7

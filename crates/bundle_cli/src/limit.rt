@@ -23,6 +23,12 @@ pub fn limit_line(alloc: Global, passed: Passed) -> Result<String, AllocError>
                 "fimdahol: line {line} leaves more than 64 sessions unfinished\n"
             )?;
         }
+        Passed::Clock { line } => {
+            write!(
+                text,
+                "fimdahol: line {line} sets the clock past 4611686018427387903\n"
+            )?;
+        }
     }
     Ok(text)
 }

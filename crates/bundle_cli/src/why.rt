@@ -37,6 +37,9 @@ pub fn reason(words: &[Word], call: Call) -> Option<&'static str>
 fn usage(words: &[Word]) -> &'static str {
     match words {
         [_, option] if option.octets().starts_with(b"-") => USAGE,
+        [word, ..] if word.octets() == b"node".as_slice() => {
+            "fimdahol: node wants the numbers of two engines: fimdahol node OWN PEER < EVENTS\n"
+        }
         [word, _file] if word.octets() == b"receive".as_slice() => {
             "fimdahol: receive reads standard input: fimdahol receive < FILE\n"
         }

@@ -9,6 +9,8 @@ use Rattle.gateway_run.specs.declared.commands.command.Command.{Command}
 use Rattle.gateway_run.specs.declared.commands.command.Command.TheVariants as commands
 use Rattle.gateway_run.specs.Receive.{Limits, the_limits, receive_rules, received}
 use Rattle.gateway_run.specs.Receive as receive
+use Rattle.node_run.specs.Node.{node_rules, begins, node_party}
+use Rattle.node_run.specs.Node as node
 use Rattle.gateway_run.specs.Words.{settles, KeepsLaw, WritesLawfully}
 use Rattle.edge_traits.specs.Settled.{EarliestDecides}
 use Rattle.command_frame.specs.Within.{within}
@@ -23,6 +25,10 @@ use Rattle.gateway_run.proofs.TranscriptLemmas.{Lawful, received-law}
 
 pub receive-front : (limits : Limits) (most : ℕ) → EarliestDecides (within most (receive.settles limits))
 receive-front limits most = within-front most (receive.settles limits) (lines_from-front (receive_rules limits) 1 [])
+
+node-front : (own peer : ℕ) → EarliestDecides (within most_input (node.settles own peer))
+node-front own peer =
+    within-front most_input (node.settles own peer) (lines_from-front node_rules 1 (begins (node_party own peer)))
 
 -- ---- the receiver's law
 
@@ -82,6 +88,7 @@ pub keeps_law : (input : Option (List ℕ)) (named : Option Command) (command : 
     → IfSome input (λ all. KeepsLaw named all status before now)
 keeps_law None named command status left before now is wrote = tt
 keeps_law (Some input) named (commands.Bundles command) status left before now is wrote = rw is tt
+keeps_law (Some input) named (commands.Node own peer) status left before now is wrote = rw is tt
 keeps_law (Some input) named commands.Receive status left before now is wrote =
     rw is (keeps input (received-law the_limits most_input input) status left before now wrote)
 
@@ -90,6 +97,7 @@ keeps_law (Some input) named commands.Receive status left before now is wrote =
 pub command-front : (command : Command) → EarliestOctetDecides (settles command)
 command-front commands.Receive = λ ends taken more octets. receive-front the_limits most_input ends taken more
 command-front (commands.Bundles command) = earliest_decides command
+command-front (commands.Node own peer) = λ ends taken more octets. node-front own peer ends taken more
 
 -- ---- by how a run went
 

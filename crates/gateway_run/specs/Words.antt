@@ -1,5 +1,5 @@
 -- Which command the words of a call name, and what it answers to an input.
-use Rattle.std.specs.Prelude.{ℕ, Bool, true, false, List, [], ◌∷◌, codes, Option, None, Some, IfSome, IsSomeAnd, ◌≡◌, ◌⊎◌, ◌++◌, nat_eq, if◌then◌else◌}
+use Rattle.std.specs.Prelude.{ℕ, Bool, true, false, List, [], ◌∷◌, codes, Option, None, Some, IfSome, IsSomeAnd, ◌≡◌, ◌≢◌, ◌⊎◌, ◌++◌, ◌==◌, nat_eq, if◌then◌else◌}
 use Rattle.std.specs.Cmp.Lexicographic.{pointwise}
 use Rattle.edge_traits.specs.declared.status.Status.{Status}
 use Rattle.edge_traits.specs.declared.status.Status.TheVariants as statuses
@@ -9,6 +9,8 @@ use Rattle.edge_traits.specs.Outcome.{IsAnswer}
 use Rattle.command_frame.specs.Within.{within}
 use Rattle.bundle_runs.specs.declared.commands.command.Command.TheVariants.{Check, Show, Convert}
 use Rattle.bundle_runs.specs.Answering as bundles
+use Rattle.replay_script.specs.Events.{number_in}
+use Rattle.node_run.specs.Node as node
 use Rattle.gateway_run.specs.declared.commands.command.Command.{Command}
 use Rattle.gateway_run.specs.declared.commands.command.Command.TheVariants as commands
 use Rattle.gateway_run.specs.Receive as receive
@@ -27,11 +29,33 @@ one_word word =
     else if is_word word (codes "convert") then Some (commands.Bundles Convert)
     else None
 
+-- one end of a link, by two numbers that aren't the same
+abbrev pub two_ends : Option ℕ → Option ℕ → Option Command
+two_ends None peer = None
+two_ends (Some own) None = None
+two_ends (Some own) (Some peer) = if own == peer then None else Some (commands.Node own peer)
+
+-- the numbers of engines are from 1 to 4,294,967,295
+abbrev pub node_of : (own peer : List ℕ) → Option Command
+node_of own peer = two_ends (number_in 1 4294967295 own) (number_in 1 4294967295 peer)
+
+-- the command of three words
+abbrev pub three_words : (word second third : List ℕ) → Option Command
+three_words word second third = if is_word word (codes "node") then node_of second third else None
+
 -- the command that the words name
 abbrev pub command_of : List (List ℕ) → Option Command
 command_of [] = None
 command_of (word ∷ []) = one_word word
-command_of (word ∷ second ∷ words) = None
+command_of (word ∷ second ∷ []) = None
+command_of (word ∷ second ∷ third ∷ []) = three_words word second third
+command_of (word ∷ second ∷ third ∷ fourth ∷ words) = None
+
+-- the two ends of a link are different
+abbrev pub IsSound : Command → Type 0
+IsSound commands.Receive = Unit {0}
+IsSound (commands.Bundles command) = Unit {0}
+IsSound (commands.Node own peer) = own ≢ peer
 
 -- ---- what a command answers
 
@@ -39,6 +63,7 @@ command_of (word ∷ second ∷ words) = None
 abbrev pub settles : Command → Ends → List ℕ → Settled
 settles commands.Receive = within most_input (receive.settles the_limits)
 settles (commands.Bundles command) = bundles.settles command
+settles (commands.Node own peer) = within most_input (node.settles own peer)
 
 -- the run ended with a limit
 abbrev pub is_limit : Status → Bool
@@ -75,5 +100,6 @@ pub record WritesLawfully (input : List ℕ) (status : Status) (held after : Lis
 abbrev pub KeepsLaw : Option Command → List ℕ → Status → Option (List ℕ) → Option (List ℕ) → Type 0
 KeepsLaw None input status before now = Unit {0}
 KeepsLaw (Some (commands.Bundles command)) input status before now = Unit {0}
+KeepsLaw (Some (commands.Node own peer)) input status before now = Unit {0}
 KeepsLaw (Some commands.Receive) input status before now =
     IfSome now (λ after. IsSomeAnd before (λ held. WritesLawfully input status held after))

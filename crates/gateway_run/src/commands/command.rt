@@ -1,8 +1,9 @@
 //! Which command the words name.
-ghost use Rattle.std.specs.Prelude.{◌≡◌};
-ghost use Rattle.gateway_run.specs.Words.{command_of};
+ghost use Rattle.std.specs.Prelude.{◌≡◌, IfSome};
+ghost use Rattle.gateway_run.specs.Words.{command_of, node_of, IsSound};
 
 use crate::commands::word::Word;
+use replay_script::number_in;
 
 /// A command of the program.
 #[derive(Clone, Copy, Debug, PartialEq, Eq, Drop)]
@@ -11,11 +12,17 @@ pub enum Command {
     Receive,
     /// `check`, `show` and `convert`: what is said of recorded bundles.
     Bundles(bundle_runs::Command),
+    /// `node OWN PEER`: one end of a link, by the numbers of its engine and of its peer's.
+    Node { own: u64, peer: u64 },
 }
+
+/// The greatest number of an engine that words name.
+const MOST_NUMBER: u64 = 4_294_967_295;
 
 /// The command that the words name.
 pub fn command_named(words: &[Word]) -> Option<Command>
-    ensures { result ≡ command_of words.now }
+    ensures exact { result ≡ command_of words.now }
+    ensures sound { IfSome result IsSound }
 {
     match words {
         [word] if word.octets() == b"receive".as_slice() => Some(Command::Receive),
@@ -28,6 +35,22 @@ pub fn command_named(words: &[Word]) -> Option<Command>
         [word] if word.octets() == b"convert".as_slice() => {
             Some(Command::Bundles(bundle_runs::Command::Convert))
         }
+        [word, own, peer] if word.octets() == b"node".as_slice() => {
+            node_named(own.octets(), peer.octets())
+        }
         _ => None,
     }
+}
+
+/// The end of a link that has these numbers: they are different.
+fn node_named(own: &[u8], peer: &[u8]) -> Option<Command>
+    ensures exact { result ≡ node_of own.now peer.now }
+    ensures sound { IfSome result IsSound }
+{
+    let own = number_in(1, MOST_NUMBER, own)?;
+    let peer = number_in(1, MOST_NUMBER, peer)?;
+    if own == peer {
+        return None;
+    }
+    Some(Command::Node { own, peer })
 }

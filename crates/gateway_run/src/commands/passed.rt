@@ -16,6 +16,8 @@ pub enum Passed {
     LineLength { line: u64 },
     /// This line leaves more than 64 sessions unfinished.
     Sessions { line: u64 },
+    /// This line sets the clock past 2^62 - 1 ms.
+    Clock { line: u64 },
 }
 
 /// How a run ended, and which limit it passed. That one is named if and only if the status is
@@ -28,25 +30,35 @@ pub struct Ended {
     pub passed: Option<Passed>,
 }
 
-/// The run ended so, of a command that answers line by line and passed this limit on lines. A run
-/// that passed none of those and ended with a limit passed the one on the size.
-pub fn ended_with(status: Status, passed: Option<LinePassed>) -> Ended
+/// The run ended so, where it passed this limit if it passed one.
+pub fn ended_with(status: Status, passed: Passed) -> Ended
     ensures status { result.status ≡ status }
     ensures passed { is_some result.passed ≡ is_limit status }
 {
     let passed = match status {
-        Status::Limit => Some(passed_of(passed)),
+        Status::Limit => Some(passed),
         _ => None,
     };
     Ended { status, passed }
 }
 
-/// The limit of `receive`, by what its lines passed.
-fn passed_of(passed: Option<LinePassed>) -> Passed {
+/// The limit of `receive`, by what its lines passed. A run that passed none of those and ended with
+/// a limit passed the one on the size.
+pub fn passed_by_receive(passed: Option<LinePassed>) -> Passed {
     match passed {
         None => Passed::Size,
         Some(LinePassed::Lines) => Passed::Lines,
         Some(LinePassed::Length { line }) => Passed::LineLength { line },
         Some(LinePassed::Own { line }) => Passed::Sessions { line },
+    }
+}
+
+/// The same of `node`.
+pub fn passed_by_node(passed: Option<LinePassed>) -> Passed {
+    match passed {
+        None => Passed::Size,
+        Some(LinePassed::Lines) => Passed::Lines,
+        Some(LinePassed::Length { line }) => Passed::LineLength { line },
+        Some(LinePassed::Own { line }) => Passed::Clock { line },
     }
 }

@@ -1,15 +1,16 @@
 //! The program's one call.
 ghost use Rattle.std.specs.Prelude.{◌≡◌, ◌↔◌, ◌-◌, ◌<◌, ◌^◌, None, is_some, IfSome};
 ghost use Rattle.edge_traits.specs.Outcome.{Ran, source_tells, sink_tells};
-ghost use Rattle.gateway_run.specs.Words.{command_of, is_limit, settles, CompletesCommand, KeepsLaw};
+ghost use Rattle.gateway_run.specs.Words.{command_of, is_limit, settles, CompletesCommand, KeepsLaw, IsSound};
 
 use crate::commands::command::{Command, command_named};
-use crate::commands::passed::{Ended, ended_with};
+use crate::commands::passed::{Ended, Passed, ended_with, passed_by_node, passed_by_receive};
 use crate::commands::receive::Receive;
 use crate::commands::word::Word;
 use bundle_runs::bundles;
 use command_frame::{LineReader, drive};
 use edge_traits::{Clock, Link, Sink, Source, Status};
+use node_run::Node;
 use std::alloc::Global;
 
 /// Answers the command that the words name, from the source to the sink, and writes what the
@@ -77,7 +78,7 @@ pub fn run_told<S: Source, K: Sink, L: Link, C: Clock>(
     ensures clock { clock.new ≡ clock.old }
 {
     match command_named(words) {
-        None => ended_with(Status::Usage, None),
+        None => ended_with(Status::Usage, Passed::Size),
         Some(command) => run_command(alloc, command, source, sink),
     }
 }
@@ -89,6 +90,7 @@ fn run_command<S: Source, K: Sink>(
     source: &mut S,
     sink: &mut K,
 ) -> Ended
+    requires { IsSound command }
     ensures ran { Ran (settles command) result.status
         (source_tells S.left S.faults S.failing source.old) (source_tells S.left S.faults S.failing source.new)
         (sink_tells K.held K.faults K.failing sink.old) (sink_tells K.held K.faults K.failing sink.new) }
@@ -98,8 +100,15 @@ fn run_command<S: Source, K: Sink>(
         Command::Receive => {
             let mut task = LineReader::new(alloc, Receive::new(alloc));
             let status = drive(alloc, &mut task, source, sink);
-            ended_with(status, task.passed())
+            ended_with(status, passed_by_receive(task.passed()))
         }
-        Command::Bundles(command) => ended_with(bundles(alloc, command, source, sink), None),
+        Command::Bundles(command) => {
+            ended_with(bundles(alloc, command, source, sink), Passed::Size)
+        }
+        Command::Node { own, peer } => {
+            let mut task = LineReader::new(alloc, Node::new(alloc, own, peer));
+            let status = drive(alloc, &mut task, source, sink);
+            ended_with(status, passed_by_node(task.passed()))
+        }
     }
 }

@@ -29,7 +29,7 @@ refusal-is first value causes.TooManyBlocks is other = is
 refusal-is first value causes.Memory is other = absurd (other refl)
 
 pub wrote-new : (b : Bundle6) (made : Bundle7) (octets before now : List ℕ) → Translates (to_new_refusal b) (there6 b) (Ok made)
-    → octets ≡ octets7 made → now ≡ before ++ hex_line octets → Writes (converted6 b) before now None
+    → octets ≡ octets7 made → now ≡ before ++ hex_line octets → Writes (converted6 b) before now tt None
 unfolding converted6
 wrote-new b made octets before now (none, is) spelled added = (
   hex_line (octets7 (there6 b)),
@@ -38,7 +38,7 @@ wrote-new b made octets before now (none, is) spelled added = (
 )
 
 pub wrote-old : (b : Bundle7) (made : Bundle6) (octets before now : List ℕ) → Translates (to_old_refusal b) (there7 b) (Ok made)
-    → octets ≡ canon6 made → now ≡ before ++ hex_line octets → Writes (converted7 b) before now None
+    → octets ≡ canon6 made → now ≡ before ++ hex_line octets → Writes (converted7 b) before now tt None
 unfolding converted7
 wrote-old b made octets before now (none, is) spelled added = (
   hex_line (canon6 (there7 b)),
@@ -47,7 +47,7 @@ wrote-old b made octets before now (none, is) spelled added = (
 )
 
 pub refused-new : (b : Bundle6) (cause : Refused) (text : List ℕ) → Translates (to_new_refusal b) (there6 b) (Err cause)
-    → (cause ≡ causes.Memory → ⊥) → Writes (converted6 b) text text (Some cause)
+    → (cause ≡ causes.Memory → ⊥) → Writes (converted6 b) text text tt (Some cause)
 unfolding converted6
 refused-new b cause text is other = (
   ap (λ (r : Option Refused). unless_refused r (hex_line (octets7 (there6 b)))) (refusal-is (to_new_refusal b) (there6 b) cause is other),
@@ -55,7 +55,7 @@ refused-new b cause text is other = (
 )
 
 pub refused-old : (b : Bundle7) (cause : Refused) (text : List ℕ) → Translates (to_old_refusal b) (there7 b) (Err cause)
-    → (cause ≡ causes.Memory → ⊥) → Writes (converted7 b) text text (Some cause)
+    → (cause ≡ causes.Memory → ⊥) → Writes (converted7 b) text text tt (Some cause)
 unfolding converted7
 refused-old b cause text is other = (
   ap (λ (r : Option Refused). unless_refused r (hex_line (canon6 (there7 b)))) (refusal-is (to_old_refusal b) (there7 b) cause is other),

@@ -10,6 +10,7 @@ use Rattle.bundle6.specs.declared.bundle.Bundle6.{Bundle6}
 use Rattle.bundle6.specs.Table as table6
 use Rattle.bundle7.specs.declared.bundle.Bundle7.{Bundle7}
 use Rattle.bundle7.specs.Table as table7
+use Rattle.fragments.specs.declared.join.Join.{Join}
 use Rattle.bundle_runs.specs.declared.commands.command.Command.{Command}
 use Rattle.bundle_runs.specs.declared.front.Bundle.{Bundle}
 use Rattle.bundle_runs.specs.declared.front.Bundle.TheVariants as bundles
@@ -17,9 +18,9 @@ use Rattle.bundle_runs.specs.declared.front.Cause.{Cause}
 use Rattle.bundle_runs.specs.declared.front.Cause.TheVariants as causes
 use Rattle.bundle_runs.specs.Front.{front_of, front_by, front_read, front6, front7, word_of, IsWithin, IsFirm, Front, whole, cut_short, refused}
 use Rattle.bundle_runs.specs.Fronts.{after_front, first_fronts, fronts_of}
-use Rattle.bundle_runs.specs.Answering.{by_bundles, said_of, step_of, after_said, after_last, unfinished, refused_by, settles_from}
+use Rattle.bundle_runs.specs.Answering.{by_bundles, step_of, after_said, after_last, unfinished, refused_by, settles_from}
 use Rattle.bundle_runs.specs.WrittenLines.{refused_line, turned_down_line}
-use Rattle.bundle_runs.specs.Said.{Said, says, refuses}
+use Rattle.bundle_runs.specs.Said.{says, refuses}
 use Rattle.bundle_runs.proofs.FrontLemmas.{six-within, seven-within, stopped-within}
 
 -- ---- the list of fronts
@@ -53,58 +54,52 @@ fronts-more octet octets =
 
 -- ---- what they settle
 
--- there is one state
-nothing_kept : (n : ℕ) (said : Said (Unit {0})) (later : Unit {0} → Settled) → after_said n said later ≡ after_said n said (λ done. later tt)
-nothing_kept n (says text tt) later = refl
-nothing_kept n (refuses word) later = refl
-
-module _ (command : Command) (n at : ℕ) (ends : Ends) where
-  pub settles-none : settles_from command n at ends [] ≡ after_last ends
+module _ (command : Command) (joins : List Join) (n at : ℕ) (ends : Ends) where
+  pub settles-none : settles_from command joins n at ends [] ≡ after_last ends
   unfolding settles_from fronts_of first_fronts by_bundles
   settles-none = refl
 
   by-front : (octet : ℕ) (octets : List ℕ) (front : Front) → front_of (octet ∷ octets) ≡ front
-      → settles_from command n at ends (octet ∷ octets)
-      ≡ by_bundles (step_of command) ends tt n at (front ∷ after_front front octets (λ rest. fronts_of rest))
+      → settles_from command joins n at ends (octet ∷ octets)
+      ≡ by_bundles (step_of command) ends joins n at (front ∷ after_front front octets (λ rest. fronts_of rest))
   unfolding settles_from
   by-front octet octets front is =
-      ap (λ fronts. by_bundles (step_of command) ends tt n at fronts) (fronts-more octet octets)
-      ∙ ap (λ f. by_bundles (step_of command) ends tt n at (f ∷ after_front f octets (λ rest. fronts_of rest))) is
+      ap (λ fronts. by_bundles (step_of command) ends joins n at fronts) (fronts-more octet octets)
+      ∙ ap (λ f. by_bundles (step_of command) ends joins n at (f ∷ after_front f octets (λ rest. fronts_of rest))) is
 
   pub settles-whole : (octets : List ℕ) (bundle : Bundle) (k : ℕ) → front_of octets ≡ whole bundle k → 0 < k → k ≤ length octets
-      → settles_from command n at ends octets
-      ≡ after_said n (said_of command bundle k) (λ done. settles_from command (n + 1) (at + k) ends (drop k octets))
+      → settles_from command joins n at ends octets
+      ≡ after_said n (step_of command joins bundle k) (λ now. settles_from command now (n + 1) (at + k) ends (drop k octets))
   unfolding settles_from by_bundles
   settles-whole octets bundle zero is some inside = absurd (omega (arith, some))
   settles-whole [] bundle (suc k) is some inside = absurd (omega (arith, inside))
   settles-whole (octet ∷ octets) bundle (suc k) is some inside =
       let less : suc k - 1 ≡ k = omega arith in
       by-front octet octets (whole bundle (suc k)) is
-      ∙ nothing_kept n (said_of command bundle (suc k)) (λ now. by_bundles (step_of command) ends now (n + 1) (at + suc k) (fronts_of (drop (suc k - 1) octets)))
-      ∙ ap (λ j. after_said n (said_of command bundle (suc k)) (λ done. settles_from command (n + 1) (at + suc k) ends (drop j octets))) less
+      ∙ ap (λ j. after_said n (step_of command joins bundle (suc k)) (λ now. settles_from command now (n + 1) (at + suc k) ends (drop j octets))) less
 
-  pub settles-says : (octets : List ℕ) (bundle : Bundle) (k : ℕ) (text : List ℕ) → front_of octets ≡ whole bundle k → 0 < k → k ≤ length octets
-      → said_of command bundle k ≡ says text tt
-      → settles_from command n at ends octets ≡ put_before text (settles_from command (n + 1) (at + k) ends (drop k octets))
-  settles-says octets bundle k text is some inside said =
+  pub settles-says : (octets : List ℕ) (bundle : Bundle) (k : ℕ) (text : List ℕ) (now : List Join) → front_of octets ≡ whole bundle k → 0 < k → k ≤ length octets
+      → step_of command joins bundle k ≡ says text now
+      → settles_from command joins n at ends octets ≡ put_before text (settles_from command now (n + 1) (at + k) ends (drop k octets))
+  settles-says octets bundle k text now is some inside said =
       settles-whole octets bundle k is some inside
-      ∙ ap (λ s. after_said n s (λ done. settles_from command (n + 1) (at + k) ends (drop k octets))) said
+      ∙ ap (λ s. after_said n s (λ now. settles_from command now (n + 1) (at + k) ends (drop k octets))) said
 
   pub settles-turned-down : (octets : List ℕ) (bundle : Bundle) (k : ℕ) (word : List ℕ) → front_of octets ≡ whole bundle k → 0 < k → k ≤ length octets
-      → said_of command bundle k ≡ refuses word
-      → settles_from command n at ends octets ≡ refused_by (turned_down_line n word)
+      → step_of command joins bundle k ≡ refuses word
+      → settles_from command joins n at ends octets ≡ refused_by (turned_down_line n word)
   settles-turned-down octets bundle k word is some inside said =
       settles-whole octets bundle k is some inside
-      ∙ ap (λ s. after_said n s (λ done. settles_from command (n + 1) (at + k) ends (drop k octets))) said
+      ∙ ap (λ s. after_said n s (λ now. settles_from command now (n + 1) (at + k) ends (drop k octets))) said
 
   pub settles-refused : (octets : List ℕ) (place : ℕ) (cause : Cause) → 0 < length octets → front_of octets ≡ refused place cause
-      → settles_from command n at ends octets ≡ refused_by (refused_line n (at + place) (word_of cause))
+      → settles_from command joins n at ends octets ≡ refused_by (refused_line n (at + place) (word_of cause))
   unfolding by_bundles
   settles-refused [] place cause some is = absurd (omega (arith, some))
   settles-refused (octet ∷ octets) place cause some is = by-front octet octets (refused place cause) is
 
   pub settles-cut : (octets : List ℕ) (place : ℕ) → 0 < length octets → front_of octets ≡ cut_short place
-      → settles_from command n at ends octets ≡ unfinished ends n (at + place)
+      → settles_from command joins n at ends octets ≡ unfinished ends n (at + place)
   unfolding by_bundles
   settles-cut [] place some is = absurd (omega (arith, some))
   settles-cut (octet ∷ octets) place some is = by-front octet octets (cut_short place) is

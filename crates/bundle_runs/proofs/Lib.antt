@@ -1,5 +1,6 @@
 pub mod FrontLemmas
 pub mod FrontsLemmas
+pub mod GivenLemmas
 pub mod TakingLemmas
 pub mod LawLemmas
 pub mod ShowLemmas

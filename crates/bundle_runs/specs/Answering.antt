@@ -4,6 +4,7 @@ use Rattle.edge_traits.specs.declared.status.Status.TheVariants as statuses
 use Rattle.edge_traits.specs.Content.{most_input}
 use Rattle.edge_traits.specs.Settled.{Ends, at_end, goes_on, Settled, nothing_yet, put_before}
 use Rattle.command_frame.specs.Within.{within}
+use Rattle.fragments.specs.declared.join.Join.{Join}
 use Rattle.bundle_runs.specs.declared.commands.command.Command.{Command}
 use Rattle.bundle_runs.specs.declared.commands.command.Command.TheVariants.{Check, Show, Convert}
 use Rattle.bundle_runs.specs.declared.front.Bundle.{Bundle}
@@ -49,20 +50,22 @@ by_bundles step ends state n at (refused place cause ∷ fronts) =
 
 -- ---- the commands
 
--- what a command says of a bundle of so many octets
-abbrev pub said_of : Command → Bundle → ℕ → Said (Unit {0})
-said_of Check bundle size = says (check_line (version_of bundle) size) tt
-said_of Show bundle size = says (show_line bundle) tt
-said_of Convert bundle size = converted bundle
+-- what is said by a command that looks at nothing but the bundle: the state stays
+abbrev pub leaving : {S : Type 0} → S → Said (Unit {0}) → Said S
+leaving state (says text done) = says text state
+leaving state (refuses word) = refuses word
 
--- each bundle has its answer, and nothing is remembered
-abbrev pub step_of : Command → Step (Unit {0})
-step_of command state bundle size = said_of command bundle size
+-- What a command says of a bundle of so many octets. The state of all commands is that of `join`: the
+-- joins that are open.
+abbrev pub step_of : Command → Step (List Join)
+step_of Check joins bundle size = says (check_line (version_of bundle) size) joins
+step_of Show joins bundle size = says (show_line bundle) joins
+step_of Convert joins bundle size = leaving joins (converted bundle)
 
 -- what octets settle of which the first is at a place of the input, where bundle n begins
-unfoldable pub settles_from : Command → (n at : ℕ) → Ends → List ℕ → Settled
-settles_from command n at ends octets = by_bundles (step_of command) ends tt n at (fronts_of octets)
+unfoldable pub settles_from : Command → List Join → (n at : ℕ) → Ends → List ℕ → Settled
+settles_from command joins n at ends octets = by_bundles (step_of command) ends joins n at (fronts_of octets)
 
 -- what octets settle of a command's answer
 abbrev pub settles : Command → Ends → List ℕ → Settled
-settles command = within most_input (settles_from command 1 0)
+settles command = within most_input (settles_from command [] 1 0)

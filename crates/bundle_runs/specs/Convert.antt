@@ -34,7 +34,8 @@ abbrev pub converted : Bundle → Said (Unit {0})
 converted (bundles.Six bundle) = converted6 bundle
 converted (bundles.Seven bundle) = converted7 bundle
 
--- it was said, and what was written: the line, or a refusal was answered and nothing was
-abbrev pub Writes : Said (Unit {0}) → List ℕ → List ℕ → Option Refused → Type 0
-Writes said before now None = (text : List ℕ) × (said ≡ says text tt) × (now ≡ before ++ text)
-Writes said before now (Some cause) = (said ≡ refuses (word_of cause)) × (now ≡ before)
+-- It was said, and what was written, and the state then: the lines; or a refusal was answered, and
+-- nothing was written.
+abbrev pub Writes : {S : Type 0} → Said S → (before now : List ℕ) → S → Option Refused → Type 0
+Writes said before now state None = (text : List ℕ) × (said ≡ says text state) × (now ≡ before ++ text)
+Writes said before now state (Some cause) = (said ≡ refuses (word_of cause)) × (now ≡ before)

@@ -8,4 +8,5 @@ pub mod Answering
 pub mod Laws
 -- what only ties code to these
 pub mod Legal
+pub mod Given
 pub mod Taking

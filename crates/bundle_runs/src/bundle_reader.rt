@@ -1,22 +1,28 @@
 //! Bundles of either version, end to end, as they come.
-ghost use Rattle.std.specs.Prelude.{◌≡◌, ◌+◌, ◌<◌, ◌≤◌, None, length, IfOk, OnErr};
+ghost use Rattle.std.specs.Prelude.{◌≡◌, ◌+◌, ◌<◌, ◌≤◌, ◌++◌, None, [], false, length, IfOk, OnOk, OnErr};
 ghost use Rattle.std.specs.String.{string_bytes};
 ghost use Rattle.edge_traits.specs.Outcome.{IsAnswer};
 ghost use Rattle.command_frame.specs.Task.{Feeds, Finishes};
 ghost use Rattle.bundle_runs.specs.Answering.{settles_from};
-ghost use Rattle.bundle_runs.specs.Taking.{kept_by, settling_of, with_none, IsSound, IsWaiting, Steps, IsLess, AtHand, Stands};
+ghost use Rattle.bundle_runs.specs.Front.{word_of};
+ghost use Rattle.bundle_runs.specs.WrittenLines.{refused_line};
+ghost use Rattle.bundle_runs.specs.Given.{IsVersion, IsRead};
+ghost use Rattle.bundle_runs.specs.Taking.{kept_by, settling_of, passed, waiting, IsSound, Took, Steps, Stands};
 
 use crate::commands::command::Command;
-use crate::front::Cause;
-use crate::unfinished::{Given, Unfinished};
-use crate::written_lines::{write_refused, write_turned_down};
+use crate::front::{Bundle, Cause};
+use crate::given::{Given, decoded, judged};
+use crate::saying::say;
+use crate::unfinished::Unfinished;
+use crate::written_lines::{write_check, write_refused, write_turned_down};
 use command_frame::Task;
 use edge_traits::{MOST_INPUT, Status};
+use fragments::Joiner;
 use std::alloc::{AllocError, Global};
 use std::marker::Model;
 
 /// A command on bundles that is told the octets of its input as they come. It keeps the octets of
-/// at most one unfinished bundle.
+/// at most one unfinished bundle, and for `join` those of fragments.
 #[derive(Drop)]
 pub struct BundleReader {
     standing: Standing,
@@ -38,6 +44,8 @@ impl Model for BundleReader {
 #[derive(Drop)]
 pub struct Standing {
     command: Command,
+    /// The fragments that came, where the command is `join`.
+    joiner: Joiner,
     /// Which bundle of the input is the next to end, from 1.
     number: u64,
     /// The place of its first octet in the input.
@@ -60,11 +68,11 @@ enum Next {
 impl BundleReader {
     /// Nothing came yet. It takes no memory.
     pub fn new(alloc: Global, command: Command) -> BundleReader
-        ensures stands { ⟦<BundleReader as Task>⟧.Stands result (settles_from command 1 0) }
+        ensures stands { ⟦<BundleReader as Task>⟧.Stands result (settles_from command [] 1 0) }
         ensures fresh { ⟦<BundleReader as Task>⟧.Began result → ⊥ }
     {
         BundleReader {
-            standing: Standing::new(command),
+            standing: Standing::new(alloc, command),
             alloc,
         }
     }
@@ -80,7 +88,13 @@ impl Task for BundleReader {
         if piece.len() > MOST_INPUT - (self.standing.at + self.standing.taken) {
             return Err(AllocError);
         }
-        self.standing.feed(self.alloc, piece, text)
+        let ends = self.standing.feed(self.alloc, piece, text);
+        match ends {
+            Ok(None) => {}
+            // The run has ended: nothing is kept any more.
+            _ => self.standing = Standing::new(self.alloc, self.standing.command),
+        }
+        ends
     }
 
     fn finish(&mut self, text: &mut String) -> Result<Status, AllocError> {
@@ -90,12 +104,20 @@ impl Task for BundleReader {
 
 impl Standing {
     /// No octet came.
-    fn new(command: Command) -> Standing
+    fn new(alloc: Global, command: Command) -> Standing
         ensures sound { IsSound result }
-        ensures is { result ≡ record { command = command; number = 1; at = 0; taken = 0; unfinished = None } }
+        ensures is { result ≡ record {
+          command = command;
+          joiner = record { joins = []; spent = false };
+          number = 1;
+          at = 0;
+          taken = 0;
+          unfinished = None;
+        } }
     {
         Standing {
             command,
+            joiner: Joiner::new(alloc),
             number: 1,
             at: 0,
             taken: 0,
@@ -112,8 +134,8 @@ impl Standing {
     ) -> Result<Option<Status>, AllocError>
         requires sound { IsSound self.old }
         requires room { self.old.at + self.old.taken + length piece.now ≤ 67108864 }
-        ensures sound { IsSound self.new }
-        ensures fed { IsWaiting self.old → IfOk result (Feeds (Stands self.new) (settling_of self.old)
+        ensures sound { IfOk result (λ ends. ends ≡ None → IsSound self.new) }
+        ensures fed { IfOk result (Feeds (Stands self.new) (settling_of self.old)
             piece.now (string_bytes text.old) (string_bytes text.new)) }
     {
         let mut left = piece;
@@ -130,7 +152,7 @@ impl Standing {
     fn finish(&mut self, text: &mut String) -> Result<Status, AllocError>
         requires sound { IsSound self.old }
         ensures sound { IsSound self.new }
-        ensures finished { IsWaiting self.old → IfOk result (Finishes (settling_of self.old)
+        ensures finished { IfOk result (Finishes (settling_of self.old)
             (string_bytes text.old) (string_bytes text.new)) }
         ensures status { IfOk result IsAnswer }
         ensures memory { OnErr result (0 < length (kept_by self.old.unfinished)) }
@@ -148,57 +170,131 @@ impl Standing {
         }
     }
 
-    /// Takes octets of one bundle.
+    /// Takes octets of one bundle, and writes what the command says of it where they end it.
     fn step(&mut self, alloc: Global, left: &[u8], text: &mut String) -> Result<Next, AllocError>
         requires sound { IsSound self.old }
         requires some { 0 < length left.now }
         requires room { self.old.at + self.old.taken + length left.now ≤ 67108864 }
-        ensures sound { IsSound self.new }
-        ensures less { IfOk result (IsLess self.old left.now self.new) }
-        ensures steps { IsWaiting self.old → IfOk result (Steps self.old left.now
-            (string_bytes text.old) self.new (string_bytes text.new)) }
+        ensures { IfOk result (Steps self.old left.now (string_bytes text.old) self.new (string_bytes text.new)) }
     {
-        let Some((mut unfinished, taken)) = self.at_hand(alloc, left[0]) else {
-            write_refused(text, self.number, self.at, "Version")?;
-            return Ok(Next::End);
-        };
-        match unfinished.feed(alloc, self.command, left, text)? {
-            Given::Whole(used) => {
-                self.number += 1;
-                self.at += taken + used;
-                Ok(Next::After(used))
-            }
-            Given::Part => {
-                self.taken = taken + left.len();
-                self.unfinished = Some(unfinished);
-                Ok(Next::After(left.len()))
-            }
-            Given::Refused(at, cause) => {
-                write_refused(text, self.number, self.at + at, cause.word())?;
-                Ok(Next::End)
-            }
-            Given::TurnedDown(cause) => {
-                write_turned_down(text, self.number, cause.word())?;
-                Ok(Next::End)
-            }
+        match self.command {
+            Command::Check => self.check(alloc, left, text),
+            _ => self.tell(alloc, left, text),
         }
     }
 
-    /// The bundle that has begun, or begins with this octet, and how many octets of it came. None
-    /// stands here after it.
-    fn at_hand(&mut self, alloc: Global, first: u8) -> Option<(Unfinished, usize)>
-        requires { IsSound self.old }
-        ensures none { self.new ≡ with_none self.old }
-        ensures at_hand { AtHand self.old first result }
+    /// The step of `check`, which wants no bundle.
+    fn check(&mut self, alloc: Global, left: &[u8], text: &mut String) -> Result<Next, AllocError>
+        requires sound { IsSound self.old }
+        requires some { 0 < length left.now }
+        requires room { self.old.at + self.old.taken + length left.now ≤ 67108864 }
+        requires is { self.old.command ≡ Command.Check }
+        ensures { IfOk result (Steps self.old left.now (string_bytes text.old) self.new (string_bytes text.new)) }
     {
-        let taken = self.taken;
-        self.taken = 0;
-        match self.unfinished.take() {
-            Some(unfinished) => Some((unfinished, taken)),
-            None => match Unfinished::begun(alloc, first) {
-                Some(unfinished) => Some((unfinished, 0)),
-                None => None,
+        match self.judged(alloc, left)? {
+            Given::Whole(version, used) => {
+                write_check(text, version, self.taken + used)?;
+                Ok(self.pass(used))
+            }
+            Given::Part => Ok(self.wait(left.len())),
+            Given::Refused(at, cause) => self.refuse(at, cause, text),
+        }
+    }
+
+    /// The step of a command that looks into the bundle.
+    fn tell(&mut self, alloc: Global, left: &[u8], text: &mut String) -> Result<Next, AllocError>
+        requires sound { IsSound self.old }
+        requires some { 0 < length left.now }
+        requires room { self.old.at + self.old.taken + length left.now ≤ 67108864 }
+        ensures { IfOk result (Steps self.old left.now (string_bytes text.old) self.new (string_bytes text.new)) }
+    {
+        match self.decoded(alloc, left)? {
+            Given::Whole(bundle, used) => {
+                let size = self.taken + used;
+                match say(alloc, self.command, &mut self.joiner, &bundle, size, text)? {
+                    None => Ok(self.pass(used)),
+                    Some(cause) => {
+                        write_turned_down(text, self.number, cause.word())?;
+                        Ok(Next::End)
+                    }
+                }
+            }
+            Given::Part => Ok(self.wait(left.len())),
+            Given::Refused(at, cause) => self.refuse(at, cause, text),
+        }
+    }
+
+    /// Takes octets of one bundle, of which the version is wanted. Where none has begun, and they have
+    /// it whole, nothing is kept.
+    fn judged(&mut self, alloc: Global, left: &[u8]) -> Result<Given<u8>, AllocError>
+        requires sound { IsSound self.old }
+        requires some { 0 < length left.now }
+        requires room { self.old.at + self.old.taken + length left.now ≤ 67108864 }
+        ensures { IfOk result (Took IsVersion self.old left.now self.new) }
+    {
+        match &mut self.unfinished {
+            Some(unfinished) => unfinished.judge(left),
+            None => match judged(left) {
+                Given::Part => {
+                    self.unfinished = Unfinished::begun(alloc, left)?;
+                    Ok(Given::Part)
+                }
+                given => Ok(given),
             },
         }
+    }
+
+    /// The same, where all of the bundle is wanted.
+    fn decoded(&mut self, alloc: Global, left: &[u8]) -> Result<Given<Bundle>, AllocError>
+        requires sound { IsSound self.old }
+        requires some { 0 < length left.now }
+        requires room { self.old.at + self.old.taken + length left.now ≤ 67108864 }
+        ensures { IfOk result (Took IsRead self.old left.now self.new) }
+    {
+        match &mut self.unfinished {
+            Some(unfinished) => unfinished.feed(left),
+            None => match decoded(alloc, left)? {
+                Given::Part => {
+                    self.unfinished = Unfinished::begun(alloc, left)?;
+                    Ok(Given::Part)
+                }
+                given => Ok(given),
+            },
+        }
+    }
+
+    /// The bundle has ended after so many octets more.
+    fn pass(&mut self, used: usize) -> Next
+        requires few { self.old.at + (self.old.taken + used) ≤ 67108864 }
+        requires counted { self.old.number ≤ 67108864 }
+        ensures next { result ≡ Next.After used }
+        ensures is { self.new ≡ passed self.old used }
+    {
+        self.number += 1;
+        self.at += self.taken + used;
+        self.taken = 0;
+        self.unfinished = None;
+        Next::After(used)
+    }
+
+    /// So many octets more don't end it.
+    fn wait(&mut self, more: usize) -> Next
+        requires few { self.old.taken + more ≤ 67108864 }
+        ensures next { result ≡ Next.After more }
+        ensures is { self.new ≡ waiting self.old more }
+    {
+        self.taken += more;
+        Next::After(more)
+    }
+
+    /// It is no bundle, by the field at this place.
+    fn refuse(&self, at: usize, cause: Cause, text: &mut String) -> Result<Next, AllocError>
+        requires few { self.now.at + at ≤ 67108864 }
+        ensures next { IfOk result (λ next. next ≡ Next.End) }
+        ensures line { OnOk result (string_bytes text.new
+            ≡ string_bytes text.old ++ refused_line self.now.number (self.now.at + at) (word_of cause)) }
+    {
+        write_refused(text, self.number, self.at + at, cause.word())?;
+        Ok(Next::End)
     }
 }

@@ -1,13 +1,14 @@
 //! The answer, in the words of the two formats.
 ghost use Rattle.bundle_runs.specs.Answering.{settles};
-ghost use Rattle.bundle_runs.specs.Laws.{TakesBundle6, TakesBundle7, StopsAt6, StopsAt7, EndsInside6, EndsInside7, EarliestOctetDecides};
+ghost use Rattle.bundle_runs.specs.Laws.{TakesBundle6, TakesBundle7, StopsAt6, StopsAt7, EndsInside6, EndsInside7, StopsAtVersion, EndsAfterLast, EarliestOctetDecides};
 ghost use Rattle.bundle_runs.specs.declared.commands.command.Command.{Command};
 
 /// Where a bundle stands at the front of the octets that are left, the answer to them is what the
 /// command says of it and then the answer to the octets after it; where the command refuses it, the
 /// line that says so and the run's end. Octets that are refused for a cause end the run by such a
-/// line too. Where they end inside a bundle they settle nothing while the input goes on, and at its
-/// end the bundle is refused as truncated.
+/// line too, and so does a first octet that names no version, at its own place. Where they end inside
+/// a bundle they settle nothing while the input goes on, and at its end the bundle is refused as
+/// truncated. Where none are left the run is done with the input.
 pub fn answers_bundle_by_bundle()
     ensures six { TakesBundle6 }
     ensures seven { TakesBundle7 }
@@ -15,6 +16,8 @@ pub fn answers_bundle_by_bundle()
     ensures refused7 { StopsAt7 }
     ensures unfinished6 { EndsInside6 }
     ensures unfinished7 { EndsInside7 }
+    ensures version { StopsAtVersion }
+    ensures none_left { EndsAfterLast }
 {}
 
 /// What octets settle while the input goes on is a front of what they settle with others after them,

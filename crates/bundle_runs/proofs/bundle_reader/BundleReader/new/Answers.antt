@@ -1,6 +1,5 @@
 use Rattle.std.proofs.Common.{refl}
-use Rattle.bundle_runs.proofs.TakingLemmas.{waiting-none}
 use Rattle.bundle_runs.proofs.bundle_reader.BundleReader.new.Goals as goal
 
 pub returns-clause-stands : goal.returns-clause-stands
-returns-clause-stands c = rw c.new.ensures.is (record { same = refl; waiting = waiting-none _ refl })
+returns-clause-stands c = rw c.new.ensures.is refl

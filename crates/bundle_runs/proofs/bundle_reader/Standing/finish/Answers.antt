@@ -1,28 +1,22 @@
 use Rattle.std.proofs.Common.{◌≡◌, Some, sym, ◌∙◌, ap, arith}
-use Rattle.bundle_runs.specs.Taking.{kept_of, kept_by}
-use Rattle.bundle_runs.proofs.TakingLemmas.{finish-none, finish-cut, cut-inside, some-octets, in-any-err}
+use Rattle.bundle_runs.specs.Taking.{kept_of, kept_by, HasBegun}
+use Rattle.bundle_runs.proofs.TakingLemmas.{finish-none, finish-cut, cut-inside}
 use Rattle.bundle_runs.proofs.bundle_reader.Standing.finish.Goals as goal
 
 pub returns-in-None-clause-finished : goal.returns-in-None-clause-finished
-returns-in-None-clause-finished c = λ waiting.
+returns-in-None-clause-finished c =
     finish-none c.args.self.now _ (ap kept_by (sym c.take.ensures.value ∙ c.in-None.is))
 
 pub overflow_add-self : goal.overflow_add-self
 overflow_add-self c =
     let begun : c.args.self.now.unfinished ≡ Some c.in-Some.unfinished = sym c.take.ensures.value ∙ c.in-Some.is in
-    let inside = cut-inside c.in-Some.unfinished c.in-Some-finish.at (rw begun at c.requires.sound.octets) c.in-Some-finish.ensures.0 in
+    let inside = cut-inside c.in-Some.unfinished c.in-Some-finish.at (rw begun at c.requires.sound.begun) c.in-Some-finish.ensures.0 in
     let held = rw begun at c.requires.sound.held in
     omega (arith, inside, held, c.requires.sound.within)
 
-pub returns-in_err-write_refused-in-Some-finish-clause-memory :
-    goal.returns-in_err-write_refused-in-Some-finish-clause-memory
-returns-in_err-write_refused-in-Some-finish-clause-memory c =
-    let begun : c.args.self.now.unfinished ≡ Some c.in-Some.unfinished = sym c.take.ensures.value ∙ c.in-Some.is in
-    rw begun (in-any-err c.from_residual.result (some-octets (kept_of c.in-Some.unfinished) c.in-Some-finish.ensures.1))
-
 pub returns-clause-finished : goal.returns-clause-finished
-returns-clause-finished c = λ waiting.
+returns-clause-finished c =
     let begun : c.args.self.now.unfinished ≡ Some c.in-Some.unfinished = sym c.take.ensures.value ∙ c.in-Some.is in
     finish-cut c.args.self.now c.in-Some.unfinished c.in-Some-finish.at _ _ begun
-    (some-octets (kept_of c.in-Some.unfinished) c.in-Some-finish.ensures.1) waiting c.in-Some-finish.ensures.0
+    (rw begun at c.requires.sound.begun) c.in-Some-finish.ensures.0
     c.in_ok-write_refused-in-Some-finish.ensures

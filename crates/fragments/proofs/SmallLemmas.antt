@@ -1,6 +1,6 @@
 -- The totals that are kept.
 
-use Rattle.std.proofs.Common.{◌≡◌, ℕ, ◌≤◌, ◌==◌, Bool, true, false, nat_lt, nat_le, if◌then◌else◌, All, List, [], ◌∷◌, length, take, drop, suc, Option, None, Some, Result, Ok, Err, refl, sym, subst}
+use Rattle.std.proofs.Common.{◌≡◌, ℕ, ◌≤◌, ◌==◌, Bool, true, false, nat_lt, nat_le, if◌then◌else◌, All, List, [], ◌∷◌, length, take, drop, suc, Option, None, Some, Result, Ok, Err, refl, sym, subst, arith, length-append}
 use Rattle.std.proofs.lemmas.Bool.{ltb-false}
 use Rattle.std.proofs.lemmas.List.Elements.{All-take, All-drop, All-append, All-nil, All-cons}
 use Rattle.endpoint.specs.declared.extent.Fragment.{Fragment}
@@ -10,8 +10,9 @@ use Rattle.fragments.specs.declared.limits.TheConstants.{TOTAL_MAX, NAMES_MAX}
 use Rattle.fragments.specs.declared.fault.JoinRefused.{JoinRefused}
 use Rattle.fragments.specs.declared.fault.JoinRefused.TheVariants as refusals
 use Rattle.fragments.specs.declared.join.Join.{Join}
-use Rattle.fragments.specs.Joining.{index_of, others, open_total, accepted, accepted_as, fits, whole_of, joined_with, kept_after}
-use Rattle.fragments.specs.Again.{after, after_at, after_records, IsSmall, TotalsAreSmall}
+use Rattle.fragments.specs.Joining.{index_of, others, open_total, accepted, accepted_as, fits, whole_of, joined_with, kept_after, joins_after}
+use Rattle.fragments.specs.Again.{after, after_at, after_records, IsSmall, IsBounded, TotalsAreSmall}
+use Rattle.fragments.proofs.JoinLemmas.{others-room}
 use Rattle.fragments.proofs.BegunLemmas.{is-taken}
 
 own-part : (p part : Fragment) (count : ℕ) (total : Option ℕ) → fits p count total ≡ Ok part → p ≡ part
@@ -65,3 +66,29 @@ pub totals-are-small : TotalsAreSmall
 unfolding after_records
 totals-are-small [] = All-nil IsSmall
 totals-are-small (full ∷ earlier) = small-after (after_records earlier) full (totals-are-small earlier)
+
+-- ---- what a joiner keeps
+
+pub bounded-none : IsBounded []
+bounded-none = record { names = omega arith; totals = All-nil IsSmall }
+
+-- without the join that a fragment is taken into
+pub bounded-others : (joins : List Join) (shared : Shared) (part : Fragment) → accepted joins shared ≡ Ok part → IsBounded joins
+    → IsBounded (others shared joins)
+bounded-others joins shared part taken bounded = record {
+  names = omega (arith, others-room joins shared part taken bounded.names);
+  totals = small-others shared joins bounded.totals;
+}
+
+-- with it
+pub bounded-after : (joins : List Join) (full : Full) (part : Fragment) → accepted joins full.shared ≡ Ok part → IsBounded joins
+    → IsBounded (joins_after joins full part)
+bounded-after joins full part taken bounded = record {
+  names = few (whole_of (joined_with joins full part));
+  totals = subst (λ (r : Result Fragment JoinRefused). All IsSmall (after_at joins full r)) taken (small-after joins full bounded.totals);
+}
+  where
+    few : (whole : Option Full) → length (kept_after whole (others full.shared joins) (joined_with joins full part)) ≤ NAMES_MAX
+    few (Some whole) = omega (arith, others-room joins full.shared part taken bounded.names)
+    few None =
+        omega (arith, length-append (others full.shared joins) (joined_with joins full part ∷ []), others-room joins full.shared part taken bounded.names)

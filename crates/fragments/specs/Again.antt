@@ -121,6 +121,11 @@ WholeWhenAllCame = (earlier : List Full) (full : Full) (part : Fragment) → IsV
 abbrev pub IsSmall : Join → Type 0
 IsSmall join = join.total ≤ TOTAL_MAX
 
+-- What a joiner keeps at most: so many names, and no total that is greater than what is joined.
+pub record IsBounded (joins : List Join) : Type 0 where
+  pub names : length joins ≤ NAMES_MAX
+  pub totals : All IsSmall joins
+
 -- Whichever records came before: each total that is kept is one that is joined.
 abbrev pub TotalsAreSmall : Type 0
 TotalsAreSmall = (earlier : List Full) → All IsSmall (after_records earlier)

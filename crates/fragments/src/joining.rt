@@ -1,11 +1,11 @@
 //! Joining fragments.
 
-ghost use Rattle.std.specs.Prelude.{◌≡◌, ◌≤◌, [], true, false, length, Ok, Err, Some, None, IfOk};
+ghost use Rattle.std.specs.Prelude.{◌≡◌, ◌≤◌, [], true, false, Ok, Err, Some, None, IfOk, OnErr};
 ghost use Rattle.bundle_meaning.specs.Valid.{IsValid};
-ghost use Rattle.fragments.specs.declared.limits.TheConstants.{TOTAL_MAX, NAMES_MAX};
+ghost use Rattle.fragments.specs.declared.limits.TheConstants.{TOTAL_MAX};
 ghost use Rattle.fragments.specs.Cells.{stop_of};
 ghost use Rattle.fragments.specs.Cutting.{octets_of};
-ghost use Rattle.fragments.specs.Again.{JoinsAgain};
+ghost use Rattle.fragments.specs.Again.{JoinsAgain, IsBounded};
 ghost use Rattle.fragments.specs.Joining.{index_of, open_join, others, open_total, accepted, is_repeat, started, Adds, TakesIn};
 
 use crate::cutting::octets_of;
@@ -42,21 +42,21 @@ pub struct Joiner {
 }
 
 impl Model for Joiner {
-    ghost use Rattle.std.specs.Prelude.{◌≤◌, length};
-    ghost use Rattle.fragments.specs.declared.limits.TheConstants.{NAMES_MAX};
     ghost use Rattle.fragments.specs.Joining.{Joining};
+    ghost use Rattle.fragments.specs.Again.{IsBounded};
 
     ghost Value = { Joining };
 
     ghost view = { λ j. record { joins = j.joins.items; spent = j.spent } };
 
-    ghost invariant = { λ j. length j.joins.items ≤ NAMES_MAX };
+    ghost invariant = { λ j. IsBounded j.joins.items };
 }
 
 impl Joiner {
     /// A joiner to which nothing came. It takes no memory.
     pub fn new(alloc: Global) -> Joiner
-        ensures { result ≡ record { joins = []; spent = false } }
+        ensures empty { result ≡ record { joins = []; spent = false } }
+        ensures bounded { IsBounded result.joins }
     {
         Joiner {
             joins: Vec::new(alloc),
@@ -78,7 +78,10 @@ impl Joiner {
 
         // The pieces of a record, in any order and with repeats, give it with the last that was missing.
         ensures joins_again { JoinsAgain self.old.joins full.now result }
-        ensures bounded { length self.new.joins ≤ NAMES_MAX }
+
+        // Whatever came, and after want of memory too: at most [`NAMES_MAX`] names are kept, and no
+        // total above [`TOTAL_MAX`].
+        ensures bounded { IsBounded self.new.joins }
     {
         self.added(full)
     }
@@ -88,7 +91,7 @@ impl Joiner {
         requires whole { self.old.spent ≡ false }
         requires valid { IsValid full.now }
         ensures adds { Adds self.old.joins full.now result self.new }
-        ensures bounded { length self.new.joins ≤ NAMES_MAX }
+        ensures bounded { IsBounded self.new.joins }
     {
         let part = accepted(self.joins.as_slice(), &full.shared)?;
         match take_in(self.alloc, &mut self.joins, full, part) {
@@ -161,10 +164,9 @@ fn take_in(
     part: Fragment,
 ) -> Result<Joined, AllocError>
     requires accepted { accepted joins.old.items full.now.shared ≡ Ok part }
-    requires few { length joins.old.items ≤ NAMES_MAX }
     requires valid { IsValid full.now }
     ensures taken { IfOk result (λ joined. TakesIn joins.old.items full.now part joined joins.new.items) }
-    ensures few { length joins.new.items ≤ NAMES_MAX }
+    ensures lost { OnErr result (joins.new.items ≡ others full.now.shared joins.old.items) }
 {
     let octets = octets_of(&full.shared.content);
     let begun = take_out(joins, &full.shared);

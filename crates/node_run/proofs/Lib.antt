@@ -1,1 +1,2 @@
-pub mod RedPartLemmas
+mod RedPartLemmas
+pub mod RunLemmas

@@ -1,6 +1,6 @@
 pub mod WrittenLines
 pub mod Node
--- what it hands up, whoever is at the other end
+-- what it writes and hands up over a run, whoever is at the other end
 pub mod RedParts
 -- what only ties code to these
 pub mod Shows

@@ -1,25 +1,66 @@
--- What `node` hands up, whoever is at the other end (RFC 5326, section 6.9): a red part with the
--- event that makes it whole, and with no other.
-use Rattle.std.specs.Prelude.{ℕ, ◌↔◌, length, List, [], ◌∷◌, ◌++◌, Result, Ok, Err}
+-- What `node` writes and hands up over a run, whoever is at the other end (RFC 5326, section 6.9): the
+-- answers to the events that its lines say, and a red part with the event that makes it whole, and
+-- with no other.
+use Rattle.std.specs.Prelude.{◌≡◌, ℕ, ◌↔◌, ◌⊎◌, length, take, map, reverse, List, [], ◌∷◌, ◌++◌, Result, Ok, Err}
+use Rattle.edge_traits.specs.Settled.{at_end}
+use Rattle.command_frame.specs.InputLines.{lines_within}
+use Rattle.command_frame.specs.Within.{within}
 use Rattle.ltp_segment.specs.Reading.{segment_of}
 use Rattle.ltp_session.specs.RedPart.{BecomesWhole}
 use Rattle.ltp_session.specs.Engine.{Party, EngineStep, SubmitFault, UpValue}
 use Rattle.link_laws.specs.View.{IsIn}
+use Rattle.ltp_engine.specs.Effects.{effects_of}
 use Rattle.ltp_engine.specs.RedParts.{Coming, a_block_comes, a_datagram_comes, a_moment_comes, unless_faulty, pieces_of, EachOnce}
 use Rattle.replay_script.specs.declared.event.NodeEvent.{NodeEvent}
 use Rattle.replay_script.specs.declared.event.NodeEvent.TheVariants as events
-use Rattle.node_run.specs.Node.{NodeState, begins, moment_of, engine_does, at_moment}
+use Rattle.replay_script.specs.declared.fault.LineFault.{LineFault}
+use Rattle.replay_script.specs.Events.{node_event_of}
+use Rattle.node_run.specs.WrittenLines.{effects_text, block_line, refusal_line}
+use Rattle.node_run.specs.Node.{NodeState, begins, moment_of, engine_does, at_moment, node_party, settles}
+
+-- ---- after some events
+
+-- what the engine does about an event
+abbrev pub done_at : NodeState → NodeEvent → Result EngineStep SubmitFault
+done_at node event = engine_does node.party node.engine (moment_of node.now event) event
 
 -- the node after an event that is answered
 abbrev pub after_event : NodeState → NodeEvent → NodeState
 after_event node event = record (at_moment node (moment_of node.now event)) {
-  engine = unless_faulty node.engine (engine_does node.party node.engine (moment_of node.now event) event);
+  engine = unless_faulty node.engine (done_at node event);
 }
 
 -- the node after some events, the newest first
 unfoldable pub node_after : Party → List NodeEvent → NodeState
 node_after p [] = begins p
 node_after p (event ∷ earlier) = after_event (node_after p earlier) event
+
+-- ---- what is written
+
+-- the text of an answer
+abbrev pub answer_text : Result EngineStep SubmitFault → List ℕ
+answer_text (Ok step) = effects_text (effects_of step.effects)
+answer_text (Err fault) = block_line fault
+
+-- all that is written for some events, the newest first
+unfoldable pub text_after : Party → List NodeEvent → List ℕ
+text_after p [] = []
+text_after p (event ∷ earlier) = text_after p earlier ++ answer_text (done_at (node_after p earlier) event)
+
+-- nothing, or that a line is refused
+abbrev pub IsClosing : List ℕ → Type 0
+IsClosing closing = (closing ≡ []) ⊎ ((n : ℕ) × (fault : LineFault) × (closing ≡ refusal_line n fault))
+
+-- the text is what is written for the events that the first lines say, and after it at most the line
+-- of a refusal; the lines are those of an input of which at most so many octets are looked at
+pub record AnswersLines (p : Party) (most : ℕ) (input text : List ℕ) : Type 0 where
+  pub events : List NodeEvent
+  pub closing : List ℕ
+  pub said : map node_event_of (take (length events) (lines_within most input)) ≡ map Ok (reverse events)
+  pub written : text ≡ text_after p events ++ closing
+  pub closes : IsClosing closing
+
+-- ---- red parts
 
 -- the red parts that are handed up
 abbrev pub ups_in : Result EngineStep SubmitFault → List UpValue
@@ -28,7 +69,7 @@ ups_in (Err fault) = []
 
 -- those that are handed up with an event
 abbrev pub ups_at : NodeState → NodeEvent → List UpValue
-ups_at node event = ups_in (engine_does node.party node.engine (moment_of node.now event) event)
+ups_at node event = ups_in (done_at node event)
 
 -- all that were handed up
 unfoldable pub all_ups : Party → List NodeEvent → List UpValue
@@ -51,6 +92,12 @@ comings_of [] = []
 comings_of (event ∷ earlier) = coming_of (clock_after (event ∷ earlier)) event ∷ comings_of earlier
 
 -- ---- the laws
+
+-- what `node` answers to an input is what it answers to the events that its lines say
+abbrev pub AnswersEvents : Type 0
+AnswersEvents =
+    (own peer most : ℕ) (input : List ℕ)
+    → AnswersLines (node_party own peer) most input (within most (settles own peer) at_end input).text
 
 -- a session's red part is handed up with the event that makes it whole, and with no other: place by
 -- place the first octet that came

@@ -1,7 +1,13 @@
-//! What `node` hands up, whoever is at the other end. Each law is the contract of a function that
-//! does nothing but cite that of an engine.
+//! What `node` writes and hands up, whoever is at the other end. Each law is the contract of a
+//! function that does nothing but cite that of an engine.
 
-ghost use Rattle.node_run.specs.RedParts.{HandsUpRedParts, HandsUpEachOnce};
+ghost use Rattle.node_run.specs.RedParts.{AnswersEvents, HandsUpRedParts, HandsUpEachOnce};
+
+/// Whatever the input: what is written are the answers to the events that its first lines say, in
+/// their order, and after them at most the line of a refusal.
+pub fn answers_events()
+    ensures { AnswersEvents }
+{}
 
 /// The red part of a session of the peer is handed up with the line after which its length is known
 /// and each place below it is filled, and with no other. Place by place it is the first octet that

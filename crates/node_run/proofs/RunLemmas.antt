@@ -1,0 +1,180 @@
+-- What a run writes, by the events that its lines say.
+use Rattle.std.proofs.Common.{◌≡◌, ℕ, ◌+◌, Bool, true, false, ◌||◌, nat_lt, List, [], ◌∷◌, ◌++◌, length, map, take, reverse, Some, Result, Ok, Err, refl, sym, ap, ◌∙◌, append_assoc, inl, inr, arith, if◌then◌else◌}
+use Rattle.std.proofs.lemmas.List.{map-append, reverse-append, length-append}
+use Rattle.edge_traits.specs.declared.status.Status.{Status}
+use Rattle.edge_traits.specs.declared.status.Status.TheVariants as statuses
+use Rattle.edge_traits.specs.Settled.{at_end, goes_on as going_on, Settled}
+use Rattle.command_frame.specs.InputLines.{lines_of, ended_part, lines_within}
+use Rattle.command_frame.specs.Lines.{ends_run, turn_at, after_turn, lines_settle, lines_from}
+use Rattle.command_frame.specs.Within.{within, or_limit}
+use Rattle.command_frame.proofs.FrontLemmas.{from-end, from-limit}
+use Rattle.ltp_engine.specs.RedParts.{unless_faulty}
+use Rattle.ltp_session.specs.Engine.{Party, EngineStep, SubmitFault}
+use Rattle.replay_script.specs.declared.event.NodeEvent.{NodeEvent}
+use Rattle.replay_script.specs.declared.fault.LineFault.{LineFault}
+use Rattle.replay_script.specs.Events.{node_event_of}
+use Rattle.node_run.specs.WrittenLines.{refusal_line}
+use Rattle.node_run.specs.Node.{NodeState, node_rules, node_turn, happens, answers, is_late, at_moment, moment_of, begins, node_party, settles}
+use Rattle.node_run.specs.RedParts.{node_after, after_event, done_at, answer_text, text_after, IsClosing, AnswersLines}
+
+-- what is settled after some lines, and the text before it, are the answers to events
+record Answers (p : Party) (before lines : List (List ℕ)) (so_far : List ℕ) (settled : Settled) : Type 0 where
+  events : List NodeEvent
+  closing : List ℕ
+  said : map node_event_of (take (length events) (before ++ lines)) ≡ map Ok (reverse events)
+  written : so_far ++ settled.text ≡ text_after p events ++ closing
+  closes : IsClosing closing
+  status : Status
+  ends : settled.ends ≡ Some status
+
+-- some lines say some events, the newest first
+record Said (before : List (List ℕ)) (earlier : List NodeEvent) : Type 0 where
+  many : length before ≡ length earlier
+  said : map node_event_of before ≡ map Ok (reverse earlier)
+
+taken_before : (before lines : List (List ℕ)) (n : ℕ) → length before ≡ n → take n (before ++ lines) ≡ before
+taken_before before lines n is = rw (sym is) (taken_all before)
+  where
+    taken_all : (front : List (List ℕ)) → take (length front) (front ++ lines) ≡ front
+    taken_all [] = refl
+    taken_all (line ∷ front) = ap (λ ls. line ∷ ls) (taken_all front)
+
+module _ (p : Party) (before lines : List (List ℕ)) (earlier : List NodeEvent) (says : Said before earlier) where
+  -- the run ends with these lines unanswered
+  stops : (closing : List ℕ) (status : Status) → IsClosing closing
+      → Answers p before lines (text_after p earlier) (record { text = closing; ends = Some status })
+  stops closing status closes = record {
+    events = earlier;
+    closing = closing;
+    said = ap (λ ls. map node_event_of ls) (taken_before before lines (length earlier) says.many) ∙ says.said;
+    written = refl;
+    closes = closes;
+    status = status;
+    ends = refl;
+  }
+
+-- ---- one line more
+
+more-said : (before : List (List ℕ)) (earlier : List NodeEvent) (line : List ℕ) (event : NodeEvent) → node_event_of line ≡ Ok event
+    → Said before earlier → Said (before ++ line ∷ []) (event ∷ earlier)
+more-said before earlier line event is says = record {
+  many = length-append before (line ∷ []) ∙ (ap (λ n. n + 1) says.many ∙ omega arith);
+  said =
+      map-append node_event_of before (line ∷ [])
+      ∙ (ap (λ xs. xs ++ node_event_of line ∷ []) says.said
+      ∙ (ap (λ x. map Ok (reverse earlier) ++ x ∷ []) is
+      ∙ (sym (map-append Ok (reverse earlier) (event ∷ [])) ∙ ap (λ es. map Ok es) (sym (reverse-append (event ∷ []) earlier)))));
+}
+
+module _ (p : Party) (before lines : List (List ℕ)) (line : List ℕ) (earlier : List NodeEvent) (event : NodeEvent) where
+  -- what comes after an answered line, with the line before it
+  goes_on : (text : List ℕ) (later : Settled) → text ≡ answer_text (done_at (node_after p earlier) event)
+      → Answers p (before ++ line ∷ []) lines (text_after p (event ∷ earlier)) later
+      → Answers p before (line ∷ lines) (text_after p earlier) (record { text = text ++ later.text; ends = later.ends })
+  unfolding text_after
+  goes_on text later is rest = record {
+    events = rest.events;
+    closing = rest.closing;
+    said = ap (λ ls. map node_event_of (take (length rest.events) ls)) (sym (append_assoc before (line ∷ []) lines)) ∙ rest.said;
+    written =
+        ap (λ t. text_after p earlier ++ (t ++ later.text)) is
+        ∙ (sym (append_assoc (text_after p earlier) (answer_text (done_at (node_after p earlier) event)) later.text) ∙ rest.written);
+    closes = rest.closes;
+    status = rest.status;
+    ends = rest.ends;
+  }
+
+-- ---- a turn
+
+-- the line is answered, where it isn't refused and passes no limit; `settle` is what the lines after
+-- it settle
+module _ (p : Party) (before lines : List (List ℕ)) (line : List ℕ) (earlier : List NodeEvent) (says : Said before earlier) (settle : NodeState → Settled) where
+  answered : (event : NodeEvent) (did : Result EngineStep SubmitFault) → did ≡ done_at (node_after p earlier) event
+      → Answers p (before ++ line ∷ []) lines (text_after p (event ∷ earlier))
+      (settle (record (at_moment (node_after p earlier) (moment_of (node_after p earlier).now event)) { engine = unless_faulty (node_after p earlier).engine did }))
+      → Answers p before (line ∷ lines) (text_after p earlier)
+      (after_turn (answers (at_moment (node_after p earlier) (moment_of (node_after p earlier).now event)) did) settle)
+  answered event (Ok step) is later = goes_on p before lines line earlier event (answer_text (Ok step)) _ (ap answer_text is) later
+  answered event (Err fault) is later = goes_on p before lines line earlier event (answer_text (Err fault)) _ (ap answer_text is) later
+
+  happened : (event : NodeEvent)
+      → Answers p (before ++ line ∷ []) lines (text_after p (event ∷ earlier)) (settle (after_event (node_after p earlier) event))
+      → Answers p before (line ∷ lines) (text_after p earlier) (after_turn (happens (node_after p earlier) event) settle)
+  happened event later = by_late (is_late event)
+    where
+      by_late : (t : Bool) → Answers p before (line ∷ lines) (text_after p earlier)
+          (after_turn (if t then ends_run [] statuses.Limit
+          else answers (at_moment (node_after p earlier) (moment_of (node_after p earlier).now event)) (done_at (node_after p earlier) event)) settle)
+      by_late true = stops p before (line ∷ lines) earlier says [] statuses.Limit (inl refl)
+      by_late false = answered event (done_at (node_after p earlier) event) refl later
+
+  turned : (n : ℕ) (said : Result NodeEvent LineFault) → node_event_of line ≡ said
+      → ((event : NodeEvent) → node_event_of line ≡ Ok event
+      → Answers p (before ++ line ∷ []) lines (text_after p (event ∷ earlier)) (settle (after_event (node_after p earlier) event)))
+      → Answers p before (line ∷ lines) (text_after p earlier) (after_turn (node_turn n (node_after p earlier) said) settle)
+  unfolding node_turn
+  turned n (Ok event) is later = happened event (later event is)
+  turned n (Err fault) is later =
+      stops p before (line ∷ lines) earlier says (refusal_line n fault) statuses.Refused (inr (n, fault, refl))
+
+  line_turned : (n : ℕ)
+      → ((event : NodeEvent) → node_event_of line ≡ Ok event
+      → Answers p (before ++ line ∷ []) lines (text_after p (event ∷ earlier)) (settle (after_event (node_after p earlier) event)))
+      → Answers p before (line ∷ lines) (text_after p earlier) (after_turn (turn_at node_rules n (node_after p earlier) line) settle)
+  unfolding turn_at
+  line_turned n later = by_past (nat_lt node_rules.lines n || nat_lt node_rules.octets (length line))
+    where
+      by_past : (t : Bool) → Answers p before (line ∷ lines) (text_after p earlier)
+          (after_turn (if t then ends_run [] statuses.Limit else node_turn n (node_after p earlier) (node_event_of line)) settle)
+      by_past true = stops p before (line ∷ lines) earlier says [] statuses.Limit (inl refl)
+      by_past false = turned n (node_event_of line) refl later
+
+-- ---- all lines
+
+keeps_from : (p : Party) (n : ℕ) (before lines : List (List ℕ)) (earlier : List NodeEvent) (ending : Status) → Said before earlier
+    → Answers p before lines (text_after p earlier)
+    (lines_settle node_rules n (node_after p earlier) lines (λ now. record { text = []; ends = Some ending }))
+unfolding lines_settle node_after
+keeps_from p n before [] earlier ending says = stops p before [] earlier says [] ending (inl refl)
+keeps_from p n before (line ∷ lines) earlier ending says =
+    line_turned p before lines line earlier says (λ now. lines_settle node_rules (n + 1) now lines (λ last. record { text = []; ends = Some ending })) n
+    (λ event is. keeps_from p (n + 1) (before ++ line ∷ []) lines (event ∷ earlier) ending (more-said before earlier line event is says))
+
+none_said : Said [] []
+none_said = record { many = refl; said = refl }
+
+from_start : (p : Party) (lines : List (List ℕ)) (ending : Status)
+    → Answers p [] lines [] (lines_settle node_rules 1 (begins p) lines (λ now. record { text = []; ends = Some ending }))
+unfolding node_after text_after
+from_start p lines ending = keeps_from p 1 [] lines [] ending none_said
+
+-- what `node` answers to an input
+answers_all : (own peer most : ℕ) (input : List ℕ)
+    → Answers (node_party own peer) [] (lines_within most input) [] (within most (settles own peer) at_end input)
+unfolding within lines_within
+answers_all own peer most input = by_test (nat_lt most (length input))
+  where
+    by_test : (t : Bool) → Answers (node_party own peer) [] (if t then lines_of (ended_part (take most input)) else lines_of input) []
+        (if t then or_limit (lines_from node_rules 1 (begins (node_party own peer)) going_on (take most input))
+        else lines_from node_rules 1 (begins (node_party own peer)) at_end input)
+    by_test true =
+        rw (from-limit node_rules 1 (begins (node_party own peer)) (take most input))
+        (from_start (node_party own peer) (lines_of (ended_part (take most input))) statuses.Limit)
+    by_test false =
+        rw (from-end node_rules 1 (begins (node_party own peer)) input)
+        (from_start (node_party own peer) (lines_of input) statuses.Done)
+
+-- the text of the answer, and how the run ends by it
+pub record Lawful (own peer most : ℕ) (input : List ℕ) : Type 0 where
+  pub status : Status
+  pub is : (within most (settles own peer) at_end input).ends ≡ Some status
+  pub law : AnswersLines (node_party own peer) most input (within most (settles own peer) at_end input).text
+
+pub answers_lines : (own peer most : ℕ) (input : List ℕ) → Lawful own peer most input
+answers_lines own peer most input =
+    let all = answers_all own peer most input in
+    record {
+      status = all.status;
+      is = all.ends;
+      law = record { events = all.events; closing = all.closing; said = all.said; written = all.written; closes = all.closes };
+    }

@@ -1,5 +1,5 @@
 -- What a run wrote, by its command.
-use Rattle.std.proofs.Common.{◌≡◌, ℕ, List, [], ◌++◌, Option, None, Some, IfSome, IsSomeAnd, refl, sym, ◌∙◌}
+use Rattle.std.proofs.Common.{◌≡◌, ℕ, List, [], ◌++◌, Option, None, Some, IfSome, refl, sym, ◌∙◌}
 use Rattle.std.proofs.lemmas.List.{append-nil}
 use Rattle.edge_traits.specs.declared.status.Status.{Status}
 use Rattle.edge_traits.specs.declared.status.Status.TheVariants as statuses
@@ -7,19 +7,23 @@ use Rattle.edge_traits.specs.Content.{GainsFront, most_input}
 use Rattle.edge_traits.specs.Outcome.{SourceTells, SinkTells, EndsAs, Wrote, Ran, IsAnswer}
 use Rattle.gateway_run.specs.declared.commands.command.Command.{Command}
 use Rattle.gateway_run.specs.declared.commands.command.Command.TheVariants as commands
-use Rattle.gateway_run.specs.Receive.{Limits, the_limits, receive_rules, received}
+use Rattle.gateway_run.specs.Receive.{Limits, the_limits, receive_rules}
 use Rattle.gateway_run.specs.Receive as receive
 use Rattle.node_run.specs.Node.{node_rules, begins, node_party}
 use Rattle.node_run.specs.Node as node
-use Rattle.gateway_run.specs.Words.{settles, KeepsLaw, WritesLawfully}
-use Rattle.edge_traits.specs.Settled.{EarliestDecides}
+use Rattle.node_run.specs.RedParts.{AnswersLines}
+use Rattle.node_run.proofs.RunLemmas.{answers_lines}
+use Rattle.command_frame.specs.Task.{Settling}
+use Rattle.gateway_run.specs.ReceiverLaw.{KeepsReceiverLaw}
+use Rattle.gateway_run.specs.Words.{settles, KeepsLaw, WritesLawfully, IsLawful}
+use Rattle.edge_traits.specs.Settled.{at_end, EarliestDecides}
 use Rattle.command_frame.specs.Within.{within}
 use Rattle.command_frame.proofs.WithinLemmas.{within-front}
 use Rattle.command_frame.proofs.FrontLemmas.{lines_from-front}
 use Rattle.command_frame.proofs.DriveLemmas.{fault-front}
 use Rattle.bundle_runs.specs.Laws.{EarliestOctetDecides}
 use Rattle.bundle_runs.proofs.LawLemmas.{earliest_decides}
-use Rattle.gateway_run.proofs.TranscriptLemmas.{Lawful, received-law}
+use Rattle.gateway_run.proofs.TranscriptLemmas.{received-law}
 
 -- ---- fronts
 
@@ -30,67 +34,83 @@ node-front : (own peer : ℕ) → EarliestDecides (within most_input (node.settl
 node-front own peer =
     within-front most_input (node.settles own peer) (lines_from-front node_rules 1 (begins (node_party own peer)))
 
--- ---- the receiver's law
+-- ---- the laws
 
-module _ (input : List ℕ) (lawful : Lawful the_limits most_input input) where
-  whole_text : (status : Status) (held after : List ℕ) → (received the_limits most_input input).ends ≡ Some status
-      → after ≡ held ++ (received the_limits most_input input).text → WritesLawfully input status held after
-  whole_text status held after is gained = record {
-    text = (received the_limits most_input input).text;
-    ending = lawful.status;
-    law = lawful.law;
-    written = (received the_limits most_input input).text;
+-- what a command's octets settle keeps a law
+module _ (settling : Settling) (decides : EarliestDecides settling) (input : List ℕ) (Law : List ℕ → Status → Type 0)
+    (ending : Status) (is : (settling at_end input).ends ≡ Some ending) (law : Law (settling at_end input).text ending) where
+  whole_text : (status : Status) (held after : List ℕ) → (settling at_end input).ends ≡ Some status
+      → after ≡ held ++ (settling at_end input).text → WritesLawfully Law status held after
+  whole_text status held after due gained = record {
+    text = (settling at_end input).text;
+    ending = ending;
+    law = law;
+    written = (settling at_end input).text;
     rest = [];
-    front = sym (append-nil (received the_limits most_input input).text);
+    front = sym (append-nil (settling at_end input).text);
     after_is = gained;
-    whole = λ answer. let same : Some lawful.status ≡ Some status = sym lawful.is ∙ is in (refl, cc);
+    whole = λ answer. let same : Some ending ≡ Some status = sym is ∙ due in (refl, cc);
   }
 
   front_text : (status : Status) (held after written rest : List ℕ) → (IsAnswer status → ⊥)
-      → (received the_limits most_input input).text ≡ written ++ rest → after ≡ held ++ written → WritesLawfully input status held after
-  front_text status held after written rest early parts is = record {
-    text = (received the_limits most_input input).text;
-    ending = lawful.status;
-    law = lawful.law;
+      → (settling at_end input).text ≡ written ++ rest → after ≡ held ++ written → WritesLawfully Law status held after
+  front_text status held after written rest early parts gained = record {
+    text = (settling at_end input).text;
+    ending = ending;
+    law = law;
     written = written;
     rest = rest;
     front = parts;
-    after_is = is;
+    after_is = gained;
     whole = λ answer. absurd (early answer);
   }
 
-  whole_gains : (status : Status) (before now : Option (List ℕ)) → EndsAs (received the_limits most_input input) status before now
-      → IfSome now (λ after. IsSomeAnd before (λ held. WritesLawfully input status held after))
+  whole_gains : (status : Status) (before now : Option (List ℕ)) → EndsAs (settling at_end input) status before now
+      → IsLawful Law status before now
   whole_gains status before None ends = tt
   whole_gains status None (Some after) ends = absurd ends.1
   whole_gains status (Some held) (Some after) ends = whole_text status held after ends.0 ends.1
 
-  front_gains : (status : Status) (before now : Option (List ℕ)) → (IsAnswer status → ⊥) → GainsFront before now (received the_limits most_input input).text
-      → IfSome now (λ after. IsSomeAnd before (λ held. WritesLawfully input status held after))
+  front_gains : (status : Status) (before now : Option (List ℕ)) → (IsAnswer status → ⊥) → GainsFront before now (settling at_end input).text
+      → IsLawful Law status before now
   front_gains status before None early gains = tt
   front_gains status None (Some after) early gains = absurd gains
   front_gains status (Some held) (Some after) early gains =
-      let (written, rest, parts, is) = gains in front_text status held after written rest early parts is
+      let (written, rest, parts, gained) = gains in front_text status held after written rest early parts gained
 
-  keeps : (status : Status) (left before now : Option (List ℕ)) → Wrote (settles commands.Receive) status input left before now
-      → IfSome now (λ after. IsSomeAnd before (λ held. WritesLawfully input status held after))
+  keeps : (status : Status) (left before now : Option (List ℕ)) → Wrote settling status input left before now → IsLawful Law status before now
   keeps statuses.Done left before now wrote = whole_gains statuses.Done before now wrote
   keeps statuses.Refused left before now wrote = whole_gains statuses.Refused before now wrote
   keeps statuses.Limit left before now wrote = whole_gains statuses.Limit before now wrote
   keeps statuses.Usage left before now wrote = absurd wrote
   keeps statuses.ReadFault left before now wrote =
-      front_gains statuses.ReadFault before now (λ no_answer. no_answer) (fault-front (settles commands.Receive) (receive-front the_limits most_input) input left before now wrote)
+      front_gains statuses.ReadFault before now (λ no_answer. no_answer) (fault-front settling decides input left before now wrote)
   keeps statuses.WriteFault left before now wrote = front_gains statuses.WriteFault before now (λ no_answer. no_answer) wrote
   keeps statuses.Memory left before now wrote = front_gains statuses.Memory before now (λ no_answer. no_answer) wrote.1
+
+receive-keeps : (input : List ℕ) (status : Status) (left before now : Option (List ℕ)) → Wrote (settles commands.Receive) status input left before now
+    → IsLawful (KeepsReceiverLaw the_limits most_input input) status before now
+receive-keeps input =
+    let lawful = received-law the_limits most_input input in
+    keeps (settles commands.Receive) (receive-front the_limits most_input) input (KeepsReceiverLaw the_limits most_input input) lawful.status lawful.is lawful.law
+
+node-keeps : (own peer : ℕ) (input : List ℕ) (status : Status) (left before now : Option (List ℕ))
+    → Wrote (settles (commands.Node own peer)) status input left before now
+    → IsLawful (λ text ending. AnswersLines (node_party own peer) most_input input text) status before now
+node-keeps own peer input =
+    let lawful = answers_lines own peer most_input input in
+    keeps (settles (commands.Node own peer)) (node-front own peer) input (λ text ending. AnswersLines (node_party own peer) most_input input text)
+    lawful.status lawful.is lawful.law
 
 pub keeps_law : (input : Option (List ℕ)) (named : Option Command) (command : Command) (status : Status) (left before now : Option (List ℕ))
     → named ≡ Some command → IfSome input (λ all. Wrote (settles command) status all left before now)
     → IfSome input (λ all. KeepsLaw named all status before now)
 keeps_law None named command status left before now is wrote = tt
 keeps_law (Some input) named (commands.Bundles command) status left before now is wrote = rw is tt
-keeps_law (Some input) named (commands.Node own peer) status left before now is wrote = rw is tt
+keeps_law (Some input) named (commands.Node own peer) status left before now is wrote =
+    rw is (node-keeps own peer input status left before now wrote)
 keeps_law (Some input) named commands.Receive status left before now is wrote =
-    rw is (keeps input (received-law the_limits most_input input) status left before now wrote)
+    rw is (receive-keeps input status left before now wrote)
 
 -- ---- fronts
 

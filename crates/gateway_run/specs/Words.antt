@@ -10,7 +10,9 @@ use Rattle.command_frame.specs.Within.{within}
 use Rattle.bundle_runs.specs.declared.commands.command.Command.TheVariants.{Check, Show, Convert}
 use Rattle.bundle_runs.specs.Answering as bundles
 use Rattle.replay_script.specs.Events.{number_in}
+use Rattle.node_run.specs.Node.{node_party}
 use Rattle.node_run.specs.Node as node
+use Rattle.node_run.specs.RedParts.{AnswersLines}
 use Rattle.gateway_run.specs.declared.commands.command.Command.{Command}
 use Rattle.gateway_run.specs.declared.commands.command.Command.TheVariants as commands
 use Rattle.gateway_run.specs.Receive as receive
@@ -81,25 +83,31 @@ CompletesCommand None input status = Unit {0}
 CompletesCommand (Some command) input status =
     ((settles command at_end input).ends ≡ Some status) ⊎ (status ≡ statuses.Memory)
 
--- ---- the receiver's law
+-- ---- the laws
 
--- after what was held stands a text that keeps the law, whole where the run answered the input,
--- and else a front of one
-pub record WritesLawfully (input : List ℕ) (status : Status) (held after : List ℕ) : Type 0 where
+-- after what was held stands a text that keeps a law, whole where the run answered the input, and
+-- else a front of one
+pub record WritesLawfully (Law : List ℕ → Status → Type 0) (status : Status) (held after : List ℕ) : Type 0 where
   pub text : List ℕ
   pub ending : Status
-  pub law : KeepsReceiverLaw the_limits most_input input text ending
+  pub law : Law text ending
   pub written : List ℕ
   pub rest : List ℕ
   pub front : text ≡ written ++ rest
   pub after_is : after ≡ held ++ written
   pub whole : IsAnswer status → (rest ≡ []) × (ending ≡ status)
 
--- what `receive` wrote keeps the law; where a run ended early, what was written is a front of
--- such a text
+-- what was written keeps the law; where a run ended early, it is a front of such a text
+abbrev pub IsLawful : (List ℕ → Status → Type 0) → Status → Option (List ℕ) → Option (List ℕ) → Type 0
+IsLawful Law status before now =
+    IfSome now (λ after. IsSomeAnd before (λ held. WritesLawfully Law status held after))
+
+-- the law of a command: of `receive` the receiver's, and of `node` that the events which its lines
+-- say are answered, whose red parts keep the receiver's law too
 abbrev pub KeepsLaw : Option Command → List ℕ → Status → Option (List ℕ) → Option (List ℕ) → Type 0
 KeepsLaw None input status before now = Unit {0}
 KeepsLaw (Some (commands.Bundles command)) input status before now = Unit {0}
-KeepsLaw (Some (commands.Node own peer)) input status before now = Unit {0}
+KeepsLaw (Some (commands.Node own peer)) input status before now =
+    IsLawful (λ text ending. AnswersLines (node_party own peer) most_input input text) status before now
 KeepsLaw (Some commands.Receive) input status before now =
-    IfSome now (λ after. IsSomeAnd before (λ held. WritesLawfully input status held after))
+    IsLawful (KeepsReceiverLaw the_limits most_input input) status before now

@@ -42,7 +42,8 @@ pub fn run<S: Source, K: Sink, L: Link, C: Clock>(
         → IfSome (S.left source.old) (λ input. CompletesCommand (command_of words.now) input result) }
 
     // `receive` hands up exactly the red parts that become whole, and ends where a line is refused
-    // or a limit is passed.
+    // or a limit is passed. `node` answers the events that its lines say, whose red parts keep the
+    // same law (`node_run::laws`).
     ensures red_parts { IfSome (S.left source.old) (λ input.
         KeepsLaw (command_of words.now) input result (K.held sink.old) (K.held sink.new)) }
 

@@ -20,7 +20,7 @@ use Rattle.bundle_runs.specs.Front.{front_of, front_by, front_read, front6, fron
 use Rattle.bundle_runs.specs.Fronts.{after_front, first_fronts, fronts_of}
 use Rattle.bundle_runs.specs.Answering.{by_bundles, step_of, after_said, after_last, unfinished, refused_by, settles_from}
 use Rattle.bundle_runs.specs.WrittenLines.{refused_line, turned_down_line}
-use Rattle.bundle_runs.specs.Said.{says, refuses}
+use Rattle.fragment_lines.specs.Said.{says, refuses}
 use Rattle.bundle_runs.proofs.FrontLemmas.{six-within, seven-within, stopped-within}
 
 -- ---- the list of fronts

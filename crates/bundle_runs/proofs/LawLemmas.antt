@@ -34,7 +34,7 @@ use Rattle.bundle_runs.specs.declared.front.Cause.TheVariants as causes
 use Rattle.bundle_runs.specs.Front.{Front, whole, cut_short, refused, front_of, stopped, word_of, IsWithin}
 use Rattle.bundle_runs.specs.Answering.{settles, settles_from, step_of, refused_by}
 use Rattle.bundle_runs.specs.WrittenLines.{refused_line, turned_down_line}
-use Rattle.bundle_runs.specs.Said.{Said, says, refuses}
+use Rattle.fragment_lines.specs.Said.{Said, says, refuses}
 use Rattle.bundle_runs.specs.Laws.{TakesBundle6, TakesBundle7, StopsAt6, StopsAt7, EndsInside6, EndsInside7, StopsAtVersion, EndsAfterLast, EarliestOctetDecides}
 use Rattle.bundle_runs.proofs.FrontLemmas.{six-within, seven-within}
 use Rattle.bundle_runs.proofs.FrontsLemmas.{settles-none, settles-whole, settles-says, settles-turned-down, settles-refused, settles-cut, front-stays, front-within}

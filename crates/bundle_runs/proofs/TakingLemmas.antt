@@ -26,10 +26,9 @@ use Rattle.bundle_runs.specs.declared.bundle_reader.Next.TheVariants.{End}
 use Rattle.bundle_runs.specs.Front.{Front, whole, cut_short, refused, front_of, front6, front7, word_of, version_of, IsWithin}
 use Rattle.bundle_runs.specs.Answering.{settles_from, step_of}
 use Rattle.bundle_runs.specs.WrittenLines.{check_line, refused_line, turned_down_line}
-use Rattle.bundle_runs.specs.Said.{says, refuses}
-use Rattle.translate.specs.declared.refused.Refused as translating
-use Rattle.translate.specs.Refusals as turned_down
-use Rattle.bundle_runs.specs.Convert.{Writes}
+use Rattle.fragment_lines.specs.Said.{says, refuses}
+use Rattle.fragment_lines.specs.declared.turned_down.TurnedDown.{TurnedDown}
+use Rattle.fragment_lines.specs.Lines.{turned_down_word, Writes}
 use Rattle.bundle_runs.specs.Given.{Finds, IsVersion, IsRead}
 use Rattle.bundle_runs.specs.Taking.{kept_of, mark_of, front_in, kept_by, settling_of, settling_after, with_unfinished, with_joiner, passed, waiting, IsReady, IsCut, HasBegun, HasBegunWith, GoesOn, Takes, IsSound, KeepsBegun, Took, GoesAfter, EndsWith, Steps, SoFar, Stands}
 use Rattle.bundle_runs.proofs.FrontsLemmas.{settles-none, settles-cut, within6, within7, front-within}
@@ -296,15 +295,15 @@ module _ (old mid : Standing) (left : List ℕ) (sound : IsSound old) (fits : Is
       let new : passed (with_joiner mid joiner) used ≡ passed (with_joiner old joiner) used = ap (λ (s : Standing). passed (with_joiner s joiner) used) took.same in
       rw new (goes-after-whole old left sound fits some b used joiner text before now room front (said-old b used took.same ∙ rw is.0 at said) memory added)
 
-  pub step-turned-down : (read : Bundle) (used : ℕ) (joins : List Join) (cause : translating.Refused) (before now after : List ℕ) → Took IsRead old left mid (Whole read used)
+  pub step-turned-down : (read : Bundle) (used : ℕ) (joins : List Join) (cause : TurnedDown) (before now after : List ℕ) → Took IsRead old left mid (Whole read used)
       → Writes (step_of mid.command mid.joiner.joins read (mid.taken + used)) before now joins (Some cause)
-      → after ≡ now ++ turned_down_line mid.number (turned_down.word_of cause) → EndsWith old left before after
+      → after ≡ now ++ turned_down_line mid.number (turned_down_word cause) → EndsWith old left before after
   step-turned-down read used joins cause before now after took (said, same) added =
       let (b, is, front) = took.finds in
-      let line : now ++ turned_down_line mid.number (turned_down.word_of cause) ≡ before ++ turned_down_line old.number (turned_down.word_of cause) =
-      ap (λ (s : Standing). now ++ turned_down_line s.number (turned_down.word_of cause)) took.same
-      ∙ ap (λ (t : List ℕ). t ++ turned_down_line old.number (turned_down.word_of cause)) same in
-      ends-turned-down old left sound fits some b used (turned_down.word_of cause) before after front (said-old b used took.same ∙ rw is.0 at said) (added ∙ line)
+      let line : now ++ turned_down_line mid.number (turned_down_word cause) ≡ before ++ turned_down_line old.number (turned_down_word cause) =
+      ap (λ (s : Standing). now ++ turned_down_line s.number (turned_down_word cause)) took.same
+      ∙ ap (λ (t : List ℕ). t ++ turned_down_line old.number (turned_down_word cause)) same in
+      ends-turned-down old left sound fits some b used (turned_down_word cause) before after front (said-old b used took.same ∙ rw is.0 at said) (added ∙ line)
 
 -- ---- the steps so far
 

@@ -6,19 +6,24 @@ use Rattle.edge_traits.specs.Settled.{Ends, at_end, goes_on, Settled, nothing_ye
 use Rattle.command_frame.specs.Within.{within}
 use Rattle.fragments.specs.declared.join.Join.{Join}
 use Rattle.bundle_runs.specs.declared.commands.command.Command.{Command}
-use Rattle.bundle_runs.specs.declared.commands.command.Command.TheVariants.{Check, Show, Convert}
+use Rattle.bundle_runs.specs.declared.commands.command.Command.TheVariants as commands
 use Rattle.bundle_runs.specs.declared.front.Bundle.{Bundle}
 use Rattle.bundle_runs.specs.Front.{word_of, version_of, Front, whole, cut_short, refused}
 use Rattle.bundle_runs.specs.Fronts.{fronts_of}
 use Rattle.bundle_runs.specs.WrittenLines.{check_line, show_line, refused_line, turned_down_line}
-use Rattle.bundle_runs.specs.Said.{Said, says, refuses, Step}
+use Rattle.fragment_lines.specs.Said.{Said, says, refuses}
 use Rattle.bundle_runs.specs.Convert.{converted}
+use Rattle.bundle_runs.specs.Fragments.{pieces_said, join_said}
 
 -- ---- one bundle
 
 -- a last line, and the run's end
 abbrev pub refused_by : List ℕ → Settled
 refused_by line = record { text = line; ends = Some statuses.Refused }
+
+-- what a command says of a bundle of so many octets that it meets in a state
+abbrev pub Step : Type 0 → Type 0
+Step S = S → Bundle → ℕ → Said S
 
 -- what was said of bundle n stands before what follows; a refusal ends the run
 abbrev pub after_said : {S : Type 0} → ℕ → Said S → (S → Settled) → Settled
@@ -58,9 +63,11 @@ leaving state (refuses word) = refuses word
 -- What a command says of a bundle of so many octets. The state of all commands is that of `join`: the
 -- joins that are open.
 abbrev pub step_of : Command → Step (List Join)
-step_of Check joins bundle size = says (check_line (version_of bundle) size) joins
-step_of Show joins bundle size = says (show_line bundle) joins
-step_of Convert joins bundle size = leaving joins (converted bundle)
+step_of commands.Check joins bundle size = says (check_line (version_of bundle) size) joins
+step_of commands.Show joins bundle size = says (show_line bundle) joins
+step_of commands.Convert joins bundle size = leaving joins (converted bundle)
+step_of (commands.Cut most) joins bundle size = leaving joins (pieces_said most bundle)
+step_of commands.Join joins bundle size = join_said joins bundle
 
 -- what octets settle of which the first is at a place of the input, where bundle n begins
 unfoldable pub settles_from : Command → List Join → (n at : ℕ) → Ends → List ℕ → Settled

@@ -2,8 +2,8 @@ pub mod Front
 pub mod Fronts
 pub mod Show
 pub mod WrittenLines
-pub mod Said
 pub mod Convert
+pub mod Fragments
 pub mod Answering
 pub mod Laws
 -- what only ties code to these

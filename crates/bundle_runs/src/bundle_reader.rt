@@ -17,7 +17,7 @@ use crate::unfinished::Unfinished;
 use crate::written_lines::{write_check, write_refused, write_turned_down};
 use command_frame::Task;
 use edge_traits::{MOST_INPUT, Status};
-use fragments::Joiner;
+use fragment_lines::BundleJoiner;
 use std::alloc::{AllocError, Global};
 use std::marker::Model;
 
@@ -45,7 +45,7 @@ impl Model for BundleReader {
 pub struct Standing {
     command: Command,
     /// The fragments that came, where the command is `join`.
-    joiner: Joiner,
+    joiner: BundleJoiner,
     /// Which bundle of the input is the next to end, from 1.
     number: u64,
     /// The place of its first octet in the input.
@@ -117,7 +117,7 @@ impl Standing {
     {
         Standing {
             command,
-            joiner: Joiner::new(alloc),
+            joiner: BundleJoiner::new(alloc),
             number: 1,
             at: 0,
             taken: 0,
@@ -273,7 +273,10 @@ impl Standing {
         self.number += 1;
         self.at += self.taken + used;
         self.taken = 0;
-        self.unfinished = None;
+        // To write none is to clear the room for a reader, so it isn't done for each bundle.
+        if self.unfinished.is_some() {
+            self.unfinished = None;
+        }
         Next::After(used)
     }
 

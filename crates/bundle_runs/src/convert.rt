@@ -4,13 +4,14 @@ ghost use Rattle.std.specs.String.{string_bytes};
 ghost use Rattle.bundle6.specs.Legal.{IsLegal as IsLegal6};
 ghost use Rattle.bundle7.specs.Legal.{IsLegal7};
 ghost use Rattle.translate.specs.Translation.{to_new_refusal, to_old_refusal};
+ghost use Rattle.fragment_lines.specs.Lines.{Writes};
 ghost use Rattle.bundle_runs.specs.Legal.{IsLegal};
-ghost use Rattle.bundle_runs.specs.Convert.{converted, converted6, converted7, Writes};
+ghost use Rattle.bundle_runs.specs.Convert.{converted, converted6, converted7};
 
 use crate::front::Bundle;
-use crate::written_lines::write_hex;
 use bundle6::{Bundle6, encode6};
 use bundle7::{Bundle7, encode7};
+use fragment_lines::{TurnedDown, write_hex};
 use std::alloc::{AllocError, Global};
 use translate::{Refused, to_new, to_old};
 
@@ -19,7 +20,7 @@ pub fn convert(
     alloc: Global,
     text: &mut String,
     bundle: &Bundle,
-) -> Result<Option<Refused>, AllocError>
+) -> Result<Option<TurnedDown>, AllocError>
     requires { IsLegal bundle.now }
     ensures { IfOk result (Writes (converted bundle.now) (string_bytes text.old) (string_bytes text.new) tt) }
 {
@@ -35,7 +36,7 @@ fn convert_to_new(
     alloc: Global,
     text: &mut String,
     bundle: &Bundle6,
-) -> Result<Option<Refused>, AllocError>
+) -> Result<Option<TurnedDown>, AllocError>
     requires { IsLegal6 bundle.now }
     ensures said { IfOk result (Writes (converted6 bundle.now) (string_bytes text.old) (string_bytes text.new) tt) }
     ensures memory { OnErr result (to_new_refusal bundle.now ≡ None) }
@@ -47,7 +48,7 @@ fn convert_to_new(
         }
         Err(refused) => match refused {
             Refused::Memory => Err(AllocError),
-            cause => Ok(Some(cause)),
+            cause => Ok(Some(TurnedDown::Untranslated(cause))),
         },
     }
 }
@@ -58,7 +59,7 @@ fn convert_to_old(
     alloc: Global,
     text: &mut String,
     bundle: &Bundle7,
-) -> Result<Option<Refused>, AllocError>
+) -> Result<Option<TurnedDown>, AllocError>
     requires { IsLegal7 bundle.now }
     ensures said { IfOk result (Writes (converted7 bundle.now) (string_bytes text.old) (string_bytes text.new) tt) }
     ensures memory { OnErr result (to_old_refusal bundle.now ≡ None) }
@@ -70,7 +71,7 @@ fn convert_to_old(
         }
         Err(refused) => match refused {
             Refused::Memory => Err(AllocError),
-            cause => Ok(Some(cause)),
+            cause => Ok(Some(TurnedDown::Untranslated(cause))),
         },
     }
 }

@@ -3,19 +3,22 @@
 //!
 //! [`bundles`] reads a source, and writes to a sink what a [`Command`] says of each bundle in
 //! turn: `check` its version and how many octets it has, `show` its values as JSON, `convert` the
-//! octets of the bundle of the other version that it becomes. The first octet of a bundle names its
-//! version. The first bundle that doesn't decode ends the run, with a line that says which one it is,
-//! the place in the input and the cause; so does the first that isn't translated, and its line has no
-//! place.
+//! octets of the bundle of the other version that it becomes, `cut` its pieces, and `join` what comes of
+//! it beside the fragments before it. The first octet of a bundle names its version. The first bundle that
+//! doesn't decode ends the run, with a line that says which one it is, the place in the input and the
+//! cause; so does the first that isn't translated or cut, and its line has no place. What the joiner
+//! refuses has a line like any other.
 //!
 //! What a command answers is one definition from octets to the text and the status
 //! (`specs/Answering.antt`). A [`BundleReader`] is told the octets as they come, and keeps those of at
-//! most one unfinished bundle; `command_frame` drives it, and writes what is settled before it reads on.
+//! most one unfinished bundle, and of the fragments that aren't joined yet; `command_frame` drives it,
+//! and writes what is settled before it reads on.
 #![tactic(auto)]
 
 mod bundle_reader;
 mod commands;
 mod convert;
+mod fragmenting;
 mod front;
 mod given;
 mod laws;

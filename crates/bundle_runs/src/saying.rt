@@ -1,32 +1,32 @@
 //! What a command says of a bundle.
-ghost use Rattle.std.specs.Prelude.{◌≡◌, false, IfOk};
+ghost use Rattle.std.specs.Prelude.{◌≡◌, false, IfOk, OnOk};
 ghost use Rattle.std.specs.String.{string_bytes};
+ghost use Rattle.fragment_lines.specs.Lines.{Writes};
 ghost use Rattle.bundle_runs.specs.Answering.{step_of};
-ghost use Rattle.bundle_runs.specs.Convert.{Writes};
 ghost use Rattle.bundle_runs.specs.Legal.{IsLegal};
 
 use crate::commands::command::Command;
 use crate::convert::convert;
+use crate::fragmenting::{cut, join};
 use crate::front::Bundle;
 use crate::written_lines::{write_check, write_show};
-use fragments::Joiner;
+use fragment_lines::{BundleJoiner, TurnedDown};
 use std::alloc::{AllocError, Global};
-use translate::Refused;
 
 /// Writes what a command says of a bundle of so many octets, or says why it refuses the bundle.
 pub fn say(
     alloc: Global,
     command: Command,
-    joiner: &mut Joiner,
+    joiner: &mut BundleJoiner,
     bundle: &Bundle,
     size: usize,
     text: &mut String,
-) -> Result<Option<Refused>, AllocError>
+) -> Result<Option<TurnedDown>, AllocError>
     requires legal { IsLegal bundle.now }
     requires memory { joiner.old.spent ≡ false }
     ensures said { IfOk result (Writes (step_of command joiner.old.joins bundle.now size)
         (string_bytes text.old) (string_bytes text.new) joiner.new.joins) }
-    ensures memory { IfOk result (λ _. joiner.new.spent ≡ false) }
+    ensures memory { OnOk result (joiner.new.spent ≡ false) }
 {
     match command {
         Command::Check => {
@@ -38,5 +38,7 @@ pub fn say(
             Ok(None)
         }
         Command::Convert => convert(alloc, text, bundle),
+        Command::Cut(most) => cut(alloc, text, bundle, most),
+        Command::Join => join(joiner, text, bundle),
     }
 }

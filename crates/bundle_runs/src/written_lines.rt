@@ -3,7 +3,6 @@ ghost use Rattle.std.specs.Prelude.{◌≡◌, ◌++◌, OnOk};
 ghost use Rattle.std.specs.String.{string_bytes};
 ghost use Rattle.bundle_runs.specs.Legal.{IsLegal};
 ghost use Rattle.bundle_runs.specs.WrittenLines.{check_line, show_line, refused_line, turned_down_line};
-ghost use Rattle.bundle_runs.specs.Convert.{hex_line};
 
 use crate::front::Bundle;
 use crate::show::shown;
@@ -23,14 +22,6 @@ pub fn write_show(alloc: Global, text: &mut String, bundle: &Bundle) -> Result<(
 {
     let json = shown(alloc, bundle)?;
     write!(text, "{json}\n")
-}
-
-/// Octets in hex of lower case.
-pub fn write_hex(alloc: Global, text: &mut String, octets: &[u8]) -> Result<(), AllocError>
-    ensures { OnOk result (string_bytes text.new ≡ string_bytes text.old ++ hex_line octets.now) }
-{
-    let digits = hex::encode(alloc, octets)?;
-    write!(text, "{digits}\n")
 }
 
 /// Bundle `number` is valid, and is refused.

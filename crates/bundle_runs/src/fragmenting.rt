@@ -1,0 +1,55 @@
+//! `cut` and `join` of a bundle of either version.
+ghost use Rattle.std.specs.Prelude.{◌≡◌, ◌<◌, false, IfOk, OnOk};
+ghost use Rattle.std.specs.String.{string_bytes};
+ghost use Rattle.fragment_lines.specs.Lines.{Writes};
+ghost use Rattle.bundle_runs.specs.Fragments.{piece_size, pieces_said, join_said};
+ghost use Rattle.bundle_runs.specs.Legal.{IsLegal};
+
+use crate::front::Bundle;
+use fragment_lines::{BundleJoiner, TurnedDown, cut6, cut7};
+use std::alloc::{AllocError, Global};
+
+/// Writes the pieces of a bundle with so many octets of its payload, or says why it is turned down.
+pub fn cut(
+    alloc: Global,
+    text: &mut String,
+    bundle: &Bundle,
+    size: u64,
+) -> Result<Option<TurnedDown>, AllocError>
+    requires { IsLegal bundle.now }
+    ensures { IfOk result (Writes (pieces_said size bundle.now) (string_bytes text.old) (string_bytes text.new) tt) }
+{
+    match bundle {
+        Bundle::Six(bundle) => cut6(alloc, text, bundle, piece_size(size)),
+        Bundle::Seven(bundle) => cut7(alloc, text, bundle, piece_size(size)),
+    }
+}
+
+/// A piece has an octet at least.
+fn piece_size(size: u64) -> u64
+    ensures some { 0 < result }
+    ensures is { result ≡ piece_size size }
+{
+    match size {
+        0 => 1,
+        _ => size,
+    }
+}
+
+/// Writes what comes of a bundle beside the fragments that came before, or says why it is turned down.
+pub fn join(
+    joiner: &mut BundleJoiner,
+    text: &mut String,
+    bundle: &Bundle,
+) -> Result<Option<TurnedDown>, AllocError>
+    requires legal { IsLegal bundle.now }
+    requires memory { joiner.old.spent ≡ false }
+    ensures said { IfOk result (Writes (join_said joiner.old.joins bundle.now)
+        (string_bytes text.old) (string_bytes text.new) joiner.new.joins) }
+    ensures memory { OnOk result (joiner.new.spent ≡ false) }
+{
+    match bundle {
+        Bundle::Six(bundle) => joiner.join6(text, bundle),
+        Bundle::Seven(bundle) => joiner.join7(text, bundle),
+    }
+}

@@ -38,7 +38,7 @@ fn usage(words: &[Word]) -> &'static str {
     match words {
         [_, option] if option.octets().starts_with(b"-") => USAGE,
         [word, ..] if word.octets() == b"node".as_slice() => {
-            "fimdahol: node wants the numbers of two engines: fimdahol node OWN PEER < EVENTS\n"
+            "fimdahol: node wants two different numbers, from 1 to 4294967295: fimdahol node OWN PEER < EVENTS\n"
         }
         [word, _file] if word.octets() == b"receive".as_slice() => {
             "fimdahol: receive reads standard input: fimdahol receive < FILE\n"

@@ -10,6 +10,8 @@ usage: fimdahol receive < DATAGRAMS      hands up the red parts of recorded LTP 
        fimdahol check < BUNDLES          says the version and the size of each recorded bundle
        fimdahol show < BUNDLES           shows the values of each recorded bundle as JSON
        fimdahol convert < BUNDLES        writes each recorded bundle in the other version
+       fimdahol cut SIZE < BUNDLES       cuts each recorded bundle into pieces
+       fimdahol join < BUNDLES           puts recorded pieces together
        fimdahol node OWN PEER < EVENTS   is one end of an LTP link, by the numbers of two engines
        fimdahol --help | --version
 
@@ -21,12 +23,18 @@ receive reads one datagram in hex a line and writes
   refused line LINE Hex          last, where a line is no hex
   refused line LINE AT CAUSE     last, where a datagram is no segment, and where
 
-check, show and convert read the octets of bundles of both versions, end to end, and write
+check, show, convert, cut and join read the octets of bundles of both versions, end to end,
+and write
   VERSION SIZE                   by check, of each bundle
   {..}                           by show, of each bundle: its values
   HEX                            by convert, of each bundle: its octets in the other version
+  HEX                            by cut, of each piece: its octets, at most SIZE of its payload
+  Waiting, Repeat, Whole HEX     by join, of each piece: something is missing, it brought nothing
+                                 new, or the bundle is whole: its octets
+  NotFragment, TooLarge, TotalDiffers, Full    by join, of a bundle that isn't joined
   refused BUNDLE AT CAUSE        last, where a bundle isn't one, and where in the input
-  refused BUNDLE CAUSE           last, by convert, where a bundle can't be translated
+  refused BUNDLE CAUSE           last, by convert, cut and join, where a bundle can't be
+                                 translated, or by cut must not be cut
 
 node reads one event a line, in HEX (a datagram comes), send HEX (a block is to be sent) or
 clock MS (time passes), and writes what the engine does

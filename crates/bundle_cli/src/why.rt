@@ -40,6 +40,12 @@ fn usage(words: &[Word]) -> &'static str {
         [word, ..] if word.octets() == b"node".as_slice() => {
             "fimdahol: node wants two different numbers, from 1 to 4294967295: fimdahol node OWN PEER < EVENTS\n"
         }
+        [word, ..] if word.octets() == b"cut".as_slice() => {
+            "fimdahol: cut wants one number, from 1 to 4194304: fimdahol cut SIZE < FILE\n"
+        }
+        [word, _file] if word.octets() == b"join".as_slice() => {
+            "fimdahol: join reads standard input: fimdahol join < FILE\n"
+        }
         [word, _file] if word.octets() == b"receive".as_slice() => {
             "fimdahol: receive reads standard input: fimdahol receive < FILE\n"
         }

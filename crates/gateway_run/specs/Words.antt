@@ -7,7 +7,7 @@ use Rattle.edge_traits.specs.Content.{most_input}
 use Rattle.edge_traits.specs.Settled.{Ends, at_end, Settled}
 use Rattle.edge_traits.specs.Outcome.{IsAnswer}
 use Rattle.command_frame.specs.Within.{within}
-use Rattle.bundle_runs.specs.declared.commands.command.Command.TheVariants.{Check, Show, Convert}
+use Rattle.bundle_runs.specs.declared.commands.command.Command.TheVariants.{Check, Show, Convert, Cut, Join}
 use Rattle.bundle_runs.specs.Answering as bundles
 use Rattle.replay_script.specs.Events.{number_in}
 use Rattle.node_run.specs.Node.{node_party}
@@ -29,7 +29,21 @@ one_word word =
     else if is_word word (codes "check") then Some (commands.Bundles Check)
     else if is_word word (codes "show") then Some (commands.Bundles Show)
     else if is_word word (codes "convert") then Some (commands.Bundles Convert)
+    else if is_word word (codes "join") then Some (commands.Bundles Join)
     else None
+
+-- pieces of a size
+abbrev pub pieces_of : Option ℕ → Option Command
+pieces_of None = None
+pieces_of (Some size) = Some (commands.Bundles (Cut size))
+
+-- the sizes of pieces are from 1 to 4,194,304
+abbrev pub cut_of : (size : List ℕ) → Option Command
+cut_of size = pieces_of (number_in 1 4194304 size)
+
+-- the command of two words
+abbrev pub two_words : (word second : List ℕ) → Option Command
+two_words word second = if is_word word (codes "cut") then cut_of second else None
 
 -- one end of a link, by two numbers that aren't the same
 abbrev pub two_ends : Option ℕ → Option ℕ → Option Command
@@ -49,7 +63,7 @@ three_words word second third = if is_word word (codes "node") then node_of seco
 abbrev pub command_of : List (List ℕ) → Option Command
 command_of [] = None
 command_of (word ∷ []) = one_word word
-command_of (word ∷ second ∷ []) = None
+command_of (word ∷ second ∷ []) = two_words word second
 command_of (word ∷ second ∷ third ∷ []) = three_words word second third
 command_of (word ∷ second ∷ third ∷ fourth ∷ words) = None
 

@@ -1,6 +1,6 @@
 //! Which command the words name.
 ghost use Rattle.std.specs.Prelude.{◌≡◌, IfSome};
-ghost use Rattle.gateway_run.specs.Words.{command_of, node_of, IsSound};
+ghost use Rattle.gateway_run.specs.Words.{command_of, cut_of, node_of, IsSound};
 
 use crate::commands::word::Word;
 use replay_script::number_in;
@@ -10,11 +10,14 @@ use replay_script::number_in;
 pub enum Command {
     /// `receive`: hands up the red parts of recorded datagrams.
     Receive,
-    /// `check`, `show` and `convert`: what is said of recorded bundles.
+    /// `check`, `show`, `convert`, `cut SIZE` and `join`: what is said of recorded bundles.
     Bundles(bundle_runs::Command),
     /// `node OWN PEER`: one end of a link, by the numbers of its engine and of its peer's.
     Node { own: u64, peer: u64 },
 }
+
+/// The most octets of a piece that words name.
+const MOST_SIZE: u64 = 4_194_304;
 
 /// The greatest number of an engine that words name.
 const MOST_NUMBER: u64 = 4_294_967_295;
@@ -35,11 +38,24 @@ pub fn command_named(words: &[Word]) -> Option<Command>
         [word] if word.octets() == b"convert".as_slice() => {
             Some(Command::Bundles(bundle_runs::Command::Convert))
         }
+        [word] if word.octets() == b"join".as_slice() => {
+            Some(Command::Bundles(bundle_runs::Command::Join))
+        }
+        [word, size] if word.octets() == b"cut".as_slice() => cut_named(size.octets()),
         [word, own, peer] if word.octets() == b"node".as_slice() => {
             node_named(own.octets(), peer.octets())
         }
         _ => None,
     }
+}
+
+/// The pieces of this size.
+fn cut_named(size: &[u8]) -> Option<Command>
+    ensures exact { result ≡ cut_of size.now }
+    ensures sound { IfSome result IsSound }
+{
+    let size = number_in(1, MOST_SIZE, size)?;
+    Some(Command::Bundles(bundle_runs::Command::Cut(size)))
 }
 
 /// The end of a link that has these numbers: they are different.

@@ -12,6 +12,8 @@
 #[cfg(test)]
 mod adapters;
 #[cfg(test)]
+mod node;
+#[cfg(test)]
 mod receive;
 #[cfg(test)]
 mod recorded;

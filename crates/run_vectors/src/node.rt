@@ -72,7 +72,11 @@ const ENDED: &[(&str, &str, Status)] = &[
         "green 9 0 1 61\nrefused line 2 Hex\n",
         Status::Refused,
     ),
-    ("send\nclock 4611686018427387904\n", "refused Empty\n", Status::Limit),
+    (
+        "send\nclock 4611686018427387904\n",
+        "refused Empty\n",
+        Status::Limit,
+    ),
 ];
 
 #[test]

@@ -1,4 +1,4 @@
-//! Recorded bundles: what `check`, `show` and `convert` say of them, and calls that fail.
+//! Recorded bundles: what is said of them, and calls that fail.
 
 use crate::runs::{octets, surely, with_faults};
 use bundle_runs::{Cause, Command, bundles};
@@ -133,6 +133,48 @@ fn bundles_are_shown(rt: HostRuntime) -> Result<(), Fail> {
         let input = octets(rt.alloc(), text)?;
         assert!(rt;
             surely(rt.alloc(), &["show"], &input, output, Status::Done)?,
+            "{text}"
+        );
+    }
+    Ok(())
+}
+
+/// Words, octets, what is written, and how it ends.
+const IN_PIECES: &[(&[&str], &str, &str, Status)] = &[
+    (
+        &["cut", "2"],
+        SIX,
+        "0681110f02010101000000008768053c0000030108026162\n0681110f02010101000000008768053c00020301080163\n",
+        Status::Done,
+    ),
+    (
+        &["cut", "2"],
+        "0681140d02010101000000008768053c00010803616263",
+        "refused 1 MustNot\n",
+        Status::Refused,
+    ),
+    (
+        &["join"],
+        "0681110f02010101000000008768053c000203010801630681110f02010101000000008768053c0000030108026162",
+        "Waiting\nWhole 0681100d02010101000000008768053c00010803616263\n",
+        Status::Done,
+    ),
+    (
+        &["join"],
+        "0681110f02010101000000008768053c000203010801630681110f02010101000000008768053c00020301080163",
+        "Waiting\nRepeat\n",
+        Status::Done,
+    ),
+    (&["join"], SIX, "NotFragment\n", Status::Done),
+    (&["cut", "0"], SIX, "", Status::Usage),
+];
+
+#[test]
+fn bundles_are_cut_and_joined(rt: HostRuntime) -> Result<(), Fail> {
+    for &(words, text, output, status) in IN_PIECES {
+        let input = octets(rt.alloc(), text)?;
+        assert!(rt;
+            surely(rt.alloc(), words, &input, output, status)?,
             "{text}"
         );
     }

@@ -34,9 +34,10 @@ def view(full, version):
 def pieces(full, size):
     """The pieces of a record, by place."""
     shared = full["shared"]
+    if shared["flags"] & (REPORT | FRAGMENT) == REPORT:
+        return [full]
     payload = bytes.fromhex(shared["body"])
-    report = shared["flags"] & (REPORT | FRAGMENT) == REPORT
-    if len(payload) <= size or report:
+    if len(payload) <= size:
         return [full]
     may(shared["flags"] & MUST_NOT or shared["source"] == NONE, "MustNot")
     offset, total = shared["fragment"] or (0, len(payload))

@@ -7,7 +7,7 @@ use crate::ends::End;
 use crate::refused::DeliverRefused;
 use crate::world::LinkWorld;
 use ltp_engine::Engine;
-use ltp_segment::{Note, Outs, Policy};
+use ltp_segment::{Content, Note, Outs, PieceKind, Policy, decode};
 use std::alloc::{AllocError, Global};
 use std::test::Fail;
 
@@ -172,5 +172,91 @@ fn a_late_segment_comes_again(rt: HostRuntime) -> Result<(), Fail> {
         return Err(Fail::new("there is a datagram 8"));
     };
     assert_eq!(rt; refused, DeliverRefused::NoSuchDatagram);
+    Ok(())
+}
+
+/// The greatest block, in 8,192 segments.
+const GREATEST: u64 = 4_194_304;
+
+/// Whether a report says that every second segment came, as far as 1,024 claims go.
+fn claims_every_second(datagram: &[u8]) -> bool {
+    let Ok(segment) = decode(datagram) else {
+        return false;
+    };
+    match segment.content {
+        Content::Report {
+            serial: 2,
+            checkpoint: 2,
+            upper: 1_048_064,
+            lower: 0,
+            claims,
+        } => {
+            let mut count: u64 = 0;
+            for _ in claims {
+                count = count.saturating_add(1);
+            }
+            count == 1024
+        }
+        _ => false,
+    }
+}
+
+/// Whether a datagram is the last segment, as the checkpoint 3 that answers the report 2.
+fn is_next_checkpoint(datagram: &[u8]) -> bool {
+    match decode(datagram) {
+        Ok(segment) => match segment.content {
+            Content::Piece {
+                kind: PieceKind::RedEndBlock,
+                offset: 4_193_792,
+                checkpoint: 3,
+                report: 2,
+                ..
+            } => true,
+            _ => false,
+        },
+        Err(_) => false,
+    }
+}
+
+/// Every second segment of the greatest block comes, up to the last but one, and then the
+/// checkpoint: whether nothing is handed up, and one report is sent.
+fn half_of_it_comes(world: &mut LinkWorld) -> Result<bool, Fail>
+    requires { world.old.spent ≡ false }
+    ensures { OnOk result (world.new.spent ≡ false) }
+{
+    for i in 0..4096 {
+        let told = deliver(world, 2 * i)?;
+        if told.effects.out.len() != 0 || !told.effects.ups.as_slice().is_empty() {
+            return Ok(false);
+        }
+    }
+    let told = deliver(world, 8191)?;
+    match told.effects.out.as_slice() {
+        [report] => Ok(
+            claims_every_second(report.as_slice()) && told.effects.ups.as_slice().is_empty(),
+        ),
+        _ => Ok(false),
+    }
+}
+
+#[test]
+fn a_report_of_the_greatest_block_claims_1024_ranges(rt: HostRuntime) -> Result<(), Fail> {
+    let octets = block(rt.alloc(), GREATEST)?;
+    let mut world = link(rt.alloc())?;
+    if octets.len() as u64 != GREATEST {
+        return Err(Fail::new("the block is another"));
+    }
+    let Ok(told) = world.submit(End::First, &octets, GREATEST) else {
+        return Err(Fail::new("the block isn't sent"));
+    };
+    assert!(rt; told.out.len() == 8192);
+    assert!(rt; half_of_it_comes(&mut world)?);
+    // The report is acknowledged, and 7,168 segments come again.
+    let told = deliver(&mut world, 8192)?;
+    assert!(rt; told.effects.out.len() == 7169);
+    let Some(last) = told.effects.out.as_slice().last() else {
+        return Err(Fail::new("no segment comes again"));
+    };
+    assert!(rt; is_next_checkpoint(last.as_slice()));
     Ok(())
 }

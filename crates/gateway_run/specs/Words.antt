@@ -116,8 +116,8 @@ abbrev pub IsLawful : (List ℕ → Status → Type 0) → Status → Option (Li
 IsLawful Law status before now =
     IfSome now (λ after. IsSomeAnd before (λ held. WritesLawfully Law status held after))
 
--- the law of a command: of `receive` the receiver's, and of `node` that the events which its lines
--- say are answered, whose red parts keep the receiver's law too
+-- the law of a command: of `receive` the receiver's, and of `node` that the events which its first
+-- lines say are answered; that their red parts keep the receiver's law is a law of `node_run`
 abbrev pub KeepsLaw : Option Command → List ℕ → Status → Option (List ℕ) → Option (List ℕ) → Type 0
 KeepsLaw None input status before now = Unit {0}
 KeepsLaw (Some (commands.Bundles command)) input status before now = Unit {0}

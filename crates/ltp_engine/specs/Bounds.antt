@@ -19,7 +19,7 @@ SendsAtMost most entry = length entry.1.block ≤ most
 abbrev pub ReceivesAtMost : ℕ → ℕ × Receiving → Type 0
 ReceivesAtMost most entry = length entry.1.cells ≤ most
 
--- all session numbers are below 2^32; 64 sessions a direction; 65,536 runs of closed numbers and
+-- the numbers that the engine gives are below 2^32; 64 sessions a direction; 65,536 runs of closed numbers and
 -- receiving sessions together; and each session's octets are within the greatest block
 pub record IsBounded (v : EngineValue) : Type 0 where
   pub numbers : v.next ≤ 2 ^ 32

@@ -1,6 +1,6 @@
 //! The engine of one end of a link.
 
-ghost use Rattle.std.specs.Prelude.{◌≡◌, ◌≢◌, ◌<◌, ◌≤◌, ◌^◌, false, true, length, IfOk, OnOk, OnErr};
+ghost use Rattle.std.specs.Prelude.{◌≡◌, ◌≢◌, ◌-◌, ◌<◌, ◌≤◌, ◌^◌, false, true, length, IfOk, OnOk, OnErr};
 ghost use Rattle.ltp_segment.specs.PolicyViews.{policy_value};
 ghost use Rattle.ltp_segment.specs.Reading.{segment_of};
 ghost use Rattle.ltp_session.specs.Engine.{starts, datagram_step, submits, submit_step, tick_step};
@@ -78,7 +78,8 @@ impl Engine {
 
     /// The closed receiving numbers below 2^64 - 1, which is the limit. It takes no memory.
     pub fn closed(&self) -> &Spans
-        ensures { result.now ≡ self.now.inbound.closed.places }
+        ensures are { result.now ≡ self.now.inbound.closed.places }
+        ensures limit { self.now.spent ≡ false → length result.now ≡ 2 ^ 64 - 1 }
     {
         self.parts.inbound.closed.places()
     }

@@ -8,6 +8,7 @@ use Rattle.ltp_session.specs.World.{ArePeers, Event, World, run, starts_world}
 use Rattle.ltp_session.specs.World.{Sent as LinkSent}
 use Rattle.ltp_engine.specs.Values.{EngineValue}
 use Rattle.ltp_engine.specs.Shows.{Shows}
+use Rattle.ltp_engine.specs.Bounds.{IsBounded}
 use Rattle.link_laws.specs.Writable.{HasSmallNumbers}
 use Rattle.ltp_world.specs.declared.sent.Sent.{Sent}
 use Rattle.ltp_world.specs.Ends.{named}
@@ -18,6 +19,11 @@ pub record IsNew (v : EngineValue) : Type 0 where
   pub whole : v.spent ≡ false
   pub shows : Shows v (starts v.party)
   pub small : HasSmallNumbers v.party
+  pub bounds : IsBounded v
+
+-- both engines keep their bounds
+abbrev pub AreBounded : EngineValue × EngineValue → Type 0
+AreBounded engines = IsBounded engines.0 × IsBounded engines.1
 
 -- a segment that an end sent, as its octets
 abbrev pub spelled : LinkSent → Sent

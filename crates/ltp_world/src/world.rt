@@ -1,11 +1,11 @@
 //! Two engines, everything that was ever sent, and a clock.
 
-ghost use Rattle.std.specs.Prelude.{◌≡◌, ◌<◌, ◌≤◌, ◌^◌, false, [], ◌∷◌, length, IfOk, OnErr};
+ghost use Rattle.std.specs.Prelude.{◌≡◌, ◌<◌, ◌≤◌, ◌^◌, false, [], ◌∷◌, length, IfOk, OnOk, OnErr};
 ghost use Rattle.std.specs.Prelude.{List, true, ◌||◌};
 ghost use Rattle.ltp_session.specs.World.{ArePeers, Event, clock, deliver};
 ghost use Rattle.ltp_world.specs.Ends.{link_end};
 ghost use Rattle.ltp_world.specs.Values.{WorldValue, parties_of};
-ghost use Rattle.ltp_world.specs.Shows.{IsNew, ShowsRun};
+ghost use Rattle.ltp_world.specs.Shows.{IsNew, AreBounded, ShowsRun};
 ghost use Rattle.ltp_world.specs.Steps.{Submits, Delivers, Ticks};
 ghost use Rattle.ltp_world.specs.RedParts.{HandsUpFronts};
 ghost use Rattle.ltp_world.specs.Ties.{SubmitsAt, HearsAt};
@@ -62,6 +62,8 @@ impl LinkWorld {
         ensures parties { parties_of result ≡ (first.party, second.party) }
         // It stands where a link stands at its beginning, once its clock is set.
         ensures shows { ShowsRun result (clock now ∷ []) }
+        // Each engine is within its bounds, as it is made.
+        ensures bounds { AreBounded result.engines }
     {
         LinkWorld {
             alloc,
@@ -93,7 +95,9 @@ impl LinkWorld {
     pub fn submit(&mut self, end: End, block: &[u8], red: u64) -> Result<Effects, SubmitRefused>
         requires whole { self.old.spent ≡ false }
         requires red { red ≤ length block.now }
-        ensures { Submits self.old self.new end block.now red result }
+        ensures does { Submits self.old self.new end block.now red result }
+        // Both engines keep their bounds.
+        ensures bounds { AreBounded self.old.engines → OnOk result (AreBounded self.new.engines) }
     {
         let now = self.moment;
         let effects = submit_at(&mut self.first, &mut self.second, end, block, red, now)?;
@@ -110,6 +114,8 @@ impl LinkWorld {
     pub fn deliver(&mut self, k: usize) -> Result<EndEffects, DeliverRefused>
         requires whole { self.old.spent ≡ false }
         ensures does { Delivers self.old self.new k result }
+        // Both engines keep their bounds.
+        ensures bounds { AreBounded self.old.engines → OnOk result (AreBounded self.new.engines) }
         // What is handed up is the front of a submitted block, once.
         ensures fronts { IfOk result (λ told. (events : List Event) → ShowsRun self.old events
             → HandsUpFronts self.old events (deliver k) told.effects.ups) }
@@ -135,6 +141,8 @@ impl LinkWorld {
         requires whole { self.old.spent ≡ false }
         requires moment { now < 2 ^ 62 }
         ensures done { IfOk result (Ticks self.old self.new now) }
+        // Both engines keep their bounds.
+        ensures bounds { AreBounded self.old.engines → OnOk result (AreBounded self.new.engines) }
         ensures err { OnErr result (self.new.spent ≡ true) }
     {
         if now < self.moment {
@@ -170,8 +178,10 @@ fn submit_at(
     requires second { second.old.spent ≡ false }
     requires red { red ≤ length block.now }
     requires moment { now < 2 ^ 62 }
-    ensures { SubmitsAt end (first.old, second.old) (first.new, second.new) block.now red now
+    ensures does { SubmitsAt end (first.old, second.old) (first.new, second.new) block.now red now
         result }
+    ensures bounds { AreBounded (first.old, second.old)
+        → OnOk result (AreBounded (first.new, second.new)) }
 {
     match end {
         End::First => first.submit(block, red, now),
@@ -192,6 +202,8 @@ fn hear_at(
     requires moment { now < 2 ^ 62 }
     ensures done { IfOk result (HearsAt end (first.old, second.old) (first.new, second.new)
         datagram.now now) }
+    ensures bounds { AreBounded (first.old, second.old)
+        → OnOk result (AreBounded (first.new, second.new)) }
     ensures err { OnErr result ((first.new.spent || second.new.spent) ≡ true) }
 {
     match end {

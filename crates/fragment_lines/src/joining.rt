@@ -82,6 +82,9 @@ impl BundleJoiner {
             (string_bytes text.old) (string_bytes text.new) self.new.joins) }
         ensures whole { OnOk result (self.new.spent ≡ false) }
 
+        // A bundle that doesn't read as a record changes nothing.
+        ensures stays { (first_that_holds (refusals6 bundle.now) ≡ None → ⊥) → self.new ≡ self.old }
+
         // Memory is wanted only where the bundle reads as a record.
         ensures memory { OnErr result (first_that_holds (refusals6 bundle.now) ≡ None) }
     {
@@ -102,6 +105,9 @@ impl BundleJoiner {
         ensures said { IfOk result (Writes (join7 self.old.joins bundle.now)
             (string_bytes text.old) (string_bytes text.new) self.new.joins) }
         ensures whole { OnOk result (self.new.spent ≡ false) }
+
+        // A bundle that doesn't read as a record changes nothing.
+        ensures stays { (first_that_holds (refusals7 bundle.now) ≡ None → ⊥) → self.new ≡ self.old }
 
         // Memory is wanted only where the bundle reads as a record.
         ensures memory { OnErr result (first_that_holds (refusals7 bundle.now) ≡ None) }

@@ -270,6 +270,7 @@ class Receiver(Session):
     def __init__(self, name, policy):
         super().__init__(name, policy)
         self.cells, self.length, self.lowest_green, self.handed_up = {}, None, None, False
+        self.came = 0             # the end of the red data that came
         self.serial = self.first_serial()
         self.pending = None       # the serial of the report that waits, and whether it is whole
 
@@ -278,15 +279,13 @@ class Receiver(Session):
 
     def is_out_of_bounds(self, kind, stop):
         """Whether a red piece can't be one of the red part that is known so far."""
-        came = max(self.cells, default=-1) + 1
         if self.length is not None and stop > self.length:
             return True
-        return kind in ENDS and (stop < came or self.length not in (None, stop))
+        return kind in ENDS and (stop < self.came or self.length not in (None, stop))
 
     def is_miscoloured(self, is_green, offset, stop):
-        came = max(self.cells, default=-1) + 1
         if is_green:
-            return offset < came or (self.length is not None and offset < self.length)
+            return offset < self.came or (self.length is not None and offset < self.length)
         return self.lowest_green is not None and stop > self.lowest_green
 
     def piece(self, kind, piece, now, effects):
@@ -309,6 +308,7 @@ class Receiver(Session):
     def red(self, kind, piece, stop, now, effects):
         for at, octet in enumerate(piece["body"], piece["offset"]):
             self.cells.setdefault(at, octet)
+        self.came = max(self.came, stop)
         if kind in ENDS:
             self.length = stop
         if kind in CHECKPOINTS:
@@ -347,6 +347,8 @@ class Receiver(Session):
 class Engine:
     """One end of a link: sessions that it sends, by number, and those that it receives, the longest untouched first."""
 
+    sending, receiving = Sender, Receiver
+
     def __init__(self, own, peer, first=1, policy=None):
         self.own, self.peer, self.first, self.next = own, peer, first, first
         self.policy = policy or Policy()
@@ -361,7 +363,7 @@ class Engine:
             if holds:
                 effects.refused.append([cause])
                 return effects
-        session = Sender((self.own, self.next), block, red, now, self.policy, effects)
+        session = self.sending((self.own, self.next), block, red, now, self.policy, effects)
         if not session.over:
             self.senders[self.next] = session
         self.next += 1
@@ -441,7 +443,7 @@ class Engine:
             eldest = next(iter(self.receivers))
             self.close(eldest)
             effects.notes.append(["Evicted", eldest])
-        self.receivers[name[1]] = Receiver(name, self.policy)
+        self.receivers[name[1]] = self.receiving(name, self.policy)
         return self.receivers[name[1]]
 
     def touch(self, number):

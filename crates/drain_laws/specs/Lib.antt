@@ -1,0 +1,2 @@
+-- clean events
+pub mod Clean

@@ -6,11 +6,12 @@
 //! read failed" of every outside, also of one whose octets no contract can see. What an outside
 //! holds is told where it can be told: the versions in memory tell it as long as they have room,
 //! and `Reading` tells what std's reader below it tells. `Writing` tells nothing as a sink, and
-//! says of each write what it adds to std's writer below it.
+//! says of each write what it adds to std's writer below it. `UdpLink` and `SystemClock` are over
+//! UDP sockets and the clock of the system, and tell nothing.
 //!
 //! Beside the traits stands what every command shares: `read_once`, `read_all`, `write_all`, the
 //! `Status` that a run ends with, what octets settle of an answer (`specs/Settled.antt`), and how a
-//! run went (`specs/Outcome.antt`). The system's clock and UDP sockets have no adapter yet.
+//! run went (`specs/Outcome.antt`).
 #![tactic(auto)]
 
 mod answer;
@@ -24,6 +25,8 @@ mod output;
 mod sink;
 mod source;
 mod status;
+mod system_clock;
+mod udp;
 
 pub use answer::Answer;
 pub use clock::{Clock, MemClock};
@@ -34,3 +37,5 @@ pub use output::{write_all, write_answer};
 pub use sink::{MemSink, Sink, SureSink, Writing};
 pub use source::{MOST_AGAIN, MemSource, Reading, Source, SureSource};
 pub use status::Status;
+pub use system_clock::SystemClock;
+pub use udp::{Pause, UdpLink};

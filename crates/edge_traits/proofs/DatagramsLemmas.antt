@@ -1,11 +1,12 @@
 -- Texts that lie end to end.
-use Rattle.std.proofs.Common.{◌≡◌, ℕ, suc, ◌+◌, ◌<◌, ◌≤◌, List, [], ◌∷◌, ◌++◌, length, take, drop, sum_by, None, Some, refl, sym, ◌∙◌, ap, arith, length-drop}
+use Rattle.std.proofs.Common.{◌≡◌, ℕ, Bool, true, false, IfSome, suc, ◌+◌, ◌<◌, ◌≤◌, List, [], ◌∷◌, ◌++◌, length, map, take, drop, sum_by, None, Some, refl, sym, ◌∙◌, ap, arith, length-drop}
 use Rattle.std.proofs.lemmas.Bool.{lt-ltb, le-ltb, le-leb, lt-leb}
-use Rattle.std.proofs.lemmas.List.{take-append-le, drop-append-le, length-take-le}
+use Rattle.std.proofs.lemmas.List.{take-append-le, take-append-drop, drop-append-le, length-take-le}
 use Rattle.std.proofs.lemmas.List.Sums.{sum_by-cons}
 use Rattle.std.proofs.Math.Seq.{take-length}
+use Rattle.edge_traits.specs.Content.{joined}
 use Rattle.edge_traits.specs.Datagrams.{texts_of}
-use Rattle.edge_traits.specs.InMemory.{gone_within}
+use Rattle.edge_traits.specs.InMemory.{gone_within, unless_lost}
 
 -- one text more at the end
 pub texts_of-more : (lengths octets text : List ℕ) → sum_by (λ n. n) lengths ≡ length octets
@@ -34,6 +35,26 @@ texts_of-total (n ∷ lengths) octets fits =
     let more = texts_of-total lengths (drop n octets) rest in
     rw (sum_by-cons length (take n octets) (texts_of lengths (drop n octets)), length-take-le n octets within, more)
     (omega (arith, length-drop n octets))
+
+-- end to end they are the octets
+pub texts_of-joined : (lengths octets : List ℕ) → sum_by (λ n. n) lengths ≡ length octets
+    → octets ≡ joined (texts_of lengths octets)
+texts_of-joined [] [] fits = refl
+texts_of-joined [] (x ∷ octets) fits = absurd (omega arith)
+texts_of-joined (n ∷ lengths) octets fits =
+    let total : n + sum_by (λ n. n) lengths ≡ length octets = sym (sum_by-cons (λ n. n) n lengths) ∙ fits in
+    let rest : sum_by (λ n. n) lengths ≡ length (drop n octets) = omega (arith, length-drop n octets) in
+    sym (take-append-drop n octets) ∙ ap (λ later. take n octets ++ later) (texts_of-joined lengths (drop n octets) rest)
+
+-- each has its length
+pub texts_of-lengths : (lengths octets : List ℕ) → sum_by (λ n. n) lengths ≡ length octets
+    → lengths ≡ map length (texts_of lengths octets)
+texts_of-lengths [] octets fits = refl
+texts_of-lengths (n ∷ lengths) octets fits =
+    let total : n + sum_by (λ n. n) lengths ≡ length octets = sym (sum_by-cons (λ n. n) n lengths) ∙ fits in
+    let within : n ≤ length octets = omega arith in
+    let rest : sum_by (λ n. n) lengths ≡ length (drop n octets) = omega (arith, length-drop n octets) in
+    rw (length-take-le n octets within, ← texts_of-lengths lengths (drop n octets) rest) refl
 
 -- no datagram more is kept where so many were as there is room for
 pub gone-full : (room : ℕ) (lengths octets text : List ℕ) → room ≤ length lengths
@@ -65,3 +86,15 @@ gone-more room lengths octets text fits few within =
       lt-ltb (length lengths) room few,
       le-leb (length octets + length text) room within,
     ) refl
+
+-- ---- what is told of those kept
+
+pub told-octets : (lost : Bool) (lengths octets : List ℕ) → sum_by (λ n. n) lengths ≡ length octets
+    → IfSome (unless_lost lost (texts_of lengths octets)) (λ gone. octets ≡ joined gone)
+told-octets true lengths octets fits = tt
+told-octets false lengths octets fits = texts_of-joined lengths octets fits
+
+pub told-lengths : (lost : Bool) (lengths octets : List ℕ) → sum_by (λ n. n) lengths ≡ length octets
+    → IfSome (unless_lost lost (texts_of lengths octets)) (λ gone. lengths ≡ map length gone)
+told-lengths true lengths octets fits = tt
+told-lengths false lengths octets fits = texts_of-lengths lengths octets fits

@@ -1,5 +1,6 @@
 //! Datagrams that are kept in memory as far as there is room.
-ghost use Rattle.std.specs.Prelude.{◌≡◌, ◌≤◌, [], Some, length, sum_by, vec_len, vec_capacity, IfOk};
+ghost use Rattle.std.specs.Prelude.{◌≡◌, ◌≤◌, [], Some, map, length, sum_by, vec_len, vec_capacity, IfOk, IfSome};
+ghost use Rattle.edge_traits.specs.Content.{joined};
 ghost use Rattle.edge_traits.specs.Datagrams.{texts_of};
 ghost use Rattle.edge_traits.specs.InMemory.{KeepingGone, unless_lost, gone_within};
 
@@ -42,6 +43,20 @@ impl Gone {
             room,
             lost: false,
         })
+    }
+
+    /// The octets of those that were kept, end to end.
+    pub fn octets(&self) -> &[u8]
+        ensures { IfSome self.now.gone (λ gone. result.now ≡ joined gone) }
+    {
+        self.octets.as_slice()
+    }
+
+    /// How many octets each of those has that were kept.
+    pub fn lengths(&self) -> &[usize]
+        ensures { IfSome self.now.gone (λ gone. result.now ≡ map length gone) }
+    {
+        self.lengths.as_slice()
     }
 
     /// Keeps the datagram where there is room for it, and takes no memory.

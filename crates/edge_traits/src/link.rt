@@ -1,5 +1,6 @@
 //! A link of datagrams, such as a UDP socket with one peer.
-ghost use Rattle.std.specs.Prelude.{◌≡◌, ℕ, ◌+◌, ◌-◌, ◌≤◌, ◌<◌, ◌^◌, List, [], ◌∷◌, ◌++◌, Bool, Option, None, Some, map, drop, take, length, min, All, is_err, IfOk, OnOk, OnErr};
+ghost use Rattle.std.specs.Prelude.{◌≡◌, ℕ, ◌+◌, ◌-◌, ◌≤◌, ◌<◌, ◌^◌, List, [], ◌∷◌, ◌++◌, Bool, Option, None, Some, map, drop, take, length, min, All, is_err, IfOk, IfSome, OnOk, OnErr};
+ghost use Rattle.edge_traits.specs.Content.{joined};
 ghost use Rattle.edge_traits.specs.Faults.{count_after, FailsAsTold, fails_next};
 ghost use Rattle.edge_traits.specs.Datagrams.{Polls, PollsAtMost, SendGains};
 ghost use Rattle.edge_traits.specs.InMemory.{MemLinkNow, with_coming, after_poll, after_send};
@@ -91,6 +92,21 @@ impl MemLink {
             faults: 0,
             alloc,
         })
+    }
+
+    /// The octets of the datagrams that were sent and kept, end to end; where it tells what is gone
+    /// these are all of them.
+    pub fn octets(&self) -> &[u8]
+        ensures { IfSome self.now.gone (λ gone. result.now ≡ joined gone) }
+    {
+        self.gone.octets()
+    }
+
+    /// How many octets each datagram has that was sent and kept.
+    pub fn lengths(&self) -> &[usize]
+        ensures { IfSome self.now.gone (λ gone. result.now ≡ map length gone) }
+    {
+        self.gone.lengths()
     }
 
     /// Puts a datagram after those that are to come.

@@ -226,19 +226,25 @@ class Sender(Session):
         if self.cancelling:
             return
         for start, stop in report["claims"]:
-            self.claimed[start:stop] = [True] * (stop - start)
-        if all(self.claimed):
+            self.claim(start, stop)
+        if self.is_claimed(0, self.red):
             self.finish()
             effects.notes.append(["Sent", self.name[1]])
         elif report["checkpoint"] == self.checkpoint:
             self.send_unclaimed(report["serial"], now, effects)
+
+    def claim(self, start, stop):
+        self.claimed[start:stop] = [True] * (stop - start)
+
+    def is_claimed(self, start, stop):
+        return all(self.claimed[start:stop])
 
     def send_unclaimed(self, report, now, effects):
         """Sends each segment with an octet that isn't claimed, the last of them as the new checkpoint."""
         if self.checkpoint + 1 == SERIALS:
             self.fail(BY_SYSTEM, now, effects)
             return
-        *others, last = [(at, stop) for at, stop in self.segments if not all(self.claimed[at:stop])]
+        *others, last = [(at, stop) for at, stop in self.segments if not self.is_claimed(at, stop)]
         for segment in others:
             effects.out.append([self.piece(RED, segment)])
         self.checkpoint += 1
@@ -306,16 +312,29 @@ class Receiver(Session):
         return True
 
     def red(self, kind, piece, stop, now, effects):
-        for at, octet in enumerate(piece["body"], piece["offset"]):
-            self.cells.setdefault(at, octet)
+        self.fill(piece["offset"], piece["body"])
         self.came = max(self.came, stop)
         if kind in ENDS:
             self.length = stop
         if kind in CHECKPOINTS:
             self.send_report(piece["checkpoint"], stop, now, effects)
-        if self.length is not None and not self.handed_up and len(self.cells) == self.length:
+        if self.length is not None and not self.handed_up and self.filled() == self.length:
             self.handed_up = True
-            effects.ups.append([self.name[1], bytes(self.cells[at] for at in range(self.length))])
+            effects.ups.append([self.name[1], self.front(self.length)])
+
+    def fill(self, offset, body):
+        """Fills the empty cells."""
+        for at, octet in enumerate(body, offset):
+            self.cells.setdefault(at, octet)
+
+    def filled(self):
+        return len(self.cells)
+
+    def front(self, stop):
+        return bytes(self.cells[at] for at in range(stop))
+
+    def claims_below(self, upper):
+        return runs(at for at in sorted(self.cells) if at < upper)
 
     def send_report(self, checkpoint, stop, now, effects):
         if self.serial == SERIALS:
@@ -323,7 +342,7 @@ class Receiver(Session):
             self.fail(BY_SYSTEM, now, effects)
             return
         upper = stop if self.length is None else self.length
-        claims = runs(at for at in sorted(self.cells) if at < upper)
+        claims = self.claims_below(upper)
         if len(claims) > MOST_CLAIMS:
             del claims[MOST_CLAIMS:]
             upper = claims[-1][1]
@@ -347,7 +366,7 @@ class Receiver(Session):
 class Engine:
     """One end of a link: sessions that it sends, by number, and those that it receives, the longest untouched first."""
 
-    sending, receiving = Sender, Receiver
+    sending, receiving, read = Sender, Receiver, staticmethod(read_segment)
 
     def __init__(self, own, peer, first=1, policy=None):
         self.own, self.peer, self.first, self.next = own, peer, first, first
@@ -372,7 +391,7 @@ class Engine:
     def arrive(self, datagram, now):
         effects = Effects()
         try:
-            kind, name, content = read_segment(datagram)
+            kind, name, content = self.read(datagram)
         except Refused as refusal:
             effects.notes.append(["BadSegment", refusal.at, refusal.cause])
             return effects

@@ -1,0 +1,448 @@
+#!/usr/bin/env python3
+"""Plays an old node and a new node over loopback UDP against a running `serve`, and checks all that comes out.
+
+usage: tools/live_run.py [PROGRAM] [--bundles N] [--seconds S] [--loss PERCENT] [--repeats PERCENT] [--delays PERCENT]
+                         [--largest OCTETS] [--seed N] [--turns N] [--ipv6]
+
+The program is the one that this repository builds, where none is named; tools/gateway_model.py is one too. It is
+started here and ends by itself when its turns are over; turns that are left in the end are used up by datagrams that
+it says nothing of. So many bundles go from each node, of all sizes and kinds: whole ones and fragments, ones that are
+cut and ones that mayn't be, hop counts and previous nodes, ones that ask for reports, and ones that are refused.
+Datagrams of both ways on both links are lost, repeated and delayed by the seed, and false ones come between them.
+Status 0 where all of this holds, and 1 else:
+
+- each block that the program hands up is what the node sent under that number, and comes once;
+- what it notes of it is the first case of gateway_model.py that holds;
+- the sessions that it begins bring exactly the pieces of that bundle's passage, and the reports that were asked for;
+- fragments are joined to the whole passage of the bundle that was cut;
+- it notes nothing else, but false datagrams in their number, and late pieces of closed sessions;
+- each session of each side ends as sent, and the program ends with 0.
+"""
+import collections
+import os
+import random
+import sys
+import time
+
+sys.dont_write_bytecode = True
+sys.path.insert(0, os.path.dirname(os.path.abspath(__file__)))
+import translate_model
+from format_model import Refused
+from fragment_model import Joiner
+from gateway_model import (ENDS, NEW, OLD, OTHER, SERIALS, SERVED, VERSION, bundle_of, case_of, octets_in, passage,
+                           status_bundle, system_clock)
+from live_nodes import GATE, Served, Trouble, idle_turns_a_second, options_of, program_of
+from ltp_model import read_segment, written
+from make_bundles import head, numbers
+from translate_model import NONE, Untranslated, canonical6, octets7, record, translated
+
+OPTIONS = {"bundles": 150, "seconds": 150, "loss": 3, "repeats": 3, "delays": 5, "largest": 300_000, "seed": 1,
+           "turns": 0, "ipv6": False}
+CUT = SERVED[1]
+DAY, HOUR = 86_400, 3600
+REPORTS = 1 << 14 | 1 << 16 | 1 << 18
+MUST_NOT, ADMINISTRATIVE, FRAGMENT, CUSTODY, TIMED = 4, 2, 1, 8, 64
+MOST_OPEN, MOST_RECEIVED = 56, 40       # sessions at a face of the gateway, of 64
+
+
+# ---- bundles ----
+
+class Made:
+    """Bundles of one version, each with another name."""
+
+    def __init__(self, draw, version, largest):
+        self.draw, self.version, self.largest, self.count = draw, version, largest, 0
+        self.started = system_clock()
+        self.made = translate_model.makes(1 << 40, draw.randrange(1 << 30))
+
+    def plain(self, size):
+        """A bundle that passes."""
+        self.count += 1
+        draw, moment = self.draw, self.started - self.draw.randrange(HOUR * 1000)
+        names = [draw.choice(["ipn:2.1", "dtn://b/y", "ipn:977000.64"]), draw.choice(["ipn:1.1", "dtn://a/x"]), NONE]
+        bundle = {"version": self.version, **dict(zip(("destination", "source", "report_to"), names)),
+                  "fragment": None, "blocks": [self.payload(draw.randbytes(size))]}
+        if self.version == 6:
+            return {**bundle, "flags": draw.choice([0x90, 0x10, 0x110, 0xB0]), "custodian": NONE, "lifetime": DAY,
+                    "creation": [moment // 1000, 1000 * self.count + moment % 1000]}
+        return {**bundle, "flags": draw.choice([0, 0x20]), "crc": draw.randrange(3), "lifetime": DAY * 1000,
+                "creation": [moment, self.count]}
+
+    def payload(self, octets):
+        block = {"kind": 1, "flags": 0, "body": octets.hex()}
+        return {**block, "refs": []} if self.version == 6 else {**block, "number": 1, "crc": 0}
+
+    def block(self, kind, number, octets, flags=0):
+        block = {"kind": kind, "flags": flags, "body": octets.hex()}
+        return {**block, "refs": []} if self.version == 6 else {**block, "number": number, "crc": self.draw.randrange(3)}
+
+    def size(self):
+        return self.draw.choice([0, 1, 3, 100, 1000, 1024, 1025, 3000, self.draw.randrange(20_000)])
+
+    def octets(self, bundle):
+        return canonical6(bundle) if self.version == 6 else octets7(bundle)
+
+    def sized(self):
+        return self.octets(self.plain(self.size()))
+
+    def large(self):
+        return self.octets(self.plain(self.draw.randrange(CUT, max(CUT + 1, self.largest))))
+
+    def largest_one(self):
+        return self.octets(self.plain(self.largest))
+
+    def kept_whole(self):
+        bundle = self.plain(self.draw.randrange(CUT, CUT + 50_000))
+        bundle["flags"] |= MUST_NOT
+        return self.octets(bundle)
+
+    def fragment(self):
+        size = self.draw.choice([0, 500, CUT + 1000])
+        bundle = self.plain(size)
+        bundle["flags"] |= FRAGMENT
+        bundle["fragment"] = [1000, 1000 + size + self.draw.randrange(5000)]
+        return self.octets(self.asking(bundle))
+
+    def asking(self, bundle):
+        """The bundle with reports asked for."""
+        bundle["flags"] |= self.draw.choice([REPORTS, 1 << 14, 1 << 16, 1 << 18]) | self.draw.choice([0, TIMED])
+        bundle["report_to"] = self.draw.choice(["ipn:1.7", "dtn://a/r", "dtn://a/~r"])
+        return bundle
+
+    def reported(self):
+        return self.octets(self.asking(self.plain(self.size())))
+
+    def expired(self):
+        bundle = self.asking(self.plain(self.size()))
+        bundle["creation"][0] -= 2 * DAY * (1 if self.version == 6 else 1000)
+        return self.octets(bundle)
+
+    def clockless(self):
+        bundle = self.asking(self.plain(5))
+        bundle["creation"][0] = 0
+        return self.octets(bundle)
+
+    def lifeless(self):
+        return self.octets({**self.asking(self.plain(5)), "lifetime": 0})
+
+    def other_rules(self):
+        """Custody in version 6; previous node and hop count in version 7, some of which is at its limit."""
+        bundle = self.asking(self.plain(self.size()))
+        if self.version == 6:
+            bundle["flags"] |= CUSTODY
+        else:
+            count = self.draw.choice([0, 22, 28, 29, 30, 255])
+            bundle["blocks"][:0] = [self.block(10, 2, numbers(30, count)), self.block(6, 3, numbers(1, 0), 1)]
+        return self.octets(bundle)
+
+    def extended(self):
+        bundle = self.plain(self.draw.choice([10, CUT + 5]))
+        blocks = [self.block(200 + at, 2 + at, self.draw.randbytes(9), at % 3) for at in range(self.draw.randrange(1, 6))]
+        bundle["blocks"] = blocks + bundle["blocks"]
+        return self.octets(bundle)
+
+    def many_blocks(self):
+        """As many extension blocks as there may be; with a residue there is one too many in the other version."""
+        bundle = self.asking(self.plain(10))
+        bundle["flags"] |= self.draw.choice([0, 0x100 if self.version == 6 else 1 << 20])
+        bundle["blocks"] = [self.block(200, 2 + at, b"x") for at in range(64)] + bundle["blocks"]
+        return self.octets(bundle)
+
+    def administrative(self):
+        bundle = self.asking(self.plain(0))
+        bundle["flags"] = bundle["flags"] & ~FRAGMENT | ADMINISTRATIVE
+        report = translate_model.made_report(self.draw)
+        body = (translate_model.body6 if self.version == 6 else translate_model.body7)(report)
+        bundle["blocks"] = [self.payload(body if self.draw.random() < 0.7 else body[:-1])]
+        return self.octets(bundle)
+
+    def translation(self):
+        """What a bundle of the other version is in this one."""
+        self.count += 1
+        other = Made(self.draw, 13 - self.version, self.largest)
+        other.count = 1_000_000 + self.count
+        try:
+            return self.octets(translated(other.plain(self.size())))
+        except Untranslated:
+            return self.sized()
+
+    def any_other(self):
+        """A made bundle of this version whose time is certain."""
+        for octets in self.made:
+            try:
+                bundle = bundle_of(octets, self.version)
+                expiry = record(bundle)["shared"]["expiry"]
+            except (Refused, Untranslated):
+                continue
+            if abs(expiry - self.started) > HOUR * 1000:
+                return octets
+
+    def no_bundle(self):
+        octets = self.sized()
+        return self.draw.choice([octets + b"x", octets[:-1], self.draw.randbytes(30), octets[1:]])
+
+    def items(self, count):
+        """So many blocks."""
+        kinds = [self.sized, self.sized, self.reported, self.reported, self.large, self.kept_whole, self.fragment,
+                 self.expired, self.clockless, self.lifeless, self.other_rules, self.other_rules, self.extended,
+                 self.many_blocks, self.administrative, self.translation, self.any_other, self.no_bundle]
+        chosen = [kinds[at] if at < len(kinds) else self.draw.choice(kinds) for at in range(count)]
+        self.draw.shuffle(chosen)
+        return [kind() or self.sized() for kind in chosen]
+
+
+def false_datagram(draw, own):
+    """A datagram that is no segment, or one of a stranger; and what an engine notes of it."""
+    octets = written(3, (own, 1), 1, 0, 3, 2, 0, body=b"abc")
+    octets = draw.choice([b"", octets[:draw.randrange(1, len(octets))], octets + b"x", b"\x10" + octets[1:],
+                          b"\5" + octets[1:], draw.randbytes(20), written(3, (77, 1), 1, 0, 1, 2, 0, body=b"a"),
+                          written(8, (own, 1), 1, 1, 2, 0, 0)])
+    try:
+        kind, name, _ = read_segment(octets)
+    except Refused as refusal:
+        return octets, f"BadSegment {refusal.at} {refusal.cause}"
+    is_strange = name[0] != own or kind in (8, 13, 14)
+    return (octets, "Stranger") if is_strange else (b"\xff", "BadSegment 0 Version")
+
+
+# ---- what the program says ----
+
+class Wrong(Exception):
+    """Something that isn't as it has to be."""
+
+
+def must(holds, what):
+    if not holds:
+        raise Wrong(what)
+
+
+class Face:
+    """What is known of a face of the gateway: its sessions, and what it has said."""
+
+    def __init__(self):
+        self.next, self.begun, self.sent = 1, {}, set()      # what its sessions bring, and which ended as sent
+        self.ups, self.false, self.noted = set(), collections.Counter(), collections.Counter()
+
+
+class Ledger:
+    """Follows the program's lines, and knows what has to come to the nodes."""
+
+    def __init__(self, nodes):
+        self.nodes, self.cases = nodes, {OLD: {}, NEW: {}}
+        self.faces = {OLD: Face(), NEW: Face()}
+        self.reports, self.told, self.wanted = 0, collections.Counter(), []
+        self.joins = {OLD: {}, NEW: {}}      # wholes that are to come to a face's node
+
+    def line(self, text):
+        words = text.decode().split()
+        if words[0] == "up":
+            self.up(words[1], int(words[2]), bytes.fromhex(words[3]))
+        else:
+            must(words[0] == "note" and words[1] in self.faces, f"the line {text[:80]}")
+            self.note(words[1], words[2:])
+
+    def up(self, face, session, body):
+        must(not self.wanted, f"{self.wanted} isn't noted before the next block")
+        must(session not in self.faces[face].ups, f"{face} {session} is handed up again")
+        must(body == self.nodes[face].blocks.get(session), f"{face} {session} isn't handed up as it was sent")
+        self.faces[face].ups.add(session)
+        case = self.cases[face][session]
+        self.wanted.append((face, [str(word) for word in [case.note[0], session, *case.note[1:]]]))
+        if any(case.statuses()):
+            self.wanted.append((face, ["Reported", str(session)]))
+
+    def note(self, place, words):
+        face = self.faces[place]
+        if words[0] in ("BadSegment", "Stranger"):
+            face.noted[" ".join(words)] += 1
+        elif words[0] == "Sent":
+            session = int(words[1])
+            must(session < face.next and session not in face.sent, f"{place} {session} ends as sent, which can't be")
+            face.sent.add(session)
+        elif words[0] == "Closed":
+            must(int(words[1]) in face.ups, f"{place} {words[1]} is closed and was never handed up")
+        else:
+            must(self.wanted[:1] == [(place, words)], f"{place} notes {words}, wanted {self.wanted[:1]}")
+            del self.wanted[0]
+            self.told[words[0]] += 1
+            self.begin(place, words)
+
+    def begin(self, place, words):
+        """The sessions that a note stands for."""
+        case = self.cases[place][int(words[1])]
+        if words[0] == "Passed":
+            other = self.faces[OTHER[place]]
+            for octets in case.out:
+                other.begun[other.next] = octets
+                other.next += 1
+            if len(case.out) > 1:
+                full = passage(record(case.bundle))
+                octets = octets_in(full, VERSION[OTHER[place]])
+                self.joins[OTHER[place]][name_of(full)] = octets, case.bundle["fragment"]
+        elif words[0] == "Reported":
+            face = self.faces[place]
+            face.begun[face.next] = case, self.reports
+            face.next += 1
+            self.reports += 1
+
+    def open_at(self, face):
+        return len(self.faces[face].begun) - len(self.faces[face].sent)
+
+
+def name_of(full):
+    return tuple(full["shared"][key] for key in ("source", "millis", "sequence"))
+
+
+class Live:
+    """A run of the program between two nodes."""
+
+    def __init__(self, path, options, turns):
+        draw = random.Random(int(options["seed"]))
+        troubles = [Trouble(draw.randrange(1 << 30), *(options[key] / 100 for key in ("loss", "repeats", "delays")))
+                    for _ in range(4)]
+        self.draw, self.began = draw, system_clock()
+        self.items = {face: self.planned(face, options) for face in (OLD, NEW)}
+        self.served = Served(path, turns, options["ipv6"], troubles=troubles)
+        self.nodes = dict(zip((OLD, NEW), self.served.nodes))
+        self.ledger = Ledger(self.nodes)
+        self.false = {OLD: collections.Counter(), NEW: collections.Counter()}
+
+    def planned(self, face, options):
+        """The blocks of a node, each with its case."""
+        made = Made(self.draw, VERSION[face], int(options["largest"]))
+        blocks = made.items(int(options["bundles"]))
+        if options["largest"] > CUT:
+            blocks.append(made.largest_one())
+        return collections.deque((block, case_of(block, VERSION[face], self.began, 64, SERIALS, CUT))
+                                 for block in blocks)
+
+    def has_room(self, face, case):
+        """Whether the gateway has sessions enough for one more block, whatever it still does with the others."""
+        ledger = self.ledger
+        used = {place: ledger.open_at(place) for place in (OLD, NEW)}
+        for place, cases in ledger.cases.items():
+            for session, other in cases.items():
+                if session not in ledger.faces[place].ups:
+                    used[OTHER[place]] += len(other.out)
+                    used[place] += 1
+        node = self.nodes[face]
+        is_free = used[OTHER[face]] == 0 or used[OTHER[face]] + len(case.out) <= MOST_OPEN
+        return is_free and used[face] < MOST_OPEN and len(node.engine.senders) + len(node.unanswered) < MOST_RECEIVED
+
+    def send_some(self):
+        """Sends the next block of each node for which there is room."""
+        for face, items in self.items.items():
+            if items and self.has_room(face, items[0][1]):
+                block, case = items.popleft()
+                session = self.nodes[face].submit(block)
+                self.ledger.cases[face][session] = case
+                if self.draw.random() < 0.3:
+                    octets, note = false_datagram(self.draw, self.nodes[face].engine.own)
+                    self.nodes[face].outgoing.append(octets)
+                    self.false[face][note] += 1
+
+    def read_lines(self):
+        while self.served.program.lines:
+            self.ledger.line(self.served.program.lines.popleft())
+
+    def is_done(self):
+        ledger = self.ledger
+        return (not any(self.items.values()) and all(node.is_quiet() for node in self.nodes.values())
+                and all(len(ledger.faces[face].ups) == len(ledger.cases[face]) and not ledger.open_at(face)
+                        for face in (OLD, NEW)))
+
+    def run(self, seconds):
+        """Sends all blocks, and waits till every session has ended."""
+        until = time.monotonic() + seconds
+        while not self.is_done():
+            self.send_some()
+            self.served.pump()
+            self.read_lines()
+            must(time.monotonic() < until, f"not all is done in {seconds:g} seconds: {self.left()}")
+            must(not self.served.program.has_ended() or self.served.program.lines,
+                 f"the program ended before all was done (--turns gives it more): {self.left()}")
+
+    def left(self):
+        ledger = self.ledger
+        return ", ".join(f"{face} has {len(self.items[face])} blocks to send, {len(self.nodes[face].engine.senders)} open"
+                         f", {ledger.open_at(face)} of the gateway's" for face in (OLD, NEW))
+
+    def judge(self):
+        """What came to the nodes, and what was noted besides."""
+        must(not self.ledger.wanted, f"{self.ledger.wanted} isn't noted")
+        is_exact = self.dropped == 0
+        for place, face in self.ledger.faces.items():
+            node = self.nodes[place]
+            must(set(node.came) == set(face.begun), f"sessions {sorted(set(node.came) ^ set(face.begun))[:9]} at {place}")
+            for session, wanted in face.begun.items():
+                self.judge_block(place, session, node.came[session], wanted)
+            self.judge_joins(place, node)
+            bad = {note: (face.noted[note], self.false[place][note]) for note in face.noted | self.false[place]
+                   if face.noted[note] != self.false[place][note] and is_exact or face.noted[note] >
+                   self.false[place][note]}
+            must(not bad, f"{place} noted false datagrams and got them so often: {bad}")
+            must(all(note[0] in ("Sent", "Closed") for note in node.notes), f"the node of {place} notes "
+                 f"{[note for note in node.notes if note[0] not in ('Sent', 'Closed')][:3]}")
+
+    def judge_block(self, place, session, octets, wanted):
+        if isinstance(wanted, tuple):
+            case, count = wanted
+            first, second = bundle_of(octets, VERSION[place])["creation"]
+            now = 1000 * first + second % 1000 if VERSION[place] == 6 else first
+            must(self.began - 1000 <= now <= system_clock() + 1000, f"{place} {session}: a report of the moment {now}")
+            wanted = status_bundle(case, VERSION[place], now, count, GATE)
+        must(octets == wanted, f"{place} {session} brings {octets[:60].hex()}.., wanted {wanted[:60].hex()}..")
+
+    def judge_joins(self, place, node):
+        """The pieces of each bundle that was cut are its passage again."""
+        joiner, wholes = Joiner(), dict(self.ledger.joins[place])
+        for session in sorted(node.came):
+            try:
+                full = record(bundle_of(node.came[session], VERSION[place]))
+            except (Refused, Untranslated):
+                continue
+            if full["shared"]["fragment"] and wholes.get(name_of(full), (None, True))[1] is None:
+                word, whole = joiner.add(full)
+                if word == "Whole":
+                    wanted, _ = wholes.pop(name_of(full))
+                    must(octets_in(whole, VERSION[place]) == wanted, f"the pieces up to {place} {session} join to another")
+        left = [name for name, (_, fragment) in wholes.items() if fragment is None]
+        must(not left, f"pieces of {left[:3]} are missing")
+
+    def end(self):
+        self.dropped = self.served.dropped()
+        status = self.served.use_up()
+        self.read_lines()
+        must(status == 0, f"the program ends with {status}")
+
+
+def main(words):
+    path, words = program_of(words)
+    options = options_of(words, OPTIONS)
+    if options is None:
+        sys.stderr.write(__doc__.split("\n\n")[1] + "\n")
+        return 2
+    rate = idle_turns_a_second(path, options["ipv6"])
+    began = time.monotonic()
+    live = None
+    try:
+        size = options["bundles"] * 20_000 + options["largest"]
+        turns = int(options["turns"] or rate * options["seconds"] + size / 100 + 20 * options["bundles"])
+        live = Live(path, options, turns)
+        live.run(options["seconds"])
+        ran = time.monotonic() - began
+        live.end()
+        live.judge()
+    except Wrong as wrong:
+        print(f"live_run: {wrong}")
+        return 1
+    told = ", ".join(f"{count} {word}" for word, count in sorted(live.ledger.told.items()))
+    lost = sum(trouble.lost for node in live.nodes.values() for trouble in (node.there, node.back))
+    print(f"live_run: {told}; {sum(len(node.came) for node in live.nodes.values())} blocks came out as they had to; "
+          f"{sum(node.sent for node in live.nodes.values())} datagrams went in, {lost} were lost on the ways; "
+          f"{ran:.1f} s, {turns} turns, of which an idle second has {rate:.0f}")
+    return 0
+
+
+if __name__ == "__main__":
+    sys.exit(main(sys.argv[1:]))

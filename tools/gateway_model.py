@@ -685,7 +685,7 @@ def realistic_lines():
             "join n Waiting", f"join n Whole {octets_in(full, 7).hex()}"]
 
 
-# `serve`: readings of the clock, what comes on the old link, its failing calls, turns; the lines, what went on both links.
+# `serve`: clock readings, what comes on the old link, its failing calls, turns; the lines, what went on both links.
 REPORT, REPORTED = "0801010002021700010017", "0801010002021800010018"
 CUSTODY = "069081180d02010101010100008768053c00010803616263"
 STATUS = "0681120f010109000000000087720085a300000108111010008772008768050769706e3a312e31"

@@ -6,6 +6,7 @@ waits in them stands in /proc/net/udp, so a datagram that is lost was lost on pu
 datagrams and its lines are known here, and nothing of how it works. Linux alone has what this reads.
 """
 import collections
+import math
 import os
 import random
 import select
@@ -36,7 +37,7 @@ def moment():
 
 
 class Trouble:
-    """What happens to datagrams on their way: by a seed some are lost, some come twice, and some wait for later ones."""
+    """What happens to datagrams on their way: by a seed some are lost, some come twice, some wait for later ones."""
 
     def __init__(self, seed=0, loss=0.0, repeats=0.0, delays=0.0):
         self.draw, self.loss, self.repeats, self.delays = random.Random(seed), loss, repeats, delays
@@ -116,6 +117,9 @@ class Node:
             self.came[session] = body
         self.notes += effects.notes
 
+    def arrive(self, datagram):
+        self.take(self.engine.arrive(datagram, moment()))
+
     def put(self, datagram):
         """Gives a datagram to the way to the gateway."""
         on_its_way = self.there.after(datagram)
@@ -136,10 +140,10 @@ class Node:
                 continue
             came += 1
             for each in self.back.after(datagram):
-                self.take(self.engine.arrive(each, moment()))
+                self.arrive(each)
         if not came:
             for each in self.back.let_go():
-                self.take(self.engine.arrive(each, moment()))
+                self.arrive(each)
             self.outgoing.extend(self.there.let_go())
         deadline = self.engine.next_deadline()
         if deadline is not None and deadline <= moment():
@@ -223,11 +227,13 @@ class Program:
 class Served:
     """A program that serves between an old node and a new node."""
 
+    node = Node
+
     def __init__(self, path, turns, is_six=False, policy=POLICY, troubles=None, keep=True):
         host, self.queues = "::1" if is_six else "127.0.0.1", Queues(is_six)
         troubles = troubles or [Trouble() for _ in range(4)]
-        self.old = Node((1, 2), host, self.queues, policy, *troubles[:2])
-        self.new = Node((4, 3), host, self.queues, policy, *troubles[2:])
+        self.old = self.node((1, 2), host, self.queues, policy, *troubles[:2])
+        self.new = self.node((4, 3), host, self.queues, policy, *troubles[2:])
         self.nodes = [self.old, self.new]
         words = [word for node in self.nodes for word in (node.gate_address, node.address)]
         self.program = Program(path, ["serve", GATE, *words, str(turns)], keep)
@@ -251,12 +257,16 @@ class Served:
         found = self.queues.read()
         return sum(found.get(node.gate, (0, 0))[1] for node in self.nodes)
 
-    def use_up(self):
-        """Lets the turns pass that are left, and answers the status."""
+    def use_up(self, most=math.inf):
+        """Lets the turns pass that are left, and answers the status. A program that goes on for too long is ended."""
+        until = time.monotonic() + most
         while not self.program.has_ended():
             for node in self.nodes:
                 node.send_nothing(50)
             self.pump(0.0005)
+            if time.monotonic() > until:
+                self.program.child.terminate()
+                until = math.inf
         return self.program.end()
 
 

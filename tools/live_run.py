@@ -74,7 +74,9 @@ class Made:
 
     def block(self, kind, number, octets, flags=0):
         block = {"kind": kind, "flags": flags, "body": octets.hex()}
-        return {**block, "refs": []} if self.version == 6 else {**block, "number": number, "crc": self.draw.randrange(3)}
+        if self.version == 6:
+            return {**block, "refs": []}
+        return {**block, "number": number, "crc": self.draw.randrange(3)}
 
     def size(self):
         return self.draw.choice([0, 1, 3, 100, 1000, 1024, 1025, 3000, self.draw.randrange(20_000)])
@@ -137,7 +139,8 @@ class Made:
 
     def extended(self):
         bundle = self.plain(self.draw.choice([10, CUT + 5]))
-        blocks = [self.block(200 + at, 2 + at, self.draw.randbytes(9), at % 3) for at in range(self.draw.randrange(1, 6))]
+        count = self.draw.randrange(1, 6)
+        blocks = [self.block(200 + at, 2 + at, self.draw.randbytes(9), at % 3) for at in range(count)]
         bundle["blocks"] = blocks + bundle["blocks"]
         return self.octets(bundle)
 
@@ -364,8 +367,8 @@ class Live:
 
     def left(self):
         ledger = self.ledger
-        return ", ".join(f"{face} has {len(self.items[face])} blocks to send, {len(self.nodes[face].engine.senders)} open"
-                         f", {ledger.open_at(face)} of the gateway's" for face in (OLD, NEW))
+        return ", ".join(f"{face} has {len(self.items[face])} blocks to come, {len(self.nodes[face].engine.senders)} "
+                         f"sessions of the node's, {ledger.open_at(face)} of its own" for face in (OLD, NEW))
 
     def judge(self):
         """What came to the nodes, and what was noted besides."""
@@ -373,7 +376,8 @@ class Live:
         is_exact = self.dropped == 0
         for place, face in self.ledger.faces.items():
             node = self.nodes[place]
-            must(set(node.came) == set(face.begun), f"sessions {sorted(set(node.came) ^ set(face.begun))[:9]} at {place}")
+            odd = sorted(set(node.came) ^ set(face.begun))
+            must(not odd, f"{place}: the sessions {odd[:9]} came and weren't begun, or else were begun and didn't come")
             for session, wanted in face.begun.items():
                 self.judge_block(place, session, node.came[session], wanted)
             self.judge_joins(place, node)
@@ -405,7 +409,8 @@ class Live:
                 word, whole = joiner.add(full)
                 if word == "Whole":
                     wanted, _ = wholes.pop(name_of(full))
-                    must(octets_in(whole, VERSION[place]) == wanted, f"the pieces up to {place} {session} join to another")
+                    is_same = octets_in(whole, VERSION[place]) == wanted
+                    must(is_same, f"the pieces up to {place} {session} join to another bundle")
         left = [name for name, (_, fragment) in wholes.items() if fragment is None]
         must(not left, f"pieces of {left[:3]} are missing")
 
@@ -434,7 +439,9 @@ def main(words):
         live.end()
         live.judge()
     except Wrong as wrong:
-        print(f"live_run: {wrong}")
+        print(f"live_run: {wrong}", flush=True)
+        if live:
+            live.served.use_up(60)
         return 1
     told = ", ".join(f"{count} {word}" for word, count in sorted(live.ledger.told.items()))
     lost = sum(trouble.lost for node in live.nodes.values() for trouble in (node.there, node.back))

@@ -287,8 +287,8 @@ def main(words):
     for what in wrong[:9]:
         print(f"attack_run: {what}")
     said = ", ".join(f"{count} {line}" for line, count in sorted(run.lines.items()))
-    print(f"attack_run: {options['datagrams']:.0f} datagrams in {seconds:.1f} s, memory {memory[0] if memory else 0} kB "
-          f"after the first {ROUND}, at most {max(memory, default=0)} kB, {run.served.dropped()} dropped; {said}")
+    print(f"attack_run: {options['datagrams']:.0f} datagrams in {seconds:.1f} s, memory {min(memory, default=0)} to "
+          f"{max(memory, default=0)} kB; {said}")
     return int(bool(wrong))
 
 

@@ -219,9 +219,9 @@ class Program:
             return next((int(line.split()[1]) for line in file if line.startswith(name + ":")), 0)
 
     def processor_seconds(self):
-        with open(f"/proc/{self.child.pid}/stat", encoding="ascii") as file:
-            words = file.read().rpartition(") ")[2].split()
-        return (int(words[11]) + int(words[12])) / os.sysconf("SC_CLK_TCK")
+        """Seconds of the processor that the running program has used."""
+        with open(f"/proc/{self.child.pid}/schedstat", encoding="ascii") as file:
+            return int(file.read().split()[0]) / 1e9
 
 
 class Served:

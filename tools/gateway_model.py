@@ -33,6 +33,7 @@ from make_bundles import NOBODY, block6, block7, bundle6, bundle7, ipn, numbers
 from translate_model import NONE, NO_RESTS, Untranslated, body6, body7, canonical6, octets7, record, singleton, view6
 from translate_model import translated, view7
 
+WRITE_FAULT = 4
 UNBOUND = 5                     # the status where a socket can't be bound, or its peer's address can't be used
 OLD, NEW = "g.o", "g.n"         # the faces of the gateway
 ENDS = {OLD: "o", NEW: "n"}     # the node that a face speaks to
@@ -523,10 +524,12 @@ class UdpLink:
     """A link over a socket. Where no datagram is there it pauses for a millisecond at the most."""
 
     def __init__(self, own, peer):
-        family, address = address_of(own)
+        (family, address), (other, to) = address_of(own), address_of(peer)
+        if other != family:
+            raise OSError("addresses of two kinds")
         self.socket = socket.socket(family, socket.SOCK_DGRAM)
         self.socket.bind(address)
-        self.socket.connect(address_of(peer)[1])
+        self.socket.connect(to)
         self.socket.setblocking(False)
 
     def poll(self):
@@ -551,6 +554,8 @@ def address_of(text):
     host, _, port = text.rpartition(":")
     is_six = host.startswith("[") and host.endswith("]")
     family = socket.AF_INET6 if is_six else socket.AF_INET
+    if decimal(port.encode()) is None or int(port) > 65_535:
+        raise ValueError(port)
     found = socket.getaddrinfo(host[1:-1] if is_six else host, int(port), family, socket.SOCK_DGRAM)
     return family, found[0][4]
 
@@ -811,11 +816,19 @@ def main(words):
     if words[:1] == ["--vectors"] and len(words) == 2:
         return vectors(words[1])
     if words[:1] == ["serve"] and len(words) == 7:
-        return serve(words[1:])
-    lines, status = answer(words, sys.stdin.buffer.read() if words == ["world"] else b"")
-    if status == USAGE:
+        lines, status = [], serve(words[1:])
+    else:
+        lines, status = answer(words, sys.stdin.buffer.read() if words == ["world"] else b"")
+    if status == USAGE and words[:1] in (["world"], ["make"], ["serve"]):
+        sys.stderr.write("fimdahol: these words are no command\n")
+    elif status == USAGE:
         sys.stderr.write(__doc__.split("\n\n")[1] + "\n")
-    sys.stdout.write("".join(line + "\n" for line in lines))
+    try:
+        if lines:
+            sys.stdout.write("".join(line + "\n" for line in lines))
+            sys.stdout.flush()
+    except OSError:
+        os._exit(WRITE_FAULT)
     return status
 
 

@@ -28,6 +28,7 @@ POLICY = Policy(1024, 700, 100, 5000)       # of the nodes: they ask again soone
 MOST_WAITING = 120_000                      # octets in a socket of the program, of some 210,000 that it holds
 AT_ONCE = 256                               # datagrams that a node takes before the other has its turn
 IDLE_TURNS = 400
+SETTLED = 0.1                               # seconds
 UNUSED = 1 << 40                            # a session number of a node that it never comes to
 
 
@@ -240,9 +241,11 @@ class Served:
         self.wait_for_sockets()
 
     def wait_for_sockets(self):
+        """What comes before a socket has its peer may be dropped, so a moment more is waited."""
         for _ in range(1000):
             found = self.queues.read()
             if all(node.gate in found for node in self.nodes) or self.program.has_ended():
+                time.sleep(SETTLED)
                 return
             time.sleep(0.01)
         sys.exit("the program binds no sockets")

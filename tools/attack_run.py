@@ -27,9 +27,10 @@ import ltp_model
 from format_model import BLOCK_MAX, Refused
 from gateway_model import ENDS, NEW, OLD, OTHER, SERIALS, VERSION, case_of, system_clock
 from live_nodes import Node, Served, idle_turns_a_second, moment, options_of, program_of
-from live_run import CUT, Made
+from live_run import CUT
 from ltp_model import (PIECES, RECEIVER_CANCEL, RECEIVER_CANCEL_ACK, REPORT, REPORT_ACK, SENDER_CANCEL,
                        SENDER_CANCEL_ACK, Policy, read_segment, written)
+from made_bundles import Made
 
 OPTIONS = {"datagrams": 50_000, "seed": 1, "turns": 0, "ipv6": False}
 PATIENT = Policy(1024, 3_600_000, 100, 3_600_000)     # of the nodes: nothing is sent again while datagrams are false
@@ -90,7 +91,7 @@ class Attack:
         self.draw, self.lines = random.Random(int(options["seed"])), collections.Counter()
         self.served = AttackedServed(path, turns, options["ipv6"])
         self.nodes = dict(zip((OLD, NEW), self.served.nodes))
-        self.made = {face: Made(self.draw, VERSION[face], CUT) for face in self.nodes}
+        self.made = {face: Made(self.draw, VERSION[face], CUT, system_clock(), CUT) for face in self.nodes}
         self.strange = {face: FIRST_STRANGE for face in self.nodes}
         self.ups, self.wrong = set(), []
         self.wanted = {face: [] for face in self.nodes}      # blocks that are to come to a face's node

@@ -26,173 +26,22 @@ import time
 
 sys.dont_write_bytecode = True
 sys.path.insert(0, os.path.dirname(os.path.abspath(__file__)))
-import translate_model
 from format_model import Refused
 from fragment_model import Joiner
-from gateway_model import (ENDS, NEW, OLD, OTHER, SERIALS, SERVED, VERSION, bundle_of, case_of, octets_in, passage,
+from gateway_model import (NEW, OLD, OTHER, SERIALS, SERVED, VERSION, bundle_of, case_of, octets_in, passage,
                            status_bundle, system_clock)
 from live_nodes import GATE, Served, Trouble, idle_turns_a_second, options_of, program_of
 from ltp_model import read_segment, written
-from make_bundles import head, numbers
-from translate_model import NONE, Untranslated, canonical6, octets7, record, translated
+from made_bundles import Made
+from translate_model import Untranslated, record
 
 OPTIONS = {"bundles": 150, "seconds": 150, "loss": 3, "repeats": 3, "delays": 5, "largest": 300_000, "seed": 1,
            "turns": 0, "ipv6": False}
 CUT = SERVED[1]
-DAY, HOUR = 86_400, 3600
-REPORTS = 1 << 14 | 1 << 16 | 1 << 18
-MUST_NOT, ADMINISTRATIVE, FRAGMENT, CUSTODY, TIMED = 4, 2, 1, 8, 64
 MOST_OPEN, MOST_RECEIVED = 56, 40       # sessions at a face of the gateway, of 64
 
 
-# ---- bundles ----
-
-class Made:
-    """Bundles of one version, each with another name."""
-
-    def __init__(self, draw, version, largest):
-        self.draw, self.version, self.largest, self.count = draw, version, largest, 0
-        self.started = system_clock()
-        self.made = translate_model.makes(1 << 40, draw.randrange(1 << 30))
-
-    def plain(self, size):
-        """A bundle that passes."""
-        self.count += 1
-        draw, moment = self.draw, self.started - self.draw.randrange(HOUR * 1000)
-        names = [draw.choice(["ipn:2.1", "dtn://b/y", "ipn:977000.64"]), draw.choice(["ipn:1.1", "dtn://a/x"]), NONE]
-        bundle = {"version": self.version, **dict(zip(("destination", "source", "report_to"), names)),
-                  "fragment": None, "blocks": [self.payload(draw.randbytes(size))]}
-        if self.version == 6:
-            return {**bundle, "flags": draw.choice([0x90, 0x10, 0x110, 0xB0]), "custodian": NONE, "lifetime": DAY,
-                    "creation": [moment // 1000, 1000 * self.count + moment % 1000]}
-        return {**bundle, "flags": draw.choice([0, 0x20]), "crc": draw.randrange(3), "lifetime": DAY * 1000,
-                "creation": [moment, self.count]}
-
-    def payload(self, octets):
-        block = {"kind": 1, "flags": 0, "body": octets.hex()}
-        return {**block, "refs": []} if self.version == 6 else {**block, "number": 1, "crc": 0}
-
-    def block(self, kind, number, octets, flags=0):
-        block = {"kind": kind, "flags": flags, "body": octets.hex()}
-        if self.version == 6:
-            return {**block, "refs": []}
-        return {**block, "number": number, "crc": self.draw.randrange(3)}
-
-    def size(self):
-        return self.draw.choice([0, 1, 3, 100, 1000, 1024, 1025, 3000, self.draw.randrange(20_000)])
-
-    def octets(self, bundle):
-        return canonical6(bundle) if self.version == 6 else octets7(bundle)
-
-    def sized(self):
-        return self.octets(self.plain(self.size()))
-
-    def large(self):
-        return self.octets(self.plain(self.draw.randrange(CUT, max(CUT + 1, self.largest))))
-
-    def largest_one(self):
-        return self.octets(self.plain(self.largest))
-
-    def kept_whole(self):
-        bundle = self.plain(self.draw.randrange(CUT, CUT + 50_000))
-        bundle["flags"] |= MUST_NOT
-        return self.octets(bundle)
-
-    def fragment(self):
-        size = self.draw.choice([0, 500, CUT + 1000])
-        bundle = self.plain(size)
-        bundle["flags"] |= FRAGMENT
-        bundle["fragment"] = [1000, 1000 + size + self.draw.randrange(5000)]
-        return self.octets(self.asking(bundle))
-
-    def asking(self, bundle):
-        """The bundle with reports asked for."""
-        bundle["flags"] |= self.draw.choice([REPORTS, 1 << 14, 1 << 16, 1 << 18]) | self.draw.choice([0, TIMED])
-        bundle["report_to"] = self.draw.choice(["ipn:1.7", "dtn://a/r", "dtn://a/~r"])
-        return bundle
-
-    def reported(self):
-        return self.octets(self.asking(self.plain(self.size())))
-
-    def expired(self):
-        bundle = self.asking(self.plain(self.size()))
-        bundle["creation"][0] -= 2 * DAY * (1 if self.version == 6 else 1000)
-        return self.octets(bundle)
-
-    def clockless(self):
-        bundle = self.asking(self.plain(5))
-        bundle["creation"][0] = 0
-        return self.octets(bundle)
-
-    def lifeless(self):
-        return self.octets({**self.asking(self.plain(5)), "lifetime": 0})
-
-    def other_rules(self):
-        """Custody in version 6; previous node and hop count in version 7, some of which is at its limit."""
-        bundle = self.asking(self.plain(self.size()))
-        if self.version == 6:
-            bundle["flags"] |= CUSTODY
-        else:
-            count = self.draw.choice([0, 22, 28, 29, 30, 255])
-            bundle["blocks"][:0] = [self.block(10, 2, numbers(30, count)), self.block(6, 3, numbers(1, 0), 1)]
-        return self.octets(bundle)
-
-    def extended(self):
-        bundle = self.plain(self.draw.choice([10, CUT + 5]))
-        count = self.draw.randrange(1, 6)
-        blocks = [self.block(200 + at, 2 + at, self.draw.randbytes(9), at % 3) for at in range(count)]
-        bundle["blocks"] = blocks + bundle["blocks"]
-        return self.octets(bundle)
-
-    def many_blocks(self):
-        """As many extension blocks as there may be; with a residue there is one too many in the other version."""
-        bundle = self.asking(self.plain(10))
-        bundle["flags"] |= self.draw.choice([0, 0x100 if self.version == 6 else 1 << 20])
-        bundle["blocks"] = [self.block(200, 2 + at, b"x") for at in range(64)] + bundle["blocks"]
-        return self.octets(bundle)
-
-    def administrative(self):
-        bundle = self.asking(self.plain(0))
-        bundle["flags"] = bundle["flags"] & ~FRAGMENT | ADMINISTRATIVE
-        report = translate_model.made_report(self.draw)
-        body = (translate_model.body6 if self.version == 6 else translate_model.body7)(report)
-        bundle["blocks"] = [self.payload(body if self.draw.random() < 0.7 else body[:-1])]
-        return self.octets(bundle)
-
-    def translation(self):
-        """What a bundle of the other version is in this one."""
-        self.count += 1
-        other = Made(self.draw, 13 - self.version, self.largest)
-        other.count = 1_000_000 + self.count
-        try:
-            return self.octets(translated(other.plain(self.size())))
-        except Untranslated:
-            return self.sized()
-
-    def any_other(self):
-        """A made bundle of this version whose time is certain."""
-        for octets in self.made:
-            try:
-                bundle = bundle_of(octets, self.version)
-                expiry = record(bundle)["shared"]["expiry"]
-            except (Refused, Untranslated):
-                continue
-            if abs(expiry - self.started) > HOUR * 1000:
-                return octets
-
-    def no_bundle(self):
-        octets = self.sized()
-        return self.draw.choice([octets + b"x", octets[:-1], self.draw.randbytes(30), octets[1:]])
-
-    def items(self, count):
-        """So many blocks."""
-        kinds = [self.sized, self.sized, self.reported, self.reported, self.large, self.kept_whole, self.fragment,
-                 self.expired, self.clockless, self.lifeless, self.other_rules, self.other_rules, self.extended,
-                 self.many_blocks, self.administrative, self.translation, self.any_other, self.no_bundle]
-        chosen = [kinds[at] if at < len(kinds) else self.draw.choice(kinds) for at in range(count)]
-        self.draw.shuffle(chosen)
-        return [kind() or self.sized() for kind in chosen]
-
+# ---- false datagrams ----
 
 def false_datagram(draw, own):
     """A datagram that is no segment, or one of a stranger; and what an engine notes of it."""
@@ -312,7 +161,7 @@ class Live:
 
     def planned(self, face, options):
         """The blocks of a node, each with its case."""
-        made = Made(self.draw, VERSION[face], int(options["largest"]))
+        made = Made(self.draw, VERSION[face], int(options["largest"]), self.began, CUT)
         blocks = made.items(int(options["bundles"]))
         if options["largest"] > CUT:
             blocks.append(made.largest_one())

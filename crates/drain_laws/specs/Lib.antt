@@ -1,2 +1,9 @@
 -- clean events
 pub mod Clean
+pub mod Effects
+-- the rank
+pub mod Hopeful
+pub mod Rank
+pub mod Calm
+pub mod Completion
+pub mod Drain

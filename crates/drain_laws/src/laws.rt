@@ -4,6 +4,8 @@ ghost use Rattle.std.specs.Prelude.{◌≡◌, ℕ, ◌++◌, ◌∷◌, [], Lis
 ghost use Rattle.ltp_session.specs.Engine.{Party};
 ghost use Rattle.ltp_session.specs.World.{Event, World, run};
 ghost use Rattle.drain_laws.specs.Clean.{AreClean, clean_event, passed};
+ghost use Rattle.drain_laws.specs.Completion.{CleanEventsAreFew, CleanRunsEnd};
+ghost use Rattle.drain_laws.specs.Completion.{CleanRunsComplete};
 
 /// One clean event more, where the events before it are clean.
 pub fn clean_events_go_on()
@@ -11,4 +13,22 @@ pub fn clean_events_go_on()
         → AreClean parties w c events
         → clean_event (run parties w events) (passed c events) ≡ Some event
         → AreClean parties w c (events ++ event ∷ []) }
+{}
+
+/// From a hopeful world with room no list of clean events is longer than the sessions cost: 16
+/// events for each that is kept at either end, and one for each segment of a block whose sender is
+/// kept.
+pub fn clean_events_are_few()
+    ensures { CleanEventsAreFew }
+{}
+
+/// From such a world clean events lead to one in which nothing is left to do.
+pub fn clean_runs_end()
+    ensures { CleanRunsEnd }
+{}
+
+/// There every session that was open at its sender has been noted as sent, and its red part handed
+/// up; no timer runs, and nobody gave a session up.
+pub fn clean_runs_complete()
+    ensures { CleanRunsComplete }
 {}

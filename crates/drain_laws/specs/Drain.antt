@@ -1,0 +1,163 @@
+-- A drain over one link.
+
+use Rattle.std.specs.Prelude.{◌≡◌, ◌≢◌, ℕ, ◌+◌, ◌<◌, ◌≤◌, Bool, true, false, List, [], ◌∷◌, ◌++◌}
+use Rattle.std.specs.Prelude.{length, take, drop, Option, None, Some, if◌then◌else◌, ◌⊎◌}
+use Rattle.ltp_segment.specs.Values.{ContentValue}
+use Rattle.ltp_segment.specs.declared.session.Note.TheVariants as notes
+use Rattle.drain_laws.specs.Hopeful.{sum_below}
+use Rattle.drain_laws.specs.Effects.{EndEffects, IsHandedUp, IsNoted}
+use Rattle.drain_laws.specs.Calm.{Advances, Drains, IsComing, Setting}
+use Rattle.link_laws.specs.Serials.{pending_of}
+use Rattle.link_laws.specs.View.{Unused, View, said, same_end, view}
+use Rattle.ltp_session.specs.Engine.{Party, closed_runs}
+use Rattle.ltp_session.specs.Receiver.{Pending, Receiving}
+use Rattle.ltp_session.specs.Sender.{Sending, segments_of, sending_timer}
+use Rattle.ltp_session.specs.Table.{AreAscending}
+use Rattle.ltp_session.specs.World.{End, Sent, World, arrival, at_end, first_end, other}
+use Rattle.ltp_session.specs.World.{second_end, ticks}
+
+pub record Oldest : Type 0 where
+  pub first : Sent
+  pub others : List Sent
+
+abbrev pub behind : Sent → Option Oldest → Option Oldest
+behind d None = None
+behind d (Some o) = Some (record { first = o.first; others = d ∷ o.others })
+
+-- the oldest datagram of an end, and all others
+unfoldable pub oldest : End → List Sent → Option Oldest
+oldest from [] = None
+oldest from (d ∷ ds) = if same_end d.from from then Some (record { first = d; others = ds }) else
+    behind d (oldest from ds)
+
+-- a world, and the datagrams that are new in it and not delivered
+pub record Draining : Type 0 where
+  pub world : World
+  pub new : List Sent
+
+-- what was sent since
+abbrev pub since : World → World → List Sent
+since w w' = drop (length w.sent) w'.sent
+
+-- an oldest new datagram of an end is delivered; or, where nothing is new, timers fire
+pub data Clean (parties : Party × Party) (d d' : Draining) : Type 0 where
+  delivers : (from : End) (o : Oldest) → oldest from d.new ≡ Some o
+      → d'.world ≡ arrival parties d.world (other from) (o.first).segment
+      → d'.new ≡ o.others ++ since d.world d'.world → Clean parties d d'
+  fires : (now : ℕ) → d.new ≡ [] → (d.world).now ≤ now
+      → d'.world ≡ ticks parties now second_end (ticks parties now first_end d.world)
+      → d'.new ≡ since d.world d'.world → d'.new ≢ [] → Clean parties d d'
+
+-- there is room for each session that is coming
+pub record IsRoomy (parties : Party × Party) (w : World) : Type 0 where
+  pub room : (o : End) (n : ℕ) → IsComing (view parties w o n)
+      → (length (at_end w.engines (other o)).receivers < 64)
+      × (closed_runs (at_end w.engines (other o)).closed + length
+      (at_end w.engines (other o)).receivers < 65536)
+
+-- ---- what a drain keeps
+
+-- session n of p with q
+abbrev pub setting_by : Party → Party → ℕ → ℕ → Setting
+setting_by p q n red = record {
+  session = n;
+  red = red;
+  z = (p.policy).segment;
+  limit_s = (p.policy).limit;
+  limit_r = (q.policy).limit;
+  most = q.most;
+}
+
+abbrev pub setting : Party × Party → End → ℕ → ℕ → Setting
+setting parties o n red = setting_by (at_end parties o) (at_end parties (other o)) n red
+
+-- a begun session with its facts, that drains within so many events
+pub record Standing (F : List ℕ → ℕ → View → Type 0) (set : ℕ → Setting) (v : View)
+    (new_s new_r : List ContentValue) (m : ℕ) : Type 0 where
+  pub block : List ℕ
+  pub red : ℕ
+  pub facts : F block red v
+  pub drains : Drains (set red) v new_s new_r m
+
+pub record Idle (v : View) (new_s new_r : List ContentValue) : Type 0 where
+  pub unused : Unused v
+  pub none_s : new_s ≡ []
+  pub none_r : new_r ≡ []
+
+abbrev pub StandsBy : (List ℕ → ℕ → View → Type 0) → (ℕ → Setting) → Bool → View
+    → List ContentValue → List ContentValue → ℕ → Type 0
+StandsBy F set false v new_s new_r m = Idle v new_s new_r
+StandsBy F set true v new_s new_r m = Standing F set v new_s new_r m
+
+abbrev pub Stands : (List ℕ → ℕ → View → Type 0) → (ℕ → Setting) → View → List ContentValue
+    → List ContentValue → ℕ → Type 0
+Stands F set v new_s new_r m = StandsBy F set v.used v new_s new_r m
+
+-- each datagram is of one of the two
+abbrev pub AreKnown : Party × Party → List Sent → Type 0
+AreKnown parties [] = Unit {0}
+AreKnown parties (d ∷ ds) = (((d.segment).originator ≡ (parties.0).own)
+    ⊎ ((d.segment).originator ≡ (parties.1).own)) × AreKnown parties ds
+
+pub record DrainHolds (F : List ℕ → ℕ → View → Type 0) (parties : Party × Party) (d : Draining)
+    (rank : End → ℕ → ℕ) : Type 0 where
+  pub session : (o : End) (n : ℕ) → Stands F (setting parties o n) (view parties d.world o n)
+      (said o (at_end parties o).own n d.new) (said (other o) (at_end parties o).own n d.new)
+      (rank o n)
+  pub senders : (o : End) → AreAscending 0 (at_end (d.world).engines o).senders
+  pub receivers : (o : End) → AreAscending 0 (at_end (d.world).engines o).receivers
+  pub next : (o : End) → (at_end parties o).first ≤ (at_end (d.world).engines o).next
+  pub known : AreKnown parties d.new
+
+-- ---- sums
+
+-- the ranks of all sessions of a link that were begun
+abbrev pub sum_of : World → (End → ℕ → ℕ) → ℕ
+sum_of w rank = sum_below (at_end w.engines first_end).next (rank first_end) + sum_below
+    (at_end w.engines second_end).next (rank second_end)
+
+-- ---- what one event leaves of a drain
+
+-- a clean event raises no rank, and lowers their sum
+pub record Next (F : List ℕ → ℕ → View → Type 0) (parties : Party × Party) (d d' : Draining)
+    (rank : End → ℕ → ℕ) : Type 0 where
+  pub rank' : End → ℕ → ℕ
+  pub holds : DrainHolds F parties d' rank'
+  pub falls : sum_of d'.world rank' < sum_of d.world rank
+  pub never_up : (o : End) (n : ℕ) → rank' o n ≤ rank o n
+
+-- the events that a session begun with this block takes at most
+abbrev pub begun_rank : ℕ → List ℕ → ℕ → ℕ
+begun_rank z block red = length (segments_of z 0 (take red block)) + length
+    (segments_of z red (drop red block)) + 2
+
+-- a submit leaves the ranks of the sessions begun before; the new one's is that of its segments
+pub record AfterSubmit (F : List ℕ → ℕ → View → Type 0) (parties : Party × Party) (d : Draining)
+    (rank : End → ℕ → ℕ) (end : End) (k : ℕ) (d' : Draining) : Type 0 where
+  pub rank' : End → ℕ → ℕ
+  pub holds : DrainHolds F parties d' rank'
+  pub same : (o : End) (n : ℕ) → (o ≡ end → n ≢ (at_end (d.world).engines end).next)
+      → rank' o n ≡ rank o n
+  pub begun : rank' end (at_end (d.world).engines end).next ≤ k
+
+-- a moment below every deadline of the link
+pub record BelowDeadlines (parties : Party × Party) (w : World) (now : ℕ) : Type 0 where
+  pub sender : (o : End) (n : ℕ) (s : Sending) → (view parties w o n).sender ≡ Some s
+      → now < (sending_timer s.phase).deadline
+  pub receiver : (o : End) (n : ℕ) (r : Receiving) (p : Pending)
+      → (view parties w o n).receiver ≡ Some r → pending_of r.phase ≡ Some p
+      → now < (p.timer).deadline
+
+-- a deadline of the link is over at a moment
+pub data IsDue (parties : Party × Party) (w : World) (now : ℕ) : Type 0 where
+  due_sender : (o : End) (n : ℕ) (s : Sending) → (view parties w o n).sender ≡ Some s
+      → (sending_timer s.phase).deadline ≤ now → IsDue parties w now
+  due_receiver : (o : End) (n : ℕ) (r : Receiving) (p : Pending)
+      → (view parties w o n).receiver ≡ Some r → pending_of r.phase ≡ Some p
+      → (p.timer).deadline ≤ now → IsDue parties w now
+
+-- what became of all sessions of a link, with these effects
+abbrev pub AllAdvance : Party × Party → World → World → List EndEffects → Type 0
+AllAdvance parties w w' es = (o : End) (n : ℕ)
+    → Advances (view parties w o n) (view parties w' o n) (IsNoted es o (notes.Sent n))
+    (IsHandedUp es (other o) n)

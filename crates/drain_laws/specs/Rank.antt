@@ -1,0 +1,78 @@
+-- What a rank counts.
+
+use Rattle.std.specs.Prelude.{◌≡◌, ℕ, ◌+◌, ◌<◌, ◌≤◌, Bool, true, false, not, ◌==◌, ◌&&◌, ◌||◌}
+use Rattle.std.specs.Prelude.{nat_lt, nat_le, List, [], ◌∷◌, length, take, Option, None, Some}
+use Rattle.std.specs.Prelude.{is_some, ◌⊎◌, if◌then◌else◌}
+use Rattle.ltp_segment.specs.Kinds.{is_red, is_checkpoint}
+use Rattle.ltp_segment.specs.Values.{PieceValue, ReportValue, ContentValue, a_piece, a_report}
+use Rattle.ltp_segment.specs.Values.{a_report_ack}
+use Rattle.link_laws.specs.Serials.{pending_of}
+use Rattle.link_laws.specs.Claims.{IsWhole}
+use Rattle.link_laws.specs.View.{IsIn, View}
+use Rattle.ltp_session.specs.Cells.{cell}
+use Rattle.ltp_session.specs.Receiver.{Pending, Receiving}
+use Rattle.ltp_session.specs.Sender.{Sending, segments_of, sender_open}
+use Rattle.ltp_session.specs.declared.timer.Timer.{Timer}
+
+abbrev pub weight : ContentValue → ℕ
+weight (a_piece q) = if is_checkpoint q.kind then 3 else 1
+weight (a_report x) = 2
+weight content = 1
+
+unfoldable pub weights : List ContentValue → ℕ
+weights [] = 0
+weights (c ∷ cs) = weight c + weights cs
+
+-- a red piece that has a place
+abbrev pub has_cell : ℕ → ContentValue → Bool
+has_cell i (a_piece q) = is_red q.kind && nat_le q.offset i && nat_lt i (q.offset + length q.body)
+has_cell i content = false
+
+abbrev pub is_checkpoint_of : ℕ → ContentValue → Bool
+is_checkpoint_of c (a_piece q) = is_checkpoint q.kind && (q.checkpoint == c)
+is_checkpoint_of c content = false
+
+-- a piece with the place comes no later than the checkpoint
+unfoldable pub ahead : ℕ → ℕ → List ContentValue → Bool
+ahead c i [] = false
+ahead c i (e ∷ es) = has_cell i e || (not (is_checkpoint_of c e) && ahead c i es)
+
+-- ---- a bound of a session's rank, as a certificate: what was said since the start of the drain
+-- and isn't delivered, by the sender and by the receiver
+abbrev pub HasFilled : ℕ → Option Receiving → Type 0
+HasFilled i None = ⊥
+HasFilled i (Some r) = is_some (cell r.cells i) ≡ true
+
+pub record Settled (red : ℕ) (v : View) (c : ℕ) (new : List ContentValue) : Type 0 where
+  pub whole : (x : ReportValue) → IsIn (a_report x) v.by_receiver → x.checkpoint ≡ c
+      → IsWhole red x
+  pub cells : (i : ℕ) → i < red → HasFilled i v.receiver ⊎ (ahead c i new ≡ true)
+
+-- a report with this serial, or its acknowledgement, is on its way
+abbrev pub IsReportedOn : ℕ → List ContentValue → List ContentValue → Type 0
+IsReportedOn serial new_s new_r = ((x : ReportValue) × IsIn (a_report x) new_r
+    × (x.serial ≡ serial)) ⊎ IsIn (a_report_ack serial) new_s
+
+-- a checkpoint with this serial, or a report that names it, is on its way
+abbrev pub IsAskedOn : ℕ → List ContentValue → List ContentValue → Type 0
+IsAskedOn c new_s new_r =
+    ((q : PieceValue) × IsIn (a_piece q) new_s × (is_checkpoint q.kind ≡ true)
+    × (q.checkpoint ≡ c))
+    ⊎ ((x : ReportValue) × IsIn (a_report x) new_r × (x.checkpoint ≡ c))
+
+pub record RankAtMost (z red : ℕ) (v : View) (new_s new_r : List ContentValue)
+    (n : ℕ) : Type 0 where
+  pub report : ℕ
+  pub checkpoint : ℕ
+  pub round : ℕ
+  pub sum : weights new_s + weights new_r + report + checkpoint + round ≤ n
+  pub reporting : (r : Receiving) (p : Pending) → v.receiver ≡ Some r
+      → pending_of r.phase ≡ Some p
+      → IsReportedOn (p.report).serial new_s new_r ⊎ (3 ≤ report)
+  pub asking : (s : Sending) (c : PieceValue) (timer : Timer) → v.sender ≡ Some s
+      → s.phase ≡ sender_open c timer
+      → IsAskedOn c.checkpoint new_s new_r ⊎ (4 ≤ checkpoint)
+  pub rounding : (s : Sending) (c : PieceValue) (timer : Timer) → v.sender ≡ Some s
+      → s.phase ≡ sender_open c timer
+      → Settled red v c.checkpoint new_s ⊎ (length (segments_of z 0 (take s.red s.block)) + 2 ≤
+      round)

@@ -3,7 +3,8 @@
 
 usage: bench/serve.py [PROGRAM] [--seconds S] [--idle S] [--scale PERCENT] [--ipv6]
 
-The program is the one that this repository builds, where none is named. An old node sends bundles of a size over
+The program is the one that this repository builds, where none is named; this was tried on tools/gateway_model.py, which
+serves too, before the program had the command. An old node sends bundles of a size over
 loopback UDP, and a new node takes what they are in version 7; both are this one process, which stands on
 tools/live_nodes.py. No datagram finds a socket full: with 'lost 5 %' one of twenty is lost on purpose, on each way of
 each link. The gateway asks again after 10 seconds, so with losses it waits for most of the time.

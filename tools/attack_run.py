@@ -3,8 +3,9 @@
 
 usage: tools/attack_run.py [PROGRAM] [--datagrams N] [--seed N] [--turns N] [--ipv6]
 
-The program is the one that this repository builds, where none is named; tools/gateway_model.py is one too. It is
-started here and ends by itself when its turns are over. First each node sends a bundle of which a segment is kept
+The program is the one that this repository builds, where none is named. tools/gateway_model.py is one too: on it this
+was tried before the program had the command, and with faults planted there. The program is started here and ends by
+itself when its turns are over. First each node sends a bundle of which a segment is kept
 back, and another whose acknowledgement is kept back on the far side, so that sessions of both kinds are open on both
 faces. Then come so many datagrams that nobody should send: octets of any kind, real segments that were cut, changed or
 put together anew, repeats of old ones and of the other link's, and pieces, reports and cancels for sessions that
@@ -40,6 +41,7 @@ FIRST_STRANGE = 5000      # the first of their numbers
 GROWTH = 4096             # kilobytes
 SECONDS = 60              # for what is to get through afterwards
 MOST_KEPT = 2000
+ENDINGS = ("Failed", "Cancelled", "Evicted", "HistoryFull", "Storage", "Unreported")
 
 
 class PatientNode(Node):
@@ -93,7 +95,7 @@ class Attack:
         self.nodes = dict(zip((OLD, NEW), self.served.nodes))
         self.made = {face: Made(self.draw, VERSION[face], CUT, system_clock(), CUT) for face in self.nodes}
         self.strange = {face: FIRST_STRANGE for face in self.nodes}
-        self.ups, self.wrong = set(), []
+        self.ups, self.wrong, self.is_attacked = set(), [], False
         self.wanted = {face: [] for face in self.nodes}      # blocks that are to come to a face's node
 
     # ---- bundles that are to get through ----
@@ -109,7 +111,8 @@ class Attack:
         self.left = {}
         for face, node in self.nodes.items():
             node.submit(self.bundle(face, 3000))
-        self.pump_until(lambda: all(len(node.came) == 1 and node.is_quiet() for node in self.nodes.values()))
+        self.pump_until(lambda: all(len(node.came) == 1 and node.is_quiet() for node in self.nodes.values())
+                        and all(self.lines[f"{face} Sent"] for face in self.nodes))
         for node in self.nodes.values():
             node.is_deaf = True
         for face, node in self.nodes.items():
@@ -131,6 +134,8 @@ class Attack:
             self.lines[" ".join(words[:1] if words[0] == "up" else words[1:3])] += 1
             if words[0] == "up":
                 self.judge_up(words[1], int(words[2]), bytes.fromhex(words[3]))
+            elif words[2] in ENDINGS + ("Sent",) * self.is_attacked and int(words[3]) < FIRST_STRANGE:
+                self.wrong.append(f"{' '.join(words)}, of a session that nobody ended")
 
     def judge_up(self, face, session, body):
         if (face, session) in self.ups:
@@ -162,12 +167,16 @@ class Attack:
         return originator == node.engine.peer and kind in (REPORT, RECEIVER_CANCEL) and session > 1
 
     def session_of(self, face):
-        return self.draw.choice([1, self.strange[face] + self.draw.randrange(STRANGE), self.draw.randrange(1, 1 << 33)])
+        """A number of a session that is over, that is strange, that is nobody's, or that is open."""
+        return self.draw.choice([1, self.strange[face] + self.draw.randrange(STRANGE), self.draw.randrange(1, 1 << 33),
+                                 self.left[face][0] - self.draw.randrange(2)])
 
     def segment(self, face):
-        """A segment of any type for some session."""
+        """A segment of any type for some session, of the node, of the gateway, or of a stranger."""
         draw, node = self.draw, self.nodes[face]
         own, peer = (node.engine.own, self.session_of(face)), (node.engine.peer, draw.randrange(1, 5))
+        if draw.random() < 0.2:
+            own, peer = ((draw.choice([0, 1, 2, 3, 4, 77, (1 << 64) - 1]), name[1]) for name in (own, peer))
         kind = draw.choice([*PIECES, *PIECES, REPORT, REPORT_ACK, SENDER_CANCEL, SENDER_CANCEL_ACK, RECEIVER_CANCEL,
                             RECEIVER_CANCEL_ACK])
         if kind in PIECES:
@@ -177,9 +186,12 @@ class Attack:
             serials = [draw.randrange(1, 1 << 20), draw.randrange(9)] if kind in ltp_model.CHECKPOINTS else []
             return written(kind, own, draw.choice([1, 1, 1, 1, 2]), at, size, *serials, body=draw.randbytes(size))
         if kind == REPORT:
+            upper = draw.choice([1, 1024, 100_000, *map(len, self.wanted[face])])
+            if draw.random() < 0.5:
+                return written(kind, peer, draw.randrange(1, 99), draw.randrange(99), upper, 0, 1, 0, upper)
             count = draw.choice([0, 1, 3, 400])
             claims = [number for _ in range(count) for number in (3, 2)]
-            return written(kind, peer, draw.randrange(1, 99), draw.randrange(99), 100_000, 0, count, *claims)
+            return written(kind, peer, draw.randrange(1, 99), draw.randrange(99), 10 * upper, 0, count, *claims)
         name = own if kind in (REPORT_ACK, SENDER_CANCEL, RECEIVER_CANCEL_ACK) else peer
         if kind == REPORT_ACK:
             return written(kind, name, draw.randrange(1 << 20))
@@ -222,7 +234,7 @@ class Attack:
 
     def attack(self, count):
         """Sends so many, and answers how much memory the program had after each round."""
-        memory, sent = [], 0
+        memory, sent, self.is_attacked = [], 0, True
         while sent < count and not self.served.program.has_ended():
             for _ in range(ROUND):
                 face = self.draw.choice([OLD, NEW])
@@ -240,6 +252,7 @@ class Attack:
 
     def finish(self):
         """What was open is completed, and a further bundle of each node follows."""
+        self.is_attacked = False
         for face, node in self.nodes.items():
             node.outgoing.append(self.left[face][1])
             node.hear()

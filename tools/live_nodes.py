@@ -28,6 +28,7 @@ POLICY = Policy(1024, 700, 100, 5000)       # of the nodes: they ask again soone
 MOST_WAITING = 120_000                      # octets in a socket of the program, of some 210,000 that it holds
 AT_ONCE = 256                               # datagrams that a node takes before the other has its turn
 IDLE_TURNS = 400
+MOST_OLD = 3000                             # datagrams that may come again
 SETTLED = 0.1                               # seconds
 UNUSED = 1 << 40                            # a session number of a node that it never comes to
 
@@ -38,11 +39,15 @@ def moment():
 
 
 class Trouble:
-    """What happens to datagrams on their way: by a seed some are lost, some come twice, some wait for later ones."""
+    """What happens to datagrams on their way, by a seed.
+
+    Some are lost, some come twice, some wait for a few later ones, and as often as they come twice an old one comes
+    again, however late.
+    """
 
     def __init__(self, seed=0, loss=0.0, repeats=0.0, delays=0.0):
         self.draw, self.loss, self.repeats, self.delays = random.Random(seed), loss, repeats, delays
-        self.held, self.lost = [], 0
+        self.held, self.lost, self.old = [], 0, []
 
     def after(self, datagram):
         """The datagrams that come out once this one goes in."""
@@ -57,7 +62,18 @@ class Trouble:
                     out.append(datagram)
         for waiting in self.held:
             waiting[0] -= 1
-        return out + self.let_go(lambda waiting: waiting[0] <= 0)
+        return out + self.old_one(datagram) + self.let_go(lambda waiting: waiting[0] <= 0)
+
+    def old_one(self, datagram):
+        """Seldom one of those that went in before; this one is remembered."""
+        if not self.repeats:
+            return []
+        out = [self.draw.choice(self.old)] if self.old and self.draw.random() < self.repeats else []
+        if len(self.old) < MOST_OLD:
+            self.old.append(datagram)
+        else:
+            self.old[self.draw.randrange(MOST_OLD)] = datagram
+        return out
 
     def let_go(self, is_due=lambda waiting: True):
         """Those that wait no longer."""

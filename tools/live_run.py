@@ -4,18 +4,19 @@
 usage: tools/live_run.py [PROGRAM] [--bundles N] [--seconds S] [--loss PERCENT] [--repeats PERCENT] [--delays PERCENT]
                          [--largest OCTETS] [--seed N] [--turns N] [--ipv6]
 
-The program is the one that this repository builds, where none is named; tools/gateway_model.py is one too. It is
-started here and ends by itself when its turns are over; turns that are left in the end are used up by datagrams that
-it says nothing of. So many bundles go from each node, of all sizes and kinds: whole ones and fragments, ones that are
-cut and ones that mayn't be, hop counts and previous nodes, ones that ask for reports, and ones that are refused.
-Datagrams of both ways on both links are lost, repeated and delayed by the seed, and false ones come between them.
+The program is the one that this repository builds, where none is named. tools/gateway_model.py is one too: on it this
+was tried before the program had the command, and with faults planted there. The program is started here and ends by
+itself when its turns are over; turns that are left in the end are used up by datagrams that it says nothing of. So many
+bundles go from each node, of all sizes and kinds: whole ones and fragments, ones that are cut and ones that mayn't be,
+hop counts and previous nodes, ones that ask for reports, and ones that are refused. Datagrams of both ways on both
+links are lost, repeated and delayed by the seed, and false ones come between them.
 Status 0 where all of this holds, and 1 else:
 
 - each block that the program hands up is what the node sent under that number, and comes once;
 - what it notes of it is the first case of gateway_model.py that holds;
 - the sessions that it begins bring exactly the pieces of that bundle's passage, and the reports that were asked for;
 - fragments are joined to the whole passage of the bundle that was cut;
-- it notes nothing else, but false datagrams in their number, and late pieces of closed sessions;
+- it notes nothing else, but false datagrams in their number, and late pieces of closed sessions, of which many come;
 - each session of each side ends as sent, and the program ends with 0.
 """
 import collections
@@ -39,6 +40,7 @@ OPTIONS = {"bundles": 150, "seconds": 150, "loss": 3, "repeats": 3, "delays": 5,
            "turns": 0, "ipv6": False}
 CUT = SERVED[1]
 MOST_OPEN, MOST_RECEIVED = 56, 40       # sessions at a face of the gateway, of 64
+QUIET, SECONDS_MORE = 1, 60
 
 
 # ---- false datagrams ----
@@ -204,8 +206,18 @@ class Live:
                         for face in (OLD, NEW)))
 
     def run(self, seconds):
-        """Sends all blocks, and waits till every session has ended."""
+        """Sends all blocks, and waits till every session has ended; then old datagrams come again and bring nothing."""
         until = time.monotonic() + seconds
+        self.wait_till_done(until, seconds)
+        for node in self.nodes.values():
+            node.outgoing.extend(node.there.old)
+        quiet = time.monotonic() + QUIET
+        while any(node.outgoing for node in self.nodes.values()) or time.monotonic() < quiet:
+            self.served.pump()
+            self.read_lines()
+        self.wait_till_done(until + SECONDS_MORE, seconds + SECONDS_MORE)
+
+    def wait_till_done(self, until, seconds):
         while not self.is_done():
             self.send_some()
             self.served.pump()

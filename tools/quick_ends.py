@@ -1,16 +1,19 @@
 #!/usr/bin/env python3
 """Ends of LTP links as in ltp_model.py, over ranges of octets: quick enough to speak with a running program.
 
-usage: tools/quick_ends.py --check COUNT SEED     made scripts, to which both kinds of ends have to answer the same
+usage: tools/quick_ends.py --check COUNT SEED     made scripts, to which both kinds of ends have to answer the same; and
+                                                  a report on the largest block, which has more gaps than it can say
 """
 import bisect
+import collections
 import os
 import sys
 
 sys.dont_write_bytecode = True
 sys.path.insert(0, os.path.dirname(os.path.abspath(__file__)))
 import ltp_model
-from ltp_model import CHECKPOINTS, RED, REPORT_ACK, Engine, Receiver, Sender, read_segment
+from format_model import BLOCK_MAX
+from ltp_model import CHECKPOINTS, RED, REPORT_ACK, Engine, Policy, Receiver, Sender, read_segment
 
 
 class Ranges:
@@ -143,7 +146,42 @@ def check(count, seed):
             said.append(lines)
         differ += said[0] != said[1]
     print(f"{count} scripts, {differ} differ")
-    return int(differ > 0)
+    found, wanted = gaps_of_the_largest(), (8192, 1, 1024, 1_048_064, 7168, 7176)
+    if found != wanted:
+        print(f"the largest block: {found}, wanted {wanted}")
+    return int(differ > 0 or found != wanted)
+
+
+def gaps_of_the_largest():
+    """The largest block in segments of 512 octets, of which every other and the last one came.
+
+    Answers how many segments it has, how many reports there are, the claims and the end of the one, how many segments
+    then go again, and after how many events a drain ends.
+    """
+    policy = Policy(512)
+    ends = QuickEngine(1, 2, policy=policy), QuickEngine(2, 1, policy=policy)
+    begun = ends[0].submit(bytes(BLOCK_MAX), BLOCK_MAX, 0).out
+    reports = [report for (datagram,) in begun[0::2] + begun[-1:] for report in ends[1].arrive(datagram, 0).out]
+    said = read_segment(reports[0][0])[2]
+    _, *again = ends[0].arrive(reports[0][0], 0).out
+    return len(begun), len(reports), len(said["claims"]), said["upper"], len(again), drained(ends)
+
+
+def drained(ends):
+    """The events of a drain between two ends: what is sent in it comes, or else the clock goes to the next deadline."""
+    coming, events = collections.deque(), 0
+    while True:
+        if coming:
+            at, datagram = coming.popleft()
+            effects = {at: ends[at].arrive(datagram, moment)}
+        else:
+            moment = min((end.next_deadline() for end in ends if end.next_deadline() is not None), default=None)
+            if moment is None:
+                return events
+            effects = {at: end.tick(moment) for at, end in enumerate(ends)}
+        for at, effect in effects.items():
+            coming.extend((1 - at, datagram) for datagram, in effect.out)
+        events += 1
 
 
 if __name__ == "__main__":

@@ -5,14 +5,15 @@ usage: tools/attack_run.py [PROGRAM] [--datagrams N] [--seed N] [--turns N] [--i
 
 The program is the one that this repository builds, where none is named. tools/gateway_model.py is one too: on it this
 was tried before the program had the command, and with faults planted there. The program is started here and ends by
-itself when its turns are over. First each node sends a bundle of which a segment is kept
-back, and another whose acknowledgement is kept back on the far side, so that sessions of both kinds are open on both
-faces. Then come so many datagrams that nobody should send: octets of any kind, real segments that were cut, changed or
-put together anew, repeats of old ones and of the other link's, and pieces, reports and cancels for sessions that
-aren't there. Whoever speaks with a node's address may end its sessions by LTP's own rules; so a datagram that the
-rules take as one for an open session, or for one that is yet to come, is left out. Status 0 where all of this holds:
+itself when its turns are over. First each node sends a bundle of which a segment is kept back, and another whose
+acknowledgement is kept back on the far side, so that sessions of both kinds are open on both faces. Then come so many
+datagrams that nobody should send: octets of any kind, real segments that were cut, changed or put together anew,
+repeats of old ones and of the other link's, and pieces, reports and cancels for sessions that aren't there. Whoever
+speaks with a node's address may end its sessions by LTP's own rules; so a datagram that the rules take as one for an
+open session, or for one that is yet to come, is left out. Status 0 where all of this holds:
 
 - the program doesn't end before its turns are over, and then ends with 0;
+- it ends none of these sessions while false datagrams come, and hands up nothing twice;
 - its memory doesn't grow between the first half of the datagrams and the second;
 - each open session is completed afterwards, and a further bundle of each node gets through.
 """

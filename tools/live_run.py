@@ -40,6 +40,7 @@ OPTIONS = {"bundles": 150, "seconds": 150, "loss": 3, "repeats": 3, "delays": 5,
            "turns": 0, "ipv6": False}
 CUT = SERVED[1]
 MOST_OPEN, MOST_RECEIVED = 56, 40       # sessions at a face of the gateway, of 64
+MANY_OCTETS = 4_000_000                 # from here on bundles of the most octets come too
 QUIET, SECONDS_MORE = 1, 60
 
 
@@ -167,6 +168,8 @@ class Live:
         blocks = made.items(int(options["bundles"]))
         if options["largest"] > CUT:
             blocks.append(made.largest_one())
+        if options["largest"] >= MANY_OCTETS:
+            blocks.append(made.too_long())
         return collections.deque((block, case_of(block, VERSION[face], self.began, 64, SERIALS, CUT))
                                  for block in blocks)
 

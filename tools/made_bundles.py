@@ -9,7 +9,7 @@ import sys
 sys.dont_write_bytecode = True
 sys.path.insert(0, os.path.dirname(os.path.abspath(__file__)))
 import translate_model
-from format_model import Refused
+from format_model import BLOCK_MAX, Refused
 from gateway_model import bundle_of
 from make_bundles import numbers
 from translate_model import NONE, Untranslated, canonical6, octets7, record, translated
@@ -65,6 +65,13 @@ class Made:
 
     def largest_one(self):
         return self.octets(self.plain(self.largest))
+
+    def too_long(self):
+        """One that mayn't be cut and just fits into a block, and in version 7 no more; there it is one that fits."""
+        bundle = self.asking(self.plain(1))
+        bundle.update(flags=bundle["flags"] | MUST_NOT, blocks=[self.payload(b"")])
+        room = BLOCK_MAX - len(self.octets(bundle)) - 8
+        return self.octets({**bundle, "blocks": [self.payload(self.draw.randbytes(room))]})
 
     def kept_whole(self):
         bundle = self.plain(self.draw.randrange(self.cut, self.cut + 2 * self.most))

@@ -1,0 +1,3 @@
+pub mod Json
+-- what only ties code to it
+pub mod Front

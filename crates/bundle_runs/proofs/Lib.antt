@@ -3,6 +3,4 @@ pub mod FrontsLemmas
 pub mod GivenLemmas
 pub mod TakingLemmas
 pub mod LawLemmas
-pub mod ShowLemmas
-pub mod TextLemmas
 pub mod ConvertLemmas

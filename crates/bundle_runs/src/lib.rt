@@ -23,7 +23,6 @@ mod front;
 mod given;
 mod laws;
 mod saying;
-mod show;
 mod unfinished;
 mod written_lines;
 

@@ -34,7 +34,7 @@ pub fn say(
             Ok(None)
         }
         Command::Show => {
-            write_show(alloc, text, bundle)?;
+            write_show(text, bundle)?;
             Ok(None)
         }
         Command::Convert => convert(alloc, text, bundle),

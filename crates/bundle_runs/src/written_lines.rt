@@ -5,8 +5,8 @@ ghost use Rattle.bundle_runs.specs.Legal.{IsLegal};
 ghost use Rattle.bundle_runs.specs.WrittenLines.{check_line, show_line, refused_line, turned_down_line};
 
 use crate::front::Bundle;
-use crate::show::shown;
-use std::alloc::{AllocError, Global};
+use bundle_json::{write6, write7};
+use std::alloc::AllocError;
 
 /// The version of a bundle, and how many octets it has.
 pub fn write_check(text: &mut String, version: u8, size: usize) -> Result<(), AllocError>
@@ -16,12 +16,15 @@ pub fn write_check(text: &mut String, version: u8, size: usize) -> Result<(), Al
 }
 
 /// A bundle's values as JSON.
-pub fn write_show(alloc: Global, text: &mut String, bundle: &Bundle) -> Result<(), AllocError>
+pub fn write_show(text: &mut String, bundle: &Bundle) -> Result<(), AllocError>
     requires { IsLegal bundle.now }
     ensures { OnOk result (string_bytes text.new ≡ string_bytes text.old ++ show_line bundle.now) }
 {
-    let json = shown(alloc, bundle)?;
-    write!(text, "{json}\n")
+    match bundle {
+        Bundle::Six(bundle) => write6(text, bundle)?,
+        Bundle::Seven(bundle) => write7(text, bundle)?,
+    }
+    text.push_str("\n")
 }
 
 /// Bundle `number` is valid, and is refused.

@@ -521,7 +521,9 @@ class MemoryLink:
 
 
 class UdpLink:
-    """A link over a socket. Where no datagram is there it pauses for a millisecond at the most."""
+    """A link over a socket. Where no datagram is there, on neither link, it pauses for a millisecond at the most."""
+
+    came = False      # whether a datagram came on any link since one last had none
 
     def __init__(self, own, peer):
         (family, address), (other, to) = address_of(own), address_of(peer)
@@ -533,9 +535,12 @@ class UdpLink:
         self.socket.setblocking(False)
 
     def poll(self):
+        wait, UdpLink.came = 0 if UdpLink.came else 0.001, False
         try:
-            if select.select([self.socket], [], [], 0.001)[0]:
-                return self.socket.recv(65_507)
+            if select.select([self.socket], [], [], wait)[0]:
+                datagram = self.socket.recv(65_507)
+                UdpLink.came = True
+                return datagram
         except BlockingIOError:
             pass
         except OSError as fault:

@@ -4,18 +4,21 @@
 usage: bench/serve.py [PROGRAM] [--seconds S] [--idle S] [--scale PERCENT] [--ipv6]
 
 The program is the one that this repository builds, where none is named; this was tried on tools/gateway_model.py, which
-serves too, before the program had the command. An old node sends bundles of a size over
-loopback UDP, and a new node takes what they are in version 7; both are this one process, which stands on
-tools/live_nodes.py. No datagram finds a socket full: with 'lost 5 %' one of twenty is lost on purpose, on each way of
-each link. The gateway asks again after 10 seconds, so with losses it waits for most of the time.
+serves too, before the program had the command. An old node sends bundles of a size over loopback UDP, and a new node
+takes what they are in version 7; both are this one process. Without loss its datagrams are made before the time begins,
+and what came is put together after it ended, so the nodes take some 10 microseconds a datagram; with 'lost 5 %' one of
+twenty is lost on purpose, on each way of each link, and the nodes are those of tools/live_nodes.py. No datagram finds a
+socket full. The gateway asks again after 10 seconds, so with losses it waits for most of the time.
 
-Seconds are from the first datagram to the last bundle. A second of the processor is the program's alone; where 'busy'
-is far below 1.00, the program waits for the nodes or for a time to pass. MB are millions of octets of payload, peak MB
-are of the program's resident memory. A case may take so many seconds (120), and what didn't come by then is a wrong
-row; `--scale 10` sends a tenth of the bundles. Last stands what the program does where nothing comes for so many
-seconds (60). Each bundle has to come out as tools/gateway_model.py translates it.
+Seconds are from the first datagram to the last. A second of the processor is the program's alone; where 'busy' is far
+below 1.00, the program waits for the nodes or for a time to pass. Mbit are millions of bits of payload, peak MB are of
+the program's resident memory. A case may take so many seconds (120), and what didn't come by then is a wrong row;
+`--scale 10` sends a tenth of the bundles. Last stands what the program does where nothing comes for so many seconds
+(60). Each bundle has to come out as tools/gateway_model.py translates it. The program's lines go to /dev/null.
 """
+import collections
 import os
+import select
 import sys
 import time
 
@@ -23,7 +26,9 @@ sys.dont_write_bytecode = True
 ROOT = os.path.dirname(os.path.dirname(os.path.abspath(__file__)))
 sys.path.insert(0, os.path.join(ROOT, "tools"))
 from gateway_model import SERIALS, case_of, system_clock
-from live_nodes import Served, Trouble, idle_turns_a_second, options_of, program_of
+from live_nodes import AT_ONCE, POLICY, Served, Trouble, idle_turns_a_second, options_of, program_of
+from ltp_model import CHECKPOINTS, PIECES, REPORT, REPORT_ACK, Effects, written
+from quick_ends import QuickSender, numbers_of, read_quickly
 from translate_model import NONE, canonical6
 
 OPTIONS = {"seconds": 120, "idle": 60, "scale": 100, "ipv6": False}
@@ -45,41 +50,112 @@ def bundle(at, size, moment):
 
 
 class Passing:
-    """A run in which bundles pass from the old node to the new one."""
+    """A run in which bundles pass from the old node to the new one, whatever is lost."""
 
     def __init__(self, path, options, turns, loss, blocks):
         troubles = [Trouble(at, loss / 100) for at in range(4)]
-        self.served = Served(path, turns, options["ipv6"], troubles=troubles)
-        self.blocks, self.begun, self.ended = list(blocks), 0, 0
+        self.served = Served(path, turns, options["ipv6"], troubles=troubles, keep=False)
+        self.blocks = blocks
+        self.old, self.new = self.served.nodes
 
-    def read_lines(self):
-        lines = self.served.program.lines
-        while lines:
-            self.ended += lines.popleft().startswith(b"note g.n Sent ")
-
-    def has_room(self, pieces):
-        old = self.served.old
-        is_free = self.begun == self.ended or self.begun - self.ended + pieces <= MOST_OPEN
-        return is_free and len(old.engine.senders) + len(old.unanswered) < MOST_OPEN and len(old.outgoing) < 4000
+    def has_room(self, at, pieces):
+        """Whether the gateway has sessions enough for one more bundle, whatever it still does with the others."""
+        sessions = pieces * at - len(self.new.came) + len(self.new.engine.receivers) + len(self.new.unanswered)
+        is_free = sessions == 0 or sessions + pieces <= MOST_OPEN
+        return is_free and len(self.old.engine.senders) + len(self.old.unanswered) < MOST_OPEN
 
     def run(self, wanted, seconds):
         """Sends all, and answers the seconds until the last came, and those of the processor."""
         began, used = time.monotonic(), self.served.program.processor_seconds()
-        at, pieces = 0, len(wanted) // len(self.blocks)
-        while len(self.served.new.came) < len(wanted) and time.monotonic() < began + seconds:
-            while at < len(self.blocks) and self.has_room(pieces):
-                self.served.old.submit(self.blocks[at])
-                self.begun, at = self.begun + pieces, at + 1
+        at, pieces = 0, wanted // len(self.blocks)
+        while len(self.new.came) < wanted and time.monotonic() < began + seconds:
+            while at < len(self.blocks) and self.has_room(at, pieces):
+                self.old.submit(self.blocks[at])
+                at += 1
             self.served.pump(0.001)
-            self.read_lines()
             if self.served.program.has_ended():
                 sys.exit("the program ended before all was passed")
         return time.monotonic() - began, self.served.program.processor_seconds() - used
 
-    def end(self):
-        """The peak of memory in kilobytes, and the status."""
-        peak = self.served.program.kilobytes("VmHWM")
-        return peak, self.served.use_up()
+    def came(self):
+        return list(self.new.came.values())
+
+    def sent(self):
+        return self.old.sent + self.new.sent
+
+
+class Straight(Passing):
+    """A run without loss: the old node's datagrams are made before it, what came to the new one is read after it."""
+
+    def __init__(self, path, options, turns, blocks):
+        self.ready, self.got, self.reported, self.answered = collections.deque(), [], 0, 0
+        for session, block in enumerate(blocks, 1):
+            effects = Effects()
+            QuickSender((1, session), block, len(block), 0, POLICY, effects)
+            self.ready.append([datagram for datagram, in effects.out])
+        super().__init__(path, options, turns, 0, blocks)
+
+    def run(self, wanted, seconds):
+        began, used = time.monotonic(), self.served.program.processor_seconds()
+        pieces, most, begun = wanted // len(self.blocks), MOST_OPEN - 8, 0
+        while self.answered < wanted and time.monotonic() < began + seconds:
+            while self.ready and begun - self.reported < most and pieces * (begun + 1) - self.answered <= most:
+                self.old.outgoing.extend(self.ready.popleft())
+                begun += 1
+            heard = sum(map(self.acknowledge, received(self.old)))
+            if not heard + sum(map(self.report, received(self.new))) and not self.old.outgoing:
+                select.select([self.old.socket, self.new.socket], [], [], 0.001)
+            self.old.send()
+            self.new.send()
+        return time.monotonic() - began, self.served.program.processor_seconds() - used
+
+    def acknowledge(self, datagram):
+        """Answers a report on what the old node sent."""
+        if datagram[0] == REPORT:
+            (originator, session), at = numbers_of(datagram, 1, 2)
+            (serial,), _ = numbers_of(datagram, at + 1, 1)
+            self.reported += 1
+            self.old.outgoing.append(written(REPORT_ACK, (originator, session), serial))
+        return 1
+
+    def report(self, datagram):
+        """Keeps a piece that came to the new node; at a checkpoint all before it has come too."""
+        self.got.append(datagram)
+        if datagram[0] in CHECKPOINTS:
+            name, at = numbers_of(datagram, 1, 2)
+            (_, offset, length, checkpoint), _ = numbers_of(datagram, at + 1, 4)
+            stop = offset + length
+            self.answered += 1
+            self.new.outgoing.append(written(REPORT, name, 1, checkpoint, stop, 0, 1, 0, stop))
+        return 1
+
+    def came(self):
+        blocks = collections.defaultdict(InOrder)
+        for datagram in self.got:
+            kind, name, content = read_quickly(datagram)
+            if kind in PIECES:
+                blocks[name[1]].add(content)
+        return [bytes(block.octets) for block in blocks.values()]
+
+
+class InOrder:
+    """A block whose pieces come in order."""
+
+    def __init__(self):
+        self.octets = bytearray()
+
+    def add(self, piece):
+        if piece["offset"] == len(self.octets):
+            self.octets += piece["body"]
+
+
+def received(node):
+    """The datagrams that have come to a node."""
+    for _ in range(AT_ONCE):
+        try:
+            yield node.socket.recv(65_507)
+        except BlockingIOError:
+            return
 
 
 class Bench:
@@ -95,11 +171,14 @@ class Bench:
         blocks = [bundle(at, size, moment) for at in range(count)]
         wanted = [piece for block in blocks for piece in case_of(block, 6, moment, 64, SERIALS, CUT).out]
         datagrams = count * (size / 1000 + 4) * 4
-        run = Passing(self.path, self.options, int(self.rate * self.options["seconds"] + datagrams), loss, blocks)
-        seconds, used = run.run(wanted, self.options["seconds"])
-        dropped, sent = run.served.dropped(), run.served.old.sent + run.served.new.sent
-        came = sorted(run.served.new.came.values())
-        peak, status = run.end()
+        turns = int(self.rate * self.options["seconds"] + datagrams)
+        if loss:
+            run = Passing(self.path, self.options, turns, loss, blocks)
+        else:
+            run = Straight(self.path, self.options, turns, blocks)
+        seconds, used = run.run(len(wanted), self.options["seconds"])
+        peak, dropped = run.served.program.kilobytes("VmHWM"), run.served.dropped()
+        came, sent, status = sorted(run.came()), run.sent(), run.served.use_up()
         name = f"{size:,} octets{f', lost {loss} %' if loss else ''}"
         megabits = count * size * 8 / 1e6
         print(f"{name:<30}{count:>9,}{seconds:>8.2f}{count / seconds:>11,.1f}{megabits / seconds:>9.2f}{used:>9.2f}"

@@ -32,8 +32,8 @@ sys.path.insert(0, os.path.dirname(os.path.abspath(__file__)))
 from format_model import Refused
 from fragment_model import pieces
 from gateway_model import (DONE, NEW, NUMBERS, OLD, OTHER, VERSION, Case, Script, bundle_of, octets_in, passed_pieces,
-                           status_bundle, summed, world)
-from ltp_model import CHECKPOINTS, MOST_SESSIONS, PIECES, SERIALS, BadLine, PastLimit, read_segment
+                           status_bundle, world)
+from ltp_model import CHECKPOINTS, MOST_SESSIONS, PIECES, SERIALS, read_segment
 from made_bundles import Made
 from translate_model import Untranslated, record
 

@@ -32,14 +32,16 @@ use Rattle.link_laws.specs.View.{said, view}
 use Rattle.link_laws.proofs.DeadlineLemmas.{deadlines_are_ahead}
 use Rattle.link_laws.proofs.FrameLemmas.{same_self}
 use Rattle.link_laws.proofs.TableLemmas.{find_below, self_eqb}
+use Rattle.drain_laws.specs.Draining.{Oldest, oldest, since}
+use Rattle.drain_laws.specs.Standing.{AllAdvance, DrainHolds, IsDueOf, Next, due_receiver}
+use Rattle.drain_laws.specs.Standing.{due_sender, setting, sum_of}
 use Rattle.drain_laws.specs.Clean.{clean_event, link_deadline, passed_after}
-use Rattle.drain_laws.specs.Drain.{AllAdvance, DrainHolds, IsDue, Next, Oldest, due_receiver}
-use Rattle.drain_laws.specs.Drain.{due_sender, oldest, setting, since, sum_of}
 use Rattle.drain_laws.specs.Effects.{EndEffects, deliver_effects, effects_at}
 use Rattle.drain_laws.specs.Hopeful.{AreAlike, IsReached, Room}
 use Rattle.drain_laws.proofs.DrainFrame.{Begun, is-begun, never_begun, was_begun}
 use Rattle.drain_laws.proofs.DrainLists.{drop-front}
-use Rattle.drain_laws.proofs.DrainRun.{delivery-advances, delivery-next, due-fires, other_other}
+use Rattle.drain_laws.proofs.DrainRun.{arrival-next, ticked-next, delivery-advances}
+use Rattle.drain_laws.proofs.DrainRun.{delivery-next, due-fires, other_other}
 use Rattle.drain_laws.proofs.DrainRun.{sent-ticked, since-ticks, tick-advances, tick-next}
 use Rattle.drain_laws.proofs.DrainRun.{ticked-new, ticked-world, ticks-are}
 use Rattle.drain_laws.proofs.RoomRuns.{delivery-room, room-roomy, tick-room}
@@ -65,7 +67,7 @@ drop-append zero xs ys low = refl
 drop-append (suc k) [] ys low = absurd (omega (arith, low))
 drop-append (suc k) (x ∷ xs) ys low = drop-append k xs ys (omega (arith, low))
 
-drop-end : {X : Type 0} (xs : List X) (k : ℕ) → length xs ≤ k → drop k xs ≡ []
+pub drop-end : {X : Type 0} (xs : List X) (k : ℕ) → length xs ≤ k → drop k xs ≡ []
 drop-end [] zero low = refl
 drop-end [] (suc k) low = refl
 drop-end (x ∷ xs) zero low = absurd (omega (arith, low))
@@ -190,11 +192,6 @@ idle-senders e n none = by_kept (find n e.senders) refl
         let no : sender_deadline s ≡ None = least-none sender_deadline e.senders n s
         (earlier-none _ _ none).0 is in cc)
 
-pub idle-receivers : (e : Engine) (n : ℕ) (r : Receiving) → next_deadline e ≡ None
-    → find n e.receivers ≡ Some r → receiver_deadline r ≡ None
-idle-receivers e n r none is = least-none receiver_deadline e.receivers n r
-    (earlier-none _ _ none).1 is
-
 pub idle-link : (w : World) → link_deadline w ≡ None → (o : End)
     → next_deadline (at_end w.engines o) ≡ None
 idle-link w none first_end = (earlier-none (next_deadline w.engines.0) (next_deadline w.engines.1)
@@ -221,6 +218,7 @@ pub record GoesOn (parties : Party × Party) (w : World) (rank : End → ℕ →
   pub within : c' ≤ length w'.sent
   pub falls : sum_of w' rank' < sum_of w rank
   pub advances : AllAdvance parties w w' es
+  pub next : (o : End) → (at_end w'.engines o).next ≡ (at_end w.engines o).next
 
 -- ---- a delivery
 
@@ -229,7 +227,7 @@ oldest-first : (x : Sent) (xs : List Sent) → oldest x.from (x ∷ xs) ≡ Some
 unfolding oldest
 oldest-first x xs = rw (same_self x.from) refl
 
-replies-since : (w : World) (end : End) (name : SessionName) (x : Option Reply)
+pub replies-since : (w : World) (end : End) (name : SessionName) (x : Option Reply)
     → (replies w end name x).sent ≡ w.sent ++ since w (replies w end name x)
 replies-since w end name None = sym (ap (λ (ds : List Sent). w.sent ++ ds)
     (drop-end w.sent (length w.sent) (omega arith)) ∙ append_nil w.sent)
@@ -240,7 +238,7 @@ replies-since w end name None = sym (ap (λ (ds : List Sent). w.sent ++ ds)
 replies-since w end name (Some r) = ap (λ (ds : List Sent). w.sent ++ ds)
     (sym (drop-front w.sent (sent_by end (headed_all name r.out))))
 
-since-arrival : (parties : Party × Party) (w : World) (me : End) (s : SegmentValue)
+pub since-arrival : (parties : Party × Party) (w : World) (me : End) (s : SegmentValue)
     → (arrival parties w me s).sent ≡ w.sent ++ since w (arrival parties w me s)
 since-arrival parties w me s = replies-since w me
     (record { originator = s.originator; number = s.session })
@@ -266,6 +264,7 @@ delivery-goes parties w c rank d peers going low rest = record {
         (since w (arrival parties w me d.segment)),
   );
   falls = next.falls;
+  next = arrival-next parties w me d.segment;
   advances = delivery-advances SessionFacts session-gives parties
       (record { world = w; new = drop c w.sent }) rank me o peers going.holds is;
 }
@@ -288,9 +287,9 @@ delivery-goes parties w c rank d peers going low rest = record {
           new = drop (suc c) w.sent ++ since w (arrival parties w (other d.from) d.segment);
         })
         rank
-    next = delivery-next SessionFacts session-gives parties
+    next = (delivery-next SessionFacts session-gives parties
         (record { world = w; new = drop c w.sent }) rank me o peers going.holds
-        (room-roomy parties w going.room) is
+        (room-roomy parties w going.room) is).next
 
     sent-is : (arrival parties w (other d.from) d.segment).sent ≡ w.sent ++ since w
         (arrival parties w (other d.from) d.segment)
@@ -316,7 +315,9 @@ kept-at P o s is holds = subst (IfKept P) is holds
 
 -- the deadline isn't before the clock, and its timer fires
 record IsNext (parties : Party × Party) (w : World) (now : ℕ) : Type 0 where
-  due : IsDue parties w now
+  o : End
+  n : ℕ
+  due : IsDueOf parties w now o n
   low : w.now ≤ now
 
 ahead-at : (parties : Party × Party) (w : World) → ArePeers parties → AreAlike parties
@@ -332,7 +333,12 @@ sender-next parties w now o n s ahead kept is =
     let at : (sending_timer s.phase).deadline ≡ now = cc in
     let later : w.now < (sending_timer s.phase).deadline =
     kept-at (SenderAhead w.now) (view parties w o n).sender s kept ahead.sender in
-    record { due = due_sender o n s kept (omega (arith, at)); low = omega (arith, at, later) }
+    record {
+      o = o;
+      n = n;
+      due = due_sender s kept (omega (arith, at));
+      low = omega (arith, at, later);
+    }
 
 receiver-next : (parties : Party × Party) (w : World) (now : ℕ) (o : End) (n : ℕ) (r : Receiving)
     → AreAhead w.now w.now (view parties w o n)
@@ -349,7 +355,9 @@ receiver-next parties w now o n r ahead kept listens is = by_phase r.phase refl 
     by_phase (receiver_open (Some p)) phase listens is later =
         let at : (p.timer).deadline ≡ now = cc in
         record {
-          due = due_receiver o n r p kept (ap pending_of phase) (omega (arith, at));
+          o = o;
+          n = n;
+          due = due_receiver r p kept (ap pending_of phase) (omega (arith, at));
           low = omega (arith, at, later);
         }
 
@@ -416,6 +424,7 @@ tick-goes parties w c rank now es peers alike going over next_is =
             (ticked-new parties w now),
       );
       falls = next.falls;
+      next = ticked-next parties w now;
       advances = tick-advances SessionFacts session-gives parties (record { world = w; new = [] })
           rank now es peers holds refl;
     })
@@ -427,9 +436,9 @@ tick-goes parties w c rank now es peers alike going over next_is =
     next : Next SessionFacts parties (record { world = w; new = [] })
         (record { world = ticked-world parties w now; new = ticked-new parties w now }) rank
     next = tick-next SessionFacts session-gives parties (record { world = w; new = [] }) rank now
-        peers holds (room-roomy parties w going.room) refl
+        peers holds refl
         (due-fires SessionFacts session-gives parties (record { world = w; new = [] }) rank now
-        peers holds refl next_is.due)
+        peers holds refl next_is.o next_is.n next_is.due)
 
     sent-is : (ticked-world parties w now).sent ≡ w.sent ++ ticked-new parties w now
     sent-is = sent-ticked parties w now

@@ -1,12 +1,12 @@
 -- A drain from a hopeful world with room has no more events than its sessions cost, and completes
 -- them.
 
-use Rattle.std.proofs.Common.{◌≡◌, ℕ, zero, suc, ◌+◌, ◌≤◌, Bool, true, false}
+use Rattle.std.proofs.Common.{◌<◌, ◌≡◌, ℕ, zero, suc, ◌+◌, ◌≤◌, Bool, true, false}
 use Rattle.std.proofs.Common.{List, [], ◌∷◌, ◌++◌, length, drop, Option, None, Some, ◌⊎◌, inl}
 use Rattle.std.proofs.Common.{inr, refl, sym, ◌∙◌, ap, arith, subst}
 use Rattle.std.proofs.Common.{nat_lt, if◌then◌else◌}
 use Rattle.std.specs.Option.{option_map}
-use Rattle.std.proofs.lemmas.Bool.{ltb-false}
+use Rattle.std.proofs.lemmas.Bool.{lt-ltb, ltb-false}
 use Rattle.ltp_segment.specs.declared.session.Note.{Note}
 use Rattle.ltp_segment.specs.declared.session.Note.TheVariants as notes
 use Rattle.ltp_session.specs.Engine.{Party}
@@ -16,17 +16,17 @@ use Rattle.ltp_session.specs.World.{first_end, happens, other, run, second_end}
 use Rattle.link_laws.specs.Facts.{SessionFacts}
 use Rattle.link_laws.specs.View.{said, view}
 use Rattle.link_laws.proofs.RunLemmas.{in-left, in-right}
-use Rattle.drain_laws.specs.Calm.{IsHanded, IsOpen}
+use Rattle.drain_laws.specs.Standing.{AllAdvance, DrainHolds, setting, sum_of}
+use Rattle.drain_laws.specs.Hopeful.{IsHanded, IsOpen}
 use Rattle.drain_laws.specs.Clean.{AreClean, AreCleanFrom, CleanRun, IsDrained, clean_event}
 use Rattle.drain_laws.specs.Clean.{link_deadline, passed, passed_after}
 use Rattle.drain_laws.specs.Completion.{HasCleanRun, IsComplete, IsReady}
-use Rattle.drain_laws.specs.Drain.{AllAdvance, DrainHolds, setting, sum_of}
 use Rattle.drain_laws.specs.Effects.{EndEffects, IsHandedUp, IsNoted, effects_at, effects_in}
-use Rattle.drain_laws.specs.Hopeful.{AreAlike, cost, view_cost}
+use Rattle.drain_laws.specs.Hopeful.{AreAlike, cost, session_cost, sum_below, view_cost}
 use Rattle.drain_laws.proofs.CleanSteps.{GoesOn, IsGoing, clean-goes, idle-link, idle-senders}
 use Rattle.drain_laws.proofs.CleanSteps.{reached-more}
 use Rattle.drain_laws.proofs.DrainFrame.{Begun, is-begun, never_begun, was_begun}
-use Rattle.drain_laws.proofs.DrainLists.{sum-most}
+use Rattle.drain_laws.proofs.DrainLists.{sum-below}
 use Rattle.drain_laws.proofs.DrainRun.{all-still}
 use Rattle.drain_laws.proofs.StartLemmas.{drain-starts, start-most, start_rank}
 
@@ -142,13 +142,20 @@ record RunsOn (parties : Party × Party) (w : World) (c : ℕ) (rank : End → �
   going : IsGoing parties (run parties w events) (passed c events) rank'
   bound : length events + sum_of (run parties w events) rank' ≤ sum_of w rank
   advances : AllAdvance parties w (run parties w events) (effects_in parties w events)
+  next : (o : End) → (at_end (run parties w events).engines o).next ≡ (at_end w.engines o).next
 
 runs-on : (parties : Party × Party) → ArePeers parties → AreAlike parties
     → (events : List Event) (w : World) (c : ℕ) (rank : End → ℕ → ℕ)
     → IsGoing parties w c rank → AreClean parties w c events → RunsOn parties w c rank events
 unfolding effects_in
 runs-on parties peers alike [] w c rank going clean =
-    record { rank' = rank; going = going; bound = omega arith; advances = all-still parties w [] }
+    record {
+      rank' = rank;
+      going = going;
+      bound = omega arith;
+      advances = all-still parties w [];
+      next = λ o. refl;
+    }
 runs-on parties peers alike (event ∷ events) w c rank going clean =
     let on = clean-goes parties w c rank event peers alike going clean.0 in
     let rest = runs-on parties peers alike events (happens parties w event) (passed_after c event)
@@ -162,11 +169,12 @@ runs-on parties peers alike (event ∷ events) w c rank going clean =
           (run parties (happens parties w event) events)
           (effects_at parties w event) (effects_in parties (happens parties w event) events)
           on.advances rest.advances;
+      next = λ o. rest.next o ∙ on.next o;
     }
 
 -- ---- where it begins
 
-first_rank : Party × Party → World → End → ℕ → ℕ
+pub first_rank : Party × Party → World → End → ℕ → ℕ
 first_rank parties w o n = start_rank (at_end parties o).policy (view parties w o n).sender
     (view parties w o n).receiver
 
@@ -186,27 +194,55 @@ starts-going parties w ready = record {
     drop-all [] = refl
     drop-all (x ∷ xs) = drop-all xs
 
-starts-low : (parties : Party × Party) (w : World)
-    → sum_of w (first_rank parties w) ≤ cost parties w
+pub starts : (parties : Party × Party) (w : World) → IsReady parties w
+    → DrainHolds SessionFacts parties (record { world = w; new = [] }) (first_rank parties w)
+unfolding first_rank
+starts parties w ready = drain-starts parties w ready.peers ready.alike ready.reached
+    ready.hopeful
+
+pub first-low : (parties : Party × Party) (w : World) (o : End) (n : ℕ)
+    → first_rank parties w o n ≤ view_cost parties o (view parties w o n)
+unfolding first_rank
+first-low parties w o n = start-most (at_end parties o).policy (view parties w o n).sender
+    (view parties w o n).receiver
+
+pub first-none : (parties : Party × Party) (w : World) (o : End) (n : ℕ)
+    → (view parties w o n).sender ≡ None → (view parties w o n).receiver ≡ None
+    → first_rank parties w o n ≡ 0
+unfolding first_rank start_rank
+first-none parties w o n no_sender no_receiver = rw (no_sender, no_receiver) refl
+
+starts-low : (parties : Party × Party) (w v : World)
+    → ((o : End) → (at_end v.engines o).next ≡ (at_end w.engines o).next)
+    → sum_of w (first_rank parties w) ≤ cost parties w v
 unfolding first_rank cost
-starts-low parties w = omega (
-  arith,
-  sum-most (at_end w.engines first_end).next _
-      (λ n. view_cost parties first_end (view parties w first_end n))
-      (λ n. start-most (at_end parties first_end).policy (view parties w first_end n).sender
-      (view parties w first_end n).receiver),
-  sum-most (at_end w.engines second_end).next _
-      (λ n. view_cost parties second_end (view parties w second_end n))
-      (λ n. start-most (at_end parties second_end).policy (view parties w second_end n).sender
-      (view parties w second_end n).receiver),
-)
+starts-low parties w v next = omega (arith, at first_end, at second_end)
+  where
+    kept : (o : End) (n : ℕ) → n < (at_end w.engines o).next
+        → start_rank (at_end parties o).policy (view parties w o n).sender
+        (view parties w o n).receiver ≤ session_cost parties w v o n
+    kept o n low =
+        let yes : nat_lt n (at_end w.engines o).next ≡ true =
+        lt-ltb n (at_end w.engines o).next low in
+        rw yes (start-most (at_end parties o).policy (view parties w o n).sender
+        (view parties w o n).receiver)
+
+    at : (o : End) → sum_below (at_end w.engines o).next
+        (λ n. start_rank (at_end parties o).policy (view parties w o n).sender
+        (view parties w o n).receiver)
+        ≤ sum_below (at_end v.engines o).next (session_cost parties w v o)
+    at o = subst (λ (k : ℕ). sum_below (at_end w.engines o).next
+        (λ n. start_rank (at_end parties o).policy (view parties w o n).sender
+        (view parties w o n).receiver) ≤ sum_below k (session_cost parties w v o)) (sym (next o))
+        (sum-below (at_end w.engines o).next _ (session_cost parties w v o) (kept o))
 
 pub clean-few : (parties : Party × Party) (w : World) (events : List Event) → IsReady parties w
-    → AreCleanFrom parties w events → length events ≤ cost parties w
+    → AreCleanFrom parties w events
+    → length events ≤ cost parties w (run parties w events)
 clean-few parties w events ready clean =
     let on = runs-on parties ready.peers ready.alike events w (length w.sent)
     (first_rank parties w) (starts-going parties w ready) clean in
-    omega (arith, on.bound, starts-low parties w)
+    omega (arith, on.bound, starts-low parties w (run parties w events) on.next)
 
 -- ---- where it ends
 

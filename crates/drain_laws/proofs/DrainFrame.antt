@@ -6,15 +6,17 @@ use Rattle.std.proofs.Common.{sym, ◌∙◌, ap, arith, subst, nat_le}
 use Rattle.std.proofs.lemmas.Bool.{eqb-true, eqb-false, ne_eqb, eq-eqb}
 use Rattle.std.proofs.lemmas.Bool.Decides.{nat_tests}
 use Rattle.ltp_segment.specs.Values.{ContentValue, SegmentValue}
+use Rattle.drain_laws.specs.Draining.{Oldest, oldest}
+use Rattle.drain_laws.specs.Standing.{Idle, Standing, Stands, StandsBy, setting_by}
 use Rattle.drain_laws.proofs.DrainLists.{new-none, new-said, oldest-from, said-oldest}
 use Rattle.drain_laws.proofs.DrainLists.{said-oldest_other, said-skip, said-take}
 use Rattle.drain_laws.proofs.ReceiverDrains.{receiver-falls, receiver-opens}
 use Rattle.drain_laws.proofs.SenderDrains.{EndsWell, sender-falls, sender-advances}
 use Rattle.drain_laws.proofs.HandedLemmas.{hands-up-now}
 use Rattle.drain_laws.proofs.StrangerRows.{unheard-by_receiver, unheard-by_sender}
-use Rattle.drain_laws.specs.Calm.{AreFit, Falls, Given, IsComing, IsHanded, IsOpen, Advances}
+use Rattle.drain_laws.specs.Calm.{AreFit, Falls, Given, IsComing, Advances}
+use Rattle.drain_laws.specs.Hopeful.{IsHanded, IsOpen}
 use Rattle.drain_laws.specs.Calm.{Setting}
-use Rattle.drain_laws.specs.Drain.{Idle, Oldest, Standing, Stands, StandsBy, oldest, setting_by}
 use Rattle.link_laws.proofs.FrameLemmas.{AreTwo, Left, alone, closed_for_room, opening, owns-stay}
 use Rattle.link_laws.proofs.FrameLemmas.{peers-stay, receiver-here, receiver-others}
 use Rattle.link_laws.proofs.FrameLemmas.{roomy-received, sender-here, sender-others}
@@ -182,21 +184,24 @@ receiver-unheard F p q place v e now new_s new_r m hears stands =
 
 -- engine e of p at `me` gets what `you` sent; it is e' after it, and more was sent and is new
 pub data Touches (F : List ℕ → ℕ → View → Type 0) (me you : End) (p q : Party) (e f : Engine)
-    (rank_p rank_q : ℕ → ℕ) (e' : Engine) (sent' new' : List Sent) : Type 0 where
-  own_session : (n : ℕ) → Lower F (setting_by p q n) (view_by me you p e' f sent' n)
+    (rank_p rank_q : ℕ → ℕ) (e' : Engine) (sent' new' : List Sent) (origin session : ℕ)
+    : Type 0 where
+  own_session : (n : ℕ) → origin ≡ p.own → session ≡ n
+      → Lower F (setting_by p q n) (view_by me you p e' f sent' n)
       (said me p.own n new') (said you p.own n new') (rank_p n)
       → ((m : ℕ) → n ≢ m → Stands F (setting_by p q m) (view_by me you p e' f sent' m)
       (said me p.own m new') (said you p.own m new') (rank_p m))
       → ((m : ℕ) → Stands F (setting_by q p m) (view_by you me q f e' sent' m)
       (said you q.own m new') (said me q.own m new') (rank_q m))
-      → Touches F me you p q e f rank_p rank_q e' sent' new'
-  peer_session : (n : ℕ) → Lower F (setting_by q p n) (view_by you me q f e' sent' n)
+      → Touches F me you p q e f rank_p rank_q e' sent' new' origin session
+  peer_session : (n : ℕ) → origin ≡ q.own → session ≡ n
+      → Lower F (setting_by q p n) (view_by you me q f e' sent' n)
       (said you q.own n new') (said me q.own n new') (rank_q n)
       → ((m : ℕ) → n ≢ m → Stands F (setting_by q p m) (view_by you me q f e' sent' m)
       (said you q.own m new') (said me q.own m new') (rank_q m))
       → ((m : ℕ) → Stands F (setting_by p q m) (view_by me you p e' f sent' m)
       (said me p.own m new') (said you p.own m new') (rank_p m))
-      → Touches F me you p q e f rank_p rank_q e' sent' new'
+      → Touches F me you p q e f rank_p rank_q e' sent' new' origin session
 
 -- the sessions before
 pub record AllStand (F : List ℕ → ℕ → View → Type 0) (me you : End) (p q : Party) (e f : Engine)
@@ -270,9 +275,10 @@ own-touches : (F : List ℕ → ℕ → View → Type 0) → Gives F
     → Touches F me you p q e f rank_p rank_q (with_sender e (o.first.segment).session t.next)
     (sent ++ sent_by me (headed_all (session_of p.own (o.first.segment).session) t.out))
     (o.others ++ sent_by me (headed_all (session_of p.own (o.first.segment).session) t.out))
+    (o.first.segment).originator (o.first.segment).session
 own-touches F gives me you p q e f sent new rank_p rank_q o now t both linked all is origin fit
     hears =
-    own_session n
+    own_session n origin refl
     (lower-so F (setting_by p q n) (sender_moves v t) _ (said me p.own n o.others ++ t.out)
     (said you p.own n o.others) _ _ (rank_p n)
     here (new-said me p.own n sent o.others added t.out (ap (λ (v : View). v.by_sender) here))
@@ -355,9 +361,10 @@ peer-touches : (F : List ℕ → ℕ → View → Type 0) → Gives F
     t.next)
     (sent ++ sent_by me (headed_all (session_of q.own (o.first.segment).session) t.out))
     (o.others ++ sent_by me (headed_all (session_of q.own (o.first.segment).session) t.out))
+    (o.first.segment).originator (o.first.segment).session
 peer-touches F gives me you p q e f sent new rank_p rank_q o now t both linked all is origin room
     roomy fit hears =
-    peer_session n
+    peer_session n origin refl
     (lower-so F (setting_by q p n) (receiver_moves v t) _ (said you q.own n o.others)
     (said me q.own n o.others ++ t.out) _ _ (rank_q n)
     here (new-none you q.own n sent o.others added (ap (λ (v : View). v.by_sender) here))
@@ -453,9 +460,10 @@ own-nothing : (F : List ℕ → ℕ → View → Type 0) (me you : End) (p q : P
     → oldest you new ≡ Some o → (o.first.segment).originator ≡ p.own
     → sender_answers p.policy (find (o.first.segment).session e.senders) (o.first.segment).content
     now ≡ None
-    → Touches F me you p q e f rank_p rank_q e sent o.others
+    → Touches F me you p q e f rank_p rank_q e sent o.others (o.first.segment).originator
+    (o.first.segment).session
 own-nothing F me you p q e f sent new rank_p rank_q o now both linked all is origin hears =
-    own_session n
+    own_session n origin refl
     (sender-unheard F p q n (view_by me you p e f sent n) (o.first.segment).content now
     (said me p.own n o.others) (said you p.own n o.others) (rank_p n) hears
     (stands-so F (setting_by p q n) v v (said me p.own n new) (said you p.own n new) _ _
@@ -485,9 +493,10 @@ peer-nothing : (F : List ℕ → ℕ → View → Type 0) (me you : End) (p q : 
     → oldest you new ≡ Some o → (o.first.segment).originator ≡ q.own
     → receiver_answers p.policy (place_of p e (o.first.segment).session)
     (find (o.first.segment).session e.receivers) (o.first.segment).content now ≡ None
-    → Touches F me you p q e f rank_p rank_q e sent o.others
+    → Touches F me you p q e f rank_p rank_q e sent o.others (o.first.segment).originator
+    (o.first.segment).session
 peer-nothing F me you p q e f sent new rank_p rank_q o now both linked all is origin hears =
-    peer_session n
+    peer_session n origin refl
     (receiver-unheard F q p (place_of p e n) (view_by you me q f e sent n)
     (o.first.segment).content now (said you q.own n o.others) (said me q.own n o.others)
     (rank_q n) hears
@@ -516,13 +525,15 @@ peer-nothing F me you p q e f sent new rank_p rank_q o now both linked all is or
 abbrev pub ReplyTouches : (List ℕ → ℕ → View → Type 0) → End → End → Party → Party → Engine
     → Engine → List Sent → (ℕ → ℕ) → (ℕ → ℕ) → Oldest → Option Reply → Type 0
 ReplyTouches F me you p q e f sent rank_p rank_q o None =
-    Touches F me you p q e f rank_p rank_q e sent o.others
+    Touches F me you p q e f rank_p rank_q e sent o.others (o.first.segment).originator
+    (o.first.segment).session
 ReplyTouches F me you p q e f sent rank_p rank_q o (Some r) =
     Touches F me you p q e f rank_p rank_q r.engine
     (sent ++ sent_by me (headed_all (session_of (o.first.segment).originator
     (o.first.segment).session) r.out))
     (o.others ++ sent_by me (headed_all (session_of (o.first.segment).originator
     (o.first.segment).session) r.out))
+    (o.first.segment).originator (o.first.segment).session
 
 pub arrival-touches : (F : List ℕ → ℕ → View → Type 0) → Gives F
     → (me you : End) (p q : Party) (e f : Engine) (sent new : List Sent) (rank_p rank_q : ℕ
@@ -580,8 +591,10 @@ arrival-touches F gives me you p q e f sent new rank_p rank_q o now both linked 
     own_hears own (Some t) hears =
         subst (λ (w : ℕ). Touches F me you p q e f rank_p rank_q (with_sender e s.session t.next)
         (sent ++ sent_by me (headed_all (session_of w s.session) t.out))
-        (o.others ++ sent_by me (headed_all (session_of w s.session) t.out))) (sym own)
-        (own-touches F gives me you p q e f sent new rank_p rank_q o now t both linked all is own
+        (o.others ++ sent_by me (headed_all (session_of w s.session) t.out)) s.originator
+        s.session)
+        (sym own) (own-touches F gives me you p q e f sent new rank_p rank_q o now t both linked
+        all is own
         (fit_own s.session) hears)
 
     roomy : IsComing (view_by you me q f e sent s.session) → (place_of p e s.session).full ≡ false
@@ -599,8 +612,10 @@ arrival-touches F gives me you p q e f sent new rank_p rank_q o now both linked 
         subst (λ (w : ℕ). Touches F me you p q e f rank_p rank_q
         (with_receiver (opening e (find s.session e.receivers) t.next) s.session t.next)
         (sent ++ sent_by me (headed_all (session_of w s.session) t.out))
-        (o.others ++ sent_by me (headed_all (session_of w s.session) t.out))) (sym peer)
-        (peer-touches F gives me you p q e f sent new rank_p rank_q o now t both linked all is
+        (o.others ++ sent_by me (headed_all (session_of w s.session) t.out)) s.originator
+        s.session)
+        (sym peer) (peer-touches F gives me you p q e f sent new rank_p rank_q o now t both linked
+        all is
         peer (λ coming. (room s.session coming).0) roomy (fit_peer s.session) hears)
 
 -- ---- what becomes of open senders, and of red parts

@@ -6,8 +6,8 @@ use Rattle.std.proofs.Common.{arith, subst, if◌then◌else◌}
 use Rattle.std.proofs.lemmas.Bool.{eqb-true, eqb-false}
 use Rattle.std.proofs.lemmas.List.{append-nil}
 use Rattle.ltp_segment.specs.Values.{ContentValue}
+use Rattle.drain_laws.specs.Draining.{Oldest, behind, oldest}
 use Rattle.drain_laws.specs.Hopeful.{sum_below}
-use Rattle.drain_laws.specs.Drain.{Oldest, behind, oldest}
 use Rattle.link_laws.proofs.FrameLemmas.{said-append}
 use Rattle.link_laws.specs.View.{is_of, said, same_end}
 use Rattle.ltp_session.specs.World.{End, Sent, first_end, second_end}
@@ -176,3 +176,15 @@ sum-less (suc n) f g below m low less = by_place (m == n) refl
       below n,
       deeper (omega (arith, eqb-false m n is, low)),
     )
+
+-- at the numbers below the bound
+pub sum-below : (n : ℕ) (f g : ℕ → ℕ) → ((m : ℕ) → m < n → f m ≤ g m)
+    → sum_below n f ≤ sum_below n g
+unfolding sum_below
+sum-below zero f g most = omega arith
+sum-below (suc n) f g most = omega (
+  arith,
+  most n (omega arith),
+  sum-below n f g
+      (λ m low. most m (omega (arith, low))),
+)

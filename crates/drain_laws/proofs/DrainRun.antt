@@ -7,6 +7,10 @@ use Rattle.std.proofs.Common.{if◌then◌else◌}
 use Rattle.std.proofs.lemmas.Bool.{eqb-true, eqb-false, eq-eqb, ltb-true}
 use Rattle.std.proofs.lemmas.List.{append-nil}
 use Rattle.ltp_segment.specs.Values.{ContentValue, SegmentValue, a_piece}
+use Rattle.drain_laws.specs.Draining.{Draining, Oldest, oldest, since}
+use Rattle.drain_laws.specs.Standing.{NextOf, TickedTo, AreKnown, AllAdvance, DrainHolds, IsRoomy}
+use Rattle.drain_laws.specs.Standing.{IsDueOf, Next, Stands, due_receiver, due_sender, setting}
+use Rattle.drain_laws.specs.Standing.{setting_by}
 use Rattle.drain_laws.proofs.DrainFrame.{AdvancesOn, ReplyAdvances, arrival-advances, was_begun}
 use Rattle.drain_laws.proofs.DrainFrame.{never_begun, AllStand, Begun, Gives, ReplyTouches}
 use Rattle.drain_laws.proofs.DrainFrame.{Touches, arrival-touches, is-begun, is-of, own_session}
@@ -14,14 +18,12 @@ use Rattle.drain_laws.proofs.DrainFrame.{peer_session, stands-so}
 use Rattle.drain_laws.proofs.DrainLists.{Finds, at_once, drop-front, finds, later, nothing-oldest}
 use Rattle.drain_laws.proofs.DrainLists.{said-take, sum-less, sum-most}
 use Rattle.drain_laws.proofs.DrainStarts.{none-asked, none-reported}
-use Rattle.drain_laws.proofs.TickFrame.{TickLower, own-receiver-fires, own-sender-fires}
-use Rattle.drain_laws.proofs.TickFrame.{own-ticks, own-ticks-advance, peer-receiver-fires}
-use Rattle.drain_laws.proofs.TickFrame.{peer-sender-fires, peer-ticks, peer-ticks-advance}
-use Rattle.drain_laws.specs.Calm.{AreFit, Calm, IsComing, IsHanded, IsOpen, Advances}
+use Rattle.drain_laws.proofs.TickFrame.{TickLower, own-receiver-says, own-sender-says}
+use Rattle.drain_laws.proofs.TickFrame.{own-ticks, own-ticks-advance, peer-receiver-says}
+use Rattle.drain_laws.proofs.TickFrame.{peer-sender-says, peer-ticks, peer-ticks-advance}
+use Rattle.drain_laws.specs.Calm.{AreFit, Calm, IsComing, Advances}
+use Rattle.drain_laws.specs.Hopeful.{IsHanded, IsOpen}
 use Rattle.drain_laws.specs.Hopeful.{sum_below}
-use Rattle.drain_laws.specs.Drain.{AreKnown, AllAdvance, Clean, DrainHolds, Draining, IsRoomy}
-use Rattle.drain_laws.specs.Drain.{IsDue, Next, Oldest, Stands, delivers, due_receiver}
-use Rattle.drain_laws.specs.Drain.{due_sender, fires, oldest, setting, setting_by, since}
 use Rattle.drain_laws.specs.Effects.{EndEffects, IsHandedUp, IsNoted}
 use Rattle.std.specs.Option.{option_map}
 use Rattle.ltp_segment.specs.declared.session.Note.TheVariants as notes
@@ -87,6 +89,21 @@ arrives-kept p e s now =
               (sym roomy.senders) ascending;
           receivers = roomy.receivers;
         }
+
+replies-next : (w : World) (me : End) (name : SessionName) (x : Option Reply)
+    → ReplyKept (at_end w.engines me) x → (o : End)
+    → (at_end (replies w me name x).engines o).next ≡ (at_end w.engines o).next
+replies-next w me name None kept o = refl
+replies-next w first_end name (Some r) kept first_end = kept.next
+replies-next w first_end name (Some r) kept second_end = refl
+replies-next w second_end name (Some r) kept first_end = refl
+replies-next w second_end name (Some r) kept second_end = kept.next
+
+-- a delivery begins no session
+pub arrival-next : (parties : Party × Party) (w : World) (me : End) (s : SegmentValue) (o : End)
+    → (at_end (arrival parties w me s).engines o).next ≡ (at_end w.engines o).next
+arrival-next parties w me s o = replies-next w me (session_of s.originator s.session) _
+    (arrives-kept (at_end parties me) (at_end w.engines me) s w.now) o
 
 -- ---- originators
 
@@ -177,7 +194,7 @@ unfoldable pub pick : (ℕ → ℕ) → (ℕ → ℕ) → End → ℕ → ℕ
 pick f g first_end = f
 pick f g second_end = g
 
-used-low : (p : Party) (e : Engine) (n : ℕ) → is_used p e n ≡ true → n < e.next
+pub used-low : (p : Party) (e : Engine) (n : ℕ) → is_used p e n ≡ true → n < e.next
 used-low p e n is = by (nat_le p.first n) (nat_lt n e.next) refl is
   where
     by : (a b : Bool) → nat_lt n e.next ≡ b → (a && b) ≡ true → n < e.next
@@ -194,22 +211,28 @@ pick-most f g rank most_f most_g second_end n = most_g n
 same-most : (f : ℕ → ℕ) (n : ℕ) → f n ≤ f n
 same-most f n = omega arith
 
+changed-low : (n left : ℕ) (f : ℕ → ℕ) (k : ℕ) → k ≡ n → left < f n → changed n left f k < f k
+unfolding changed
+changed-low n left f k is less = rw (eq-eqb n k (sym is)) (subst (λ m. left < f m) (sym is) less)
+
 touched-next : (F : List ℕ → ℕ → View → Type 0) (parties : Party × Party) (d : Draining)
-    (rank : End → ℕ → ℕ) (me : End) (e' : Engine) (sent' new' : List Sent)
-    → DrainHolds F parties d rank → Kept (at_end (d.world).engines me) e' → AreKnown parties new'
+    (rank : End → ℕ → ℕ) (me : End) (e' : Engine) (sent' new' : List Sent) (origin n : ℕ)
+    → ArePeers parties → DrainHolds F parties d rank → Kept (at_end (d.world).engines me) e'
+    → AreKnown parties new'
     → Touches F me (other me) (at_end parties me) (at_end parties (other me))
     (at_end (d.world).engines me) (at_end (d.world).engines (other me)) (rank me)
-    (rank (other me)) e' sent' new'
-    → Next F parties d (record {
+    (rank (other me)) e' sent' new' origin n
+    → NextOf F parties d (record {
       world = record {
         engines = with_end (d.world).engines me e';
         sent = sent';
         now = (d.world).now;
       };
       new = new';
-    }) rank
+    }) rank origin n
 unfolding pick
-touched-next F parties d rank first_end e' sent' new' holds kept known touches = go touches
+touched-next F parties d rank first_end e' sent' new' origin k peers holds kept known touches =
+    go touches
   where
     senders : (o : End) → AreAscending 0 (at_end (e', (d.world).engines.1) o).senders
     senders first_end = kept.senders (holds.senders first_end)
@@ -223,37 +246,48 @@ touched-next F parties d rank first_end e' sent' new' holds kept known touches =
     next first_end = omega (arith, holds.next first_end, kept.next)
     next second_end = holds.next second_end
 
+    peer_apart : parties.0.own ≢ parties.1.own
+    peer_apart = peers.differ
+
     To : Type 0
-    To = Next F parties d (record {
+    To = NextOf F parties d (record {
       world = record {
         engines = (e', (d.world).engines.1);
         sent = sent';
         now = (d.world).now;
       };
       new = new';
-    }) rank
+    }) rank origin k
 
     go : Touches F first_end second_end parties.0 parties.1 (d.world).engines.0
-        (d.world).engines.1 (rank first_end) (rank second_end) e' sent' new' → To
-    go (own_session n low others peers) = record {
-      rank' = pick (changed n low.left (rank first_end)) (rank second_end);
-      never_up = pick-most (changed n low.left (rank first_end)) (rank second_end) rank
-          (changed-most n low.left (rank first_end) low.less) (same-most (rank second_end));
-      holds = record {
-        session = session;
-        senders = senders;
-        receivers = receivers;
-        next = next;
-        known = known;
+        (d.world).engines.1 (rank first_end) (rank second_end) e' sent' new' origin k → To
+    go (own_session n is_origin is_n low others peers) = record {
+      next = record {
+        rank' = pick (changed n low.left (rank first_end)) (rank second_end);
+        never_up = pick-most (changed n low.left (rank first_end)) (rank second_end) rank
+            (changed-most n low.left (rank first_end) low.less) (same-most (rank second_end));
+        holds = record {
+          session = session;
+          senders = senders;
+          receivers = receivers;
+          next = next;
+          known = known;
+        };
+        falls = omega (
+          arith,
+          changed-sum (d.world).engines.0.next n low.left (rank first_end)
+              (omega (arith, used-low parties.0 e' n low.used, kept.next)) low.less,
+          ap (λ k. sum_below k (changed n low.left (rank first_end))) kept.next,
+        );
       };
-      falls = omega (
-        arith,
-        changed-sum (d.world).engines.0.next n low.left (rank first_end)
-            (omega (arith, used-low parties.0 e' n low.used, kept.next)) low.less,
-        ap (λ k. sum_below k (changed n low.left (rank first_end))) kept.next,
-      );
+      named = named;
     }
       where
+        named : (o : End) → (at_end parties o).own ≡ origin
+            → pick (changed n low.left (rank first_end)) (rank second_end) o k < rank o k
+        named first_end own = changed-low n low.left (rank first_end) k is_n low.less
+        named second_end own = absurd (peer_apart (sym (own ∙ is_origin)))
+
         session : (o : End) (m : ℕ) → Stands F (setting parties o m)
             (view parties (record {
               engines = (e', (d.world).engines.1);
@@ -267,25 +301,33 @@ touched-next F parties d rank first_end e' sent' new' holds kept known touches =
             (said first_end (parties.0).own m new') (said second_end (parties.0).own m new') k)
             n low.left (rank first_end) low.stands others m
         session second_end m = peers m
-    go (peer_session n low others owns) = record {
-      rank' = pick (rank first_end) (changed n low.left (rank second_end));
-      never_up = pick-most (rank first_end) (changed n low.left (rank second_end)) rank
-          (same-most (rank first_end)) (changed-most n low.left (rank second_end) low.less);
-      holds = record {
-        session = session;
-        senders = senders;
-        receivers = receivers;
-        next = next;
-        known = known;
+    go (peer_session n is_origin is_n low others owns) = record {
+      next = record {
+        rank' = pick (rank first_end) (changed n low.left (rank second_end));
+        never_up = pick-most (rank first_end) (changed n low.left (rank second_end)) rank
+            (same-most (rank first_end)) (changed-most n low.left (rank second_end) low.less);
+        holds = record {
+          session = session;
+          senders = senders;
+          receivers = receivers;
+          next = next;
+          known = known;
+        };
+        falls = omega (
+          arith,
+          changed-sum (d.world).engines.1.next n low.left (rank second_end)
+              (used-low parties.1 (d.world).engines.1 n low.used) low.less,
+          ap (λ k. sum_below k (rank first_end)) kept.next,
+        );
       };
-      falls = omega (
-        arith,
-        changed-sum (d.world).engines.1.next n low.left (rank second_end)
-            (used-low parties.1 (d.world).engines.1 n low.used) low.less,
-        ap (λ k. sum_below k (rank first_end)) kept.next,
-      );
+      named = named;
     }
       where
+        named : (o : End) → (at_end parties o).own ≡ origin
+            → pick (rank first_end) (changed n low.left (rank second_end)) o k < rank o k
+        named first_end own = absurd (peer_apart (own ∙ is_origin))
+        named second_end own = changed-low n low.left (rank second_end) k is_n low.less
+
         session : (o : End) (m : ℕ) → Stands F (setting parties o m)
             (view parties (record {
               engines = (e', (d.world).engines.1);
@@ -299,7 +341,8 @@ touched-next F parties d rank first_end e' sent' new' holds kept known touches =
             (view_by second_end first_end parties.1 (d.world).engines.1 e' sent' m)
             (said second_end (parties.1).own m new') (said first_end (parties.1).own m new') k)
             n low.left (rank second_end) low.stands others m
-touched-next F parties d rank second_end e' sent' new' holds kept known touches = go touches
+touched-next F parties d rank second_end e' sent' new' origin k peers holds kept known touches =
+    go touches
   where
     senders : (o : End) → AreAscending 0 (at_end ((d.world).engines.0, e') o).senders
     senders first_end = holds.senders first_end
@@ -313,37 +356,48 @@ touched-next F parties d rank second_end e' sent' new' holds kept known touches 
     next first_end = holds.next first_end
     next second_end = omega (arith, holds.next second_end, kept.next)
 
+    peer_apart : parties.0.own ≢ parties.1.own
+    peer_apart = peers.differ
+
     To : Type 0
-    To = Next F parties d (record {
+    To = NextOf F parties d (record {
       world = record {
         engines = ((d.world).engines.0, e');
         sent = sent';
         now = (d.world).now;
       };
       new = new';
-    }) rank
+    }) rank origin k
 
     go : Touches F second_end first_end parties.1 parties.0 (d.world).engines.1
-        (d.world).engines.0 (rank second_end) (rank first_end) e' sent' new' → To
-    go (own_session n low others peers) = record {
-      rank' = pick (rank first_end) (changed n low.left (rank second_end));
-      never_up = pick-most (rank first_end) (changed n low.left (rank second_end)) rank
-          (same-most (rank first_end)) (changed-most n low.left (rank second_end) low.less);
-      holds = record {
-        session = session;
-        senders = senders;
-        receivers = receivers;
-        next = next;
-        known = known;
+        (d.world).engines.0 (rank second_end) (rank first_end) e' sent' new' origin k → To
+    go (own_session n is_origin is_n low others peers) = record {
+      next = record {
+        rank' = pick (rank first_end) (changed n low.left (rank second_end));
+        never_up = pick-most (rank first_end) (changed n low.left (rank second_end)) rank
+            (same-most (rank first_end)) (changed-most n low.left (rank second_end) low.less);
+        holds = record {
+          session = session;
+          senders = senders;
+          receivers = receivers;
+          next = next;
+          known = known;
+        };
+        falls = omega (
+          arith,
+          changed-sum (d.world).engines.1.next n low.left (rank second_end)
+              (omega (arith, used-low parties.1 e' n low.used, kept.next)) low.less,
+          ap (λ k. sum_below k (changed n low.left (rank second_end))) kept.next,
+        );
       };
-      falls = omega (
-        arith,
-        changed-sum (d.world).engines.1.next n low.left (rank second_end)
-            (omega (arith, used-low parties.1 e' n low.used, kept.next)) low.less,
-        ap (λ k. sum_below k (changed n low.left (rank second_end))) kept.next,
-      );
+      named = named;
     }
       where
+        named : (o : End) → (at_end parties o).own ≡ origin
+            → pick (rank first_end) (changed n low.left (rank second_end)) o k < rank o k
+        named first_end own = absurd (peer_apart (own ∙ is_origin))
+        named second_end own = changed-low n low.left (rank second_end) k is_n low.less
+
         session : (o : End) (m : ℕ) → Stands F (setting parties o m)
             (view parties (record {
               engines = ((d.world).engines.0, e');
@@ -357,25 +411,33 @@ touched-next F parties d rank second_end e' sent' new' holds kept known touches 
             (view_by second_end first_end parties.1 e' (d.world).engines.0 sent' m)
             (said second_end (parties.1).own m new') (said first_end (parties.1).own m new') k)
             n low.left (rank second_end) low.stands others m
-    go (peer_session n low others owns) = record {
-      rank' = pick (changed n low.left (rank first_end)) (rank second_end);
-      never_up = pick-most (changed n low.left (rank first_end)) (rank second_end) rank
-          (changed-most n low.left (rank first_end) low.less) (same-most (rank second_end));
-      holds = record {
-        session = session;
-        senders = senders;
-        receivers = receivers;
-        next = next;
-        known = known;
+    go (peer_session n is_origin is_n low others owns) = record {
+      next = record {
+        rank' = pick (changed n low.left (rank first_end)) (rank second_end);
+        never_up = pick-most (changed n low.left (rank first_end)) (rank second_end) rank
+            (changed-most n low.left (rank first_end) low.less) (same-most (rank second_end));
+        holds = record {
+          session = session;
+          senders = senders;
+          receivers = receivers;
+          next = next;
+          known = known;
+        };
+        falls = omega (
+          arith,
+          changed-sum (d.world).engines.0.next n low.left (rank first_end)
+              (used-low parties.0 (d.world).engines.0 n low.used) low.less,
+          ap (λ k. sum_below k (rank second_end)) kept.next,
+        );
       };
-      falls = omega (
-        arith,
-        changed-sum (d.world).engines.0.next n low.left (rank first_end)
-            (used-low parties.0 (d.world).engines.0 n low.used) low.less,
-        ap (λ k. sum_below k (rank second_end)) kept.next,
-      );
+      named = named;
     }
       where
+        named : (o : End) → (at_end parties o).own ≡ origin
+            → pick (changed n low.left (rank first_end)) (rank second_end) o k < rank o k
+        named first_end own = changed-low n low.left (rank first_end) k is_n low.less
+        named second_end own = absurd (peer_apart (sym (own ∙ is_origin)))
+
         session : (o : End) (m : ℕ) → Stands F (setting parties o m)
             (view parties (record {
               engines = ((d.world).engines.0, e');
@@ -460,10 +522,10 @@ pub delivery-next : (F : List ℕ → ℕ → View → Type 0) → Gives F
     → (parties : Party × Party) (d : Draining) (rank : End → ℕ → ℕ) (me : End) (o : Oldest)
     → ArePeers parties
     → DrainHolds F parties d rank → IsRoomy parties d.world → oldest (other me) d.new ≡ Some o
-    → Next F parties d (record {
+    → NextOf F parties d (record {
       world = arrival parties d.world me o.first.segment;
       new = o.others ++ since d.world (arrival parties d.world me o.first.segment);
-    }) rank
+    }) rank (o.first.segment).originator (o.first.segment).session
 delivery-next F gives parties d rank me o peers holds room is =
     by_reply (arrives (at_end parties me) (at_end (d.world).engines me) o.first.segment
     (d.world).now)
@@ -485,16 +547,17 @@ delivery-next F gives parties d rank me o peers holds room is =
         (at_end (d.world).engines me) (at_end (d.world).engines (other me)) (d.world).sent
         (rank me) (rank (other me)) o x
         → ReplyKept (at_end (d.world).engines me) x
-        → Next F parties d (record {
+        → NextOf F parties d (record {
           world = replies d.world me
               (session_of (o.first.segment).originator (o.first.segment).session) x;
           new =
               o.others ++ since d.world (replies d.world me
               (session_of (o.first.segment).originator (o.first.segment).session) x);
-        }) rank
+        }) rank (o.first.segment).originator (o.first.segment).session
     by_reply None touches kept =
         let next = touched-next F parties d rank me (at_end (d.world).engines me)
-        (d.world).sent o.others holds (record {
+        (d.world).sent o.others (o.first.segment).originator (o.first.segment).session peers holds
+        (record {
           next = refl;
           senders = λ h. h;
           receivers = λ h. h;
@@ -502,25 +565,27 @@ delivery-next F gives parties d rank me o peers holds room is =
         let same : o.others ≡ o.others ++ since d.world d.world =
         sym (ap (λ (ds : List Sent). o.others ++ ds) (drop-all (d.world).sent)
         ∙ append-nil o.others) in
-        subst (λ ds. Next F parties d (record { world = d.world; new = ds }) rank) same
-        (subst (λ es. Next F parties d (record {
+        subst (λ ds. NextOf F parties d (record { world = d.world; new = ds }) rank
+        (o.first.segment).originator (o.first.segment).session) same
+        (subst (λ es. NextOf F parties d (record {
           world = record { engines = es; sent = (d.world).sent; now = (d.world).now };
           new = o.others;
-        }) rank) (set-same (d.world).engines me) next)
+        }) rank (o.first.segment).originator (o.first.segment).session)
+        (set-same (d.world).engines me) next)
     by_reply (Some r) touches kept =
         let added : List Sent = sent_by me (headed_all
         (session_of (o.first.segment).originator (o.first.segment).session) r.out) in
-        subst (λ ds. Next F parties d (record {
+        subst (λ ds. NextOf F parties d (record {
           world = record {
             engines = with_end (d.world).engines me r.engine;
             sent = (d.world).sent ++ added;
             now = (d.world).now;
           };
           new = o.others ++ ds;
-        }) rank)
+        }) rank (o.first.segment).originator (o.first.segment).session)
         (sym (drop-front (d.world).sent added))
         (touched-next F parties d rank me r.engine ((d.world).sent ++ added) (o.others ++ added)
-        holds kept
+        (o.first.segment).originator (o.first.segment).session peers holds kept
         (known-append parties o.others added known.others
         (known-headed parties me (o.first.segment).originator (o.first.segment).session r.out
         known.first)) touches)
@@ -625,6 +690,13 @@ since-ticks parties w now =
     ∙ drop-front w.sent (sent_by first_end (tick_out parties.0 w.engines.0 now) ++ sent_by
     second_end (tick_out parties.1 w.engines.1 now))
 
+-- ticks begin none
+pub ticked-next : (parties : Party × Party) (w : World) (now : ℕ) (o : End)
+    → (at_end (ticked-world parties w now).engines o).next ≡ (at_end w.engines o).next
+unfolding ticked-world
+ticked-next parties w now first_end = refl
+ticked-next parties w now second_end = refl
+
 pub sent-ticked : (parties : Party × Party) (w : World) (now : ℕ)
     → (ticked-world parties w now).sent ≡ w.sent ++ ticked-new parties w now
 unfolding ticked-world ticked-new
@@ -632,16 +704,15 @@ sent-ticked parties w now = append_assoc w.sent
     (sent_by first_end (tick_out parties.0 w.engines.0 now))
     (sent_by second_end (tick_out parties.1 w.engines.1 now))
 
-pub tick-next : (F : List ℕ → ℕ → View → Type 0) → Gives F
+pub tick-holds : (F : List ℕ → ℕ → View → Type 0) → Gives F
     → (parties : Party × Party) (d : Draining) (rank : End → ℕ → ℕ) (now : ℕ) → ArePeers parties
-    → DrainHolds F parties d rank → IsRoomy parties d.world → d.new ≡ []
-    → ticked-new parties d.world now ≢ []
-    → Next F parties d (record {
+    → DrainHolds F parties d rank → d.new ≡ []
+    → TickedTo F parties (record {
       world = ticked-world parties d.world now;
       new = ticked-new parties d.world now;
     }) rank
 unfolding ticked-world ticked-new pick
-tick-next F gives parties d rank now peers holds room none some = record {
+tick-holds F gives parties d rank now peers holds none = record {
   rank' = rank';
   holds = record {
     session = session;
@@ -650,8 +721,7 @@ tick-next F gives parties d rank now peers holds room none some = record {
     next = next;
     known = known;
   };
-  falls = fewer talks.o talks.n talks.some;
-  never_up = pick-most (λ n. (low_one n).left) (λ n. (low_two n).left) rank most_one most_two;
+  less = less;
 }
   where
     e : Engine
@@ -676,7 +746,8 @@ tick-next F gives parties d rank now peers holds room none some = record {
             tick_engine parties.0 (d.world).engines.0 now,
             tick_engine parties.1 (d.world).engines.1 now,
           );
-          sent = ((d.world).sent ++ sent_by first_end (tick_out parties.0 (d.world).engines.0 now))
+          sent = ((d.world).sent ++ sent_by first_end
+              (tick_out parties.0 (d.world).engines.0 now))
               ++ sent_by second_end (tick_out parties.1 (d.world).engines.1 now);
           now = now;
         }) first_end
@@ -695,7 +766,8 @@ tick-next F gives parties d rank now peers holds room none some = record {
             tick_engine parties.0 (d.world).engines.0 now,
             tick_engine parties.1 (d.world).engines.1 now,
           );
-          sent = ((d.world).sent ++ sent_by first_end (tick_out parties.0 (d.world).engines.0 now))
+          sent = ((d.world).sent ++ sent_by first_end
+              (tick_out parties.0 (d.world).engines.0 now))
               ++ sent_by second_end (tick_out parties.1 (d.world).engines.1 now);
           now = now;
         })
@@ -717,7 +789,8 @@ tick-next F gives parties d rank now peers holds room none some = record {
             tick_engine parties.0 (d.world).engines.0 now,
             tick_engine parties.1 (d.world).engines.1 now,
           );
-          sent = ((d.world).sent ++ sent_by first_end (tick_out parties.0 (d.world).engines.0 now))
+          sent = ((d.world).sent ++ sent_by first_end
+              (tick_out parties.0 (d.world).engines.0 now))
               ++ sent_by second_end (tick_out parties.1 (d.world).engines.1 now);
           now = now;
         }) o n)
@@ -760,79 +833,99 @@ tick-next F gives parties d rank now peers holds room none some = record {
         (inr one_two.knows)) (known-out parties second_end parties.1 f now (inr refl)
         (inl two_one.knows))
 
-    talks : Speaks parties new'
-    talks = speaks parties new' known some
+    less : (o : End) (n : ℕ) → pick (λ n. (low_one n).left) (λ n. (low_two n).left) o n
+        + length (said o (at_end parties o).own n new')
+        + length (said (other o) (at_end parties o).own n new') ≤ rank o n
+    less first_end n = (low_one n).less
+    less second_end n = (low_two n).less
 
-    most_one : (n : ℕ) → (low_one n).left ≤ rank first_end n
-    most_one n = omega (arith, (low_one n).less)
+tick-falls : (F : List ℕ → ℕ → View → Type 0) (parties : Party × Party) (d : Draining) (rank : End
+    → ℕ → ℕ) (now : ℕ)
+    → TickedTo F parties (record {
+      world = ticked-world parties d.world now;
+      new = ticked-new parties d.world now;
+    }) rank
+    → Speaks parties (ticked-new parties d.world now)
+    → Next F parties d (record {
+      world = ticked-world parties d.world now;
+      new = ticked-new parties d.world now;
+    }) rank
+unfolding ticked-world
+tick-falls F parties d rank now t talks = record {
+  rank' = t.rank';
+  holds = t.holds;
+  falls = by_end talks.o talks.n talks.some;
+  never_up = most;
+}
+  where
+    most : (o : End) (n : ℕ) → t.rank' o n ≤ rank o n
+    most o n = omega (arith, t.less o n)
 
-    most_two : (n : ℕ) → (low_two n).left ≤ rank second_end n
-    most_two n = omega (arith, (low_two n).less)
+    e : Engine
+    e = (d.world).engines.0
 
-    used_one : (n : ℕ) → 1 ≤ length (said first_end (parties.0).own n new') + length
-        (said second_end (parties.0).own n new') → n < e.next
-    used_one n talk = go (is-begun F (setting_by parties.0 parties.1 n) _ _ _ (low_one n).left
-        (low_one n).stands)
+    f : Engine
+    f = (d.world).engines.1
+
+    used : (o : End) (n : ℕ) → 1 ≤ length (said o (at_end parties o).own n
+        (ticked-new parties d.world now))
+        + length (said (other o) (at_end parties o).own n (ticked-new parties d.world now))
+        → n < (at_end (
+          tick_engine parties.0 (d.world).engines.0 now,
+          tick_engine parties.1
+              (d.world).engines.1 now,
+        ) o).next
+    used o n talk = go (is-begun F (setting parties o n) _ _ _ (t.rank' o n)
+        ((t.holds).session o n))
       where
-        go : Begun F (setting_by parties.0 parties.1 n)
-            (view parties (record {
-              engines = (
-                tick_engine parties.0 (d.world).engines.0 now,
-                tick_engine parties.1 (d.world).engines.1 now,
-              );
-              sent = ((d.world).sent ++ sent_by first_end
-                  (tick_out parties.0 (d.world).engines.0 now)) ++ sent_by second_end
-                  (tick_out parties.1 (d.world).engines.1 now);
-              now = now;
-            }) first_end n)
-            (said first_end (parties.0).own n new') (said second_end (parties.0).own n new')
-            (low_one n).left → n < e.next
-        go (was_begun used standing) = used-low parties.0
-            (tick_engine parties.0 (d.world).engines.0 now) n used
-        go (never_begun unused idle) = absurd
-            (nothing-said (said first_end (parties.0).own n new')
-            (said second_end (parties.0).own n new') idle.none_s idle.none_r talk)
+        go : Begun F (setting parties o n) (view parties (ticked-world parties d.world now) o n)
+            (said o (at_end parties o).own n (ticked-new parties d.world now))
+            (said (other o) (at_end parties o).own n (ticked-new parties d.world now))
+            (t.rank' o n)
+            → n < (at_end (
+              tick_engine parties.0 (d.world).engines.0 now,
+              tick_engine parties.1
+                  (d.world).engines.1 now,
+            ) o).next
+        go (was_begun used standing) = used-low (at_end parties o)
+            (at_end (
+              tick_engine parties.0 (d.world).engines.0 now,
+              tick_engine parties.1
+                  (d.world).engines.1 now,
+            ) o) n used
+        go (never_begun unused idle) = absurd (nothing-said _ _ idle.none_s idle.none_r talk)
 
-    used_two : (n : ℕ) → 1 ≤ length (said second_end (parties.1).own n new') + length
-        (said first_end (parties.1).own n new') → n < f.next
-    used_two n talk = go (is-begun F (setting_by parties.1 parties.0 n) _ _ _ (low_two n).left
-        (low_two n).stands)
-      where
-        go : Begun F (setting_by parties.1 parties.0 n)
-            (view parties (record {
-              engines = (
-                tick_engine parties.0 (d.world).engines.0 now,
-                tick_engine parties.1 (d.world).engines.1 now,
-              );
-              sent = ((d.world).sent ++ sent_by first_end
-                  (tick_out parties.0 (d.world).engines.0 now)) ++ sent_by second_end
-                  (tick_out parties.1 (d.world).engines.1 now);
-              now = now;
-            }) second_end n)
-            (said second_end (parties.1).own n new') (said first_end (parties.1).own n new')
-            (low_two n).left → n < f.next
-        go (was_begun used standing) = used-low parties.1
-            (tick_engine parties.1 (d.world).engines.1 now) n used
-        go (never_begun unused idle) = absurd
-            (nothing-said (said second_end (parties.1).own n new')
-            (said first_end (parties.1).own n new') idle.none_s idle.none_r talk)
+    by_end : (o : End) (n : ℕ) → 1 ≤ length (said o (at_end parties o).own n
+        (ticked-new parties d.world now))
+        + length (said (other o) (at_end parties o).own n (ticked-new parties d.world now))
+        → sum_below e.next (t.rank' first_end) + sum_below f.next (t.rank' second_end)
+        < sum_below e.next (rank first_end) + sum_below f.next (rank second_end)
+    by_end first_end n talk = omega (
+      arith,
+      sum-less e.next (t.rank' first_end) (rank first_end) (most first_end) n
+          (used first_end n talk)
+          (omega (arith, t.less first_end n, talk)),
+      sum-most f.next (t.rank' second_end) (rank second_end) (most second_end),
+    )
+    by_end second_end n talk = omega (
+      arith,
+      sum-less f.next (t.rank' second_end) (rank second_end) (most second_end) n
+          (used second_end n talk)
+          (omega (arith, t.less second_end n, talk)),
+      sum-most e.next (t.rank' first_end) (rank first_end) (most first_end),
+    )
 
-    fewer : (o : End) (n : ℕ) → 1 ≤ length (said o (at_end parties o).own n new') + length
-        (said (other o) (at_end parties o).own n new')
-        → sum_below e.next (λ n. (low_one n).left) + sum_below f.next (λ n. (low_two n).left) <
-        sum_below e.next (rank first_end) + sum_below f.next (rank second_end)
-    fewer first_end n talk = omega (
-      arith,
-      sum-less e.next (λ n. (low_one n).left)
-          (rank first_end) most_one n (used_one n talk) (omega (arith, (low_one n).less, talk)),
-      sum-most f.next (λ n. (low_two n).left) (rank second_end) most_two,
-    )
-    fewer second_end n talk = omega (
-      arith,
-      sum-less f.next (λ n. (low_two n).left)
-          (rank second_end) most_two n (used_two n talk) (omega (arith, (low_two n).less, talk)),
-      sum-most e.next (λ n. (low_one n).left) (rank first_end) most_one,
-    )
+pub tick-next : (F : List ℕ → ℕ → View → Type 0) → Gives F
+    → (parties : Party × Party) (d : Draining) (rank : End → ℕ → ℕ) (now : ℕ) → ArePeers parties
+    → DrainHolds F parties d rank → d.new ≡ [] → ticked-new parties d.world now ≢ []
+    → Next F parties d (record {
+      world = ticked-world parties d.world now;
+      new = ticked-new parties d.world now;
+    }) rank
+tick-next F gives parties d rank now peers holds none some =
+    let t = tick-holds F gives parties d rank now peers holds none in
+    tick-falls F parties d rank now t (speaks parties (ticked-new parties d.world now)
+    (t.holds).known some)
 
 -- ---- a drain
 
@@ -842,34 +935,6 @@ other_other second_end = refl
 
 pub same_draining : (d d' : Draining) → d'.world ≡ d.world → d'.new ≡ d.new → d' ≡ d
 same_draining d d' world new = λ i. record { world = world i; new = new i }
-
-pub clean-next : (F : List ℕ → ℕ → View → Type 0) → Gives F
-    → (parties : Party × Party) (d d' : Draining) (rank : End → ℕ → ℕ) → ArePeers parties
-    → DrainHolds F parties d rank → IsRoomy parties d.world → Clean parties d d'
-    → Next F parties d d' rank
-clean-next F gives parties d d' rank peers holds room (delivers from o is world new) =
-    subst (λ x. Next F parties d x rank)
-    (sym (same_draining (record {
-      world = arrival parties d.world (other from) o.first.segment;
-      new = o.others ++ since d.world (arrival parties d.world (other from) o.first.segment);
-    })
-    d' world
-    (new ∙ ap (λ (w : World). o.others ++ since d.world w) world)))
-    (delivery-next F gives parties d rank (other from) o peers holds room
-    (subst (λ x. oldest x d.new ≡ Some o) (sym (other_other from)) is))
-clean-next F gives parties d d' rank peers holds room (fires now none not_past world new some) =
-    subst (λ x. Next F parties d x rank)
-    (sym (same_draining (record {
-      world = ticked-world parties d.world now;
-      new = ticked-new parties d.world now;
-    }) d' is_world is_new))
-    (tick-next F gives parties d rank now peers holds room none (λ h. some (is_new ∙ h)))
-  where
-    is_world : d'.world ≡ ticked-world parties d.world now
-    is_world = world ∙ ticks-are parties d.world now
-
-    is_new : d'.new ≡ ticked-new parties d.world now
-    is_new = new ∙ ap (since d.world) is_world ∙ since-ticks parties d.world now
 
 idle-asked : {X : Type 0} (c : ℕ) → IsAskedOn c [] [] ⊎ X → X
 idle-asked c (inl on) = absurd (none-asked c on)
@@ -1015,12 +1080,14 @@ tick-advances F gives parties d rank now es peers holds none second_end n =
 
 -- ---- a clock at which a deadline is over is a clean event
 
-pub due-fires : (F : List ℕ → ℕ → View → Type 0) → Gives F
+pub due-says : (F : List ℕ → ℕ → View → Type 0) → Gives F
     → (parties : Party × Party) (d : Draining) (rank : End → ℕ → ℕ) (now : ℕ) → ArePeers parties
-    → DrainHolds F parties d rank → d.new ≡ [] → IsDue parties d.world now
-    → ticked-new parties d.world now ≢ []
+    → DrainHolds F parties d rank → d.new ≡ [] → (o : End) (n : ℕ)
+    → IsDueOf parties d.world now o n
+    → 1 ≤ length (said o (at_end parties o).own n (ticked-new parties d.world now))
+    + length (said (other o) (at_end parties o).own n (ticked-new parties d.world now))
 unfolding ticked-new
-due-fires F gives parties d rank now peers holds none due = go due
+due-says F gives parties d rank now peers holds none o n due = go o n due
   where
     one_two : Linked parties.0 parties.1
     one_two = linked-at parties first_end peers
@@ -1028,9 +1095,13 @@ due-fires F gives parties d rank now peers holds none due = go due
     two_one : Linked parties.1 parties.0
     two_one = linked-at parties second_end peers
 
-    New : List Sent
-    New = sent_by first_end (tick_out parties.0 (d.world).engines.0 now) ++ sent_by second_end
-        (tick_out parties.1 (d.world).engines.1 now)
+    Says : End → ℕ → Type 0
+    Says o n = 1 ≤ length (said o (at_end parties o).own n
+        (sent_by first_end (tick_out parties.0 (d.world).engines.0 now) ++ sent_by second_end
+        (tick_out parties.1 (d.world).engines.1 now)))
+        + length (said (other o) (at_end parties o).own n
+        (sent_by first_end (tick_out parties.0 (d.world).engines.0 now) ++ sent_by second_end
+        (tick_out parties.1 (d.world).engines.1 now)))
 
     stands : (o : End) (n : ℕ) → Begun F (setting parties o n) (view parties d.world o n) [] []
         (rank o n)
@@ -1040,45 +1111,61 @@ due-fires F gives parties d rank now peers holds none due = go due
     sends : (o : End) (n : ℕ) (s : Sending) → (view parties d.world o n).sender ≡ Some s
         → (sending_timer s.phase).deadline ≤ now
         → Calm ((at_end parties o).policy).limit ((at_end parties (other o)).policy).limit
-        (view parties d.world o n) [] [] → New ≢ []
+        (view parties d.world o n) [] [] → Says o n
     sends first_end n s is over calm =
         let waits = calm.sending s is in
-        own-sender-fires F gives first_end second_end parties.0 parties.1 (d.world).engines.0
-        (d.world).engines.1 (d.world).sent n now (two_ends first_end) one_two two_one
-        (holds.senders first_end) (holds.receivers second_end) calm
-        s waits.checkpoint waits.timer is waits.is
-        (idle-asked (waits.checkpoint).checkpoint
-        (calm.asking s waits.checkpoint waits.timer is waits.is))
-        (subst (λ phase. (sending_timer phase).deadline ≤ now) waits.is over)
+        omega (
+          arith,
+          ap length (own-sender-says F gives first_end second_end parties.0 parties.1
+              (d.world).engines.0
+              (d.world).engines.1 (d.world).sent n now (two_ends first_end) one_two two_one
+              (holds.senders first_end) (holds.receivers second_end) calm
+              s waits.checkpoint waits.timer is waits.is
+              (idle-asked (waits.checkpoint).checkpoint
+              (calm.asking s waits.checkpoint waits.timer is waits.is))
+              (subst (λ phase. (sending_timer phase).deadline ≤ now) waits.is over)),
+        )
     sends second_end n s is over calm =
         let waits = calm.sending s is in
-        peer-sender-fires F gives first_end second_end parties.0 parties.1 (d.world).engines.0
-        (d.world).engines.1 (d.world).sent n now (two_ends first_end) one_two two_one
-        (holds.senders second_end) (holds.receivers first_end) calm
-        s waits.checkpoint waits.timer is waits.is
-        (idle-asked (waits.checkpoint).checkpoint
-        (calm.asking s waits.checkpoint waits.timer is waits.is))
-        (subst (λ phase. (sending_timer phase).deadline ≤ now) waits.is over)
+        omega (
+          arith,
+          ap length (peer-sender-says F gives first_end second_end parties.0 parties.1
+              (d.world).engines.0
+              (d.world).engines.1 (d.world).sent n now (two_ends first_end) one_two two_one
+              (holds.senders second_end) (holds.receivers first_end) calm
+              s waits.checkpoint waits.timer is waits.is
+              (idle-asked (waits.checkpoint).checkpoint
+              (calm.asking s waits.checkpoint waits.timer is waits.is))
+              (subst (λ phase. (sending_timer phase).deadline ≤ now) waits.is over)),
+        )
 
     tells : (o : End) (n : ℕ) (r : Receiving) (p : Pending)
         → (view parties d.world o n).receiver ≡ Some r → pending_of r.phase ≡ Some p
         → (p.timer).deadline ≤ now
         → Calm ((at_end parties o).policy).limit ((at_end parties (other o)).policy).limit
-        (view parties d.world o n) [] [] → New ≢ []
+        (view parties d.world o n) [] [] → Says o n
     tells first_end n r p is waits over calm =
-        own-receiver-fires F gives first_end second_end parties.0 parties.1 (d.world).engines.0
-        (d.world).engines.1 (d.world).sent n now (two_ends first_end) one_two two_one
-        (holds.senders first_end) (holds.receivers second_end) calm
-        r p is waits (idle-reported (p.report).serial (calm.reporting r p is waits)) over
+        omega (
+          arith,
+          ap length (own-receiver-says F gives first_end second_end parties.0
+              parties.1 (d.world).engines.0
+              (d.world).engines.1 (d.world).sent n now (two_ends first_end) one_two two_one
+              (holds.senders first_end) (holds.receivers second_end) calm
+              r p is waits (idle-reported (p.report).serial (calm.reporting r p is waits)) over),
+        )
     tells second_end n r p is waits over calm =
-        peer-receiver-fires F gives first_end second_end parties.0 parties.1 (d.world).engines.0
-        (d.world).engines.1 (d.world).sent n now (two_ends first_end) one_two two_one
-        (holds.senders second_end) (holds.receivers first_end) calm
-        r p is waits (idle-reported (p.report).serial (calm.reporting r p is waits)) over
+        omega (
+          arith,
+          ap length (peer-receiver-says F gives first_end second_end parties.0
+              parties.1 (d.world).engines.0
+              (d.world).engines.1 (d.world).sent n now (two_ends first_end) one_two two_one
+              (holds.senders second_end) (holds.receivers first_end) calm
+              r p is waits (idle-reported (p.report).serial (calm.reporting r p is waits)) over),
+        )
 
     by_sender : (o : End) (n : ℕ) (s : Sending) → (view parties d.world o n).sender ≡ Some s
         → (sending_timer s.phase).deadline ≤ now
-        → Begun F (setting parties o n) (view parties d.world o n) [] [] (rank o n) → New ≢ []
+        → Begun F (setting parties o n) (view parties d.world o n) [] [] (rank o n) → Says o n
     by_sender o n s is over (was_begun used st) = sends o n s is over (st.drains).calm
     by_sender o n s is over (never_begun unused idle) =
         absurd (let nobody : (view parties d.world o n).sender ≡ None = (idle.unused).sender in
@@ -1087,27 +1174,25 @@ due-fires F gives parties d rank now peers holds none due = go due
     by_receiver : (o : End) (n : ℕ) (r : Receiving) (p : Pending)
         → (view parties d.world o n).receiver ≡ Some r → pending_of r.phase ≡ Some p
         → (p.timer).deadline ≤ now → Begun F (setting parties o n) (view parties d.world o n) []
-        [] (rank o n) → New ≢ []
+        [] (rank o n) → Says o n
     by_receiver o n r p is waits over (was_begun used st) =
         tells o n r p is waits over (st.drains).calm
     by_receiver o n r p is waits over (never_begun unused idle) =
         absurd (let nobody : (view parties d.world o n).receiver ≡ None = (idle.unused).receiver
         in cc)
 
-    go : IsDue parties d.world now → New ≢ []
-    go (due_sender o n s is over) = by_sender o n s is over (stands o n)
-    go (due_receiver o n r p is waits over) = by_receiver o n r p is waits over (stands o n)
+    go : (o : End) (n : ℕ) → IsDueOf parties d.world now o n → Says o n
+    go o n (due_sender s is over) = by_sender o n s is over (stands o n)
+    go o n (due_receiver r p is waits over) = by_receiver o n r p is waits over (stands o n)
 
-pub due-clean : (F : List ℕ → ℕ → View → Type 0) → Gives F
+pub due-fires : (F : List ℕ → ℕ → View → Type 0) → Gives F
     → (parties : Party × Party) (d : Draining) (rank : End → ℕ → ℕ) (now : ℕ) → ArePeers parties
-    → DrainHolds F parties d rank → d.new ≡ [] → (d.world).now ≤ now → IsDue parties d.world now
-    → Clean parties d (record {
-      world = ticks parties now second_end
-          (ticks parties now first_end d.world);
-      new =
-          since d.world (ticks parties now second_end (ticks parties now first_end d.world));
-    })
-due-clean F gives parties d rank now peers holds none not_past due =
-    fires now none not_past refl refl (λ h. due-fires F gives parties d rank now peers holds none
-    due (sym (ap (since d.world) (ticks-are parties d.world now)
-    ∙ since-ticks parties d.world now) ∙ h))
+    → DrainHolds F parties d rank → d.new ≡ [] → (o : End) (n : ℕ)
+    → IsDueOf parties d.world now o n
+    → ticked-new parties d.world now ≢ []
+due-fires F gives parties d rank now peers holds none o n due empty =
+    nothing-said _ _ (ap (said o (at_end parties o).own n) empty
+    ∙ said-none o (at_end parties o).own n)
+    (ap (said (other o) (at_end parties o).own n) empty
+    ∙ said-none (other o) (at_end parties o).own n)
+    (due-says F gives parties d rank now peers holds none o n due)

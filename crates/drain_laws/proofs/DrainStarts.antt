@@ -14,7 +14,8 @@ use Rattle.ltp_segment.specs.Values.{a_receiver_cancel_ack}
 use Rattle.drain_laws.proofs.RankLemmas.{ahead-append, ahead-round, weights-append, weights-round}
 use Rattle.drain_laws.proofs.ReceiverDrains.{no_cancels-append}
 use Rattle.drain_laws.proofs.SenderDrains.{PartFits, cut-fit, fit-append, round-fit, round-plain}
-use Rattle.drain_laws.specs.Calm.{AreFit, Calm, Drains, IsPromising, IsOpen, NoCancels, Rests}
+use Rattle.drain_laws.specs.Calm.{AreFit, Calm, Drains, IsPromising, NoCancels, Rests}
+use Rattle.drain_laws.specs.Hopeful.{IsOpen}
 use Rattle.drain_laws.specs.Calm.{is_cancel}
 use Rattle.drain_laws.specs.Rank.{IsAskedOn, IsReportedOn, RankAtMost, ahead, weights}
 use Rattle.link_laws.proofs.CheckpointLemmas.{round-has, begin-next, checkpoint_at-asks}

@@ -6,7 +6,7 @@ use Rattle.ltp_segment.specs.Policy.{PolicyValue}
 use Rattle.ltp_segment.specs.Values.{ContentValue, PieceValue}
 use Rattle.ltp_session.specs.Receiver.{Place, Receiving, fresh, receiver_answers}
 use Rattle.ltp_session.specs.Step.{StepValue, after}
-use Rattle.drain_laws.specs.Calm.{IsHanded}
+use Rattle.drain_laws.specs.Hopeful.{IsHanded}
 use Rattle.link_laws.proofs.WalkLemmas.{OnPiece, walk-segment}
 
 -- it was handed up before, or is in this step

@@ -21,3 +21,7 @@ pub mod SizeLemmas
 pub mod StartLemmas
 pub mod CleanSteps
 pub mod CompletionLemmas
+pub mod QuietClock
+pub mod DrainBegins
+pub mod OffsetLemmas
+pub mod RankSteps

@@ -63,10 +63,6 @@ green-plain kinds.GreenEndBlock is = refl
 false-or : (a b : Bool) → a ≡ false → b ≡ false → (a || b) ≡ false
 false-or a b is_a is_b = rw (is_a, is_b) refl
 
-false-and : (a b : Bool) → b ≡ false → (a && b) ≡ false
-false-and true b is = is
-false-and false b is = refl
-
 not-lt : (a b : ℕ) → b ≤ a → nat_lt a b ≡ false
 not-lt a b low = grind (arith, nat_tests)
 

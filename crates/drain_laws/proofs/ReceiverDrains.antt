@@ -15,7 +15,8 @@ use Rattle.drain_laws.proofs.RankLemmas.{weights-append}
 use Rattle.drain_laws.proofs.ReceiverRows.{Acks, ack-onward, acks-kept, another, clears, closes}
 use Rattle.drain_laws.proofs.ReceiverRows.{nobody, piece-onward}
 use Rattle.drain_laws.specs.Calm.{WaitsOn, Calm, Drains, Falls, Given, HasSerials, IsComing}
-use Rattle.drain_laws.specs.Calm.{IsHanded, IsOpen, NoCancels, Onward, Setting, is_cancel}
+use Rattle.drain_laws.specs.Calm.{NoCancels, Onward, Setting, is_cancel}
+use Rattle.drain_laws.specs.Hopeful.{IsHanded, IsOpen}
 use Rattle.drain_laws.specs.Rank.{weight, weights}
 use Rattle.link_laws.proofs.ListLemmas.{answered, both_arms, by_arms}
 use Rattle.link_laws.proofs.SerialLemmas.{all-among, among-append, among-left}

@@ -175,7 +175,8 @@ piece-onward block red place v q new_s new_r t given closed unclosed sent
         same_block = refl;
         still = asked-rest c.checkpoint (a_piece q) new_s new_r t.out
             (plain-not c.checkpoint q (plain s' kept));
-        settled = λ settled. settled-rest red v (receiver_moves v t) c.checkpoint (a_piece q) new_s
+        settled = λ settled. settled-rest red v (receiver_moves v t) c.checkpoint
+            (a_piece q) new_s
             (λ x among named. settled.whole x (none-more x v.by_receiver t.out out among) named)
             (λ i has. absurd (subst (HasFilled i) none has))
             (λ i has. absurd (green-has i q (green s' kept) has)) settled;
@@ -198,7 +199,8 @@ piece-onward block red place v q new_s new_r t given closed unclosed sent
             kept in cc)
 piece-onward block red place v q new_s new_r t given closed unclosed sent
     (takes opens (fills_only r' plain next out grows phase serial)) = record {
-      reporting = λ r'' p kept waits. inr (was-pending v place.session (a_piece q ∷ new_s) new_r new_s
+      reporting = λ r'' p kept waits. inr (was-pending v place.session (a_piece q ∷ new_s) new_r
+          new_s
           (new_r ++ t.out) p
           (let one : r' ≡ r'' = only r'' kept in ap pending_of (sym phase
           ∙ ap (λ (r : Receiving). r.phase) one) ∙ waits)
@@ -211,7 +213,8 @@ piece-onward block red place v q new_s new_r t given closed unclosed sent
         same_block = refl;
         still = asked-rest c.checkpoint (a_piece q) new_s new_r t.out
             (plain-not c.checkpoint q plain);
-        settled = λ settled. settled-rest red v (receiver_moves v t) c.checkpoint (a_piece q) new_s
+        settled = λ settled. settled-rest red v (receiver_moves v t) c.checkpoint
+            (a_piece q) new_s
             (λ x among named. settled.whole x (none-more x v.by_receiver t.out out among) named)
             (λ i has. filled_now i (grows.old i (filled-met place.session i v.receiver has)))
             (λ i has. filled_now i (grows.here i has)) settled;
@@ -235,7 +238,8 @@ piece-onward block red place v q new_s new_r t given closed unclosed sent
         same_red = refl;
         same_block = refl;
         still = still c.checkpoint;
-        settled = λ settled. settled-rest red v (receiver_moves v t) c.checkpoint (a_piece q) new_s
+        settled = λ settled. settled-rest red v (receiver_moves v t) c.checkpoint
+            (a_piece q) new_s
             (whole c.checkpoint settled)
             (λ i has. filled_now i (grows.old i (filled-met place.session i v.receiver has)))
             (λ i has. filled_now i (grows.here i has)) settled;
@@ -444,5 +448,6 @@ ack-onward block red most n v new_s new_r t given sent
       reporting = λ r' p' kept waits. absurd (let here : None ≡ Some r' = subst
           (λ ch. after ch v.receiver ≡ Some r') next kept in cc);
       asking = λ s' c timer kept waits. absurd (given.closes r p is_r pending whole
-          (subst (λ m. IsIn (a_report_ack m) v.by_sender) (sym named) sent) s' c timer kept waits);
+          (subst (λ m. IsIn (a_report_ack m) v.by_sender) (sym named) sent) s' c timer kept
+          waits);
     }

@@ -38,9 +38,6 @@ many-most p q (x ∷ xs) most = by_tests (p x) refl (q x) refl (many-most p q xs
 
 -- ---- tables
 
-abbrev pub of_number : {S : Type 0} → (ℕ → Bool) → ℕ × S → Bool
-of_number p entry = p entry.0
-
 -- one that is kept counts no more
 pub many-less : {S : Type 0} (p q : ℕ → Bool) (n : ℕ) (es : List (ℕ × S)) (s : S)
     → ((m : ℕ) → p m ≡ true → q m ≡ true) → p n ≡ false → q n ≡ true → find n es ≡ Some s

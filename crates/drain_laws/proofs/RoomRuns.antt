@@ -22,8 +22,10 @@ use Rattle.link_laws.proofs.FrameLemmas.{AreTwo, opening}
 use Rattle.link_laws.proofs.ListLemmas.{answered, by_arms}
 use Rattle.link_laws.proofs.RunLemmas.{Linked, linked-at, two_ends}
 use Rattle.link_laws.proofs.WalkLemmas.{OnPiece, walk-segment}
-use Rattle.drain_laws.specs.Calm.{IsComing, IsOpen}
-use Rattle.drain_laws.specs.Drain.{Draining, DrainHolds, IsRoomy, Oldest, oldest, setting_by}
+use Rattle.drain_laws.specs.Draining.{Draining, Oldest, oldest}
+use Rattle.drain_laws.specs.Standing.{DrainHolds, IsRoomy, setting_by}
+use Rattle.drain_laws.specs.Calm.{IsComing}
+use Rattle.drain_laws.specs.Hopeful.{IsOpen}
 use Rattle.drain_laws.specs.Hopeful.{HasRoom, Room, coming, is_unknown}
 use Rattle.drain_laws.proofs.DrainFrame.{AllStand, Begun, Shorter, is-begun, never_begun}
 use Rattle.drain_laws.proofs.DrainFrame.{opening-same, shorter, stands-so, was_begun}

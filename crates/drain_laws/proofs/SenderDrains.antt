@@ -19,7 +19,8 @@ use Rattle.drain_laws.proofs.ReceiverDrains.{among-more, no_cancels-append, no_c
 use Rattle.drain_laws.proofs.SenderRows.{Told, adds-onward, adds_only, asks_again, completes}
 use Rattle.drain_laws.proofs.SenderRows.{late-report-onward, report-told, reported-acked}
 use Rattle.drain_laws.specs.Calm.{WaitsOn, AreFit, Calm, Drains, Falls, Given, HandedUpWhole}
-use Rattle.drain_laws.specs.Calm.{HasSerials, IsHanded, IsOpen, NoCancels, Onward, Setting}
+use Rattle.drain_laws.specs.Calm.{HasSerials, NoCancels, Onward, Setting}
+use Rattle.drain_laws.specs.Hopeful.{IsHanded, IsOpen}
 use Rattle.drain_laws.specs.Calm.{is_cancel}
 use Rattle.drain_laws.specs.Rank.{IsAskedOn, IsReportedOn, weights}
 use Rattle.link_laws.proofs.AckLemmas.{length-claims}

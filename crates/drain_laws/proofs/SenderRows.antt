@@ -215,7 +215,8 @@ adds-onward red v x new_s new_r t s s' c timer is_s next out waited phase same_r
       });
       asking = λ s'' c' timer' kept waits.
           let one : s' ≡ s'' = only s'' kept in
-          let was : s.phase ≡ sender_open c' timer' = sym phase ∙ ap (λ (s : Sending). s.phase) one
+          let was : s.phase ≡ sender_open c' timer' = sym phase
+          ∙ ap (λ (s : Sending). s.phase) one
           ∙ waits in
           let same_c : c ≡ c' = is_c c' timer' was in
           record {

@@ -1,6 +1,5 @@
 -- In every run each piece that was sent has an octet, and each block is no longer than its
--- engine's
--- greatest.
+-- engine's greatest.
 
 use Rattle.std.proofs.Common.{◌≡◌, ℕ, zero, suc, ◌+◌, ◌≤◌, ◌^◌, Bool, true, false, ◌==◌}
 use Rattle.std.proofs.Common.{List, [], ◌∷◌, ◌++◌, length, take, drop, Option, None, Some, inl}
@@ -224,7 +223,7 @@ octets-invariant = record {
   evicted = λ o n v r is of. record { said = of.said; sender = of.sender };
 }
 
-cuts-at : (parties : Party × Party) (o : End) → ArePeers parties
+pub cuts-at : (parties : Party × Party) (o : End) → ArePeers parties
     → 1 ≤ (at_end parties o).policy.segment
 cuts-at parties first_end peers = peers.first_cuts
 cuts-at parties second_end peers = peers.second_cuts

@@ -29,9 +29,9 @@ use Rattle.link_laws.specs.Engines.{IsWellFormed}
 use Rattle.link_laws.proofs.FactLemmas.{session-keep}
 use Rattle.link_laws.proofs.LogLemmas.{engines_are_well_formed, every_submitted}
 use Rattle.link_laws.proofs.SerialLemmas.{all-among}
+use Rattle.drain_laws.specs.Standing.{DrainHolds, Stands, StandsBy, setting}
 use Rattle.drain_laws.specs.Calm.{AreFit, ClosesLate, Drains, HandedUpWhole, HasSerials}
 use Rattle.drain_laws.specs.Calm.{IsPromising, WaitsOn}
-use Rattle.drain_laws.specs.Drain.{DrainHolds, Stands, StandsBy, setting}
 use Rattle.drain_laws.specs.Hopeful.{AreAlike, Hopeful, IsHopeful, IsHopefulReceiver}
 use Rattle.drain_laws.specs.Hopeful.{IsHopefulReceiving, IsHopefulSender, IsHopefulSending}
 use Rattle.drain_laws.specs.Hopeful.{IsReached, kept_cost, limit_at}
@@ -191,7 +191,7 @@ said-none : (who : End) (o n : ℕ) → said who o n [] ≡ []
 unfolding said
 said-none who o n = refl
 
-most-at : (parties : Party × Party) → AreAlike parties → (o : End)
+pub most-at : (parties : Party × Party) → AreAlike parties → (o : End)
     → (at_end parties (other o)).most ≡ (at_end parties o).most
 most-at parties alike first_end = sym alike.same_most
 most-at parties alike second_end = alike.same_most

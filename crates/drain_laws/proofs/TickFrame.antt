@@ -1,16 +1,17 @@
 -- A tick of both ends in a drain touches each session once.
 
-use Rattle.std.proofs.Common.{◌≡◌, ◌≢◌, ℕ, ◌+◌, ◌<◌, ◌≤◌, List, [], ◌∷◌, ◌++◌, length, Option}
+use Rattle.std.proofs.Common.{◌≡◌, ℕ, ◌+◌, ◌<◌, ◌≤◌, List, [], ◌∷◌, ◌++◌, length, Option}
 use Rattle.std.proofs.Common.{None, Some, inl, refl, sym, ◌∙◌, ap, arith, subst, append_assoc}
 use Rattle.std.proofs.lemmas.List.{append-nil}
 use Rattle.ltp_segment.specs.Values.{PieceValue, ContentValue, a_piece, a_report}
+use Rattle.drain_laws.specs.Standing.{Stands, setting_by}
 use Rattle.drain_laws.proofs.DrainFrame.{was_begun, never_begun, Begun, Gives, is-begun}
 use Rattle.drain_laws.proofs.DrainFrame.{stands-so, stands-used}
 use Rattle.drain_laws.proofs.DrainLists.{added-said}
 use Rattle.drain_laws.proofs.TickRows.{receiver-first, receiving-fires, sender-first}
 use Rattle.drain_laws.proofs.TickRows.{sending-fires, tick-falls, ticked-advances}
-use Rattle.drain_laws.specs.Calm.{AreFit, Calm, Advances, IsHanded, IsOpen, Setting, Ticked}
-use Rattle.drain_laws.specs.Drain.{Stands, setting_by}
+use Rattle.drain_laws.specs.Calm.{AreFit, Calm, Advances, Setting, Ticked}
+use Rattle.drain_laws.specs.Hopeful.{IsHanded, IsOpen}
 use Rattle.link_laws.proofs.FrameLemmas.{AreTwo, out_of, tick-own, tick-peer}
 use Rattle.link_laws.proofs.RunLemmas.{Linked, linked-apart}
 use Rattle.link_laws.specs.Runs.{KeepsUnder, no_facts, receiver_after, sender_after}
@@ -263,81 +264,74 @@ out-receiver : (p : Party) (now : ℕ) (o : Option Receiving) (r : Receiving) (x
 out-receiver p now o r x is waits left due = ap (out_of (receiver_ticks p now)) is
     ∙ receiving-fires p.policy r x now waits left due
 
-nothing-of : (who : End) (o n : ℕ) → said who o n [] ≡ []
-unfolding said
-nothing-of who o n = refl
-
-never-said : (who : End) (o n : ℕ) (new : List Sent) (c : ContentValue)
-    → said who o n new ≡ c ∷ [] → new ≢ []
-never-said who o n new c some none = let empty : said who o n new ≡ [] = ap (said who o n) none
-    ∙ nothing-of who o n in cc
-
-pub own-sender-fires : (F : List ℕ → ℕ → View → Type 0) → Gives F
+pub own-sender-says : (F : List ℕ → ℕ → View → Type 0) → Gives F
     → (me you : End) (p q : Party) (e f : Engine) (sent : List Sent) (n now : ℕ) → AreTwo me you
     → Linked p q → Linked q p
     → AreAscending 0 e.senders → AreAscending 0 f.receivers
     → Calm (p.policy).limit (q.policy).limit (view_by me you p e f sent n) [] []
     → (s : Sending) (c : PieceValue) (timer : Timer) → find n e.senders ≡ Some s
     → s.phase ≡ sender_open c timer → timer.times < (p.policy).limit → timer.deadline ≤ now
-    → (sent_by me (tick_out p e now) ++ sent_by you (tick_out q f now)) ≢ []
+    → said me p.own n (sent_by me (tick_out p e now) ++ sent_by you (tick_out q f now))
+    ≡ (a_piece c) ∷ []
 unfolding ticks-own
-own-sender-fires F gives me you p q e f sent n now both linked back senders receivers calm s c
+own-sender-says F gives me you p q e f sent n now both linked back senders receivers calm s c
     timer is waits left due =
     let ticks = ticks-own F gives me you p q e f sent n now both linked back senders receivers in
-    never-said me p.own n _ (a_piece c) (said-both me p.own n sent (sent_by me (tick_out p e now))
+    said-both me p.own n sent (sent_by me (tick_out p e now))
     (sent_by you (tick_out q f now)) ticks.out_s (ticks.ticked calm).by_sender
-    ∙ out-sender p now (find n e.senders) s c timer is waits left due)
+    ∙ out-sender p now (find n e.senders) s c timer is waits left due
 
-pub own-receiver-fires : (F : List ℕ → ℕ → View → Type 0) → Gives F
+pub own-receiver-says : (F : List ℕ → ℕ → View → Type 0) → Gives F
     → (me you : End) (p q : Party) (e f : Engine) (sent : List Sent) (n now : ℕ) → AreTwo me you
     → Linked p q → Linked q p
     → AreAscending 0 e.senders → AreAscending 0 f.receivers
     → Calm (p.policy).limit (q.policy).limit (view_by me you p e f sent n) [] []
     → (r : Receiving) (x : Pending) → find n f.receivers ≡ Some r → pending_of r.phase ≡ Some x
     → (x.timer).times < (q.policy).limit → (x.timer).deadline ≤ now
-    → (sent_by me (tick_out p e now) ++ sent_by you (tick_out q f now)) ≢ []
+    → said you p.own n (sent_by me (tick_out p e now) ++ sent_by you (tick_out q f now))
+    ≡ (a_report x.report) ∷ []
 unfolding ticks-own
-own-receiver-fires F gives me you p q e f sent n now both linked back senders receivers calm r x
+own-receiver-says F gives me you p q e f sent n now both linked back senders receivers calm r x
     is waits left due =
     let ticks = ticks-own F gives me you p q e f sent n now both linked back senders receivers in
-    never-said you p.own n _ (a_report x.report)
-    (said-both you p.own n sent (sent_by me (tick_out p e now))
+    said-both you p.own n sent (sent_by me (tick_out p e now))
     (sent_by you (tick_out q f now)) ticks.out_r (ticks.ticked calm).by_receiver
-    ∙ out-receiver q now (find n f.receivers) r x is waits left due)
+    ∙ out-receiver q now (find n f.receivers) r x is waits left due
 
-pub peer-sender-fires : (F : List ℕ → ℕ → View → Type 0) → Gives F
+pub peer-sender-says : (F : List ℕ → ℕ → View → Type 0) → Gives F
     → (me you : End) (p q : Party) (e f : Engine) (sent : List Sent) (n now : ℕ) → AreTwo me you
     → Linked p q → Linked q p
     → AreAscending 0 f.senders → AreAscending 0 e.receivers
     → Calm (q.policy).limit (p.policy).limit (view_by you me q f e sent n) [] []
     → (s : Sending) (c : PieceValue) (timer : Timer) → find n f.senders ≡ Some s
     → s.phase ≡ sender_open c timer → timer.times < (q.policy).limit → timer.deadline ≤ now
-    → (sent_by me (tick_out p e now) ++ sent_by you (tick_out q f now)) ≢ []
+    → said you q.own n (sent_by me (tick_out p e now) ++ sent_by you (tick_out q f now))
+    ≡ (a_piece c) ∷ []
 unfolding ticks-peer
-peer-sender-fires F gives me you p q e f sent n now both linked back senders receivers calm s c
+peer-sender-says F gives me you p q e f sent n now both linked back senders receivers calm s c
     timer is waits left due =
     let ticks = ticks-peer F gives me you p q e f sent n now both linked back senders receivers in
-    never-said you q.own n _ (a_piece c) (said-both you q.own n sent
+    said-both you q.own n sent
     (sent_by me (tick_out p e now)) (sent_by you (tick_out q f now)) ticks.out_s
     (ticks.ticked calm).by_sender ∙ out-sender q now (find n f.senders) s c timer is waits
-    left due)
+    left due
 
-pub peer-receiver-fires : (F : List ℕ → ℕ → View → Type 0) → Gives F
+pub peer-receiver-says : (F : List ℕ → ℕ → View → Type 0) → Gives F
     → (me you : End) (p q : Party) (e f : Engine) (sent : List Sent) (n now : ℕ) → AreTwo me you
     → Linked p q → Linked q p
     → AreAscending 0 f.senders → AreAscending 0 e.receivers
     → Calm (q.policy).limit (p.policy).limit (view_by you me q f e sent n) [] []
     → (r : Receiving) (x : Pending) → find n e.receivers ≡ Some r → pending_of r.phase ≡ Some x
     → (x.timer).times < (p.policy).limit → (x.timer).deadline ≤ now
-    → (sent_by me (tick_out p e now) ++ sent_by you (tick_out q f now)) ≢ []
+    → said me q.own n (sent_by me (tick_out p e now) ++ sent_by you (tick_out q f now))
+    ≡ (a_report x.report) ∷ []
 unfolding ticks-peer
-peer-receiver-fires F gives me you p q e f sent n now both linked back senders receivers calm r x
+peer-receiver-says F gives me you p q e f sent n now both linked back senders receivers calm r x
     is waits left due =
     let ticks = ticks-peer F gives me you p q e f sent n now both linked back senders receivers in
-    never-said me q.own n _ (a_report x.report)
-    (said-both me q.own n sent (sent_by me (tick_out p e now))
+    said-both me q.own n sent (sent_by me (tick_out p e now))
     (sent_by you (tick_out q f now)) ticks.out_r (ticks.ticked calm).by_receiver
-    ∙ out-receiver p now (find n e.receivers) r x is waits left due)
+    ∙ out-receiver p now (find n e.receivers) r x is waits left due
 
 -- ---- what becomes of open senders, and of red parts
 

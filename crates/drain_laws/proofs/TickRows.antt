@@ -9,7 +9,8 @@ use Rattle.ltp_segment.specs.Kinds.{is_checkpoint}
 use Rattle.ltp_segment.specs.Policy.{PolicyValue}
 use Rattle.ltp_segment.specs.Values.{PieceValue, ReportValue, ContentValue, a_piece, a_report}
 use Rattle.drain_laws.proofs.DrainStarts.{none-asked, none-reported}
-use Rattle.drain_laws.specs.Calm.{sender_rests, Calm, Drains, Given, IsHanded, IsOpen, Advances}
+use Rattle.drain_laws.specs.Calm.{sender_rests, Calm, Drains, Given, Advances}
+use Rattle.drain_laws.specs.Hopeful.{IsHanded, IsOpen}
 use Rattle.drain_laws.specs.Calm.{ReceiverTicked, SenderTicked, Setting, TickFalls, Ticked}
 use Rattle.drain_laws.specs.Calm.{WaitsOn, asks, is_cancel, sleeps, tells}
 use Rattle.drain_laws.specs.Rank.{HasFilled, IsAskedOn, IsReportedOn, Settled, ahead, weight}
@@ -113,7 +114,8 @@ report-tick report o o' out_s out_r before (tells r r' p p' is waits is' waits' 
       reporting = λ r₂ p₂ is₂ waits₂.
           let both : Some r' ≡ Some r₂ = sym is' ∙ is₂ in
           let one : r' ≡ r₂ = cc in
-          let also : Some p' ≡ Some p₂ = sym waits' ∙ ap (λ (r : Receiving). pending_of r.phase) one
+          let also : Some p' ≡ Some p₂ = sym waits'
+          ∙ ap (λ (r : Receiving). pending_of r.phase) one
           ∙ waits₂ in
           let same : p' ≡ p₂ = cc in
           inl (inl (
@@ -154,7 +156,13 @@ checkpoint-tick checkpoint o o' out_s out_r before current (sender_rests same ou
 checkpoint-tick checkpoint o o' out_s out_r before current
     (asks s s' c timer timer' is waits is' waits' same_red same_block out) = record {
       left = 0;
-      paid = omega (arith, ap weights out, ap length out, four (before s c timer is waits), heavy);
+      paid = omega (
+        arith,
+        ap weights out,
+        ap length out,
+        four (before s c timer is waits),
+        heavy,
+      );
       asking = λ s₂ c₂ timer₂ is₂ waits₂.
           let both : Some s' ≡ Some s₂ = sym is' ∙ is₂ in
           let one : s' ≡ s₂ = cc in
@@ -245,13 +253,6 @@ still-filled i o o' out (tells r r₂ p p' is₂ waits is' waits' same_report ce
     listening sends) has =
     subst (HasFilled i) (sym is') (subst (λ (cs : List (Option ℕ)). is_some (cell cs i) ≡ true)
     (sym cells) (subst (HasFilled i) is₂ has))
-
-still-handed : (o o' : Option Receiving) (out : List ContentValue) → ReceiverTicked o o' out
-    → IsHanded o → IsHanded o'
-still-handed o o' out (sleeps same none) has = subst IsHanded (sym same) has
-still-handed o o' out (tells r r₂ p p' is₂ waits is' waits' same_report cells handed serial
-    listening sends) has =
-    subst IsHanded (sym is') (handed ∙ subst IsHanded is₂ has)
 
 ahead-none : (c i : ℕ) → ahead c i [] ≡ true → ⊥
 unfolding ahead

@@ -4,9 +4,9 @@ use Rattle.std.specs.Prelude.{◌≡◌, ℕ, ◌≤◌, false, List, length, No
 use Rattle.ltp_segment.specs.declared.session.Note.TheVariants as notes
 use Rattle.ltp_session.specs.Engine.{Party}
 use Rattle.ltp_session.specs.Receiver.{Receiving, is_cancelling}
-use Rattle.ltp_session.specs.World.{ArePeers, End, Event, World, other}
+use Rattle.ltp_session.specs.World.{ArePeers, End, Event, World, other, run}
 use Rattle.link_laws.specs.View.{view}
-use Rattle.drain_laws.specs.Calm.{IsHanded, IsOpen}
+use Rattle.drain_laws.specs.Hopeful.{IsHanded, IsOpen}
 use Rattle.drain_laws.specs.Clean.{AreCleanFrom, CleanRun}
 use Rattle.drain_laws.specs.Effects.{IsHandedUp, IsNoted, effects_in}
 use Rattle.drain_laws.specs.Hopeful.{AreAlike, Hopeful, IsReached, Room, cost}
@@ -20,10 +20,8 @@ pub record IsReady (parties : Party × Party) (w : World) : Type 0 where
   pub room : Room w
 
 -- what became of the sessions of w once these events led to v: each that was open at its sender
--- was
--- noted there as sent; its red part had been handed up in w, or was in an event since; no sender
--- is
--- kept in v, and no receiver is cancelling
+-- was noted there as sent; its red part had been handed up in w, or was in an event since; no
+-- sender is kept in v, and no receiver is cancelling
 pub record IsComplete (parties : Party × Party) (w : World) (events : List Event) (v : World)
     : Type 0 where
   pub sent :
@@ -43,7 +41,7 @@ pub record HasCleanRun (parties : Party × Party) (w : World) : Type 0 where
   pub n : ℕ
   pub v : World
   pub run : CleanRun parties w n v
-  pub bound : n ≤ cost parties w
+  pub bound : n ≤ cost parties w v
 
 -- ---- the laws
 
@@ -51,7 +49,8 @@ pub record HasCleanRun (parties : Party × Party) (w : World) : Type 0 where
 abbrev pub CleanEventsAreFew : Type 0
 CleanEventsAreFew =
     (parties : Party × Party) (w : World) (events : List Event) → IsReady parties w
-    → AreCleanFrom parties w events → length events ≤ cost parties w
+    → AreCleanFrom parties w events
+    → length events ≤ cost parties w (run parties w events)
 
 -- there is a clean run
 abbrev pub CleanRunsEnd : Type 0

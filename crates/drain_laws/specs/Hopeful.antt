@@ -1,9 +1,14 @@
 -- When a link that stops losing completes its sessions, and in how many events.
 
-use Rattle.std.specs.Prelude.{◌≡◌, ℕ, zero, suc, ◌+◌, ◌-◌, ◌<◌, ◌≤◌, ◌^◌, Bool, false, not, ◌&&◌}
-use Rattle.std.specs.Prelude.{List, length, Option, None, Some, is_some}
-use Rattle.std.specs.List.{count_by}
+use Rattle.std.specs.Prelude.{◌≡◌, ℕ, zero, suc, ◌+◌, ◌-◌, ◌<◌, ◌≤◌, ◌^◌, Bool, true, false, not}
+use Rattle.std.specs.Prelude.{◌&&◌}
+use Rattle.std.specs.Prelude.{◌==◌, nat_lt, List, [], ◌∷◌, length, Option, None, Some, is_some}
+use Rattle.std.specs.Prelude.{if◌then◌else◌}
+use Rattle.std.specs.List.{count_by, list_any}
 use Rattle.ltp_segment.specs.Policy.{PolicyValue}
+use Rattle.ltp_segment.specs.Values.{ContentValue, a_piece, a_receiver_cancel}
+use Rattle.ltp_segment.specs.Values.{a_receiver_cancel_ack, a_report, a_report_ack}
+use Rattle.ltp_segment.specs.Values.{a_sender_cancel, a_sender_cancel_ack}
 use Rattle.ltp_session.specs.Engine.{Engine, Party, closed_runs, is_closed}
 use Rattle.ltp_session.specs.Receiver.{Receiving, ReceivingPhase, receiver_cancelling}
 use Rattle.ltp_session.specs.Receiver.{receiver_open}
@@ -33,10 +38,21 @@ pub record IsReached (parties : Party × Party) (w : World) : Type 0 where
   pub events : List Event
   pub leads : run parties (starts_world parties) events ≡ w
 
+-- ---- sessions
+
+-- a sender is kept; where nobody cancels it is open
+abbrev pub IsOpen : Option Sending → Type 0
+IsOpen None = ⊥
+IsOpen (Some s) = Unit {0}
+
+-- a receiver is kept, and has handed its red part up
+abbrev pub IsHanded : Option Receiving → Type 0
+IsHanded None = ⊥
+IsHanded (Some r) = r.handed_up ≡ true
+
 -- ---- hopeful
 
--- the sender isn't cancelling; its current checkpoint was sent fewer times than the limit, and
--- its
+-- the sender isn't cancelling; its current checkpoint was sent fewer times than the limit, and its
 -- serial is far from the last
 abbrev pub IsHopefulSending : ℕ → SendingPhase → Type 0
 IsHopefulSending limit (sender_open checkpoint timer) =
@@ -107,18 +123,48 @@ kept_cost policy (Some s) receiver = segment_count policy s + 16
 kept_cost policy None (Some r) = 16
 kept_cost policy None None = 0
 
+-- the places at which some pieces begin
+abbrev pub offsets_of : List ContentValue → List ℕ
+offsets_of [] = []
+offsets_of (a_piece q ∷ contents) = q.offset ∷ offsets_of contents
+offsets_of (a_report x ∷ contents) = offsets_of contents
+offsets_of (a_report_ack serial ∷ contents) = offsets_of contents
+offsets_of (a_sender_cancel reason ∷ contents) = offsets_of contents
+offsets_of (a_sender_cancel_ack ∷ contents) = offsets_of contents
+offsets_of (a_receiver_cancel reason ∷ contents) = offsets_of contents
+offsets_of (a_receiver_cancel_ack ∷ contents) = offsets_of contents
+
+abbrev pub is_seen : ℕ → List ℕ → Bool
+is_seen x seen = list_any (λ y. y == x) seen
+
+-- how many numbers there are that differ from each other and from some that were seen
+unfoldable pub different : List ℕ → List ℕ → ℕ
+different seen [] = 0
+different seen (x ∷ xs) =
+    if is_seen x seen then different seen xs else 1 + different (x ∷ seen) xs
+
+-- a session that began costs the different offsets of its pieces, and 16
+abbrev pub begun_cost : View → ℕ
+begun_cost v = if v.used then different [] (offsets_of v.by_sender) + 16 else 0
+
 abbrev pub view_cost : Party × Party → End → View → ℕ
 view_cost parties o v = kept_cost (at_end parties o).policy v.sender v.receiver
+
+-- what session n of an end costs from w to v: whatever was begun before w costs what is kept of it
+-- there
+abbrev pub session_cost : Party × Party → World → World → End → ℕ → ℕ
+session_cost parties w v o n =
+    if nat_lt n (at_end w.engines o).next then view_cost parties o (view parties w o n)
+    else begun_cost (view parties v o n)
 
 -- the sum of the values at all numbers below one
 unfoldable pub sum_below : ℕ → (ℕ → ℕ) → ℕ
 sum_below zero f = 0
 sum_below (suc n) f = f n + sum_below n f
 
--- what all sessions of a link cost that are kept at either end
-unfoldable pub cost : Party × Party → World → ℕ
-cost parties w =
-    sum_below (at_end w.engines first_end).next
-    (λ n. view_cost parties first_end (view parties w first_end n))
-    + sum_below (at_end w.engines second_end).next
-    (λ n. view_cost parties second_end (view parties w second_end n))
+-- what all sessions of a link cost from w to v: those that are kept at either end in w, and those
+-- that were begun since
+unfoldable pub cost : Party × Party → World → World → ℕ
+cost parties w v =
+    sum_below (at_end v.engines first_end).next (session_cost parties w v first_end)
+    + sum_below (at_end v.engines second_end).next (session_cost parties w v second_end)

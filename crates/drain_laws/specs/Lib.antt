@@ -1,9 +1,13 @@
--- clean events
+-- clean events, and what ends do in them
 pub mod Clean
 pub mod Effects
--- the rank
+-- when a drain completes, what it costs, and what it promises
 pub mod Hopeful
+pub mod Completion
+-- the rank of each session, from step to step
+pub mod Draining
+pub mod Ranks
+-- What only ties proofs to it.
 pub mod Rank
 pub mod Calm
-pub mod Completion
-pub mod Drain
+pub mod Standing

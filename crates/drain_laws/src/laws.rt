@@ -6,6 +6,7 @@ ghost use Rattle.ltp_session.specs.World.{Event, World, run};
 ghost use Rattle.drain_laws.specs.Clean.{AreClean, clean_event, passed};
 ghost use Rattle.drain_laws.specs.Completion.{CleanEventsAreFew, CleanRunsEnd};
 ghost use Rattle.drain_laws.specs.Completion.{CleanRunsComplete};
+ghost use Rattle.drain_laws.specs.Ranks.{SessionsHaveRanks};
 
 /// One clean event more, where the events before it are clean.
 pub fn clean_events_go_on()
@@ -31,4 +32,12 @@ pub fn clean_runs_end()
 /// up; no timer runs, and nobody gave a session up.
 pub fn clean_runs_complete()
     ensures { CleanRunsComplete }
+{}
+
+/// Each session has a rank, from such a world on. It is no more than the session's cost; a delivery
+/// of what an end sent first lowers the rank of its session, and a clock that of each session of
+/// which a timer fires; no rank rises, whatever the ends submit besides; and a session of rank 0 is
+/// at rest.
+pub fn sessions_have_ranks()
+    ensures { SessionsHaveRanks }
 {}

@@ -5,4 +5,5 @@
 //! and the clock moves to the next deadline where nothing is left to deliver.
 #![tactic(auto)]
 
+pub mod examples;
 pub mod laws;

@@ -1,52 +1,21 @@
--- A drain over one link.
+-- What a drain keeps of all sessions of a link.
 
-use Rattle.std.specs.Prelude.{◌≡◌, ◌≢◌, ℕ, ◌+◌, ◌<◌, ◌≤◌, Bool, true, false, List, [], ◌∷◌, ◌++◌}
-use Rattle.std.specs.Prelude.{length, take, drop, Option, None, Some, if◌then◌else◌, ◌⊎◌}
+use Rattle.std.specs.Prelude.{◌≡◌, ◌≢◌, ℕ, ◌+◌, ◌<◌, ◌≤◌, Bool, true, false, List, [], ◌∷◌}
+use Rattle.std.specs.Prelude.{length, take, drop, Some, ◌⊎◌}
 use Rattle.ltp_segment.specs.Values.{ContentValue}
 use Rattle.ltp_segment.specs.declared.session.Note.TheVariants as notes
+use Rattle.drain_laws.specs.Draining.{Draining}
 use Rattle.drain_laws.specs.Hopeful.{sum_below}
 use Rattle.drain_laws.specs.Effects.{EndEffects, IsHandedUp, IsNoted}
 use Rattle.drain_laws.specs.Calm.{Advances, Drains, IsComing, Setting}
 use Rattle.link_laws.specs.Serials.{pending_of}
-use Rattle.link_laws.specs.View.{Unused, View, said, same_end, view}
+use Rattle.link_laws.specs.View.{Unused, View, said, view}
 use Rattle.ltp_session.specs.Engine.{Party, closed_runs}
 use Rattle.ltp_session.specs.Receiver.{Pending, Receiving}
 use Rattle.ltp_session.specs.Sender.{Sending, segments_of, sending_timer}
 use Rattle.ltp_session.specs.Table.{AreAscending}
-use Rattle.ltp_session.specs.World.{End, Sent, World, arrival, at_end, first_end, other}
-use Rattle.ltp_session.specs.World.{second_end, ticks}
-
-pub record Oldest : Type 0 where
-  pub first : Sent
-  pub others : List Sent
-
-abbrev pub behind : Sent → Option Oldest → Option Oldest
-behind d None = None
-behind d (Some o) = Some (record { first = o.first; others = d ∷ o.others })
-
--- the oldest datagram of an end, and all others
-unfoldable pub oldest : End → List Sent → Option Oldest
-oldest from [] = None
-oldest from (d ∷ ds) = if same_end d.from from then Some (record { first = d; others = ds }) else
-    behind d (oldest from ds)
-
--- a world, and the datagrams that are new in it and not delivered
-pub record Draining : Type 0 where
-  pub world : World
-  pub new : List Sent
-
--- what was sent since
-abbrev pub since : World → World → List Sent
-since w w' = drop (length w.sent) w'.sent
-
--- an oldest new datagram of an end is delivered; or, where nothing is new, timers fire
-pub data Clean (parties : Party × Party) (d d' : Draining) : Type 0 where
-  delivers : (from : End) (o : Oldest) → oldest from d.new ≡ Some o
-      → d'.world ≡ arrival parties d.world (other from) (o.first).segment
-      → d'.new ≡ o.others ++ since d.world d'.world → Clean parties d d'
-  fires : (now : ℕ) → d.new ≡ [] → (d.world).now ≤ now
-      → d'.world ≡ ticks parties now second_end (ticks parties now first_end d.world)
-      → d'.new ≡ since d.world d'.world → d'.new ≢ [] → Clean parties d d'
+use Rattle.ltp_session.specs.World.{End, Sent, World, at_end, first_end, other}
+use Rattle.ltp_session.specs.World.{second_end}
 
 -- there is room for each session that is coming
 pub record IsRoomy (parties : Party × Party) (w : World) : Type 0 where
@@ -57,7 +26,7 @@ pub record IsRoomy (parties : Party × Party) (w : World) : Type 0 where
 
 -- ---- what a drain keeps
 
--- session n of p with q
+-- session n that p sends to q
 abbrev pub setting_by : Party → Party → ℕ → ℕ → Setting
 setting_by p q n red = record {
   session = n;
@@ -79,11 +48,13 @@ pub record Standing (F : List ℕ → ℕ → View → Type 0) (set : ℕ → Se
   pub facts : F block red v
   pub drains : Drains (set red) v new_s new_r m
 
+-- nothing is of a number, and nothing is new of it
 pub record Idle (v : View) (new_s new_r : List ContentValue) : Type 0 where
   pub unused : Unused v
   pub none_s : new_s ≡ []
   pub none_r : new_r ≡ []
 
+-- one of these, as the number was given to a session or not
 abbrev pub StandsBy : (List ℕ → ℕ → View → Type 0) → (ℕ → Setting) → Bool → View
     → List ContentValue → List ContentValue → ℕ → Type 0
 StandsBy F set false v new_s new_r m = Idle v new_s new_r
@@ -93,12 +64,13 @@ abbrev pub Stands : (List ℕ → ℕ → View → Type 0) → (ℕ → Setting)
     → List ContentValue → ℕ → Type 0
 Stands F set v new_s new_r m = StandsBy F set v.used v new_s new_r m
 
--- each datagram is of one of the two
+-- each segment is of a session of one of the two
 abbrev pub AreKnown : Party × Party → List Sent → Type 0
 AreKnown parties [] = Unit {0}
 AreKnown parties (d ∷ ds) = (((d.segment).originator ≡ (parties.0).own)
     ⊎ ((d.segment).originator ≡ (parties.1).own)) × AreKnown parties ds
 
+-- every session stands, with its rank, and the engines are well formed
 pub record DrainHolds (F : List ℕ → ℕ → View → Type 0) (parties : Party × Party) (d : Draining)
     (rank : End → ℕ → ℕ) : Type 0 where
   pub session : (o : End) (n : ℕ) → Stands F (setting parties o n) (view parties d.world o n)
@@ -116,7 +88,7 @@ abbrev pub sum_of : World → (End → ℕ → ℕ) → ℕ
 sum_of w rank = sum_below (at_end w.engines first_end).next (rank first_end) + sum_below
     (at_end w.engines second_end).next (rank second_end)
 
--- ---- what one event leaves of a drain
+-- ---- what an event leaves of a drain
 
 -- a clean event raises no rank, and lowers their sum
 pub record Next (F : List ℕ → ℕ → View → Type 0) (parties : Party × Party) (d d' : Draining)
@@ -125,6 +97,12 @@ pub record Next (F : List ℕ → ℕ → View → Type 0) (parties : Party × P
   pub holds : DrainHolds F parties d' rank'
   pub falls : sum_of d'.world rank' < sum_of d.world rank
   pub never_up : (o : End) (n : ℕ) → rank' o n ≤ rank o n
+
+-- and it lowers that of session n of an originator
+pub record NextOf (F : List ℕ → ℕ → View → Type 0) (parties : Party × Party) (d d' : Draining)
+    (rank : End → ℕ → ℕ) (origin n : ℕ) : Type 0 where
+  pub next : Next F parties d d' rank
+  pub named : (o : End) → (at_end parties o).own ≡ origin → next.rank' o n < rank o n
 
 -- the events that a session begun with this block takes at most
 abbrev pub begun_rank : ℕ → List ℕ → ℕ → ℕ
@@ -148,13 +126,21 @@ pub record BelowDeadlines (parties : Party × Party) (w : World) (now : ℕ) : T
       → (view parties w o n).receiver ≡ Some r → pending_of r.phase ≡ Some p
       → now < (p.timer).deadline
 
--- a deadline of the link is over at a moment
-pub data IsDue (parties : Party × Party) (w : World) (now : ℕ) : Type 0 where
-  due_sender : (o : End) (n : ℕ) (s : Sending) → (view parties w o n).sender ≡ Some s
-      → (sending_timer s.phase).deadline ≤ now → IsDue parties w now
-  due_receiver : (o : End) (n : ℕ) (r : Receiving) (p : Pending)
-      → (view parties w o n).receiver ≡ Some r → pending_of r.phase ≡ Some p
-      → (p.timer).deadline ≤ now → IsDue parties w now
+-- a deadline of session n of an end is over at a moment
+pub data IsDueOf (parties : Party × Party) (w : World) (now : ℕ) (o : End) (n : ℕ) : Type 0 where
+  due_sender : (s : Sending) → (view parties w o n).sender ≡ Some s
+      → (sending_timer s.phase).deadline ≤ now → IsDueOf parties w now o n
+  due_receiver : (r : Receiving) (p : Pending) → (view parties w o n).receiver ≡ Some r
+      → pending_of r.phase ≡ Some p → (p.timer).deadline ≤ now → IsDueOf parties w now o n
+
+-- after ticks of both ends where nothing was new, each rank is less by what its session sends
+pub record TickedTo (F : List ℕ → ℕ → View → Type 0) (parties : Party × Party) (d' : Draining)
+    (rank : End → ℕ → ℕ) : Type 0 where
+  pub rank' : End → ℕ → ℕ
+  pub holds : DrainHolds F parties d' rank'
+  pub less :
+      (o : End) (n : ℕ) → rank' o n + length (said o (at_end parties o).own n d'.new)
+      + length (said (other o) (at_end parties o).own n d'.new) ≤ rank o n
 
 -- what became of all sessions of a link, with these effects
 abbrev pub AllAdvance : Party × Party → World → World → List EndEffects → Type 0

@@ -30,6 +30,7 @@ AT_ONCE = 256                               # datagrams that a node takes before
 IDLE_TURNS = 400
 MOST_OLD = 3000                             # datagrams that may come again
 SETTLED = 0.1                               # seconds
+ACKNOWLEDGEMENT = bytes([REPORT_ACK])
 UNUSED = 1 << 40                            # a session number of a node that it never comes to
 
 
@@ -118,7 +119,7 @@ class Node:
         self.gate_address = "{}:{}".format(f"[{host}]" if ":" in host else host, self.gate)
         self.outgoing, self.room = collections.deque(), 0
         self.blocks, self.came, self.notes, self.sent = {}, {}, [], 0
-        self.unanswered = set()       # sessions at whose end an acknowledgement was lost
+        self.unanswered = set()       # sessions of which an acknowledgement isn't on its way, or was lost
 
     def submit(self, block):
         """Sends a block, and answers its session."""
@@ -139,11 +140,9 @@ class Node:
 
     def put(self, datagram):
         """Gives a datagram to the way to the gateway."""
-        on_its_way = self.there.after(datagram)
         if datagram[0] == REPORT_ACK:
-            session = read_quickly(datagram)[1]
-            (self.unanswered.discard if datagram in on_its_way else self.unanswered.add)(session)
-        self.outgoing.extend(on_its_way)
+            self.unanswered.add(read_quickly(datagram)[1])
+        self.outgoing.extend(self.there.after(datagram))
 
     def pump(self):
         """Takes what came, does what is due, and sends; answers whether anything came."""
@@ -178,6 +177,8 @@ class Node:
             datagram = self.outgoing.popleft()
             self.room -= 2 * len(datagram) + 1024
             self.sent += 1
+            if datagram[:1] == ACKNOWLEDGEMENT and self.unanswered:
+                self.unanswered.discard(read_quickly(datagram)[1])
             try:
                 self.socket.send(datagram)
             except ConnectionRefusedError:

@@ -317,7 +317,8 @@ record Drained (parties : Party × Party) (w : World) (c : ℕ) : Type 0 where
   clean : AreClean parties w c events
   drained : IsDrained (run parties w events) (passed c events)
 
-over-drained : (w : World) (c : ℕ) → c ≤ length w.sent → clean_event w c ≡ None → IsDrained w c
+pub over-drained : (w : World) (c : ℕ) → c ≤ length w.sent → clean_event w c ≡ None
+    → IsDrained w c
 over-drained w c within none = by_test (nat_lt c (length w.sent)) refl none
   where
     by_deadline : (x : Option ℕ) → link_deadline w ≡ x → option_map clock x ≡ None

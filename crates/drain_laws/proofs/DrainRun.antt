@@ -162,6 +162,12 @@ known-oldest parties from (d ∷ ds) o is all =
         subst (KnownOldest parties) found (record
         { first = rest.first; others = (all.0, rest.others) })
 
+-- a new segment is of a session of one of the two
+pub of-known : (parties : Party × Party) (from : End) (new : List Sent) (o : Oldest)
+    → oldest from new ≡ Some o → AreKnown parties new
+    → IsKnown parties o.first.segment.originator
+of-known parties from new o is known = (known-oldest parties from new o is known).first
+
 -- ---- ranks after an event
 
 unfoldable pub changed : ℕ → ℕ → (ℕ → ℕ) → ℕ → ℕ

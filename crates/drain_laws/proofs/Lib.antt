@@ -25,3 +25,5 @@ pub mod QuietClock
 pub mod DrainBegins
 pub mod OffsetLemmas
 pub mod RankSteps
+pub mod ReadyLemmas
+pub mod DrainedLemmas

@@ -1,4 +1,5 @@
--- The pieces of a block that begins have as many offsets as it has segments, and their number only
+-- The pieces of a block that begins have as many offsets as it has segments, and their number
+-- only
 -- grows.
 
 use Rattle.std.proofs.Common.{◌≡◌, ℕ, zero, suc, ◌+◌, ◌<◌, ◌≤◌, Bool, true, false}

@@ -46,6 +46,7 @@ use Rattle.drain_laws.proofs.OffsetLemmas.{begin-differ, different-more, offsets
 use Rattle.drain_laws.proofs.SizeLemmas.{cuts-at}
 use Rattle.ltp_session.specs.declared.name.SessionName.{SessionName}
 use Rattle.link_laws.proofs.FrameLemmas.{next-unused}
+use Rattle.drain_laws.proofs.DrainRun.{IsKnown, of-known}
 use Rattle.drain_laws.proofs.DrainRun.{same_draining, arrival-next, delivery-next, due-says}
 use Rattle.drain_laws.proofs.DrainRun.{other_other, sent-ticked, since-ticks, tick-holds}
 use Rattle.drain_laws.proofs.DrainRun.{ticked-new, ticked-next, ticked-world, ticks-are, used-low}
@@ -281,6 +282,12 @@ within-on parties w d d' rank rank' keeps grows most o n =
 oldest-is : (x y : Oldest) (o : Option Oldest) → o ≡ Some x → o ≡ Some y → x ≡ y
 oldest-is x y o is_x is_y = let both : Some x ≡ Some y = sym is_x ∙ is_y in cc
 
+-- the end that an originator is
+end-of : (parties : Party × Party) (origin : ℕ) → IsKnown parties origin
+    → (o : End) × ((at_end parties o).own ≡ origin)
+end-of parties origin (inl own) = (first_end, sym own)
+end-of parties origin (inr own) = (second_end, sym own)
+
 takes-steps : (parties : Party × Party) (w : World) (d : Draining) (rank : End → ℕ
     → ℕ) (from : End) (x : Oldest) → ArePeers parties
     → Keeps parties w d rank → oldest from d.new ≡ Some x
@@ -290,11 +297,15 @@ takes-steps parties w d rank from x peers keeps is = record {
   rank' = (next.next).rank';
   falls = (
     (next.next).never_up,
-    λ y is_y o own.
+    λ y is_y.
         let one : x ≡ y = oldest-is x y (oldest from d.new) is is_y in
-        subst (λ (y : Oldest). (next.next).rank' o y.first.segment.session < rank o
-        y.first.segment.session) one
-        (next.named o (own ∙ ap (λ (y : Oldest). y.first.segment.originator) (sym one))),
+        let o = end-of parties x.first.segment.originator
+        (of-known parties from d.new x is (keeps.holds).known) in (
+          o.0,
+          o.1 ∙ ap (λ (y : Oldest). y.first.segment.originator) one,
+          subst (λ (y : Oldest). (next.next).rank' o.0 y.first.segment.session < rank o.0
+              y.first.segment.session) one (next.named o.0 o.1),
+        ),
   );
   keeps = record {
     holds = (next.next).holds;
@@ -592,7 +603,8 @@ submit-steps parties w d rank end block red peers alike begun_before keeps room 
                   more.same o n (λ same. eqb-false n
                       (at_end (d.world).engines end).next is),
                   keeps.within o n,
-                  cost-grows parties w d.world (submitted parties d.world end block red) o n grows,
+                  cost-grows parties w d.world (submitted parties d.world end block red) o n
+                      grows,
                 )
             by_session' (inl here) true is =
                 subst (λ (k : ℕ). more.rank' o k ≤ session_cost parties w
@@ -681,11 +693,11 @@ ranks-on parties w peers alike (step ∷ steps) d rank before keeps = (
       ),
 )
 
-pub sessions-have-ranks : (parties : Party × Party) (w : World) (steps : List DrainStep)
-    → IsReady parties w
-    → (rank : End → ℕ → ℕ) × RanksOn parties w (begins_at w) rank steps
-sessions-have-ranks parties w steps ready = (
+pub sessions-have-ranks : (parties : Party × Party) (w : World) → IsReady parties w
+    → (rank : End → ℕ → ℕ)
+    × ((steps : List DrainStep) → RanksOn parties w (begins_at w) rank steps)
+sessions-have-ranks parties w ready = (
   first_rank parties w,
-  ranks-on parties w ready.peers ready.alike steps (begins_at w)
-      (first_rank parties w) (λ o. omega arith) (started-rank parties w ready),
+  λ steps. ranks-on parties w ready.peers ready.alike steps (begins_at w) (first_rank parties w)
+      (λ o. omega arith) (started-rank parties w ready),
 )

@@ -44,9 +44,9 @@ abbrev pub RanksFall : Party × Party → Draining → (End → ℕ → ℕ) →
     → Type 0
 RanksFall parties d rank rank' (takes_oldest from) =
     ((o : End) (n : ℕ) → rank' o n ≤ rank o n)
-    × ((x : Oldest) → oldest from d.new ≡ Some x → (o : End)
-    → (at_end parties o).own ≡ x.first.segment.originator
-    → rank' o x.first.segment.session < rank o x.first.segment.session)
+    × ((x : Oldest) → oldest from d.new ≡ Some x
+    → (o : End) × ((at_end parties o).own ≡ x.first.segment.originator)
+    × (rank' o x.first.segment.session < rank o x.first.segment.session))
 RanksFall parties d rank rank' (sets_clock now) =
     ((o : End) (n : ℕ) → rank' o n ≤ rank o n)
     × ((o : End) (n : ℕ) → IsDueBy now (view parties d.world o n) → rank' o n < rank o n)
@@ -65,5 +65,6 @@ RanksOn parties w d rank (step ∷ steps) =
 -- from a world that is ready there are such ranks, whatever steps follow
 abbrev pub SessionsHaveRanks : Type 0
 SessionsHaveRanks =
-    (parties : Party × Party) (w : World) (steps : List DrainStep) → IsReady parties w
-    → (rank : End → ℕ → ℕ) × RanksOn parties w (begins_at w) rank steps
+    (parties : Party × Party) (w : World) → IsReady parties w
+    → (rank : End → ℕ → ℕ)
+    × ((steps : List DrainStep) → RanksOn parties w (begins_at w) rank steps)

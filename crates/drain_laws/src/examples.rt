@@ -4,6 +4,7 @@ ghost use Rattle.std.specs.Prelude.{◌≡◌, ◌∷◌, [], None};
 ghost use Rattle.ltp_session.specs.World.{clock, deliver, first_end, run, second_end, submit};
 ghost use Rattle.ltp_session.specs.Examples.{party, world_after};
 ghost use Rattle.drain_laws.specs.Clean.{AreCleanFrom, clean_event};
+ghost use Rattle.drain_laws.specs.Completion.{IsReady};
 ghost use Rattle.drain_laws.specs.Hopeful.{cost};
 
 /// A link on which nothing was sent costs nothing, and has no clean event.
@@ -20,6 +21,12 @@ pub fn one_segment_costs_17()
         (world_after (submit first_end (7 ∷ 8 ∷ 9 ∷ []) 2 ∷ [])) ≡ 18 }
     ensures begun { cost (party 1 2, party 2 1) (world_after [])
         (world_after (submit first_end (7 ∷ 8 ∷ []) 2 ∷ [])) ≡ 17 }
+{}
+
+/// A link on which one end has sent a block is ready: from there a drain completes the session.
+pub fn a_link_that_sent_a_block_is_ready()
+    ensures { IsReady (party 1 2, party 2 1)
+        (world_after (submit first_end (7 ∷ 8 ∷ []) 2 ∷ [])) }
 {}
 
 /// The one segment is lost. The clock moves to its deadline; it is sent again and delivered, and

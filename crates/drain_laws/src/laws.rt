@@ -1,9 +1,9 @@
 //! What a drain keeps, and when it is over.
 
-ghost use Rattle.std.specs.Prelude.{◌≡◌, ℕ, ◌++◌, ◌∷◌, [], List, Some};
+ghost use Rattle.std.specs.Prelude.{◌≡◌, ℕ, ◌++◌, ◌∷◌, [], List, None, Some, length};
 ghost use Rattle.ltp_session.specs.Engine.{Party};
 ghost use Rattle.ltp_session.specs.World.{Event, World, run};
-ghost use Rattle.drain_laws.specs.Clean.{AreClean, clean_event, passed};
+ghost use Rattle.drain_laws.specs.Clean.{AreClean, AreCleanFrom, IsDrained, clean_event, passed};
 ghost use Rattle.drain_laws.specs.Completion.{CleanEventsAreFew, CleanRunsEnd};
 ghost use Rattle.drain_laws.specs.Completion.{CleanRunsComplete};
 ghost use Rattle.drain_laws.specs.Ranks.{SessionsHaveRanks};
@@ -14,6 +14,15 @@ pub fn clean_events_go_on()
         → AreClean parties w c events
         → clean_event (run parties w events) (passed c events) ≡ Some event
         → AreClean parties w c (events ++ event ∷ []) }
+{}
+
+/// Where no clean event can follow, nothing is left to do: every segment that was sent since the
+/// drain began is delivered, and no timer runs.
+pub fn nothing_is_left_where_none_follows()
+    ensures { (parties : Party × Party) (w : World) (events : List Event)
+        → AreCleanFrom parties w events
+        → clean_event (run parties w events) (passed (length w.sent) events) ≡ None
+        → IsDrained (run parties w events) (passed (length w.sent) events) }
 {}
 
 /// From a hopeful world with room no list of clean events is longer than the sessions cost: 16

@@ -177,7 +177,7 @@ class Bench:
         else:
             run = Straight(self.path, self.options, turns, blocks)
         seconds, used = run.run(len(wanted), self.options["seconds"])
-        peak, dropped = run.served.program.kilobytes("VmHWM"), run.served.dropped()
+        peak, dropped = run.served.program.kilobytes("VmHWM"), run.served.dropped() + run.served.missed()
         came, sent, status = sorted(run.came()), run.sent(), run.served.use_up()
         name = f"{size:,} octets{f', lost {loss} %' if loss else ''}"
         megabits = count * size * 8 / 1e6

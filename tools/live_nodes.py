@@ -274,8 +274,15 @@ class Served:
 
     def dropped(self):
         """Datagrams that found the program's sockets full."""
+        return self.dropped_at(node.gate for node in self.nodes)
+
+    def missed(self):
+        """Datagrams that found the nodes' sockets full."""
+        return self.dropped_at(node.socket.getsockname()[1] for node in self.nodes)
+
+    def dropped_at(self, ports):
         found = self.queues.read()
-        return sum(found.get(node.gate, (0, 0))[1] for node in self.nodes)
+        return sum(found.get(port, (0, 0))[1] for port in ports)
 
     def use_up(self, most=math.inf):
         """Lets the turns pass that are left, and answers the status. A program that goes on for too long is ended."""

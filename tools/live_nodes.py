@@ -263,8 +263,11 @@ class Served:
             found = self.queues.read()
             if all(node.gate in found for node in self.nodes) or self.program.has_ended():
                 time.sleep(SETTLED)
+                if self.program.has_ended() and self.program.end() != 0:
+                    sys.exit(f"the program ends at once, with {self.program.end()}")
                 return
             time.sleep(0.01)
+        self.program.child.terminate()
         sys.exit("the program binds no sockets")
 
     def pump(self, wait=0.005):

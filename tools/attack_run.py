@@ -14,7 +14,7 @@ open session, or for one that is yet to come, is left out. Status 0 where all of
 
 - the program doesn't end before its turns are over, and then ends with 0;
 - it ends none of these sessions while false datagrams come, and hands up nothing twice;
-- its memory doesn't grow between the first half of the datagrams and the second;
+- its memory, looked at when the sessions of strangers have ended, doesn't grow in the second half of the datagrams;
 - each open session is completed afterwards, and a further bundle of each node gets through.
 """
 import collections
@@ -39,7 +39,7 @@ PATIENT = Policy(1024, 3_600_000, 100, 3_600_000)     # of the nodes: nothing is
 ROUND = 1000              # datagrams, after which memory is looked at
 STRANGE = 30              # sessions that are opened by false pieces at a time
 FIRST_STRANGE = 5000      # the first of their numbers
-GROWTH = 4096             # kilobytes
+GROWTH = 2048             # kilobytes
 SECONDS = 60              # for what is to get through afterwards
 MOST_KEPT = 2000
 ENDINGS = ("Failed", "Cancelled", "Evicted", "HistoryFull", "Storage", "Unreported")
@@ -96,7 +96,7 @@ class Attack:
         self.nodes = dict(zip((OLD, NEW), self.served.nodes))
         self.made = {face: Made(self.draw, VERSION[face], CUT, system_clock(), CUT) for face in self.nodes}
         self.strange = {face: FIRST_STRANGE for face in self.nodes}
-        self.ups, self.wrong, self.is_attacked = set(), [], False
+        self.ups, self.wrong, self.is_attacked, self.most = set(), [], False, 0
         self.wanted = {face: [] for face in self.nodes}      # blocks that are to come to a face's node
 
     # ---- bundles that are to get through ----
@@ -234,7 +234,7 @@ class Attack:
             self.strange[face] += STRANGE
 
     def attack(self, count):
-        """Sends so many, and answers how much memory the program had after each round."""
+        """Sends so many, and answers how much memory the program had after each round, once strange sessions ended."""
         memory, sent, self.is_attacked = [], 0, True
         while sent < count and not self.served.program.has_ended():
             for _ in range(ROUND):
@@ -243,11 +243,20 @@ class Attack:
                 if not self.is_left_out(face, octets):
                     self.nodes[face].outgoing.append(octets)
                     sent += 1
-            self.pump_until(lambda: not any(node.outgoing for node in self.nodes.values()))
-            if not self.served.program.has_ended():
-                memory.append(self.served.program.kilobytes())
+            self.pump_until(self.is_taken)
+            self.most = max(self.most, self.memory())
             self.cancel_strange()
+            self.pump_until(self.is_taken)
+            memory.append(self.memory())
         return memory
+
+    def is_taken(self):
+        """Whether the program has taken all that was sent."""
+        queues = self.served.queues.read()
+        return all(not node.outgoing and not queues.get(node.gate, (0, 0))[0] for node in self.nodes.values())
+
+    def memory(self):
+        return 0 if self.served.program.has_ended() else self.served.program.kilobytes()
 
     # ---- afterwards ----
 
@@ -302,8 +311,8 @@ def main(words):
     for what in wrong[:9]:
         print(f"attack_run: {what}")
     said = ", ".join(f"{count} {line}" for line, count in sorted(run.lines.items()))
-    print(f"attack_run: {options['datagrams']:.0f} datagrams in {seconds:.1f} s, memory {min(memory, default=0)} to "
-          f"{max(memory, default=0)} kB; {said}")
+    print(f"attack_run: {options['datagrams']:.0f} datagrams in {seconds:.1f} s; after each {ROUND} memory was "
+          f"{min(memory, default=0)} to {max(memory, default=0)} kB, and {run.most} kB at most; {said}")
     return int(bool(wrong))
 
 

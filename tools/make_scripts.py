@@ -31,8 +31,8 @@ sys.dont_write_bytecode = True
 sys.path.insert(0, os.path.dirname(os.path.abspath(__file__)))
 from format_model import Refused
 from fragment_model import pieces
-from gateway_model import (DONE, NEW, NUMBERS, OLD, OTHER, VERSION, Case, Script, bundle_of, octets_in, passed_pieces,
-                           status_bundle, world)
+from gateway_model import (DONE, NEW, NUMBERS, OLD, OTHER, PATH, VERSION, Case, Script, bundle_of, octets_in,
+                           passed_pieces, realistic, status_bundle, world)
 from ltp_model import CHECKPOINTS, MOST_SESSIONS, PIECES, SERIALS, read_segment
 from made_bundles import Made
 from translate_model import Untranslated, record
@@ -116,9 +116,10 @@ class Maker:
 
 
 def made(seed, count):
-    """So many scripts of `world`."""
+    """So many scripts of `world`; the first is that of a large bundle, drained through."""
     draw = random.Random(seed)
-    for _ in range(count):
+    yield f"{PATH}\nsend old {realistic().hex()}\ndrain\n".encode()
+    for _ in range(count - 1):
         yield ("\n".join(Maker(draw).make()) + draw.choice(["", "\n"])).encode()
 
 

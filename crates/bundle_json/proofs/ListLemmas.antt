@@ -5,23 +5,23 @@ use Rattle.serde_json.specs.Data.{Data}
 use Rattle.serde_json.specs.View.{items_of}
 use Rattle.serde_json.specs.Written.{comma_if, compact_text, items_text}
 use Rattle.bundle_json.specs.Json.{list_of}
-use Rattle.bundle_json.specs.Front.{front, comma_after}
+use Rattle.bundle_json.specs.Commas.{with_commas, comma_after}
 
 -- ---- one item more
 
-front-more : {A : Type 0} (data_of : A → Data) (xs : List A) (x : A)
-    → front data_of true (xs ++ x ∷ []) ≡ front data_of true xs ++ 44 ∷ compact_text (data_of x)
-front-more data_of [] x = ap (λ s. 44 ∷ s) (append-nil (compact_text (data_of x)))
-front-more data_of (y ∷ ys) x =
-    ap (λ s. 44 ∷ s) (ap (λ s. compact_text (data_of y) ++ s) (front-more data_of ys x)
-    ∙ sym (append_assoc (compact_text (data_of y)) (front data_of true ys) (44 ∷ compact_text (data_of x))))
+with_commas-more : {A : Type 0} (data_of : A → Data) (xs : List A) (x : A)
+    → with_commas data_of true (xs ++ x ∷ []) ≡ with_commas data_of true xs ++ 44 ∷ compact_text (data_of x)
+with_commas-more data_of [] x = ap (λ s. 44 ∷ s) (append-nil (compact_text (data_of x)))
+with_commas-more data_of (y ∷ ys) x =
+    ap (λ s. 44 ∷ s) (ap (λ s. compact_text (data_of y) ++ s) (with_commas-more data_of ys x)
+    ∙ sym (append_assoc (compact_text (data_of y)) (with_commas data_of true ys) (44 ∷ compact_text (data_of x))))
 
-pub front-push : {A : Type 0} (data_of : A → Data) (xs : List A) (x : A)
-    → front data_of false (xs ++ x ∷ []) ≡ front data_of false xs ++ (comma_after xs ++ compact_text (data_of x))
-front-push data_of [] x = append-nil (compact_text (data_of x))
-front-push data_of (y ∷ ys) x =
-    ap (λ s. compact_text (data_of y) ++ s) (front-more data_of ys x)
-    ∙ sym (append_assoc (compact_text (data_of y)) (front data_of true ys) (44 ∷ compact_text (data_of x)))
+pub with_commas-push : {A : Type 0} (data_of : A → Data) (xs : List A) (x : A)
+    → with_commas data_of false (xs ++ x ∷ []) ≡ with_commas data_of false xs ++ (comma_after xs ++ compact_text (data_of x))
+with_commas-push data_of [] x = append-nil (compact_text (data_of x))
+with_commas-push data_of (y ∷ ys) x =
+    ap (λ s. compact_text (data_of y) ++ s) (with_commas-more data_of ys x)
+    ∙ sym (append_assoc (compact_text (data_of y)) (with_commas data_of true ys) (44 ∷ compact_text (data_of x)))
 
 pub comma_after-push : {A : Type 0} (xs : List A) (x : A) → comma_after (xs ++ x ∷ []) ≡ 44 ∷ []
 comma_after-push [] x = refl
@@ -29,26 +29,26 @@ comma_after-push (y ∷ ys) x = refl
 
 -- ---- the brackets
 
-pub items-front : {A : Type 0} (data_of : A → Data) (later : Bool) (xs : List A)
-    → items_text later (items_of (map data_of xs)) ≡ front data_of later xs ++ 93 ∷ []
-items-front data_of later [] = refl
-items-front data_of later (x ∷ xs) =
-    ap (λ s. comma_if later ++ (compact_text (data_of x) ++ s)) (items-front data_of true xs)
-    ∙ ap (λ s. comma_if later ++ s) (sym (append_assoc (compact_text (data_of x)) (front data_of true xs) (93 ∷ [])))
-    ∙ sym (append_assoc (comma_if later) (compact_text (data_of x) ++ front data_of true xs) (93 ∷ []))
+pub items-with_commas : {A : Type 0} (data_of : A → Data) (later : Bool) (xs : List A)
+    → items_text later (items_of (map data_of xs)) ≡ with_commas data_of later xs ++ 93 ∷ []
+items-with_commas data_of later [] = refl
+items-with_commas data_of later (x ∷ xs) =
+    ap (λ s. comma_if later ++ (compact_text (data_of x) ++ s)) (items-with_commas data_of true xs)
+    ∙ ap (λ s. comma_if later ++ s) (sym (append_assoc (compact_text (data_of x)) (with_commas data_of true xs) (93 ∷ [])))
+    ∙ sym (append_assoc (comma_if later) (compact_text (data_of x) ++ with_commas data_of true xs) (93 ∷ []))
 
 pub list-text : {A : Type 0} (data_of : A → Data) (xs : List A)
-    → compact_text (list_of data_of xs) ≡ 91 ∷ (front data_of false xs ++ 93 ∷ [])
-list-text data_of xs = ap (λ s. 91 ∷ s) (items-front data_of false xs)
+    → compact_text (list_of data_of xs) ≡ 91 ∷ (with_commas data_of false xs ++ 93 ∷ [])
+list-text data_of xs = ap (λ s. 91 ∷ s) (items-with_commas data_of false xs)
 
 -- of a list and one more
 pub list-text-push : {A : Type 0} (data_of : A → Data) (xs : List A) (x : A)
     → compact_text (list_of data_of (xs ++ x ∷ []))
-    ≡ 91 ∷ (front data_of false xs ++ (comma_after xs ++ (compact_text (data_of x) ++ 93 ∷ [])))
+    ≡ 91 ∷ (with_commas data_of false xs ++ (comma_after xs ++ (compact_text (data_of x) ++ 93 ∷ [])))
 list-text-push data_of xs x =
-    list-text data_of (xs ++ x ∷ []) ∙ ap (λ s. 91 ∷ s) (ap (λ s. s ++ 93 ∷ []) (front-push data_of xs x)
-    ∙ append_assoc (front data_of false xs) (comma_after xs ++ compact_text (data_of x)) (93 ∷ [])
-    ∙ ap (λ s. front data_of false xs ++ s) (append_assoc (comma_after xs) (compact_text (data_of x)) (93 ∷ [])))
+    list-text data_of (xs ++ x ∷ []) ∙ ap (λ s. 91 ∷ s) (ap (λ s. s ++ 93 ∷ []) (with_commas-push data_of xs x)
+    ∙ append_assoc (with_commas data_of false xs) (comma_after xs ++ compact_text (data_of x)) (93 ∷ [])
+    ∙ ap (λ s. with_commas data_of false xs ++ s) (append_assoc (comma_after xs) (compact_text (data_of x)) (93 ∷ [])))
 
 -- ---- the loop
 
@@ -56,14 +56,14 @@ taken-one : {A : Type 0} (items : List A) (i : ℕ) (x : A) → i < length items
 taken-one items i x within is = ap (λ n. take n items) (add-one i) ∙ take-suc items i x within ∙ ap (λ y. take i items ++ y ∷ []) (sym is)
 
 pub items-step : {A : Type 0} (data_of : A → Data) (items : List A) (i : ℕ) (x : A) (start before comma between now : List ℕ)
-    → i < length items → x ≡ get_or items i x → before ≡ start ++ front data_of false (take i items)
+    → i < length items → x ≡ get_or items i x → before ≡ start ++ with_commas data_of false (take i items)
     → comma ≡ comma_after (take i items) → between ≡ before ++ comma → now ≡ between ++ compact_text (data_of x)
-    → now ≡ start ++ front data_of false (take (i + 1) items)
+    → now ≡ start ++ with_commas data_of false (take (i + 1) items)
 items-step data_of items i x start before comma between now within is so comma-is then last =
     last ∙ ap (λ s. s ++ compact_text (data_of x)) (then ∙ ap₂ (λ (s t : List ℕ). s ++ t) so comma-is)
-    ∙ append_assoc (start ++ front data_of false (take i items)) (comma_after (take i items)) (compact_text (data_of x))
-    ∙ append_assoc start (front data_of false (take i items)) (comma_after (take i items) ++ compact_text (data_of x))
-    ∙ ap (λ s. start ++ s) (sym (front-push data_of (take i items) x) ∙ ap (front data_of false) (sym (taken-one items i x within is)))
+    ∙ append_assoc (start ++ with_commas data_of false (take i items)) (comma_after (take i items)) (compact_text (data_of x))
+    ∙ append_assoc start (with_commas data_of false (take i items)) (comma_after (take i items) ++ compact_text (data_of x))
+    ∙ ap (λ s. start ++ s) (sym (with_commas-push data_of (take i items) x) ∙ ap (with_commas data_of false) (sym (taken-one items i x within is)))
 
 pub comma-step : {A : Type 0} (items : List A) (i : ℕ) (x : A) → i < length items → x ≡ get_or items i x
     → 44 ∷ [] ≡ comma_after (take (i + 1) items)

@@ -1,3 +1,3 @@
 pub mod Json
 -- what only ties code to it
-pub mod Front
+pub mod Commas

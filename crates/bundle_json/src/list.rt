@@ -5,7 +5,7 @@ ghost use Rattle.std.specs.String.{string_bytes};
 ghost use Rattle.serde_json.specs.Data.{Data};
 ghost use Rattle.serde_json.specs.Written.{compact_text};
 ghost use Rattle.bundle_json.specs.Json.{list_of};
-ghost use Rattle.bundle_json.specs.Front.{front, comma_after};
+ghost use Rattle.bundle_json.specs.Commas.{with_commas, comma_after};
 
 use std::alloc::AllocError;
 
@@ -39,7 +39,7 @@ pub(crate) fn write_items<T: Shown>(
     items: &[T],
 ) -> Result<&'static str, AllocError>
     requires { All T.HasText items.now }
-    ensures written { OnOk result (string_bytes text.new ≡ string_bytes text.old ++ front T.json false items.now) }
+    ensures written { OnOk result (string_bytes text.new ≡ string_bytes text.old ++ with_commas T.json false items.now) }
     ensures comma { IfOk result (λ comma. comma.now ≡ comma_after items.now) }
 {
     let mut comma = "";

@@ -1,0 +1,10 @@
+pub mod LengthLemmas
+pub mod HopLemmas
+pub mod PassageLemmas
+pub mod PieceLemmas
+pub mod CaseLemmas
+pub mod PromiseLemmas
+pub mod SendLemmas
+pub mod SpellLemmas
+pub mod JudgeLemmas
+pub mod ReportLengths

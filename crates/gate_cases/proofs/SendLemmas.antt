@@ -1,0 +1,88 @@
+-- What is decided about records that would go on.
+use Rattle.std.proofs.Common.{◌≡◌, ℕ, ◌+◌, Bool, true, false, not, ◌||◌, nat_lt, if◌then◌else◌, List, [], ◌∷◌, ◌++◌, map, length, Option, Some, None, Result, Ok, Err, IfOk, refl, sym, ap, ◌∙◌, subst}
+use Rattle.std.specs.List.{list_all, list_any}
+use Rattle.std.proofs.lemmas.List.{length-map}
+use Rattle.bundle_meaning.specs.declared.full.Full.{Full}
+use Rattle.translate.specs.declared.refused.Refused.{Refused}
+use Rattle.translate.specs.declared.refused.Refused.TheVariants.{TooManyBlocks}
+use Rattle.translate.specs.Refusals.{first_that_holds}
+use Rattle.gate_cases.specs.declared.case.TheConstants.{BLOCK_MAX, SENDING_MAX, NUMBERS}
+use Rattle.gate_cases.specs.declared.case.GateCase.{GateCase}
+use Rattle.gate_cases.specs.declared.case.GateCase.TheVariants.{Untranslated, Storage, Passed}
+use Rattle.gate_cases.specs.declared.case.Room.{Room}
+use Rattle.gate_cases.specs.declared.face.Face.{Face}
+use Rattle.gate_cases.specs.declared.sending.Sent.{Sent}
+use Rattle.gate_cases.specs.Faces.{octets_at, fits_at}
+use Rattle.gate_cases.specs.Blocks.{Arrival}
+use Rattle.gate_cases.specs.Passage.{pieces_on}
+use Rattle.gate_cases.specs.Cases.{is_short, lacks, or_passed, pieces_if, records_of}
+use Rattle.gate_cases.specs.Sending.{has_sessions, sent_in, sent_records, sent_full, sent_arrival, Reads}
+use Rattle.gate_cases.proofs.PieceLemmas.{fits-pieces}
+use Rattle.gate_cases.proofs.CaseLemmas.{first-after, first-refused}
+
+-- of the tests of a piece's length and of the sessions
+short-by : (a b c : Bool) → (a || c) ≡ true → (a || b || c) ≡ true
+short-by true b c is = refl
+short-by false true c is = refl
+short-by false false c is = is
+
+not-false : (b : Bool) → not b ≡ false → b ≡ true
+not-false true is = refl
+not-false false is = absurd (cc)
+
+abbrev long_one : Face → List Full → Bool
+long_one to records = list_any (λ piece. nat_lt BLOCK_MAX (length piece)) (map (octets_at to) records)
+
+short-sessions : (to : Face) (records : List Full) (room : Room) → has_sessions room (length records) ≡ false
+    → is_short room (map (octets_at to) records) ≡ true
+short-sessions to records room few =
+    rw (length-map records (octets_at to))
+    (short-by (nat_lt SENDING_MAX (room.sending + length records)) (long_one to records) (nat_lt NUMBERS (room.next_session + length records))
+    (not-false _ few))
+
+-- ---- the two last cases
+
+-- the two tests decide
+abbrev sent_by : Face → List Full → Bool → Bool → Sent
+sent_by to records fits short =
+    sent_in to records (or_passed (first_that_holds ((Untranslated TooManyBlocks, not fits) ∷ (Storage, short) ∷ [])))
+
+pub sent-few : (to : Face) (records : List Full) (room : Room) (fits : Bool) → has_sessions room (length records) ≡ false
+    → list_all (fits_at to) records ≡ fits
+    → sent_records to records room ≡ record { case = if fits then Storage else Untranslated TooManyBlocks; pieces = [] }
+sent-few to records room fits few all =
+    ap (λ (f : Bool). sent_by to records f (is_short room (map (octets_at to) records))) all
+    ∙ ap (λ (s : Bool). sent_by to records fits s) (short-sessions to records room few) ∙ by fits
+  where
+    by : (f : Bool) → sent_by to records f true ≡ record { case = if f then Storage else Untranslated TooManyBlocks; pieces = [] }
+    by true = refl
+    by false = refl
+
+-- ---- the bundle
+
+pub sent-read : (to : Face) (arrival : Arrival) (full : Full) (now cut : ℕ) (room : Room) (sent : Sent)
+    → first_that_holds arrival.refusals ≡ None → full ≡ arrival.full → sent ≡ sent_full to full now cut room
+    → sent ≡ sent_arrival to arrival now cut room
+sent-read to arrival full now cut room sent none same is =
+    is ∙ ap (λ (f : Full). sent_full to f now cut room) same
+    ∙ ap (λ (c : Option GateCase). sent_in to (records_of arrival.full cut) (or_passed c)) (sym (first-after arrival.refusals _ none))
+
+pub sent-refused : (to : Face) (arrival : Arrival) (now cut : ℕ) (room : Room) (cause : Refused) → first_that_holds arrival.refusals ≡ Some cause
+    → sent_arrival to arrival now cut room ≡ record { case = Untranslated cause; pieces = [] }
+sent-refused to arrival now cut room cause is =
+    ap (λ (c : Option GateCase). sent_in to (records_of arrival.full cut) (or_passed c)) (first-refused arrival.refusals _ cause is)
+
+-- ---- what code answered
+
+pub few-ok : {E : Type 0} (to : Face) (passed : Full) (size : ℕ) (room : Room) (result : Result Sent E)
+    → has_sessions room (length (pieces_on passed size)) ≡ false
+    → IfOk result (λ s. s ≡ record { case = if fits_at to passed then Storage else Untranslated TooManyBlocks; pieces = [] })
+    → IfOk result (λ s. s ≡ sent_records to (pieces_on passed size) room)
+few-ok to passed size room (Ok s) few is = is ∙ sym (sent-few to (pieces_on passed size) room (fits_at to passed) few (fits-pieces to passed size))
+few-ok to passed size room (Err e) few is = tt
+
+pub read-ok : {E : Type 0} (to : Face) (arrival : Arrival) (full : Full) (now cut : ℕ) (room : Room) (result : Result Sent E)
+    → Reads (first_that_holds arrival.refusals) arrival.full (Ok full) → IfOk result (λ s. s ≡ sent_full to full now cut room)
+    → IfOk result (λ s. s ≡ sent_arrival to arrival now cut room)
+read-ok to arrival full now cut room (Ok s) (none, same) is = sent-read to arrival full now cut room s none same is
+read-ok to arrival full now cut room (Err e) reads is = tt

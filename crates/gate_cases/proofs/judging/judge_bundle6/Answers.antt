@@ -1,0 +1,7 @@
+use Rattle.gate_cases.proofs.JudgeLemmas.{bundle-judged6}
+use Rattle.gate_cases.proofs.judging.judge_bundle6.Goals as goal
+
+pub returns-in-Ok-clause-exact : goal.returns-in-Ok-clause-exact
+returns-in-Ok-clause-exact c =
+    bundle-judged6 c.args.block.now c.in-Ok.bundle c.in-Ok.field-0-1 c.args.now c.args.size c.args.room c.decided6.result
+    c.requires.one c.in-Ok.ensures.exact c.decided6.ensures.exact

@@ -1,0 +1,15 @@
+use Rattle.std.proofs.Common.{sym, ◌∙◌}
+use Rattle.gate_cases.specs.declared.face.Face.TheVariants.{New}
+use Rattle.gate_cases.specs.Blocks.{arrival6}
+use Rattle.gate_cases.proofs.SendLemmas.{read-ok, sent-refused}
+use Rattle.gate_cases.proofs.judging.sent6.Goals as goal
+
+pub returns-in-Ok : goal.returns-in-Ok
+returns-in-Ok c =
+    read-ok New (arrival6 c.args.bundle.now) c.in-Ok.full c.args.now c.args.size c.args.room c.send.result
+    (rw c.in-Ok.is at c.in_ok-full.ensures.exact) c.send.ensures
+
+pub returns-in-Err : goal.returns-in-Err
+returns-in-Err c =
+    c.stopped.ensures ∙ sym (sent-refused New (arrival6 c.args.bundle.now) c.args.now c.args.size c.args.room c.in-Err.cause
+    (rw c.in-Err.is at c.in_ok-full.ensures.exact))

@@ -1,0 +1,31 @@
+//! What the gateway decides about one block that was handed up at one of its faces.
+//!
+//! The old face speaks version 6 (RFC 5050), the new one version 7 (RFC 9171). [`judge`] says which of
+//! seven cases a block is ([`GateCase`]), which blocks go on at the other face, and which status report
+//! is asked for. It reads the block, translates the bundle, takes the step of one hop, and cuts it;
+//! what it decides is a value, and nothing is sent here.
+//!
+//! The report is asked for without the counter that numbers it: [`AskedReport::spell`] gives its octets
+//! once the gateway has one.
+#![tactic(auto)]
+
+mod asking;
+mod case;
+mod cause;
+mod face;
+mod judged;
+mod judging;
+mod laws;
+mod passage;
+mod reading;
+mod report;
+mod sending;
+mod spelling;
+
+pub use case::{BLOCK_MAX, GateCase, NUMBERS, Room, SENDING_MAX};
+pub use cause::BadCause;
+pub use face::Face;
+pub use judged::{Judged, Pieces};
+pub use judging::judge;
+pub use laws::pieces_have_room;
+pub use report::{AskedReport, Creation, Statuses};

@@ -1,16 +1,13 @@
 -- A clean event of a link that drains: the ranks fall, and what becomes of open senders.
 
-use Rattle.std.proofs.Common.{◌≡◌, ℕ, zero, suc, ◌+◌, ◌<◌, ◌≤◌, Bool, true, false, ◌==◌}
-use Rattle.std.proofs.Common.{List, [], ◌∷◌, ◌++◌, length, drop, Option, None, Some, ◌⊎◌, inl}
-use Rattle.std.proofs.Common.{inr, refl, sym, ◌∙◌, ap, arith, subst}
-use Rattle.std.proofs.Common.{nat_lt, if◌then◌else◌}
-use Rattle.std.specs.Prelude.{min}
+use Rattle.std.proofs.Common.{◌≡◌, ℕ, zero, suc, ◌+◌, ◌<◌, ◌≤◌, Bool, true, false, ◌==◌, List, []}
+use Rattle.std.proofs.Common.{◌∷◌, ◌++◌, length, drop, Option, None, Some, ◌⊎◌, inl, inr, refl}
+use Rattle.std.proofs.Common.{sym, ◌∙◌, ap, arith, subst, nat_lt, if◌then◌else◌, ⊎_elim}
+use Rattle.std.proofs.lemmas.Bool.{eqb-true, ltb-true, ltb-false, cases_lt}
+use Rattle.std.proofs.lemmas.Bool.Decides.{nat_tests}
 use Rattle.std.specs.List.{slice_get}
 use Rattle.std.specs.Option.{option_map}
-use Rattle.std.proofs.lemmas.Bool.{eqb-true, ltb-true, ltb-false}
-use Rattle.std.proofs.lemmas.Bool.Decides.{nat_tests}
-use Rattle.std.proofs.Common.{⊎_elim}
-use Rattle.std.proofs.lemmas.Bool.{cases_lt}
+use Rattle.std.specs.Prelude.{min}
 use Rattle.ltp_segment.specs.Values.{SegmentValue}
 use Rattle.ltp_session.specs.Engine.{Engine, Party, Reply, arrives, earlier, least_deadline}
 use Rattle.ltp_session.specs.Engine.{next_deadline, tick_step}
@@ -32,18 +29,18 @@ use Rattle.link_laws.specs.View.{said, view}
 use Rattle.link_laws.proofs.DeadlineLemmas.{deadlines_are_ahead}
 use Rattle.link_laws.proofs.FrameLemmas.{same_self}
 use Rattle.link_laws.proofs.TableLemmas.{find_below, self_eqb}
-use Rattle.drain_laws.specs.Draining.{Oldest, oldest, since}
-use Rattle.drain_laws.specs.Standing.{AllAdvance, DrainHolds, IsDueOf, Next, due_receiver}
-use Rattle.drain_laws.specs.Standing.{due_sender, setting, sum_of}
 use Rattle.drain_laws.specs.Clean.{clean_event, link_deadline, passed_after}
+use Rattle.drain_laws.specs.Draining.{Oldest, oldest, since}
 use Rattle.drain_laws.specs.Effects.{EndEffects, deliver_effects, effects_at}
 use Rattle.drain_laws.specs.Hopeful.{AreAlike, IsReached, Room}
+use Rattle.drain_laws.specs.Standing.{AllAdvance, DrainHolds, IsDueOf, Next, due_receiver}
+use Rattle.drain_laws.specs.Standing.{due_sender, setting, sum_of}
 use Rattle.drain_laws.proofs.DrainFrame.{Begun, is-begun, never_begun, was_begun}
 use Rattle.drain_laws.proofs.DrainLists.{drop-front}
 use Rattle.drain_laws.proofs.DrainRun.{arrival-next, ticked-next, delivery-advances}
-use Rattle.drain_laws.proofs.DrainRun.{delivery-next, due-fires, other_other}
-use Rattle.drain_laws.proofs.DrainRun.{sent-ticked, since-ticks, tick-advances, tick-next}
-use Rattle.drain_laws.proofs.DrainRun.{ticked-new, ticked-world, ticks-are}
+use Rattle.drain_laws.proofs.DrainRun.{delivery-next, due-fires, other_other, sent-ticked}
+use Rattle.drain_laws.proofs.DrainRun.{since-ticks, tick-advances, tick-next, ticked-new}
+use Rattle.drain_laws.proofs.DrainRun.{ticked-world, ticks-are}
 use Rattle.drain_laws.proofs.RoomRuns.{delivery-room, room-roomy, tick-room}
 use Rattle.drain_laws.proofs.StartLemmas.{session-gives}
 

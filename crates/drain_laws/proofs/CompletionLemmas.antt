@@ -1,12 +1,11 @@
 -- A drain from a hopeful world with room has no more events than its sessions cost, and completes
 -- them.
 
-use Rattle.std.proofs.Common.{◌<◌, ◌≡◌, ℕ, zero, suc, ◌+◌, ◌≤◌, Bool, true, false}
-use Rattle.std.proofs.Common.{List, [], ◌∷◌, ◌++◌, length, drop, Option, None, Some, ◌⊎◌, inl}
-use Rattle.std.proofs.Common.{inr, refl, sym, ◌∙◌, ap, arith, subst}
-use Rattle.std.proofs.Common.{nat_lt, if◌then◌else◌}
-use Rattle.std.specs.Option.{option_map}
+use Rattle.std.proofs.Common.{◌<◌, ◌≡◌, ℕ, zero, suc, ◌+◌, ◌≤◌, Bool, true, false, List, [], ◌∷◌}
+use Rattle.std.proofs.Common.{◌++◌, length, drop, Option, None, Some, ◌⊎◌, inl, inr, refl, sym}
+use Rattle.std.proofs.Common.{◌∙◌, ap, arith, subst, nat_lt, if◌then◌else◌}
 use Rattle.std.proofs.lemmas.Bool.{lt-ltb, ltb-false}
+use Rattle.std.specs.Option.{option_map}
 use Rattle.ltp_segment.specs.declared.session.Note.{Note}
 use Rattle.ltp_segment.specs.declared.session.Note.TheVariants as notes
 use Rattle.ltp_session.specs.Engine.{Party}
@@ -16,13 +15,13 @@ use Rattle.ltp_session.specs.World.{first_end, happens, other, run, second_end}
 use Rattle.link_laws.specs.Facts.{SessionFacts}
 use Rattle.link_laws.specs.View.{said, view}
 use Rattle.link_laws.proofs.RunLemmas.{in-left, in-right}
-use Rattle.drain_laws.specs.Standing.{AllAdvance, DrainHolds, setting, sum_of}
-use Rattle.drain_laws.specs.Hopeful.{IsHanded, IsOpen}
 use Rattle.drain_laws.specs.Clean.{AreClean, AreCleanFrom, CleanRun, IsDrained, clean_event}
 use Rattle.drain_laws.specs.Clean.{link_deadline, passed, passed_after}
 use Rattle.drain_laws.specs.Completion.{HasCleanRun, IsComplete, IsReady}
 use Rattle.drain_laws.specs.Effects.{EndEffects, IsHandedUp, IsNoted, effects_at, effects_in}
-use Rattle.drain_laws.specs.Hopeful.{AreAlike, cost, session_cost, sum_below, view_cost}
+use Rattle.drain_laws.specs.Hopeful.{IsHanded, IsOpen, AreAlike, cost, session_cost, sum_below}
+use Rattle.drain_laws.specs.Hopeful.{view_cost}
+use Rattle.drain_laws.specs.Standing.{AllAdvance, DrainHolds, setting, sum_of}
 use Rattle.drain_laws.proofs.CleanSteps.{GoesOn, IsGoing, clean-goes, idle-link, idle-senders}
 use Rattle.drain_laws.proofs.CleanSteps.{reached-more}
 use Rattle.drain_laws.proofs.DrainFrame.{Begun, is-begun, never_begun, was_begun}

@@ -1,30 +1,12 @@
 -- A block that is submitted in a drain begins one session, and leaves the others.
 
-use Rattle.std.proofs.Common.{◌≡◌, ◌≢◌, ℕ, ◌+◌, ◌^◌, ◌<◌, ◌≤◌, Bool, true}
-use Rattle.std.proofs.Common.{false, ◌==◌, ◌&&◌, List, [], ◌++◌, length, take, drop}
-use Rattle.std.proofs.Common.{Option, None, Some, inl, inr, refl, sym, ◌∙◌, ap, arith, subst}
-use Rattle.std.proofs.Common.{nat_lt, nat_le, if◌then◌else◌}
+use Rattle.std.proofs.Common.{◌≡◌, ◌≢◌, ℕ, ◌+◌, ◌^◌, ◌<◌, ◌≤◌, Bool, true, false, ◌==◌, ◌&&◌}
+use Rattle.std.proofs.Common.{List, [], ◌++◌, length, take, drop, Option, None, Some, inl, inr}
+use Rattle.std.proofs.Common.{refl, sym, ◌∙◌, ap, arith, subst, nat_lt, nat_le, if◌then◌else◌}
 use Rattle.std.proofs.lemmas.Bool.{ne_eqb, leb-true, ltb-false}
 use Rattle.std.proofs.lemmas.Bool.Decides.{nat_tests}
 use Rattle.std.proofs.lemmas.List.{length-take, length-drop}
 use Rattle.ltp_segment.specs.Values.{ContentValue}
-use Rattle.drain_laws.specs.Draining.{Draining, since}
-use Rattle.drain_laws.specs.Standing.{AfterSubmit, AreKnown, DrainHolds, Idle, Stands, StandsBy}
-use Rattle.drain_laws.specs.Standing.{begun_rank, setting, setting_by}
-use Rattle.drain_laws.proofs.DrainFrame.{AllStand, Gives, stands-so}
-use Rattle.drain_laws.proofs.DrainFrame.{stands-used}
-use Rattle.drain_laws.proofs.StartLemmas.{few-parts}
-use Rattle.drain_laws.proofs.DrainLists.{drop-front, new-none, new-said}
-use Rattle.drain_laws.proofs.DrainRun.{changed, IsKnown, all-stand, changed-holds, known-append}
-use Rattle.drain_laws.proofs.DrainRun.{known-headed, pick}
-use Rattle.drain_laws.proofs.DrainStarts.{drain-begins}
-use Rattle.drain_laws.specs.Hopeful.{AreAlike}
-use Rattle.drain_laws.proofs.StartLemmas.{cuts-two, most-at, most-low}
-use Rattle.link_laws.proofs.FrameLemmas.{said-append, said-headed, AreTwo, begun-here}
-use Rattle.link_laws.proofs.FrameLemmas.{begun-others, next-unused, peers-stay}
-use Rattle.link_laws.proofs.RunLemmas.{Linked, linked-at, two_ends}
-use Rattle.link_laws.proofs.TableLemmas.{ascending-settled, self_eqb}
-use Rattle.link_laws.specs.View.{session_of, View, begins, said, view, view_by}
 use Rattle.ltp_session.specs.Engine.{Engine, Party, Reply, begun as begun_engine, is_used}
 use Rattle.ltp_session.specs.Engine.{block_empty, block_too_large, numbers_spent, senders_busy}
 use Rattle.ltp_session.specs.Engine.{submits, submits_unless}
@@ -36,6 +18,21 @@ use Rattle.ltp_session.specs.Views.{headed_all}
 use Rattle.ltp_session.specs.World.{ArePeers, End, Sent, World, at_end, first_end, other, replies}
 use Rattle.ltp_session.specs.World.{second_end, sent_by, submit_reply, submitted, unless_refused}
 use Rattle.ltp_session.specs.World.{with_end}
+use Rattle.link_laws.specs.View.{session_of, View, begins, said, view, view_by}
+use Rattle.link_laws.proofs.FrameLemmas.{said-append, said-headed, AreTwo, begun-here}
+use Rattle.link_laws.proofs.FrameLemmas.{begun-others, next-unused, peers-stay}
+use Rattle.link_laws.proofs.RunLemmas.{Linked, linked-at, two_ends}
+use Rattle.link_laws.proofs.TableLemmas.{ascending-settled, self_eqb}
+use Rattle.drain_laws.specs.Draining.{Draining, since}
+use Rattle.drain_laws.specs.Hopeful.{AreAlike}
+use Rattle.drain_laws.specs.Standing.{AfterSubmit, AreKnown, DrainHolds, Idle, Stands, StandsBy}
+use Rattle.drain_laws.specs.Standing.{begun_rank, setting, setting_by}
+use Rattle.drain_laws.proofs.DrainFrame.{AllStand, Gives, stands-so, stands-used}
+use Rattle.drain_laws.proofs.DrainLists.{drop-front, new-none, new-said}
+use Rattle.drain_laws.proofs.DrainRun.{changed, IsKnown, all-stand, changed-holds, known-append}
+use Rattle.drain_laws.proofs.DrainRun.{known-headed, pick}
+use Rattle.drain_laws.proofs.DrainStarts.{drain-begins}
+use Rattle.drain_laws.proofs.StartLemmas.{few-parts, cuts-two, most-at, most-low}
 
 begun-low : (z : ℕ) (block : List ℕ) (red n : ℕ) → 2 ≤ z → red ≤ length block
     → length block ≤ 2 ^ 22

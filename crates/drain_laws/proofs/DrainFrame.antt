@@ -5,40 +5,38 @@ use Rattle.std.proofs.Common.{◌∷◌, ◌++◌, length, Option, None, Some, i
 use Rattle.std.proofs.Common.{sym, ◌∙◌, ap, arith, subst, nat_le}
 use Rattle.std.proofs.lemmas.Bool.{eqb-true, eqb-false, ne_eqb, eq-eqb}
 use Rattle.std.proofs.lemmas.Bool.Decides.{nat_tests}
+use Rattle.std.specs.Option.{option_map}
 use Rattle.ltp_segment.specs.Values.{ContentValue, SegmentValue}
-use Rattle.drain_laws.specs.Draining.{Oldest, oldest}
-use Rattle.drain_laws.specs.Standing.{Idle, Standing, Stands, StandsBy, setting_by}
-use Rattle.drain_laws.proofs.DrainLists.{new-none, new-said, oldest-from, said-oldest}
-use Rattle.drain_laws.proofs.DrainLists.{said-oldest_other, said-skip, said-take}
-use Rattle.drain_laws.proofs.ReceiverDrains.{receiver-falls, receiver-opens}
-use Rattle.drain_laws.proofs.SenderDrains.{EndsWell, sender-falls, sender-advances}
-use Rattle.drain_laws.proofs.HandedLemmas.{hands-up-now}
-use Rattle.drain_laws.proofs.StrangerRows.{unheard-by_receiver, unheard-by_sender}
-use Rattle.drain_laws.specs.Calm.{AreFit, Falls, Given, IsComing, Advances}
-use Rattle.drain_laws.specs.Hopeful.{IsHanded, IsOpen}
-use Rattle.drain_laws.specs.Calm.{Setting}
-use Rattle.link_laws.proofs.FrameLemmas.{AreTwo, Left, alone, closed_for_room, opening, owns-stay}
-use Rattle.link_laws.proofs.FrameLemmas.{peers-stay, receiver-here, receiver-others}
-use Rattle.link_laws.proofs.FrameLemmas.{roomy-received, sender-here, sender-others}
-use Rattle.link_laws.proofs.ListLemmas.{by_arms}
-use Rattle.link_laws.proofs.RunLemmas.{Linked}
-use Rattle.link_laws.specs.Runs.{KeepsUnder, no_facts}
-use Rattle.link_laws.specs.View.{IsIn, session_of, View, is_of, receiver_moves, said, same_end}
-use Rattle.link_laws.specs.View.{sender_moves, view_by}
-use Rattle.link_laws.proofs.TableLemmas.{find-put_other, find-without_other}
+use Rattle.ltp_segment.specs.declared.session.Note.TheVariants as notes
 use Rattle.ltp_session.specs.Engine.{closed_runs, evicted_by, list_of, notes_of, evicted_of}
 use Rattle.ltp_session.specs.Engine.{without_evicted, Engine, Party, Reply, arrives, is_used}
 use Rattle.ltp_session.specs.Engine.{place_of, receiver_replies, sender_replies, with_receiver}
 use Rattle.ltp_session.specs.Engine.{with_sender}
 use Rattle.ltp_session.specs.Receiver.{Place, Receiving, receiver_answers}
 use Rattle.ltp_session.specs.Sender.{Sending, sender_answers}
-use Rattle.std.specs.Option.{option_map}
-use Rattle.ltp_segment.specs.declared.session.Note.TheVariants as notes
-use Rattle.ltp_session.specs.Views.{note_of}
 use Rattle.ltp_session.specs.Step.{NoteValue, note_sent, Change, StepValue, ends, keeps, stays}
 use Rattle.ltp_session.specs.Table.{find}
-use Rattle.ltp_session.specs.Views.{headed_all}
+use Rattle.ltp_session.specs.Views.{note_of, headed_all}
 use Rattle.ltp_session.specs.World.{End, Sent, sent_by}
+use Rattle.link_laws.specs.Runs.{KeepsUnder, no_facts}
+use Rattle.link_laws.specs.View.{IsIn, session_of, View, is_of, receiver_moves, said, same_end}
+use Rattle.link_laws.specs.View.{sender_moves, view_by}
+use Rattle.link_laws.proofs.FrameLemmas.{AreTwo, Left, alone, closed_for_room, opening, owns-stay}
+use Rattle.link_laws.proofs.FrameLemmas.{peers-stay, receiver-here, receiver-others}
+use Rattle.link_laws.proofs.FrameLemmas.{roomy-received, sender-here, sender-others}
+use Rattle.link_laws.proofs.ListLemmas.{by_arms}
+use Rattle.link_laws.proofs.RunLemmas.{Linked}
+use Rattle.link_laws.proofs.TableLemmas.{find-put_other, find-without_other}
+use Rattle.drain_laws.specs.Calm.{AreFit, Falls, Given, IsComing, Advances, Setting}
+use Rattle.drain_laws.specs.Draining.{Oldest, oldest}
+use Rattle.drain_laws.specs.Hopeful.{IsHanded, IsOpen}
+use Rattle.drain_laws.specs.Standing.{Idle, Standing, Stands, StandsBy, setting_by}
+use Rattle.drain_laws.proofs.DrainLists.{new-none, new-said, oldest-from, said-oldest}
+use Rattle.drain_laws.proofs.DrainLists.{said-oldest_other, said-skip, said-take}
+use Rattle.drain_laws.proofs.HandedLemmas.{hands-up-now}
+use Rattle.drain_laws.proofs.ReceiverDrains.{receiver-falls, receiver-opens}
+use Rattle.drain_laws.proofs.SenderDrains.{EndsWell, sender-falls, sender-advances}
+use Rattle.drain_laws.proofs.StrangerRows.{unheard-by_receiver, unheard-by_sender}
 
 -- ---- a session that stands
 

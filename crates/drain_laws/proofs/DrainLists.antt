@@ -6,11 +6,11 @@ use Rattle.std.proofs.Common.{arith, subst, if◌then◌else◌}
 use Rattle.std.proofs.lemmas.Bool.{eqb-true, eqb-false}
 use Rattle.std.proofs.lemmas.List.{append-nil}
 use Rattle.ltp_segment.specs.Values.{ContentValue}
+use Rattle.ltp_session.specs.World.{End, Sent, first_end, second_end}
+use Rattle.link_laws.specs.View.{is_of, said, same_end}
+use Rattle.link_laws.proofs.FrameLemmas.{said-append}
 use Rattle.drain_laws.specs.Draining.{Oldest, behind, oldest}
 use Rattle.drain_laws.specs.Hopeful.{sum_below}
-use Rattle.link_laws.proofs.FrameLemmas.{said-append}
-use Rattle.link_laws.specs.View.{is_of, said, same_end}
-use Rattle.ltp_session.specs.World.{End, Sent, first_end, second_end}
 
 pub same_end-true : (a b : End) → same_end a b ≡ true → a ≡ b
 same_end-true first_end first_end is = refl

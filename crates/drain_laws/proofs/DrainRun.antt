@@ -6,35 +6,9 @@ use Rattle.std.proofs.Common.{inr, refl, sym, ◌∙◌, ap, arith, subst, appen
 use Rattle.std.proofs.Common.{if◌then◌else◌}
 use Rattle.std.proofs.lemmas.Bool.{eqb-true, eqb-false, eq-eqb, ltb-true}
 use Rattle.std.proofs.lemmas.List.{append-nil}
-use Rattle.ltp_segment.specs.Values.{ContentValue, SegmentValue, a_piece}
-use Rattle.drain_laws.specs.Draining.{Draining, Oldest, oldest, since}
-use Rattle.drain_laws.specs.Standing.{NextOf, TickedTo, AreKnown, AllAdvance, DrainHolds, IsRoomy}
-use Rattle.drain_laws.specs.Standing.{IsDueOf, Next, Stands, due_receiver, due_sender, setting}
-use Rattle.drain_laws.specs.Standing.{setting_by}
-use Rattle.drain_laws.proofs.DrainFrame.{AdvancesOn, ReplyAdvances, arrival-advances, was_begun}
-use Rattle.drain_laws.proofs.DrainFrame.{never_begun, AllStand, Begun, Gives, ReplyTouches}
-use Rattle.drain_laws.proofs.DrainFrame.{Touches, arrival-touches, is-begun, is-of, own_session}
-use Rattle.drain_laws.proofs.DrainFrame.{peer_session, stands-so}
-use Rattle.drain_laws.proofs.DrainLists.{Finds, at_once, drop-front, finds, later, nothing-oldest}
-use Rattle.drain_laws.proofs.DrainLists.{said-take, sum-less, sum-most}
-use Rattle.drain_laws.proofs.DrainStarts.{none-asked, none-reported}
-use Rattle.drain_laws.proofs.TickFrame.{TickLower, own-receiver-says, own-sender-says}
-use Rattle.drain_laws.proofs.TickFrame.{own-ticks, own-ticks-advance, peer-receiver-says}
-use Rattle.drain_laws.proofs.TickFrame.{peer-sender-says, peer-ticks, peer-ticks-advance}
-use Rattle.drain_laws.specs.Calm.{AreFit, Calm, IsComing, Advances}
-use Rattle.drain_laws.specs.Hopeful.{IsHanded, IsOpen}
-use Rattle.drain_laws.specs.Hopeful.{sum_below}
-use Rattle.drain_laws.specs.Effects.{EndEffects, IsHandedUp, IsNoted}
 use Rattle.std.specs.Option.{option_map}
+use Rattle.ltp_segment.specs.Values.{ContentValue, SegmentValue, a_piece}
 use Rattle.ltp_segment.specs.declared.session.Note.TheVariants as notes
-use Rattle.ltp_session.specs.declared.name.SessionName.{SessionName}
-use Rattle.drain_laws.specs.Rank.{IsAskedOn, IsReportedOn}
-use Rattle.link_laws.proofs.FrameLemmas.{roomy-received, sent_by-append}
-use Rattle.link_laws.proofs.ListLemmas.{both_arms}
-use Rattle.link_laws.proofs.RunLemmas.{Linked, linked-at, two_ends}
-use Rattle.link_laws.proofs.TableLemmas.{ascending-settled, ascending-ticked}
-use Rattle.link_laws.specs.Serials.{pending_of}
-use Rattle.link_laws.specs.View.{session_of, IsIn, View, said, same_end, view, view_by}
 use Rattle.ltp_session.specs.Engine.{UpValue, datagram_step, list_of, replied}
 use Rattle.ltp_session.specs.Engine.{replied_or_stranger, sender_changes, receiver_changes}
 use Rattle.ltp_session.specs.Engine.{Engine, Party, Reply, arrives, closed_runs, is_used}
@@ -47,6 +21,31 @@ use Rattle.ltp_session.specs.Table.{AreAscending, find}
 use Rattle.ltp_session.specs.Views.{headed_all}
 use Rattle.ltp_session.specs.World.{ArePeers, End, Sent, World, arrival, at_end, first_end, other}
 use Rattle.ltp_session.specs.World.{replies, second_end, sent_by, ticks, with_end}
+use Rattle.ltp_session.specs.declared.name.SessionName.{SessionName}
+use Rattle.link_laws.specs.Serials.{pending_of}
+use Rattle.link_laws.specs.View.{session_of, IsIn, View, said, same_end, view, view_by}
+use Rattle.link_laws.proofs.FrameLemmas.{roomy-received, sent_by-append}
+use Rattle.link_laws.proofs.ListLemmas.{both_arms}
+use Rattle.link_laws.proofs.RunLemmas.{Linked, linked-at, two_ends}
+use Rattle.link_laws.proofs.TableLemmas.{ascending-settled, ascending-ticked}
+use Rattle.drain_laws.specs.Calm.{AreFit, Calm, IsComing, Advances}
+use Rattle.drain_laws.specs.Draining.{Draining, Oldest, oldest, since}
+use Rattle.drain_laws.specs.Effects.{EndEffects, IsHandedUp, IsNoted}
+use Rattle.drain_laws.specs.Hopeful.{IsHanded, IsOpen, sum_below}
+use Rattle.drain_laws.specs.Rank.{IsAskedOn, IsReportedOn}
+use Rattle.drain_laws.specs.Standing.{NextOf, TickedTo, AreKnown, AllAdvance, DrainHolds, IsRoomy}
+use Rattle.drain_laws.specs.Standing.{IsDueOf, Next, Stands, due_receiver, due_sender, setting}
+use Rattle.drain_laws.specs.Standing.{setting_by}
+use Rattle.drain_laws.proofs.DrainFrame.{AdvancesOn, ReplyAdvances, arrival-advances, was_begun}
+use Rattle.drain_laws.proofs.DrainFrame.{never_begun, AllStand, Begun, Gives, ReplyTouches}
+use Rattle.drain_laws.proofs.DrainFrame.{Touches, arrival-touches, is-begun, is-of, own_session}
+use Rattle.drain_laws.proofs.DrainFrame.{peer_session, stands-so}
+use Rattle.drain_laws.proofs.DrainLists.{Finds, at_once, drop-front, finds, later, nothing-oldest}
+use Rattle.drain_laws.proofs.DrainLists.{said-take, sum-less, sum-most}
+use Rattle.drain_laws.proofs.DrainStarts.{none-asked, none-reported}
+use Rattle.drain_laws.proofs.TickFrame.{TickLower, own-receiver-says, own-sender-says, own-ticks}
+use Rattle.drain_laws.proofs.TickFrame.{own-ticks-advance, peer-receiver-says, peer-sender-says}
+use Rattle.drain_laws.proofs.TickFrame.{peer-ticks, peer-ticks-advance}
 
 -- ---- what an arrival leaves of the engine
 

@@ -3,31 +3,30 @@
 use Rattle.std.proofs.Common.{◌≡◌, ℕ, ◌+◌, ◌<◌, ◌≤◌, ◌^◌, Bool, true, false, List, [], ◌∷◌, ◌++◌}
 use Rattle.std.proofs.Common.{length, take, drop, replicate, Option, None, Some, ◌⊎◌, inl, inr}
 use Rattle.std.proofs.Common.{refl, sym, ◌∙◌, ap, arith, subst, if◌then◌else◌}
-use Rattle.std.specs.List.{AllByRecursion}
 use Rattle.std.proofs.lemmas.List.{length-take, length-drop}
+use Rattle.std.specs.List.{AllByRecursion}
 use Rattle.ltp_segment.specs.Kinds.{is_red, is_checkpoint}
-use Rattle.ltp_segment.specs.declared.segment.PieceKind.TheVariants as kinds
 use Rattle.ltp_segment.specs.Policy.{PolicyValue}
 use Rattle.ltp_segment.specs.Values.{PieceValue, ContentValue, a_piece, a_report, a_report_ack}
 use Rattle.ltp_segment.specs.Values.{a_sender_cancel, a_sender_cancel_ack, a_receiver_cancel}
 use Rattle.ltp_segment.specs.Values.{a_receiver_cancel_ack}
-use Rattle.drain_laws.proofs.RankLemmas.{ahead-append, ahead-round, weights-append, weights-round}
-use Rattle.drain_laws.proofs.ReceiverDrains.{no_cancels-append}
-use Rattle.drain_laws.proofs.SenderDrains.{PartFits, cut-fit, fit-append, round-fit, round-plain}
-use Rattle.drain_laws.specs.Calm.{AreFit, Calm, Drains, IsPromising, NoCancels, Rests}
-use Rattle.drain_laws.specs.Hopeful.{IsOpen}
-use Rattle.drain_laws.specs.Calm.{is_cancel}
-use Rattle.drain_laws.specs.Rank.{IsAskedOn, IsReportedOn, RankAtMost, ahead, weights}
-use Rattle.link_laws.proofs.CheckpointLemmas.{round-has, begin-next, checkpoint_at-asks}
-use Rattle.link_laws.proofs.SerialLemmas.{among-left, among-append, among-right}
-use Rattle.link_laws.proofs.WholeLemmas.{cut-has}
-use Rattle.link_laws.specs.View.{IsIn, Unused, View, begins}
+use Rattle.ltp_segment.specs.declared.segment.PieceKind.TheVariants as kinds
 use Rattle.ltp_session.specs.Receiver.{piece_stop}
 use Rattle.ltp_session.specs.Sender.{opened, Sending, begin, checkpoint_at, green_pieces}
 use Rattle.ltp_session.specs.Sender.{last_segment, piece_at, red_pieces, segments_of, sender_open}
 use Rattle.ltp_session.specs.Step.{after}
 use Rattle.ltp_session.specs.Timer.{first_serial, first_timer}
 use Rattle.ltp_session.specs.declared.timer.Timer.{Timer}
+use Rattle.link_laws.specs.View.{IsIn, Unused, View, begins}
+use Rattle.link_laws.proofs.CheckpointLemmas.{round-has, begin-next, checkpoint_at-asks}
+use Rattle.link_laws.proofs.SerialLemmas.{among-left, among-append, among-right}
+use Rattle.link_laws.proofs.WholeLemmas.{cut-has}
+use Rattle.drain_laws.specs.Calm.{AreFit, Calm, Drains, IsPromising, NoCancels, Rests, is_cancel}
+use Rattle.drain_laws.specs.Hopeful.{IsOpen}
+use Rattle.drain_laws.specs.Rank.{IsAskedOn, IsReportedOn, RankAtMost, ahead, weights}
+use Rattle.drain_laws.proofs.RankLemmas.{ahead-append, ahead-round, weights-append, weights-round}
+use Rattle.drain_laws.proofs.ReceiverDrains.{no_cancels-append}
+use Rattle.drain_laws.proofs.SenderDrains.{PartFits, cut-fit, fit-append, round-fit, round-plain}
 
 -- ---- a rank of 0
 

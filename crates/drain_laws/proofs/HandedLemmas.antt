@@ -1,13 +1,13 @@
 -- A red part is handed up in the step after which the receiver has handed it up.
 
-use Rattle.std.proofs.Common.{◌≡◌, ℕ, Bool, true, false, ◌||◌, Option, Some, is_some}
-use Rattle.std.proofs.Common.{◌⊎◌, inl, inr, refl, sym, subst}
+use Rattle.std.proofs.Common.{◌≡◌, ℕ, Bool, true, false, ◌||◌, Option, Some, is_some, ◌⊎◌, inl}
+use Rattle.std.proofs.Common.{inr, refl, sym, subst}
 use Rattle.ltp_segment.specs.Policy.{PolicyValue}
 use Rattle.ltp_segment.specs.Values.{ContentValue, PieceValue}
 use Rattle.ltp_session.specs.Receiver.{Place, Receiving, fresh, receiver_answers}
 use Rattle.ltp_session.specs.Step.{StepValue, after}
-use Rattle.drain_laws.specs.Hopeful.{IsHanded}
 use Rattle.link_laws.proofs.WalkLemmas.{OnPiece, walk-segment}
+use Rattle.drain_laws.specs.Hopeful.{IsHanded}
 
 -- it was handed up before, or is in this step
 abbrev pub HandsUpNow : Option Receiving → StepValue Receiving → Type 0

@@ -3,13 +3,13 @@
 use Rattle.std.proofs.Common.{◌≡◌, ℕ, ◌+◌, ◌<◌, ◌≤◌, List, length, take, Some, ◌⊎◌, inl, inr, sym}
 use Rattle.std.proofs.Common.{arith, subst₂}
 use Rattle.ltp_segment.specs.Values.{PieceValue, ContentValue}
-use Rattle.drain_laws.specs.Calm.{Onward, WasAwaited, WasPending}
-use Rattle.drain_laws.specs.Rank.{IsAskedOn, IsReportedOn, RankAtMost, Settled, weights}
-use Rattle.link_laws.specs.Serials.{pending_of}
-use Rattle.link_laws.specs.View.{View}
 use Rattle.ltp_session.specs.Receiver.{Pending, Receiving}
 use Rattle.ltp_session.specs.Sender.{Sending, segments_of, sender_open}
 use Rattle.ltp_session.specs.declared.timer.Timer.{Timer}
+use Rattle.link_laws.specs.Serials.{pending_of}
+use Rattle.link_laws.specs.View.{View}
+use Rattle.drain_laws.specs.Calm.{Onward, WasAwaited, WasPending}
+use Rattle.drain_laws.specs.Rank.{IsAskedOn, IsReportedOn, RankAtMost, Settled, weights}
 
 -- what isn't on its way is as it was
 still-reported : {X : Type 0} (v v' : View) (new_s new_r new_s' new_r' : List ContentValue)

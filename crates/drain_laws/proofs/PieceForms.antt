@@ -4,38 +4,36 @@ use Rattle.std.proofs.Common.{◌≡◌, ℕ, zero, suc, ◌+◌, ◌<◌, ◌�
 use Rattle.std.proofs.Common.{◌&&◌, ◌||◌, List, [], ◌∷◌, length, take, Option, None, Some}
 use Rattle.std.proofs.Common.{is_some, ◌⊎◌, inl, inr, refl, sym, ◌∙◌, ap, arith, subst, nat_lt}
 use Rattle.std.proofs.Common.{nat_le, if◌then◌else◌}
-use Rattle.std.specs.List.{AllByRecursion}
 use Rattle.std.proofs.lemmas.Bool.{eq-eqb, ne_eqb}
 use Rattle.std.proofs.lemmas.Bool.Decides.{nat_tests}
-use Rattle.ltp_segment.specs.declared.segment.Claim.{Claim}
-use Rattle.ltp_segment.specs.declared.segment.PieceKind.{PieceKind}
-use Rattle.ltp_segment.specs.declared.segment.PieceKind.TheVariants as kinds
+use Rattle.std.specs.List.{AllByRecursion}
 use Rattle.ltp_segment.specs.Kinds.{is_red, is_checkpoint, ends_red_part}
 use Rattle.ltp_segment.specs.Policy.{PolicyValue}
 use Rattle.ltp_segment.specs.Values.{PieceValue, ReportValue, a_piece, a_report}
-use Rattle.drain_laws.specs.Rank.{has_cell}
-use Rattle.link_laws.proofs.CellLemmas.{cell-filled}
-use Rattle.link_laws.proofs.ClaimLemmas.{claims_from, report_with}
-use Rattle.ltp_session.specs.Cells.{is_misplaced, length_after, reach_of}
-use Rattle.ltp_session.specs.Receiver.{bound_of}
-use Rattle.link_laws.proofs.WholeLemmas.{one-claim}
-use Rattle.link_laws.proofs.ClaimLemmas.{claims_from, report_with, report_of-with}
-use Rattle.link_laws.proofs.ListLemmas.{both_arms, by_arms}
-use Rattle.link_laws.proofs.ReceiverLemmas.{end-within, fresh-is}
-use Rattle.link_laws.proofs.StepLemmas.{met}
+use Rattle.ltp_segment.specs.declared.segment.Claim.{Claim}
+use Rattle.ltp_segment.specs.declared.segment.PieceKind.{PieceKind}
+use Rattle.ltp_segment.specs.declared.segment.PieceKind.TheVariants as kinds
+use Rattle.ltp_session.specs.Cells.{is_misplaced, length_after, reach_of, cell, filled}
+use Rattle.ltp_session.specs.Cells.{is_another, is_below, is_past, octet_in}
+use Rattle.ltp_session.specs.Receiver.{bound_of, Place, Receiving, fresh, is_cancelling}
+use Rattle.ltp_session.specs.Receiver.{is_miscoloured, is_outside, on_piece, piece_for}
+use Rattle.ltp_session.specs.Receiver.{piece_step, piece_stop, report_of, with_red}
+use Rattle.ltp_session.specs.RedPart.{or_else}
+use Rattle.ltp_session.specs.Step.{StepValue, keeps, stays}
+use Rattle.ltp_session.specs.Timer.{first_timer}
+use Rattle.ltp_session.specs.declared.timer.Timer.{Timer}
 use Rattle.link_laws.specs.Blocks.{IfGreen, IfKnown, IsInPart, IsPieceOf, IsReceiverOf}
 use Rattle.link_laws.specs.Claims.{IsWhole}
 use Rattle.link_laws.specs.HandUps.{AllFilled}
 use Rattle.link_laws.specs.Kept.{IfKept}
 use Rattle.link_laws.specs.Serials.{pending_of}
-use Rattle.ltp_session.specs.Cells.{cell, filled, is_another, is_below, is_past, octet_in}
-use Rattle.ltp_session.specs.Receiver.{Place, Receiving, fresh, is_cancelling, is_miscoloured}
-use Rattle.ltp_session.specs.Receiver.{is_outside, on_piece, piece_for, piece_step, piece_stop}
-use Rattle.ltp_session.specs.Receiver.{report_of, with_red}
-use Rattle.ltp_session.specs.RedPart.{or_else}
-use Rattle.ltp_session.specs.Step.{StepValue, keeps, stays}
-use Rattle.ltp_session.specs.Timer.{first_timer}
-use Rattle.ltp_session.specs.declared.timer.Timer.{Timer}
+use Rattle.link_laws.proofs.CellLemmas.{cell-filled}
+use Rattle.link_laws.proofs.ClaimLemmas.{claims_from, report_with, report_of-with}
+use Rattle.link_laws.proofs.ListLemmas.{both_arms, by_arms}
+use Rattle.link_laws.proofs.ReceiverLemmas.{end-within, fresh-is}
+use Rattle.link_laws.proofs.StepLemmas.{met}
+use Rattle.link_laws.proofs.WholeLemmas.{one-claim}
+use Rattle.drain_laws.specs.Rank.{has_cell}
 
 -- ---- tests
 

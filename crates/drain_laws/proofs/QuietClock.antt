@@ -1,25 +1,10 @@
 -- A clock to a moment below every deadline leaves a drain as it is.
 
-use Rattle.std.proofs.Common.{◌≡◌, ℕ, ◌<◌, ◌≤◌, false, List, []}
-use Rattle.std.proofs.Common.{◌++◌, Option, None, Some, inl, inr, refl, sym}
-use Rattle.std.proofs.Common.{◌∙◌, ap, arith, subst, append_assoc, nat_le}
+use Rattle.std.proofs.Common.{◌≡◌, ℕ, ◌<◌, ◌≤◌, false, List, [], ◌++◌, Option, None, Some, inl}
+use Rattle.std.proofs.Common.{inr, refl, sym, ◌∙◌, ap, arith, subst, append_assoc, nat_le}
 use Rattle.std.proofs.lemmas.Bool.Decides.{nat_tests}
 use Rattle.std.proofs.lemmas.List.{append-nil}
 use Rattle.ltp_segment.specs.Policy.{PolicyValue}
-use Rattle.drain_laws.specs.Draining.{Draining, since}
-use Rattle.drain_laws.specs.Standing.{AreKnown, BelowDeadlines, DrainHolds, Stands, setting}
-use Rattle.drain_laws.proofs.DrainFrame.{was_begun, never_begun, Begun, is-begun, stands-so}
-use Rattle.drain_laws.proofs.DrainLists.{new-none}
-use Rattle.drain_laws.proofs.DrainRun.{known-append, known-out, same_draining, since-ticks}
-use Rattle.drain_laws.proofs.DrainRun.{ticked-new, ticked-world, ticks-are}
-use Rattle.drain_laws.proofs.PieceForms.{only_false}
-use Rattle.link_laws.proofs.FrameLemmas.{AreTwo, same_view, tick-own, tick-peer}
-use Rattle.link_laws.proofs.RunLemmas.{Linked, linked-apart, linked-at, two_ends}
-use Rattle.link_laws.proofs.TableLemmas.{ascending-ticked}
-use Rattle.link_laws.specs.Runs.{receiver_after, sender_after}
-use Rattle.link_laws.specs.Serials.{pending_of}
-use Rattle.link_laws.specs.View.{View, receiver_moves, said, sender_moves, view}
-use Rattle.link_laws.specs.View.{view_by}
 use Rattle.ltp_session.specs.Engine.{sender_changes, receiver_changes, Engine, Party}
 use Rattle.ltp_session.specs.Engine.{receiver_ticks, sender_ticks, tick_engine, tick_out}
 use Rattle.ltp_session.specs.Receiver.{receiver_due, Pending, Receiving, ReceivingPhase}
@@ -30,6 +15,19 @@ use Rattle.ltp_session.specs.Step.{StepValue, sending, stays}
 use Rattle.ltp_session.specs.Table.{AreAscending, find}
 use Rattle.ltp_session.specs.World.{ArePeers, End, Sent, World, at_end, first_end, other}
 use Rattle.ltp_session.specs.World.{second_end, sent_by, ticks}
+use Rattle.link_laws.specs.Runs.{receiver_after, sender_after}
+use Rattle.link_laws.specs.Serials.{pending_of}
+use Rattle.link_laws.specs.View.{View, receiver_moves, said, sender_moves, view, view_by}
+use Rattle.link_laws.proofs.FrameLemmas.{AreTwo, same_view, tick-own, tick-peer}
+use Rattle.link_laws.proofs.RunLemmas.{Linked, linked-apart, linked-at, two_ends}
+use Rattle.link_laws.proofs.TableLemmas.{ascending-ticked}
+use Rattle.drain_laws.specs.Draining.{Draining, since}
+use Rattle.drain_laws.specs.Standing.{AreKnown, BelowDeadlines, DrainHolds, Stands, setting}
+use Rattle.drain_laws.proofs.DrainFrame.{was_begun, never_begun, Begun, is-begun, stands-so}
+use Rattle.drain_laws.proofs.DrainLists.{new-none}
+use Rattle.drain_laws.proofs.DrainRun.{known-append, known-out, same_draining, since-ticks}
+use Rattle.drain_laws.proofs.DrainRun.{ticked-new, ticked-world, ticks-are}
+use Rattle.drain_laws.proofs.PieceForms.{only_false}
 
 -- ---- nothing fires
 

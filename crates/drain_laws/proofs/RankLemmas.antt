@@ -2,29 +2,16 @@
 
 use Rattle.std.proofs.Common.{◌≡◌, ℕ, zero, suc, ◌+◌, ◌<◌, ◌≤◌, Bool, true, false, not, ◌==◌}
 use Rattle.std.proofs.Common.{◌&&◌, ◌||◌, List, [], ◌∷◌, ◌++◌, length, Some, ◌⊎◌, inl, inr, refl}
-use Rattle.std.proofs.Common.{sym, ◌∙◌, ap, arith, subst, if◌then◌else◌}
-use Rattle.std.proofs.lemmas.Bool.{eqb-true}
-use Rattle.ltp_segment.specs.declared.segment.Claim.{Claim}
+use Rattle.std.proofs.Common.{sym, ◌∙◌, ap, arith, subst, if◌then◌else◌, ⊎_elim, subst₂}
+use Rattle.std.proofs.lemmas.Bool.{eqb-true, cases_lt, le-leb, lt-ltb}
+use Rattle.std.proofs.lemmas.List.{length-take}
+use Rattle.std.specs.Prelude.{take, slice_index_or}
 use Rattle.ltp_segment.specs.Kinds.{is_red, is_checkpoint}
 use Rattle.ltp_segment.specs.Values.{PieceValue, ReportValue, ContentValue, a_piece, a_report}
 use Rattle.ltp_segment.specs.Values.{a_report_ack, a_sender_cancel, a_sender_cancel_ack}
 use Rattle.ltp_segment.specs.Values.{a_receiver_cancel, a_receiver_cancel_ack}
-use Rattle.std.specs.Prelude.{take, slice_index_or}
-use Rattle.std.proofs.Common.{⊎_elim}
-use Rattle.std.proofs.lemmas.Bool.{cases_lt, le-leb, lt-ltb}
-use Rattle.std.proofs.lemmas.List.{length-take}
+use Rattle.ltp_segment.specs.declared.segment.Claim.{Claim}
 use Rattle.ltp_segment.specs.declared.segment.PieceKind.TheVariants as kinds
-use Rattle.std.proofs.Common.{subst₂}
-use Rattle.drain_laws.specs.Rank.{HasFilled, IsReportedOn, RankAtMost, Settled, ahead, has_cell}
-use Rattle.drain_laws.specs.Rank.{is_checkpoint_of, weights}
-use Rattle.link_laws.proofs.CheckpointLemmas.{checkpoint_at-asks, round-has}
-use Rattle.link_laws.proofs.WholeLemmas.{HasPart, cut-has, place-filled}
-use Rattle.link_laws.proofs.ListLemmas.{both_arms}
-use Rattle.link_laws.proofs.SerialLemmas.{among-left, among-right}
-use Rattle.link_laws.specs.Checkpoints.{IsAsked, IsClaimedBy, IsCurrent}
-use Rattle.link_laws.specs.Claims.{ClaimsFilled, HasPlace, IsReportOf, IsWhole}
-use Rattle.link_laws.specs.SenderSteps.{Rounds}
-use Rattle.link_laws.specs.View.{IsIn, View, sender_moves}
 use Rattle.ltp_session.specs.Claims.{with_claims, with_range}
 use Rattle.ltp_session.specs.Receiver.{Pending, Receiving}
 use Rattle.ltp_session.specs.Sender.{Sending, are_claimed, checkpoint_at, is_all_claimed}
@@ -32,6 +19,16 @@ use Rattle.ltp_session.specs.Sender.{is_claimed, last_segment, piece_at, red_pie
 use Rattle.ltp_session.specs.Sender.{sender_open, unclaimed}
 use Rattle.ltp_session.specs.Step.{StepValue, after, keeps}
 use Rattle.ltp_session.specs.declared.timer.Timer.{Timer}
+use Rattle.link_laws.specs.Checkpoints.{IsAsked, IsClaimedBy, IsCurrent}
+use Rattle.link_laws.specs.Claims.{ClaimsFilled, HasPlace, IsReportOf, IsWhole}
+use Rattle.link_laws.specs.SenderSteps.{Rounds}
+use Rattle.link_laws.specs.View.{IsIn, View, sender_moves}
+use Rattle.link_laws.proofs.CheckpointLemmas.{checkpoint_at-asks, round-has}
+use Rattle.link_laws.proofs.ListLemmas.{both_arms}
+use Rattle.link_laws.proofs.SerialLemmas.{among-left, among-right}
+use Rattle.link_laws.proofs.WholeLemmas.{HasPart, cut-has, place-filled}
+use Rattle.drain_laws.specs.Rank.{HasFilled, IsReportedOn, RankAtMost, Settled, ahead, has_cell}
+use Rattle.drain_laws.specs.Rank.{is_checkpoint_of, weights}
 
 -- what a round weighs
 pub weights-round : (last : ℕ × List ℕ → PieceValue)

@@ -1,14 +1,12 @@
 -- The ranks of all sessions fall from step to step of a drain.
 
-use Rattle.std.proofs.Common.{◌≡◌, ◌≢◌, ℕ, ◌+◌, ◌<◌, ◌≤◌, Bool, true, false, ◌==◌}
-use Rattle.std.proofs.Common.{◌&&◌}
-use Rattle.std.proofs.Common.{List, [], ◌∷◌, ◌++◌, length, Option, None, Some, ◌⊎◌}
-use Rattle.std.proofs.Common.{inl, inr, refl, sym, ◌∙◌, ap, arith, subst}
-use Rattle.std.proofs.Common.{nat_lt, nat_le, if◌then◌else◌}
-use Rattle.std.specs.Option.{option_map}
+use Rattle.std.proofs.Common.{◌≡◌, ◌≢◌, ℕ, ◌+◌, ◌<◌, ◌≤◌, Bool, true, false, ◌==◌, ◌&&◌, List, []}
+use Rattle.std.proofs.Common.{◌∷◌, ◌++◌, length, Option, None, Some, ◌⊎◌, inl, inr, refl, sym}
+use Rattle.std.proofs.Common.{◌∙◌, ap, arith, subst, nat_lt, nat_le, if◌then◌else◌}
 use Rattle.std.proofs.lemmas.Bool.{eqb-false, eqb-true, lt-ltb, ltb-true}
 use Rattle.std.proofs.lemmas.Bool.Decides.{nat_tests}
 use Rattle.std.proofs.lemmas.List.{append-nil}
+use Rattle.std.specs.Option.{option_map}
 use Rattle.ltp_segment.specs.Values.{ContentValue}
 use Rattle.ltp_session.specs.Engine.{Reply, SubmitFault, begun, submit_fault, submits}
 use Rattle.ltp_session.specs.Engine.{submits_unless, Engine, Party, earlier, is_used}
@@ -16,17 +14,16 @@ use Rattle.ltp_session.specs.Engine.{least_deadline, next_deadline}
 use Rattle.ltp_session.specs.Receiver.{Pending, Receiving, ReceivingPhase, is_cancelling}
 use Rattle.ltp_session.specs.Receiver.{receiver_cancelling, receiver_deadline, receiver_open}
 use Rattle.ltp_session.specs.Receiver.{receiving_timer}
-use Rattle.ltp_session.specs.Sender.{Sending, begin}
-use Rattle.ltp_session.specs.Sender.{sender_deadline}
-use Rattle.ltp_session.specs.Sender.{sending_timer}
+use Rattle.ltp_session.specs.Sender.{Sending, begin, sender_deadline, sending_timer}
 use Rattle.ltp_session.specs.Table.{find}
-use Rattle.ltp_session.specs.World.{ArePeers, End, Sent, World, arrival, at_end}
-use Rattle.ltp_session.specs.World.{first_end, other, replies, second_end}
-use Rattle.ltp_session.specs.World.{submit_reply, submitted, ticks, unless_refused, with_end}
+use Rattle.ltp_session.specs.World.{ArePeers, End, Sent, World, arrival, at_end, first_end, other}
+use Rattle.ltp_session.specs.World.{replies, second_end, submit_reply, submitted, ticks}
+use Rattle.ltp_session.specs.World.{unless_refused, with_end}
+use Rattle.ltp_session.specs.declared.name.SessionName.{SessionName}
 use Rattle.link_laws.specs.Facts.{SessionFacts}
 use Rattle.link_laws.specs.Serials.{pending_of}
 use Rattle.link_laws.specs.View.{said, view}
-use Rattle.link_laws.proofs.FrameLemmas.{said-append}
+use Rattle.link_laws.proofs.FrameLemmas.{said-append, next-unused}
 use Rattle.drain_laws.specs.Calm.{Rests}
 use Rattle.drain_laws.specs.Clean.{link_deadline}
 use Rattle.drain_laws.specs.Completion.{IsReady}
@@ -37,23 +34,21 @@ use Rattle.drain_laws.specs.Hopeful.{AreAlike, Room, begun_cost, different, offs
 use Rattle.drain_laws.specs.Hopeful.{session_cost, view_cost}
 use Rattle.drain_laws.specs.Rank.{RankAtMost}
 use Rattle.drain_laws.specs.Ranks.{IsAtRest, IsDueBy, RanksFall, RanksOn}
-use Rattle.drain_laws.specs.Standing.{NextOf, BelowDeadlines, DrainHolds, IsDueOf}
-use Rattle.drain_laws.specs.Standing.{TickedTo, due_receiver, due_sender, setting}
+use Rattle.drain_laws.specs.Standing.{NextOf, BelowDeadlines, DrainHolds, IsDueOf, TickedTo}
+use Rattle.drain_laws.specs.Standing.{due_receiver, due_sender, setting}
+use Rattle.drain_laws.proofs.CleanSteps.{drop-end, replies-since, since-arrival}
+use Rattle.drain_laws.proofs.CompletionLemmas.{first-low, first-none, first_rank, starts}
 use Rattle.drain_laws.proofs.DrainBegins.{AfterBlock, left_alone, one_more, submit-next}
 use Rattle.drain_laws.proofs.DrainFrame.{Begun, is-begun, never_begun, was_begun}
-use Rattle.drain_laws.proofs.CleanSteps.{drop-end, replies-since, since-arrival}
-use Rattle.drain_laws.proofs.OffsetLemmas.{begin-differ, different-more, offsets-append}
-use Rattle.drain_laws.proofs.SizeLemmas.{cuts-at}
-use Rattle.ltp_session.specs.declared.name.SessionName.{SessionName}
-use Rattle.link_laws.proofs.FrameLemmas.{next-unused}
-use Rattle.drain_laws.proofs.DrainRun.{IsKnown, of-known}
-use Rattle.drain_laws.proofs.DrainRun.{same_draining, arrival-next, delivery-next, due-says}
-use Rattle.drain_laws.proofs.DrainRun.{other_other, sent-ticked, since-ticks, tick-holds}
-use Rattle.drain_laws.proofs.DrainRun.{ticked-new, ticked-next, ticked-world, ticks-are, used-low}
-use Rattle.drain_laws.proofs.CompletionLemmas.{first-low, first-none, first_rank, starts}
+use Rattle.drain_laws.proofs.DrainRun.{IsKnown, of-known, same_draining, arrival-next}
+use Rattle.drain_laws.proofs.DrainRun.{delivery-next, due-says, other_other, sent-ticked}
+use Rattle.drain_laws.proofs.DrainRun.{since-ticks, tick-holds, ticked-new, ticked-next}
+use Rattle.drain_laws.proofs.DrainRun.{ticked-world, ticks-are, used-low}
 use Rattle.drain_laws.proofs.DrainStarts.{rank-zero}
+use Rattle.drain_laws.proofs.OffsetLemmas.{begin-differ, different-more, offsets-append}
 use Rattle.drain_laws.proofs.QuietClock.{quiet-clock}
 use Rattle.drain_laws.proofs.RoomRuns.{delivery-room, room-roomy, tick-room}
+use Rattle.drain_laws.proofs.SizeLemmas.{cuts-at}
 use Rattle.drain_laws.proofs.StartLemmas.{session-gives}
 
 -- ---- what a drain keeps from step to step

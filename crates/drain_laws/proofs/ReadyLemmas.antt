@@ -1,14 +1,11 @@
 -- A link on which one end has sent a block is ready.
 
-use Rattle.std.proofs.Common.{ℕ, ◌-◌, ◌<◌, ◌^◌, ◌==◌, [], ◌∷◌}
-use Rattle.std.proofs.Common.{refl, arith}
+use Rattle.std.proofs.Common.{ℕ, ◌-◌, ◌<◌, ◌^◌, ◌==◌, [], ◌∷◌, refl, arith}
 use Rattle.ltp_session.specs.Engine.{closed_runs, submits}
 use Rattle.ltp_session.specs.Examples.{party, world_after}
-use Rattle.ltp_session.specs.Sender.{begin, green_pieces, last_segment, red_pieces}
-use Rattle.ltp_session.specs.Sender.{segments_from}
+use Rattle.ltp_session.specs.Sender.{begin, green_pieces, last_segment, red_pieces, segments_from}
 use Rattle.ltp_session.specs.Table.{find, put}
-use Rattle.ltp_session.specs.World.{End, at_end, first_end, other, second_end, submit}
-use Rattle.ltp_session.specs.World.{submitted}
+use Rattle.ltp_session.specs.World.{End, at_end, first_end, other, second_end, submit, submitted}
 use Rattle.link_laws.specs.Kept.{IfKept}
 use Rattle.link_laws.specs.View.{view}
 use Rattle.link_laws.proofs.ListLemmas.{both_arms}

@@ -9,24 +9,24 @@ use Rattle.ltp_segment.specs.Policy.{PolicyValue}
 use Rattle.ltp_segment.specs.Values.{PieceValue, ContentValue, a_piece, a_report, a_report_ack}
 use Rattle.ltp_segment.specs.Values.{a_sender_cancel, a_sender_cancel_ack, a_receiver_cancel}
 use Rattle.ltp_segment.specs.Values.{a_receiver_cancel_ack}
+use Rattle.ltp_session.specs.Receiver.{on_report_ack, Place, Receiving, is_cancelling, on_piece}
+use Rattle.ltp_session.specs.Receiver.{piece_stop, receiver_answers}
+use Rattle.ltp_session.specs.Sender.{Sending}
+use Rattle.ltp_session.specs.Step.{Change, StepValue, after, ends, keeps, stays}
+use Rattle.link_laws.specs.Blocks.{IsContentOf}
+use Rattle.link_laws.specs.View.{IsIn, View, closed_after, receiver_moves}
+use Rattle.link_laws.proofs.ListLemmas.{answered, both_arms, by_arms}
+use Rattle.link_laws.proofs.SerialLemmas.{all-among, among-append, among-left}
+use Rattle.link_laws.proofs.StepLemmas.{met}
+use Rattle.drain_laws.specs.Calm.{WaitsOn, Calm, Drains, Falls, Given, HasSerials, IsComing}
+use Rattle.drain_laws.specs.Calm.{NoCancels, Onward, Setting, is_cancel}
+use Rattle.drain_laws.specs.Hopeful.{IsHanded, IsOpen}
+use Rattle.drain_laws.specs.Rank.{weight, weights}
 use Rattle.drain_laws.proofs.OnwardLemmas.{onward-asking, onward-rank, onward-reporting}
 use Rattle.drain_laws.proofs.PieceForms.{fills_only, Comes, answers, passes, piece-comes, takes}
 use Rattle.drain_laws.proofs.RankLemmas.{weights-append}
 use Rattle.drain_laws.proofs.ReceiverRows.{Acks, ack-onward, acks-kept, another, clears, closes}
 use Rattle.drain_laws.proofs.ReceiverRows.{nobody, piece-onward}
-use Rattle.drain_laws.specs.Calm.{WaitsOn, Calm, Drains, Falls, Given, HasSerials, IsComing}
-use Rattle.drain_laws.specs.Calm.{NoCancels, Onward, Setting, is_cancel}
-use Rattle.drain_laws.specs.Hopeful.{IsHanded, IsOpen}
-use Rattle.drain_laws.specs.Rank.{weight, weights}
-use Rattle.link_laws.proofs.ListLemmas.{answered, both_arms, by_arms}
-use Rattle.link_laws.proofs.SerialLemmas.{all-among, among-append, among-left}
-use Rattle.link_laws.proofs.StepLemmas.{met}
-use Rattle.link_laws.specs.Blocks.{IsContentOf}
-use Rattle.link_laws.specs.View.{IsIn, View, closed_after, receiver_moves}
-use Rattle.ltp_session.specs.Receiver.{on_report_ack, Place, Receiving, is_cancelling, on_piece}
-use Rattle.ltp_session.specs.Receiver.{piece_stop, receiver_answers}
-use Rattle.ltp_session.specs.Sender.{Sending}
-use Rattle.ltp_session.specs.Step.{Change, StepValue, after, ends, keeps, stays}
 
 -- ---- calm
 

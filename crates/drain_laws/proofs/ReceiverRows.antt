@@ -7,24 +7,6 @@ use Rattle.std.proofs.lemmas.Bool.{eq-eqb, eqb-false, eqb-true}
 use Rattle.ltp_segment.specs.Kinds.{is_red, is_checkpoint, ends_red_part}
 use Rattle.ltp_segment.specs.Values.{PieceValue, ReportValue, ContentValue, a_piece, a_report}
 use Rattle.ltp_segment.specs.Values.{a_report_ack}
-use Rattle.drain_laws.proofs.PieceForms.{fills_only, report_of-names, still-known, Comes, answers}
-use Rattle.drain_laws.proofs.PieceForms.{checkpoint-red, filled-here, filled-old, passes}
-use Rattle.drain_laws.proofs.PieceForms.{report-whole, takes}
-use Rattle.drain_laws.proofs.RankLemmas.{ahead-front}
-use Rattle.drain_laws.specs.Calm.{Given, Onward, WasAwaited, WasPending}
-use Rattle.drain_laws.specs.Rank.{HasFilled, IsAskedOn, IsReportedOn, Settled, ahead, has_cell}
-use Rattle.drain_laws.specs.Rank.{is_checkpoint_of}
-use Rattle.link_laws.proofs.ListLemmas.{by_arms}
-use Rattle.link_laws.proofs.ReceiverLemmas.{end-within, fresh-is, with_red-is}
-use Rattle.link_laws.proofs.SerialLemmas.{all-among, among-append, among-left, among-right}
-use Rattle.link_laws.proofs.StepLemmas.{met}
-use Rattle.link_laws.specs.Blocks.{IfKnown, IsContentOf, IsInPart, IsPieceOf, IsReceiverOf}
-use Rattle.link_laws.specs.Checkpoints.{CheckpointFacts, SomeReport}
-use Rattle.link_laws.specs.Claims.{IsWhole}
-use Rattle.link_laws.specs.HandUps.{AllFilled}
-use Rattle.link_laws.specs.Kept.{IfKept}
-use Rattle.link_laws.specs.Serials.{SerialFacts, pending_of}
-use Rattle.link_laws.specs.View.{IsIn, View, receiver_moves}
 use Rattle.ltp_session.specs.Cells.{cell, filled, length_after}
 use Rattle.ltp_session.specs.Claims.{is_whole_claim}
 use Rattle.ltp_session.specs.Receiver.{Pending, Place, Receiving, ReceivingPhase, acknowledged}
@@ -33,6 +15,24 @@ use Rattle.ltp_session.specs.Receiver.{receiver_cancelling, receiver_open, repor
 use Rattle.ltp_session.specs.Sender.{Sending, sender_open}
 use Rattle.ltp_session.specs.Step.{StepValue, after, ends, keeps, stays}
 use Rattle.ltp_session.specs.declared.timer.Timer.{Timer}
+use Rattle.link_laws.specs.Blocks.{IfKnown, IsContentOf, IsInPart, IsPieceOf, IsReceiverOf}
+use Rattle.link_laws.specs.Checkpoints.{CheckpointFacts, SomeReport}
+use Rattle.link_laws.specs.Claims.{IsWhole}
+use Rattle.link_laws.specs.HandUps.{AllFilled}
+use Rattle.link_laws.specs.Kept.{IfKept}
+use Rattle.link_laws.specs.Serials.{SerialFacts, pending_of}
+use Rattle.link_laws.specs.View.{IsIn, View, receiver_moves}
+use Rattle.link_laws.proofs.ListLemmas.{by_arms}
+use Rattle.link_laws.proofs.ReceiverLemmas.{end-within, fresh-is, with_red-is}
+use Rattle.link_laws.proofs.SerialLemmas.{all-among, among-append, among-left, among-right}
+use Rattle.link_laws.proofs.StepLemmas.{met}
+use Rattle.drain_laws.specs.Calm.{Given, Onward, WasAwaited, WasPending}
+use Rattle.drain_laws.specs.Rank.{HasFilled, IsAskedOn, IsReportedOn, Settled, ahead, has_cell}
+use Rattle.drain_laws.specs.Rank.{is_checkpoint_of}
+use Rattle.drain_laws.proofs.PieceForms.{fills_only, report_of-names, still-known, Comes, answers}
+use Rattle.drain_laws.proofs.PieceForms.{checkpoint-red, filled-here, filled-old, passes}
+use Rattle.drain_laws.proofs.PieceForms.{report-whole, takes}
+use Rattle.drain_laws.proofs.RankLemmas.{ahead-front}
 
 -- ---- what is on its way once the oldest of the sender's is delivered
 

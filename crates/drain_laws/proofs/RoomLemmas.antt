@@ -1,12 +1,12 @@
 -- Room that there was is left: a session that comes takes the place that was kept for it.
 
 use Rattle.std.proofs.Common.{◌≡◌, ℕ, suc, ◌+◌, ◌<◌, ◌≤◌, Bool, true, false, not, ◌==◌, ◌||◌}
-use Rattle.std.proofs.Common.{List, [], ◌∷◌, ◌++◌, length, None, Some, refl, ◌∙◌, ap}
-use Rattle.std.proofs.Common.{arith, nat_lt, if◌then◌else◌}
-use Rattle.std.specs.Prelude.{cond, pred}
-use Rattle.std.specs.List.{count_by}
-use Rattle.std.proofs.lemmas.List.Recursion.{is_count_by}
+use Rattle.std.proofs.Common.{List, [], ◌∷◌, ◌++◌, length, None, Some, refl, ◌∙◌, ap, arith}
+use Rattle.std.proofs.Common.{nat_lt, if◌then◌else◌}
 use Rattle.std.proofs.lemmas.Bool.{eqb-true, ltb-true}
+use Rattle.std.proofs.lemmas.List.Recursion.{is_count_by}
+use Rattle.std.specs.List.{count_by}
+use Rattle.std.specs.Prelude.{cond, pred}
 use Rattle.ltp_session.specs.Engine.{closed_runs, is_closed}
 use Rattle.ltp_session.specs.Step.{Change, stays, keeps, ends}
 use Rattle.ltp_session.specs.Table.{AreAscending, ended, find, put, then_ended, then_kept, ticked}

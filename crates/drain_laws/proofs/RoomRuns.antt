@@ -1,8 +1,7 @@
 -- Clean events leave the room that there was, and there is room for each session that comes.
 
-use Rattle.std.proofs.Common.{◌≡◌, ℕ, ◌+◌, ◌<◌, ◌≤◌, true, false, ◌==◌}
-use Rattle.std.proofs.Common.{List, [], ◌∷◌, length, Option, None, Some, inl, inr, refl, sym, ◌∙◌}
-use Rattle.std.proofs.Common.{arith, subst}
+use Rattle.std.proofs.Common.{◌≡◌, ℕ, ◌+◌, ◌<◌, ◌≤◌, true, false, ◌==◌, List, [], ◌∷◌, length}
+use Rattle.std.proofs.Common.{Option, None, Some, inl, inr, refl, sym, ◌∙◌, arith, subst}
 use Rattle.std.proofs.lemmas.Bool.{eqb-true}
 use Rattle.ltp_segment.specs.Policy.{PolicyValue}
 use Rattle.ltp_segment.specs.Values.{ContentValue, SegmentValue, a_piece, a_receiver_cancel}
@@ -22,11 +21,10 @@ use Rattle.link_laws.proofs.FrameLemmas.{AreTwo, opening}
 use Rattle.link_laws.proofs.ListLemmas.{answered, by_arms}
 use Rattle.link_laws.proofs.RunLemmas.{Linked, linked-at, two_ends}
 use Rattle.link_laws.proofs.WalkLemmas.{OnPiece, walk-segment}
-use Rattle.drain_laws.specs.Draining.{Draining, Oldest, oldest}
-use Rattle.drain_laws.specs.Standing.{DrainHolds, IsRoomy, setting_by}
 use Rattle.drain_laws.specs.Calm.{IsComing}
-use Rattle.drain_laws.specs.Hopeful.{IsOpen}
-use Rattle.drain_laws.specs.Hopeful.{HasRoom, Room, coming, is_unknown}
+use Rattle.drain_laws.specs.Draining.{Draining, Oldest, oldest}
+use Rattle.drain_laws.specs.Hopeful.{IsOpen, HasRoom, Room, coming, is_unknown}
+use Rattle.drain_laws.specs.Standing.{DrainHolds, IsRoomy, setting_by}
 use Rattle.drain_laws.proofs.DrainFrame.{AllStand, Begun, Shorter, is-begun, never_begun}
 use Rattle.drain_laws.proofs.DrainFrame.{opening-same, shorter, stands-so, was_begun}
 use Rattle.drain_laws.proofs.DrainRun.{all-stand, ticked-world}

@@ -1,9 +1,8 @@
 -- Clean steps leave the room that there was.
 
-use Rattle.std.proofs.Common.{◌≡◌, ◌≢◌, ℕ, ◌<◌, ◌≤◌, Bool, true, false, not, ◌==◌, ◌&&◌}
-use Rattle.std.proofs.Common.{List, [], ◌++◌, length, Option, None, Some, is_some, ◌⊎◌, inl, inr}
-use Rattle.std.proofs.Common.{refl, sym, ◌∙◌, ap}
-use Rattle.std.proofs.Common.{arith, subst}
+use Rattle.std.proofs.Common.{◌≡◌, ◌≢◌, ℕ, ◌<◌, ◌≤◌, Bool, true, false, not, ◌==◌, ◌&&◌, List, []}
+use Rattle.std.proofs.Common.{◌++◌, length, Option, None, Some, is_some, ◌⊎◌, inl, inr, refl, sym}
+use Rattle.std.proofs.Common.{◌∙◌, ap, arith, subst}
 use Rattle.std.proofs.lemmas.Bool.{eqb-true, eqb-false, ne_eqb}
 use Rattle.ltp_session.specs.Engine.{Engine, Party, is_closed, receiver_changes, receiver_ticks}
 use Rattle.ltp_session.specs.Engine.{sender_changes, tick_engine, tick_out, with_receiver}

@@ -3,39 +3,16 @@
 use Rattle.std.proofs.Common.{◌≡◌, ℕ, zero, suc, ◌+◌, ◌<◌, ◌≤◌, ◌^◌, Bool, true, false, List, []}
 use Rattle.std.proofs.Common.{◌∷◌, ◌++◌, length, take, drop, Option, None, Some, is_some, ◌⊎◌}
 use Rattle.std.proofs.Common.{inl, inr, refl, sym, ◌∙◌, ap, arith, subst}
-use Rattle.std.specs.Prelude.{slice_index_or}
 use Rattle.std.proofs.lemmas.Bool.{ne_eqb}
+use Rattle.std.proofs.lemmas.List.{length-take, length-drop}
+use Rattle.std.specs.List.{AllByRecursion}
+use Rattle.std.specs.Prelude.{slice_index_or}
 use Rattle.ltp_segment.specs.Kinds.{is_red}
 use Rattle.ltp_segment.specs.Policy.{PolicyValue}
 use Rattle.ltp_segment.specs.Values.{PieceValue, ReportValue, ContentValue, a_piece, a_report}
 use Rattle.ltp_segment.specs.Values.{a_report_ack, a_sender_cancel, a_sender_cancel_ack}
 use Rattle.ltp_segment.specs.Values.{a_receiver_cancel, a_receiver_cancel_ack}
-use Rattle.std.specs.List.{AllByRecursion}
-use Rattle.std.proofs.lemmas.List.{length-take, length-drop}
 use Rattle.ltp_segment.specs.declared.segment.PieceKind.TheVariants as kinds
-use Rattle.drain_laws.proofs.OnwardLemmas.{onward-asking, onward-rank, onward-reporting}
-use Rattle.drain_laws.proofs.RankLemmas.{round-row, weights-append}
-use Rattle.drain_laws.proofs.ReceiverDrains.{among-more, no_cancels-append, no_cancels-one}
-use Rattle.drain_laws.proofs.SenderRows.{Told, adds-onward, adds_only, asks_again, completes}
-use Rattle.drain_laws.proofs.SenderRows.{late-report-onward, report-told, reported-acked}
-use Rattle.drain_laws.specs.Calm.{WaitsOn, AreFit, Calm, Drains, Falls, Given, HandedUpWhole}
-use Rattle.drain_laws.specs.Calm.{HasSerials, NoCancels, Onward, Setting}
-use Rattle.drain_laws.specs.Hopeful.{IsHanded, IsOpen}
-use Rattle.drain_laws.specs.Calm.{is_cancel}
-use Rattle.drain_laws.specs.Rank.{IsAskedOn, IsReportedOn, weights}
-use Rattle.link_laws.proofs.AckLemmas.{length-claims}
-use Rattle.link_laws.proofs.CheckpointLemmas.{with-claims, checkpoint_at-asks, round-has}
-use Rattle.link_laws.proofs.ListLemmas.{answered, both_arms}
-use Rattle.link_laws.proofs.SerialLemmas.{among-append, among-right}
-use Rattle.link_laws.proofs.WholeLemmas.{place-filled}
-use Rattle.link_laws.specs.Blocks.{IsSenderOf}
-use Rattle.link_laws.specs.Checkpoints.{HasAsked, IsClaimedBy}
-use Rattle.link_laws.specs.Claims.{ClaimsFilled, HasPlace, IsReportOf}
-use Rattle.link_laws.specs.HandUps.{AllFilled}
-use Rattle.link_laws.specs.Kept.{IfKept}
-use Rattle.link_laws.specs.SenderSteps.{Adds, Rounds}
-use Rattle.link_laws.specs.Serials.{pending_of}
-use Rattle.link_laws.specs.View.{IsIn, View, sender_moves}
 use Rattle.ltp_session.specs.Cells.{cell}
 use Rattle.ltp_session.specs.Claims.{with_claims}
 use Rattle.ltp_session.specs.Receiver.{Pending, Receiving, piece_stop}
@@ -44,6 +21,28 @@ use Rattle.ltp_session.specs.Sender.{unclaimed, on_report, piece_at, red_pieces,
 use Rattle.ltp_session.specs.Sender.{segments_of, sender_answers, sender_open}
 use Rattle.ltp_session.specs.Step.{note_sent, StepValue, after, keeps}
 use Rattle.ltp_session.specs.declared.timer.Timer.{Timer}
+use Rattle.link_laws.specs.Blocks.{IsSenderOf}
+use Rattle.link_laws.specs.Checkpoints.{HasAsked, IsClaimedBy}
+use Rattle.link_laws.specs.Claims.{ClaimsFilled, HasPlace, IsReportOf}
+use Rattle.link_laws.specs.HandUps.{AllFilled}
+use Rattle.link_laws.specs.Kept.{IfKept}
+use Rattle.link_laws.specs.SenderSteps.{Adds, Rounds}
+use Rattle.link_laws.specs.Serials.{pending_of}
+use Rattle.link_laws.specs.View.{IsIn, View, sender_moves}
+use Rattle.link_laws.proofs.AckLemmas.{length-claims}
+use Rattle.link_laws.proofs.CheckpointLemmas.{with-claims, checkpoint_at-asks, round-has}
+use Rattle.link_laws.proofs.ListLemmas.{answered, both_arms}
+use Rattle.link_laws.proofs.SerialLemmas.{among-append, among-right}
+use Rattle.link_laws.proofs.WholeLemmas.{place-filled}
+use Rattle.drain_laws.specs.Calm.{WaitsOn, AreFit, Calm, Drains, Falls, Given, HandedUpWhole}
+use Rattle.drain_laws.specs.Calm.{HasSerials, NoCancels, Onward, Setting, is_cancel}
+use Rattle.drain_laws.specs.Hopeful.{IsHanded, IsOpen}
+use Rattle.drain_laws.specs.Rank.{IsAskedOn, IsReportedOn, weights}
+use Rattle.drain_laws.proofs.OnwardLemmas.{onward-asking, onward-rank, onward-reporting}
+use Rattle.drain_laws.proofs.RankLemmas.{round-row, weights-append}
+use Rattle.drain_laws.proofs.ReceiverDrains.{among-more, no_cancels-append, no_cancels-one}
+use Rattle.drain_laws.proofs.SenderRows.{Told, adds-onward, adds_only, asks_again, completes}
+use Rattle.drain_laws.proofs.SenderRows.{late-report-onward, report-told, reported-acked}
 
 -- ---- where all is claimed, the receiver has handed the red part up
 

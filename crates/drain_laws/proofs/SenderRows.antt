@@ -3,31 +3,30 @@
 use Rattle.std.proofs.Common.{◌≡◌, ◌≢◌, ℕ, suc, ◌+◌, ◌<◌, ◌≤◌, Bool, true, false, ◌==◌, List, []}
 use Rattle.std.proofs.Common.{◌∷◌, ◌++◌, length, take, Option, None, Some, ◌⊎◌, inl, inr, refl}
 use Rattle.std.proofs.Common.{sym, ◌∙◌, ap, arith, subst, nat_lt}
-use Rattle.std.specs.Prelude.{slice_index_or}
-use Rattle.std.proofs.lemmas.List.{length-take}
 use Rattle.std.proofs.lemmas.Bool.{eqb-false, eqb-true}
 use Rattle.std.proofs.lemmas.Bool.Decides.{nat_tests}
+use Rattle.std.proofs.lemmas.List.{length-take}
+use Rattle.std.specs.Prelude.{slice_index_or}
 use Rattle.ltp_segment.specs.Policy.{PolicyValue}
 use Rattle.ltp_segment.specs.Values.{PieceValue, ReportValue, ContentValue, a_piece, a_report}
 use Rattle.ltp_segment.specs.Values.{a_report_ack}
-use Rattle.drain_laws.proofs.PieceForms.{only_false}
-use Rattle.drain_laws.proofs.RankLemmas.{ahead-append, unclaimed-has}
-use Rattle.drain_laws.specs.Calm.{Onward}
-use Rattle.drain_laws.specs.Rank.{HasFilled, IsAskedOn, IsReportedOn, Settled, ahead}
-use Rattle.link_laws.proofs.ListLemmas.{by_arms}
-use Rattle.link_laws.proofs.SerialLemmas.{among-left, among-right}
-use Rattle.link_laws.proofs.WholeLemmas.{HasPart, cut-has}
-use Rattle.link_laws.specs.SenderSteps.{Rounds}
-use Rattle.link_laws.specs.View.{IsIn, View, sender_moves}
 use Rattle.ltp_session.specs.Claims.{with_claims}
-use Rattle.link_laws.proofs.AckLemmas.{length-claims}
-use Rattle.ltp_session.specs.Timer.{is_past_serials}
 use Rattle.ltp_session.specs.Sender.{with_report, Sending, checkpoint_at, is_all_claimed}
 use Rattle.ltp_session.specs.Sender.{last_segment, next_round, report_step, segments_of}
 use Rattle.ltp_session.specs.Sender.{sender_open, sends_again, takes_report, unclaimed}
 use Rattle.ltp_session.specs.Step.{note_sent, StepValue, after, ends, keeps}
-use Rattle.ltp_session.specs.Timer.{first_timer}
+use Rattle.ltp_session.specs.Timer.{is_past_serials, first_timer}
 use Rattle.ltp_session.specs.declared.timer.Timer.{Timer}
+use Rattle.link_laws.specs.SenderSteps.{Rounds}
+use Rattle.link_laws.specs.View.{IsIn, View, sender_moves}
+use Rattle.link_laws.proofs.AckLemmas.{length-claims}
+use Rattle.link_laws.proofs.ListLemmas.{by_arms}
+use Rattle.link_laws.proofs.SerialLemmas.{among-left, among-right}
+use Rattle.link_laws.proofs.WholeLemmas.{HasPart, cut-has}
+use Rattle.drain_laws.specs.Calm.{Onward}
+use Rattle.drain_laws.specs.Rank.{HasFilled, IsAskedOn, IsReportedOn, Settled, ahead}
+use Rattle.drain_laws.proofs.PieceForms.{only_false}
+use Rattle.drain_laws.proofs.RankLemmas.{ahead-append, unclaimed-has}
 
 -- ---- places
 

@@ -1,13 +1,12 @@
 -- In every run each piece that was sent has an octet, and each block is no longer than its
 -- engine's greatest.
 
-use Rattle.std.proofs.Common.{◌≡◌, ℕ, zero, suc, ◌+◌, ◌≤◌, ◌^◌, Bool, true, false, ◌==◌}
-use Rattle.std.proofs.Common.{List, [], ◌∷◌, ◌++◌, length, take, drop, Option, None, Some, inl}
-use Rattle.std.proofs.Common.{inr, refl, arith, subst}
-use Rattle.std.proofs.Common.{nat_lt, nat_le, if◌then◌else◌}
-use Rattle.std.specs.List.{AllByRecursion}
-use Rattle.std.proofs.lemmas.List.{length-take}
+use Rattle.std.proofs.Common.{◌≡◌, ℕ, zero, suc, ◌+◌, ◌≤◌, ◌^◌, Bool, true, false, ◌==◌, List, []}
+use Rattle.std.proofs.Common.{◌∷◌, ◌++◌, length, take, drop, Option, None, Some, inl, inr, refl}
+use Rattle.std.proofs.Common.{arith, subst, nat_lt, nat_le, if◌then◌else◌}
 use Rattle.std.proofs.lemmas.Bool.Decides.{nat_tests}
+use Rattle.std.proofs.lemmas.List.{length-take}
+use Rattle.std.specs.List.{AllByRecursion}
 use Rattle.ltp_segment.specs.Policy.{PolicyValue}
 use Rattle.ltp_segment.specs.Values.{ContentValue, PieceValue, ReportValue, a_piece}
 use Rattle.ltp_segment.specs.Values.{a_receiver_cancel, a_receiver_cancel_ack, a_report}

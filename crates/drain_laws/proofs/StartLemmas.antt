@@ -19,23 +19,23 @@ use Rattle.ltp_session.specs.World.{ArePeers, End, World, at_end, first_end, oth
 use Rattle.ltp_session.specs.World.{starts_world}
 use Rattle.link_laws.specs.Acknowledgements.{CloseFacts, IsSenderCancelling}
 use Rattle.link_laws.specs.Blocks.{BlockFacts, IsContentOf, IsPieceOf, IsSenderOf}
+use Rattle.link_laws.specs.Engines.{IsWellFormed}
 use Rattle.link_laws.specs.Facts.{SessionFacts}
 use Rattle.link_laws.specs.HandUps.{HasHandedUp}
 use Rattle.link_laws.specs.Kept.{IfKept}
 use Rattle.link_laws.specs.Log.{HasFacts, HasFactsBy, submissions}
 use Rattle.link_laws.specs.Serials.{pending_of}
 use Rattle.link_laws.specs.View.{View, said, view}
-use Rattle.link_laws.specs.Engines.{IsWellFormed}
 use Rattle.link_laws.proofs.FactLemmas.{session-keep}
 use Rattle.link_laws.proofs.LogLemmas.{engines_are_well_formed, every_submitted}
 use Rattle.link_laws.proofs.SerialLemmas.{all-among}
-use Rattle.drain_laws.specs.Standing.{DrainHolds, Stands, StandsBy, setting}
 use Rattle.drain_laws.specs.Calm.{AreFit, ClosesLate, Drains, HandedUpWhole, HasSerials}
 use Rattle.drain_laws.specs.Calm.{IsPromising, WaitsOn}
 use Rattle.drain_laws.specs.Hopeful.{AreAlike, Hopeful, IsHopeful, IsHopefulReceiver}
 use Rattle.drain_laws.specs.Hopeful.{IsHopefulReceiving, IsHopefulSender, IsHopefulSending}
 use Rattle.drain_laws.specs.Hopeful.{IsReached, kept_cost, limit_at}
 use Rattle.drain_laws.specs.Rank.{RankAtMost}
+use Rattle.drain_laws.specs.Standing.{DrainHolds, Stands, StandsBy, setting}
 use Rattle.drain_laws.proofs.DrainFrame.{Gives}
 use Rattle.drain_laws.proofs.DrainStarts.{calm-starts, rank-starts-kept, rank-starts-none}
 use Rattle.drain_laws.proofs.DrainStarts.{rank-starts-over}

@@ -7,14 +7,14 @@ use Rattle.ltp_segment.specs.Policy.{PolicyValue}
 use Rattle.ltp_segment.specs.Values.{PieceValue, ReportValue, ContentValue, a_piece, a_report}
 use Rattle.ltp_segment.specs.Values.{a_report_ack, a_sender_cancel, a_sender_cancel_ack}
 use Rattle.ltp_segment.specs.Values.{a_receiver_cancel, a_receiver_cancel_ack}
-use Rattle.drain_laws.proofs.OnwardLemmas.{onward-asking, onward-rank, onward-reporting}
-use Rattle.drain_laws.proofs.RankLemmas.{ahead-front}
+use Rattle.ltp_session.specs.Receiver.{Place, receiver_answers}
+use Rattle.ltp_session.specs.Sender.{sender_answers}
+use Rattle.link_laws.specs.View.{View}
 use Rattle.drain_laws.specs.Calm.{Drains, Falls, HasSerials, Onward, Setting}
 use Rattle.drain_laws.specs.Rank.{HasFilled, IsAskedOn, IsReportedOn, Settled, ahead, has_cell}
 use Rattle.drain_laws.specs.Rank.{is_checkpoint_of, weight, weights}
-use Rattle.link_laws.specs.View.{View}
-use Rattle.ltp_session.specs.Receiver.{Place, receiver_answers}
-use Rattle.ltp_session.specs.Sender.{sender_answers}
+use Rattle.drain_laws.proofs.OnwardLemmas.{onward-asking, onward-rank, onward-reporting}
+use Rattle.drain_laws.proofs.RankLemmas.{ahead-front}
 
 weighs : (e : ContentValue) → 1 ≤ weight e
 weighs (a_piece q) = by (is_checkpoint q.kind)

@@ -1,22 +1,9 @@
 -- A tick of both ends in a drain touches each session once.
 
-use Rattle.std.proofs.Common.{◌≡◌, ℕ, ◌+◌, ◌<◌, ◌≤◌, List, [], ◌∷◌, ◌++◌, length, Option}
-use Rattle.std.proofs.Common.{None, Some, inl, refl, sym, ◌∙◌, ap, arith, subst, append_assoc}
+use Rattle.std.proofs.Common.{◌≡◌, ℕ, ◌+◌, ◌<◌, ◌≤◌, List, [], ◌∷◌, ◌++◌, length, Option, None}
+use Rattle.std.proofs.Common.{Some, inl, refl, sym, ◌∙◌, ap, arith, subst, append_assoc}
 use Rattle.std.proofs.lemmas.List.{append-nil}
 use Rattle.ltp_segment.specs.Values.{PieceValue, ContentValue, a_piece, a_report}
-use Rattle.drain_laws.specs.Standing.{Stands, setting_by}
-use Rattle.drain_laws.proofs.DrainFrame.{was_begun, never_begun, Begun, Gives, is-begun}
-use Rattle.drain_laws.proofs.DrainFrame.{stands-so, stands-used}
-use Rattle.drain_laws.proofs.DrainLists.{added-said}
-use Rattle.drain_laws.proofs.TickRows.{receiver-first, receiving-fires, sender-first}
-use Rattle.drain_laws.proofs.TickRows.{sending-fires, tick-falls, ticked-advances}
-use Rattle.drain_laws.specs.Calm.{AreFit, Calm, Advances, Setting, Ticked}
-use Rattle.drain_laws.specs.Hopeful.{IsHanded, IsOpen}
-use Rattle.link_laws.proofs.FrameLemmas.{AreTwo, out_of, tick-own, tick-peer}
-use Rattle.link_laws.proofs.RunLemmas.{Linked, linked-apart}
-use Rattle.link_laws.specs.Runs.{KeepsUnder, no_facts, receiver_after, sender_after}
-use Rattle.link_laws.specs.Serials.{pending_of}
-use Rattle.link_laws.specs.View.{Unused, View, said, view_by}
 use Rattle.ltp_session.specs.Engine.{Engine, Party, receiver_ticks, sender_ticks, tick_engine}
 use Rattle.ltp_session.specs.Engine.{tick_out}
 use Rattle.ltp_session.specs.Receiver.{Pending, Receiving}
@@ -25,6 +12,19 @@ use Rattle.ltp_session.specs.Step.{StepValue}
 use Rattle.ltp_session.specs.Table.{AreAscending, find}
 use Rattle.ltp_session.specs.World.{End, Sent, sent_by}
 use Rattle.ltp_session.specs.declared.timer.Timer.{Timer}
+use Rattle.link_laws.specs.Runs.{KeepsUnder, no_facts, receiver_after, sender_after}
+use Rattle.link_laws.specs.Serials.{pending_of}
+use Rattle.link_laws.specs.View.{Unused, View, said, view_by}
+use Rattle.link_laws.proofs.FrameLemmas.{AreTwo, out_of, tick-own, tick-peer}
+use Rattle.link_laws.proofs.RunLemmas.{Linked, linked-apart}
+use Rattle.drain_laws.specs.Calm.{AreFit, Calm, Advances, Setting, Ticked}
+use Rattle.drain_laws.specs.Hopeful.{IsHanded, IsOpen}
+use Rattle.drain_laws.specs.Standing.{Stands, setting_by}
+use Rattle.drain_laws.proofs.DrainFrame.{was_begun, never_begun, Begun, Gives, is-begun}
+use Rattle.drain_laws.proofs.DrainFrame.{stands-so, stands-used}
+use Rattle.drain_laws.proofs.DrainLists.{added-said}
+use Rattle.drain_laws.proofs.TickRows.{receiver-first, receiving-fires, sender-first}
+use Rattle.drain_laws.proofs.TickRows.{sending-fires, tick-falls, ticked-advances}
 
 -- a session after a tick: one less for each datagram that it sent
 pub record TickLower (F : List ℕ → ℕ → View → Type 0) (set : ℕ → Setting) (v : View)

@@ -8,22 +8,6 @@ use Rattle.std.proofs.lemmas.List.{append-nil}
 use Rattle.ltp_segment.specs.Kinds.{is_checkpoint}
 use Rattle.ltp_segment.specs.Policy.{PolicyValue}
 use Rattle.ltp_segment.specs.Values.{PieceValue, ReportValue, ContentValue, a_piece, a_report}
-use Rattle.drain_laws.proofs.DrainStarts.{none-asked, none-reported}
-use Rattle.drain_laws.specs.Calm.{sender_rests, Calm, Drains, Given, Advances}
-use Rattle.drain_laws.specs.Hopeful.{IsHanded, IsOpen}
-use Rattle.drain_laws.specs.Calm.{ReceiverTicked, SenderTicked, Setting, TickFalls, Ticked}
-use Rattle.drain_laws.specs.Calm.{WaitsOn, asks, is_cancel, sleeps, tells}
-use Rattle.drain_laws.specs.Rank.{HasFilled, IsAskedOn, IsReportedOn, Settled, ahead, weight}
-use Rattle.drain_laws.specs.Rank.{weights}
-use Rattle.link_laws.proofs.FrameLemmas.{out_of}
-use Rattle.link_laws.proofs.ListLemmas.{both_arms}
-use Rattle.link_laws.proofs.SerialLemmas.{among-append, among-right}
-use Rattle.link_laws.specs.Checkpoints.{HasAsked}
-use Rattle.link_laws.specs.Claims.{IsWhole}
-use Rattle.link_laws.specs.Kept.{IfKept}
-use Rattle.link_laws.specs.Runs.{receiver_after, sender_after}
-use Rattle.link_laws.specs.Serials.{HasReported, pending_of}
-use Rattle.link_laws.specs.View.{IsIn, View, closed_after}
 use Rattle.ltp_session.specs.Cells.{cell}
 use Rattle.ltp_session.specs.Receiver.{receiver_due, Pending, Receiving, ReceivingPhase}
 use Rattle.ltp_session.specs.Receiver.{is_cancelling, receiver_cancelling, receiver_open}
@@ -33,6 +17,22 @@ use Rattle.ltp_session.specs.Sender.{sending_timer}
 use Rattle.ltp_session.specs.Step.{StepValue, after}
 use Rattle.ltp_session.specs.Timer.{next_timer}
 use Rattle.ltp_session.specs.declared.timer.Timer.{Timer}
+use Rattle.link_laws.specs.Checkpoints.{HasAsked}
+use Rattle.link_laws.specs.Claims.{IsWhole}
+use Rattle.link_laws.specs.Kept.{IfKept}
+use Rattle.link_laws.specs.Runs.{receiver_after, sender_after}
+use Rattle.link_laws.specs.Serials.{HasReported, pending_of}
+use Rattle.link_laws.specs.View.{IsIn, View, closed_after}
+use Rattle.link_laws.proofs.FrameLemmas.{out_of}
+use Rattle.link_laws.proofs.ListLemmas.{both_arms}
+use Rattle.link_laws.proofs.SerialLemmas.{among-append, among-right}
+use Rattle.drain_laws.specs.Calm.{sender_rests, Calm, Drains, Given, Advances, ReceiverTicked}
+use Rattle.drain_laws.specs.Calm.{SenderTicked, Setting, TickFalls, Ticked, WaitsOn, asks}
+use Rattle.drain_laws.specs.Calm.{is_cancel, sleeps, tells}
+use Rattle.drain_laws.specs.Hopeful.{IsHanded, IsOpen}
+use Rattle.drain_laws.specs.Rank.{HasFilled, IsAskedOn, IsReportedOn, Settled, ahead, weight}
+use Rattle.drain_laws.specs.Rank.{weights}
+use Rattle.drain_laws.proofs.DrainStarts.{none-asked, none-reported}
 
 only_true : {A : Type 0} (P : A → Type 0) (b : Bool) (x y : A) → b ≡ true → P x
     → P (if b then x else y)

@@ -9,18 +9,18 @@ use Rattle.ltp_segment.specs.Kinds.{is_red}
 use Rattle.ltp_segment.specs.Values.{PieceValue, ContentValue, a_piece, a_report, a_report_ack}
 use Rattle.ltp_segment.specs.Values.{a_sender_cancel, a_sender_cancel_ack, a_receiver_cancel}
 use Rattle.ltp_segment.specs.Values.{a_receiver_cancel_ack}
-use Rattle.drain_laws.specs.Hopeful.{IsHanded, IsOpen}
-use Rattle.drain_laws.specs.Rank.{IsAskedOn, IsReportedOn, RankAtMost, Settled}
-use Rattle.link_laws.specs.HandUps.{AllFilled}
-use Rattle.link_laws.specs.Kept.{IfKept}
-use Rattle.link_laws.specs.Runs.{AskedFacts}
-use Rattle.link_laws.specs.Serials.{pending_of}
-use Rattle.link_laws.specs.View.{IsIn, View}
 use Rattle.ltp_session.specs.Claims.{is_whole_claim}
 use Rattle.ltp_session.specs.Receiver.{Pending, Receiving, is_cancelling, piece_stop}
 use Rattle.ltp_session.specs.Sender.{Sending, sender_open}
 use Rattle.ltp_session.specs.Timer.{first_serial}
 use Rattle.ltp_session.specs.declared.timer.Timer.{Timer}
+use Rattle.link_laws.specs.HandUps.{AllFilled}
+use Rattle.link_laws.specs.Kept.{IfKept}
+use Rattle.link_laws.specs.Runs.{AskedFacts}
+use Rattle.link_laws.specs.Serials.{pending_of}
+use Rattle.link_laws.specs.View.{IsIn, View}
+use Rattle.drain_laws.specs.Hopeful.{IsHanded, IsOpen}
+use Rattle.drain_laws.specs.Rank.{IsAskedOn, IsReportedOn, RankAtMost, Settled}
 
 -- ---- the facts of a session that a drain rests on
 

@@ -2,9 +2,9 @@
 -- lost; whatever is sent from then on is delivered, once and in order; and the clock moves where
 -- nothing is left to deliver.
 
+use Rattle.std.specs.Option.{option_map}
 use Rattle.std.specs.Prelude.{◌≡◌, ℕ, ◌+◌, nat_lt, List, [], ◌∷◌, length, Option, None, Some}
 use Rattle.std.specs.Prelude.{if◌then◌else◌}
-use Rattle.std.specs.Option.{option_map}
 use Rattle.ltp_session.specs.Engine.{Party, earlier, next_deadline}
 use Rattle.ltp_session.specs.World.{Event, World, clock, deliver, happens, run, submit}
 

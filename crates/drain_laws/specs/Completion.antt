@@ -6,10 +6,9 @@ use Rattle.ltp_session.specs.Engine.{Party}
 use Rattle.ltp_session.specs.Receiver.{Receiving, is_cancelling}
 use Rattle.ltp_session.specs.World.{ArePeers, End, Event, World, other, run}
 use Rattle.link_laws.specs.View.{view}
-use Rattle.drain_laws.specs.Hopeful.{IsHanded, IsOpen}
 use Rattle.drain_laws.specs.Clean.{AreCleanFrom, CleanRun}
 use Rattle.drain_laws.specs.Effects.{IsHandedUp, IsNoted, effects_in}
-use Rattle.drain_laws.specs.Hopeful.{AreAlike, Hopeful, IsReached, Room, cost}
+use Rattle.drain_laws.specs.Hopeful.{IsHanded, IsOpen, AreAlike, Hopeful, IsReached, Room, cost}
 
 -- a world from which a drain completes its sessions
 pub record IsReady (parties : Party × Party) (w : World) : Type 0 where

@@ -2,11 +2,9 @@
 -- may submit more.
 
 use Rattle.std.specs.Prelude.{◌≡◌, ℕ, ◌<◌, ◌≤◌, List, [], ◌∷◌, ◌++◌, length, drop, Option, None}
-use Rattle.std.specs.Prelude.{Some}
-use Rattle.std.specs.Prelude.{◌⊎◌, if◌then◌else◌}
+use Rattle.std.specs.Prelude.{Some, ◌⊎◌, if◌then◌else◌}
 use Rattle.ltp_session.specs.Engine.{Party}
-use Rattle.ltp_session.specs.World.{End, Sent, World, arrival, clock, happens, other}
-use Rattle.ltp_session.specs.World.{submit}
+use Rattle.ltp_session.specs.World.{End, Sent, World, arrival, clock, happens, other, submit}
 use Rattle.link_laws.specs.View.{same_end}
 use Rattle.drain_laws.specs.Clean.{link_deadline}
 use Rattle.drain_laws.specs.Hopeful.{Room}

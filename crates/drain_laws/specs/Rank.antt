@@ -10,13 +10,13 @@ use Rattle.std.specs.Prelude.{is_some, ◌⊎◌, if◌then◌else◌}
 use Rattle.ltp_segment.specs.Kinds.{is_red, is_checkpoint}
 use Rattle.ltp_segment.specs.Values.{PieceValue, ReportValue, ContentValue, a_piece, a_report}
 use Rattle.ltp_segment.specs.Values.{a_report_ack}
-use Rattle.link_laws.specs.Serials.{pending_of}
-use Rattle.link_laws.specs.Claims.{IsWhole}
-use Rattle.link_laws.specs.View.{IsIn, View}
 use Rattle.ltp_session.specs.Cells.{cell}
 use Rattle.ltp_session.specs.Receiver.{Pending, Receiving}
 use Rattle.ltp_session.specs.Sender.{Sending, segments_of, sender_open}
 use Rattle.ltp_session.specs.declared.timer.Timer.{Timer}
+use Rattle.link_laws.specs.Claims.{IsWhole}
+use Rattle.link_laws.specs.Serials.{pending_of}
+use Rattle.link_laws.specs.View.{IsIn, View}
 
 -- a checkpoint is delivered, and so are the report on it and that report's acknowledgement; a
 -- report and its acknowledgement; anything else alone

@@ -1,7 +1,6 @@
 -- The rank of each session of a link that drains: how many events it still takes, at most.
 
-use Rattle.std.specs.Prelude.{◌≡◌, ℕ, ◌<◌, ◌≤◌, true, List, [], ◌∷◌, None}
-use Rattle.std.specs.Prelude.{Some, ◌⊎◌}
+use Rattle.std.specs.Prelude.{◌≡◌, ℕ, ◌<◌, ◌≤◌, true, List, [], ◌∷◌, None, Some, ◌⊎◌}
 use Rattle.ltp_session.specs.Engine.{Party}
 use Rattle.ltp_session.specs.Receiver.{Receiving, receiver_deadline}
 use Rattle.ltp_session.specs.Sender.{Sending, sender_deadline}
@@ -9,8 +8,7 @@ use Rattle.ltp_session.specs.World.{End, World, at_end, other}
 use Rattle.link_laws.specs.View.{View, said, view}
 use Rattle.drain_laws.specs.Completion.{IsReady}
 use Rattle.drain_laws.specs.Draining.{Draining, DrainStep, MayHappen, Oldest, after_step}
-use Rattle.drain_laws.specs.Draining.{begins_at, oldest}
-use Rattle.drain_laws.specs.Draining.{sets_clock, submits_block, takes_oldest}
+use Rattle.drain_laws.specs.Draining.{begins_at, oldest, sets_clock, submits_block, takes_oldest}
 use Rattle.drain_laws.specs.Hopeful.{session_cost}
 
 -- a session without a timer: its sender isn't kept, and no timer of its receiver runs

@@ -4,18 +4,17 @@ use Rattle.std.specs.Prelude.{◌≡◌, ◌≢◌, ℕ, ◌+◌, ◌<◌, ◌�
 use Rattle.std.specs.Prelude.{length, take, drop, Some, ◌⊎◌}
 use Rattle.ltp_segment.specs.Values.{ContentValue}
 use Rattle.ltp_segment.specs.declared.session.Note.TheVariants as notes
-use Rattle.drain_laws.specs.Draining.{Draining}
-use Rattle.drain_laws.specs.Hopeful.{sum_below}
-use Rattle.drain_laws.specs.Effects.{EndEffects, IsHandedUp, IsNoted}
-use Rattle.drain_laws.specs.Calm.{Advances, Drains, IsComing, Setting}
-use Rattle.link_laws.specs.Serials.{pending_of}
-use Rattle.link_laws.specs.View.{Unused, View, said, view}
 use Rattle.ltp_session.specs.Engine.{Party, closed_runs}
 use Rattle.ltp_session.specs.Receiver.{Pending, Receiving}
 use Rattle.ltp_session.specs.Sender.{Sending, segments_of, sending_timer}
 use Rattle.ltp_session.specs.Table.{AreAscending}
-use Rattle.ltp_session.specs.World.{End, Sent, World, at_end, first_end, other}
-use Rattle.ltp_session.specs.World.{second_end}
+use Rattle.ltp_session.specs.World.{End, Sent, World, at_end, first_end, other, second_end}
+use Rattle.link_laws.specs.Serials.{pending_of}
+use Rattle.link_laws.specs.View.{Unused, View, said, view}
+use Rattle.drain_laws.specs.Calm.{Advances, Drains, IsComing, Setting}
+use Rattle.drain_laws.specs.Draining.{Draining}
+use Rattle.drain_laws.specs.Effects.{EndEffects, IsHandedUp, IsNoted}
+use Rattle.drain_laws.specs.Hopeful.{sum_below}
 
 -- there is room for each session that is coming
 pub record IsRoomy (parties : Party × Party) (w : World) : Type 0 where

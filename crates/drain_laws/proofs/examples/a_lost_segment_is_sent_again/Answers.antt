@@ -1,12 +1,16 @@
 use Rattle.std.proofs.Common.{refl}
+use Rattle.spans.specs.Places.{runs_of}
 use Rattle.ltp_session.specs.Cells.{filled, all_octets}
 use Rattle.ltp_session.specs.Claims.{report_on, claims_below, with_range, with_claims}
-use Rattle.ltp_session.specs.Engine.{submits, arrives, with_receiver, untouched, evicted_of, closed_runs, tick_segments, tick_remarks, least_deadline}
-use Rattle.ltp_session.specs.Receiver.{receiver_answers, piece_step, report_of, acknowledged, receiver_tick}
-use Rattle.ltp_session.specs.Sender.{begin, segments_from, last_segment, red_pieces, green_pieces, sender_answers, report_step, are_claimed, unclaimed, sender_tick}
+use Rattle.ltp_session.specs.Engine.{submits, arrives, with_receiver, untouched, evicted_of}
+use Rattle.ltp_session.specs.Engine.{closed_runs, tick_segments, tick_remarks, least_deadline}
+use Rattle.ltp_session.specs.Receiver.{receiver_answers, piece_step, report_of, acknowledged}
+use Rattle.ltp_session.specs.Receiver.{receiver_tick}
+use Rattle.ltp_session.specs.Sender.{begin, segments_from, last_segment, red_pieces, green_pieces}
+use Rattle.ltp_session.specs.Sender.{sender_answers, report_step, are_claimed, unclaimed}
+use Rattle.ltp_session.specs.Sender.{sender_tick}
 use Rattle.ltp_session.specs.Table.{find, put, without, ticked, ended}
 use Rattle.ltp_session.specs.World.{submitted, ticks}
-use Rattle.spans.specs.Places.{runs_of}
 use Rattle.drain_laws.proofs.examples.a_lost_segment_is_sent_again.Goals as goal
 
 pub returns : goal.returns

@@ -1,8 +1,8 @@
 use Rattle.std.proofs.Common.{refl}
 use Rattle.ltp_session.specs.Engine.{least_deadline}
-use Rattle.drain_laws.specs.Hopeful.{cost, sum_below, different}
 use Rattle.ltp_session.specs.Table.{find}
 use Rattle.link_laws.specs.View.{said}
+use Rattle.drain_laws.specs.Hopeful.{cost, sum_below, different}
 use Rattle.drain_laws.proofs.examples.a_silent_link_costs_nothing.Goals as goal
 
 pub returns : goal.returns

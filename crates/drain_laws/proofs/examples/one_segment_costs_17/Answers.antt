@@ -3,8 +3,8 @@ use Rattle.ltp_session.specs.Engine.{submits}
 use Rattle.ltp_session.specs.Sender.{begin, green_pieces, last_segment, red_pieces, segments_from}
 use Rattle.ltp_session.specs.Table.{find, put}
 use Rattle.ltp_session.specs.World.{submitted}
-use Rattle.drain_laws.specs.Hopeful.{cost, different, sum_below}
 use Rattle.link_laws.specs.View.{said}
+use Rattle.drain_laws.specs.Hopeful.{cost, different, sum_below}
 use Rattle.drain_laws.proofs.examples.one_segment_costs_17.Goals as goal
 
 pub returns : goal.returns

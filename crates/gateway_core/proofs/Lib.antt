@@ -1,0 +1,5 @@
+mod QuietLemmas
+mod GateLemmas
+mod DidLemmas
+mod SendLemmas
+mod LawLemmas

@@ -1,0 +1,280 @@
+//! What the gateway does in answer to an event.
+
+ghost use Rattle.std.specs.Prelude.{◌≡◌, ◌++◌, map, take, IfOk};
+ghost use Rattle.gateway_core.specs.Gate.{engine_note_at};
+ghost use Rattle.gateway_core.specs.Effects.{datagram_at, told_at};
+
+use crate::note::GateNote;
+use endpoint::Octets;
+use gate_cases::Face;
+use ltp_engine::{Effects, Notes, Up, Ups};
+use ltp_segment::Outs;
+use std::alloc::{AllocError, Global};
+use std::marker::Model;
+
+/// A datagram that is to be sent.
+#[derive(Debug, Drop)]
+pub struct Routed {
+    /// The face at which it goes out.
+    pub face: Face,
+    /// The datagram.
+    pub datagram: Octets,
+}
+
+/// Datagrams that are to be sent, in their order.
+#[derive(Debug, Drop)]
+pub struct RoutedList {
+    items: Vec<Routed>,
+}
+
+impl Model for RoutedList {
+    ghost use Rattle.std.specs.Prelude.{List};
+    ghost use Rattle.gateway_core.specs.declared.effects.Routed.{Routed};
+
+    ghost Value = { List Routed };
+
+    ghost view = { λ out. out.items.items };
+}
+
+impl RoutedList {
+    /// These datagrams, moved and not copied.
+    pub fn from_vec(items: Vec<Routed>) -> RoutedList
+        ensures { result ≡ items.items }
+    {
+        RoutedList { items }
+    }
+
+    /// The datagrams, moved and not copied.
+    pub fn into_vec(self) -> Vec<Routed>
+        ensures { result.items ≡ self }
+    {
+        let RoutedList { items } = self;
+        items
+    }
+
+    /// The datagrams, lent.
+    pub fn as_slice(&self) -> &[Routed]
+        ensures { result.now ≡ self.now }
+    {
+        self.items.as_slice()
+    }
+}
+
+/// A red part that was handed up at a face.
+#[derive(Debug, Drop)]
+pub struct FaceUp {
+    /// The face at which it came.
+    pub face: Face,
+    /// The session's number.
+    pub session: u64,
+    /// The octets of the red part.
+    pub body: Octets,
+}
+
+/// Red parts that were handed up, in their order.
+#[derive(Debug, Drop)]
+pub struct FaceUps {
+    items: Vec<FaceUp>,
+}
+
+impl Model for FaceUps {
+    ghost use Rattle.std.specs.Prelude.{List};
+    ghost use Rattle.gateway_core.specs.declared.effects.FaceUp.{FaceUp};
+
+    ghost Value = { List FaceUp };
+
+    ghost view = { λ ups. ups.items.items };
+}
+
+impl FaceUps {
+    /// These red parts, moved and not copied.
+    pub fn from_vec(items: Vec<FaceUp>) -> FaceUps
+        ensures { result ≡ items.items }
+    {
+        FaceUps { items }
+    }
+
+    /// The red parts, moved and not copied.
+    pub fn into_vec(self) -> Vec<FaceUp>
+        ensures { result.items ≡ self }
+    {
+        let FaceUps { items } = self;
+        items
+    }
+
+    /// The red parts, lent.
+    pub fn as_slice(&self) -> &[FaceUp]
+        ensures { result.now ≡ self.now }
+    {
+        self.items.as_slice()
+    }
+}
+
+/// A note, and the face that it is about.
+#[derive(Clone, Copy, Debug, PartialEq, Eq)]
+pub struct FaceNote {
+    /// The face.
+    pub face: Face,
+    /// The note.
+    pub note: GateNote,
+}
+
+/// Notes, in their order.
+#[derive(Debug, Drop)]
+pub struct GateNotes {
+    items: Vec<FaceNote>,
+}
+
+impl Model for GateNotes {
+    ghost use Rattle.std.specs.Prelude.{List};
+    ghost use Rattle.gateway_core.specs.declared.effects.FaceNote.{FaceNote};
+
+    ghost Value = { List FaceNote };
+
+    ghost view = { λ notes. notes.items.items };
+}
+
+impl GateNotes {
+    /// These notes, moved and not copied.
+    pub fn from_vec(items: Vec<FaceNote>) -> GateNotes
+        ensures { result ≡ items.items }
+    {
+        GateNotes { items }
+    }
+
+    /// The notes, moved and not copied.
+    pub fn into_vec(self) -> Vec<FaceNote>
+        ensures { result.items ≡ self }
+    {
+        let GateNotes { items } = self;
+        items
+    }
+
+    /// The notes, lent.
+    pub fn as_slice(&self) -> &[FaceNote]
+        ensures { result.now ≡ self.now }
+    {
+        self.items.as_slice()
+    }
+}
+
+/// What the gateway does in answer to an event.
+#[derive(Debug, Drop)]
+pub struct GateEffects {
+    /// The datagrams that are to be sent: those of the sessions that the event is about, then those of
+    /// the pieces that go on, then those of the report.
+    pub out: RoutedList,
+    /// The red parts that were handed up.
+    pub ups: FaceUps,
+    /// What is to be noted: by the engines, then what became of the block, then what of its report.
+    pub notes: GateNotes,
+}
+
+impl GateEffects {
+    ghost use Rattle.gateway_core.specs.Effects.{nothing_routed, only_noted_at, routed_at, joined_with};
+
+    /// Nothing is done. It takes no memory.
+    pub(crate) fn none(alloc: Global) -> GateEffects
+        ensures { result ≡ nothing_routed }
+    {
+        GateEffects {
+            out: RoutedList::from_vec(Vec::new(alloc)),
+            ups: FaceUps::from_vec(Vec::new(alloc)),
+            notes: GateNotes::from_vec(Vec::new(alloc)),
+        }
+    }
+
+    /// Nothing is done but a note.
+    pub(crate) fn noted(
+        alloc: Global,
+        face: Face,
+        note: GateNote,
+    ) -> Result<GateEffects, AllocError>
+        ensures { IfOk result (λ effects. effects ≡ only_noted_at face note) }
+    {
+        let mut notes = Vec::new(alloc);
+        notes.push(FaceNote { face, note })?;
+        Ok(GateEffects {
+            out: RoutedList::from_vec(Vec::new(alloc)),
+            ups: FaceUps::from_vec(Vec::new(alloc)),
+            notes: GateNotes::from_vec(notes),
+        })
+    }
+
+    /// What the engine of a face does is done there. Green data is dropped.
+    pub(crate) fn at(alloc: Global, face: Face, told: Effects) -> Result<GateEffects, AllocError>
+        ensures { IfOk result (λ effects. effects ≡ routed_at face told) }
+    {
+        let Effects {
+            out,
+            ups,
+            notes,
+            ..
+        } = told;
+        Ok(GateEffects {
+            out: datagrams_at(alloc, face, out)?,
+            ups: ups_at(alloc, face, ups)?,
+            notes: notes_at(alloc, face, notes)?,
+        })
+    }
+
+    /// These effects, and others after them.
+    pub(crate) fn followed_by(self, more: GateEffects) -> Result<GateEffects, AllocError>
+        ensures { IfOk result (λ all. all ≡ joined_with self more) }
+    {
+        let GateEffects { out, ups, notes } = self;
+        let mut out = out.into_vec();
+        let mut ups = ups.into_vec();
+        let mut notes = notes.into_vec();
+        let mut more_out = more.out.into_vec();
+        let mut more_ups = more.ups.into_vec();
+        let mut more_notes = more.notes.into_vec();
+        out.append(&mut more_out)?;
+        ups.append(&mut more_ups)?;
+        notes.append(&mut more_notes)?;
+        Ok(GateEffects {
+            out: RoutedList::from_vec(out),
+            ups: FaceUps::from_vec(ups),
+            notes: GateNotes::from_vec(notes),
+        })
+    }
+}
+
+/// Datagrams that go out at a face.
+fn datagrams_at(alloc: Global, face: Face, out: Outs) -> Result<RoutedList, AllocError>
+    ensures { IfOk result (λ all. all ≡ map (datagram_at face) out) }
+{
+    let mut items = Vec::new(alloc);
+    'each: for datagram in out.into_vec() {
+        items.push(Routed { face, datagram })?;
+    }
+    Ok(RoutedList { items })
+}
+
+/// Red parts that were handed up at a face.
+fn ups_at(alloc: Global, face: Face, ups: Ups) -> Result<FaceUps, AllocError>
+    ensures { IfOk result (λ all. all ≡ map (told_at face) ups) }
+{
+    let mut items = Vec::new(alloc);
+    'each: for up in ups.into_vec() {
+        let Up { session, body } = up;
+        items.push(FaceUp {
+            face,
+            session,
+            body,
+        })?;
+    }
+    Ok(FaceUps { items })
+}
+
+/// Notes about a face, by its engine.
+fn notes_at(alloc: Global, face: Face, notes: Notes) -> Result<GateNotes, AllocError>
+    ensures { IfOk result (λ all. all ≡ map (engine_note_at face) notes) }
+{
+    let mut items = Vec::new(alloc);
+    'each: for note in notes.into_vec() {
+        let note = GateNote::Engine { note };
+        items.push(FaceNote { face, note })?;
+    }
+    Ok(GateNotes { items })
+}

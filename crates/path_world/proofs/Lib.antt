@@ -1,0 +1,7 @@
+mod ChunkLemmas
+mod StepLemmas
+mod RunLemmas
+mod LogLemmas
+mod LawLemmas
+mod OriginLemmas
+mod SendLemmas

@@ -1,0 +1,681 @@
+-- Acts, one after the other, and code that does them.
+use Rattle.std.proofs.Common.{◌≡◌, ℕ, zero, suc, ◌+◌, ◌-◌, ◌≤◌, Bool, List, [], ◌∷◌, ◌++◌, map, drop, take, length, get_or, false, ◌<◌, Option, None, Some, Result, Ok, Err, OnOk, OnErr, IsErrAnd, subst, true, refl, sym, ◌∙◌, ap, append_assoc, arith}
+use Rattle.std.proofs.lemmas.List.{append-nil, at_drop_more}
+use Rattle.std.specs.List.{flat_map}
+use Rattle.edge_traits.specs.Content.{Gains, GainsFront}
+use Rattle.edge_traits.specs.Datagrams.{PollsAtMost}
+use Rattle.edge_traits.specs.Faults.{one_more, NoneFailed}
+use Rattle.edge_traits.specs.Outcome.{SinkTells}
+use Rattle.edge_traits.proofs.ContentLemmas.{Gains-none, Gains-more, GainsFront-none}
+use Rattle.edge_traits.proofs.FaultsLemmas.{NoneFailed-same, NoneFailed-more, LastFailed-after}
+use Rattle.gate_cases.specs.declared.face.Face.{Face}
+use Rattle.gate_cases.specs.declared.face.Face.TheVariants.{Old, New}
+use Rattle.serve_run.specs.declared.stop.Stop.{Stop}
+use Rattle.serve_run.specs.declared.stop.Stop.TheVariants.{Fault, NoMemory}
+use Rattle.edge_traits.specs.declared.status.Status.TheVariants.{Done}
+use Rattle.serve_run.specs.Outside.{LinkAhead, ClockAhead, Outside, Polled, failed, empty, gave}
+use Rattle.gateway_core.specs.declared.effects.Routed.{Routed}
+use Rattle.serve_run.specs.Turns.{Said, lines, link_failed, says, does, StepEffects, only_said, only_sent, notes_failed, polls, answers, TurnRules, half, turn, turns, reads_clock, sends, sends_all, Made, nothing, with_more, Acted, Act, give, put_before, ◌>>=◌}
+use Rattle.serve_run.specs.Tells.{LinkTells, OutsideTells, LinkAgrees, ClockAgrees, RanTurns, status_of, Agrees, said_text, text_of, noted, is_about, counted, LinkWent, LinksWent, Does, Leads, IsFrontOf, Breaks, Passed, Stopped, StopsWriting, Goes, WroteText, PolledAs, StepsTo, polled_in, Sent, Unsent, made_by_send, link_line}
+
+-- ---- what was made
+
+with_more-nothing : (made : Made) → with_more made nothing ≡ made
+with_more-nothing made = rw (append-nil made.said, append-nil made.old, append-nil made.new) refl
+
+pub with_more-assoc : (a b c : Made) → with_more (with_more a b) c ≡ with_more a (with_more b c)
+with_more-assoc a b c = rw (append_assoc a.said b.said c.said, append_assoc a.old b.old c.old, append_assoc a.new b.new c.new) refl
+
+text-append : (xs ys : List Said) → flat_map said_text (xs ++ ys) ≡ flat_map said_text xs ++ flat_map said_text ys
+text-append [] ys = refl
+text-append (x ∷ xs) ys = ap (λ v. said_text x ++ v) (text-append xs ys) ∙ sym (append_assoc (said_text x) (flat_map said_text xs) (flat_map said_text ys))
+
+pub text-more : (a b : Made) → text_of (with_more a b) ≡ text_of a ++ text_of b
+text-more a b = text-append a.said b.said
+
+noted-append : (face : Face) (xs ys : List Said) → noted face (xs ++ ys) ≡ noted face xs + noted face ys
+noted-append face [] ys = omega arith
+noted-append face (x ∷ xs) ys = ap (λ v. is_about face x + v) (noted-append face xs ys) ∙ omega arith
+
+counted-more : (n m f : ℕ) → counted (counted f n) m ≡ counted f (n + m)
+counted-more zero m f =
+    let none : m ≡ 0 + m = omega arith in
+    ap (counted f) none
+counted-more (suc n) m f =
+    let one : suc n + m ≡ suc (n + m) = omega arith in
+    counted-more n m (one_more f) ∙ ap (counted f) (sym one)
+
+put-twice : {X : Type 0} (a b : Made) (acted : Acted X) → put_before a (put_before b acted) ≡ put_before (with_more a b) acted
+put-twice a b acted = rw (with_more-assoc a b acted.made) refl
+
+-- ---- links
+
+LinkWent-more : (s t : List (List ℕ)) (n m : ℕ) (a b c : LinkTells) → LinkWent s n a b → LinkWent t m b c → LinkWent (s ++ t) (n + m) a c
+LinkWent-more s t n m a b c first second = record {
+  gone = Gains-more a.gone b.gone c.gone s t first.gone second.gone;
+  count = second.count ∙ ap (λ f. counted f m) first.count ∙ counted-more n m a.faults;
+}
+
+LinksWent-none : (t : OutsideTells) → LinksWent nothing t t
+LinksWent-none t = record {
+  old = record { gone = Gains-none t.old.gone; count = refl };
+  new = record { gone = Gains-none t.new.gone; count = refl };
+}
+
+LinksWent-more : (first second : Made) (a b c : OutsideTells) → LinksWent first a b → LinksWent second b c → LinksWent (with_more first second) a c
+LinksWent-more first second a b c one two = record {
+  old = rw (noted-append Old first.said second.said) (LinkWent-more _ _ _ _ _ b.old _ one.old two.old);
+  new = rw (noted-append New first.said second.said) (LinkWent-more _ _ _ _ _ b.new _ one.new two.new);
+}
+
+-- ---- acts
+
+module _ {X : Type 0} where
+  pub Leads-start : (act : Act X) (t : OutsideTells) → Leads act nothing act t t
+  Leads-start act t = record { back = λ later agrees. (later, agrees, refl); links = LinksWent-none t }
+
+  pub Leads-more : {Y : Type 0} (act : Act X) (one : Act Y) (next : Y → Act X) (y : Y) (first second : Made) (a b c : OutsideTells)
+      → Leads act first (one >>= next) a b → Does one y second b c → Leads act (with_more first second) (next y) a c
+  Leads-more act one next y first second a b c leads does = record {
+    back = λ later agrees.
+        let (middle, middle_is, done) = does.back later agrees in
+        let (start, start_is, led) = leads.back middle middle_is in (
+          start,
+          start_is,
+          led ∙ ap (λ acted. put_before first (put_before acted.made (next acted.value acted.outside))) done
+              ∙ put-twice first second (next y later),
+        );
+    links = LinksWent-more first second a b c leads.links does.links;
+  }
+
+  pub Leads-end : (act : Act X) (x : X) (made : Made) (a b : OutsideTells) → Leads act made (give x) a b → Does act x made a b
+  Leads-end act x made a b leads = record {
+    back = λ later agrees.
+        let (start, start_is, led) = leads.back later agrees in
+        (start, start_is, led ∙ ap (λ m. record { value = x; outside = later; made = m }) (with_more-nothing made));
+    links = leads.links;
+  }
+
+  pub Leads-break : (act rest : Act X) (made : Made) (a b : OutsideTells) → Leads act made rest a b → Breaks act made a b
+  Leads-break act rest made a b leads = record {
+    back = λ later agrees.
+        let (start, start_is, led) = leads.back later agrees in
+        (start, start_is, ((rest later).made, ap (λ acted. acted.made) led));
+    links = leads.links;
+  }
+
+  pub Breaks-more : {Y : Type 0} (act : Act X) (one : Act Y) (next : Y → Act X) (first second : Made) (a b c : OutsideTells)
+      → Leads act first (one >>= next) a b → Breaks one second b c → Breaks act (with_more first second) a c
+  Breaks-more act one next first second a b c leads breaks = record {
+    back = λ later agrees.
+        let (middle, middle_is, (more, parts)) = breaks.back later agrees in
+        let (start, start_is, led) = leads.back middle middle_is in
+        let rest = (next (one middle).value (one middle).outside).made in
+        let whole : (act start).made ≡ with_more first (with_more (one middle).made rest) = ap (λ acted. acted.made) led in (
+          start,
+          start_is,
+          (
+            with_more more rest,
+            whole ∙ ap (λ m. with_more first (with_more m rest)) parts ∙ ap (with_more first) (with_more-assoc second more rest)
+                ∙ sym (with_more-assoc first second (with_more more rest)),
+          ),
+        );
+    links = LinksWent-more first second a b c leads.links breaks.links;
+  }
+
+-- ---- what was written
+
+front-all : (a b : Option (List ℕ)) (text : List ℕ) → Gains a b text → GainsFront a b text
+front-all a None text gains = tt
+front-all None (Some now) text gains = absurd gains
+front-all (Some held) (Some now) text gains = (text, [], sym (append-nil text), gains)
+
+front-more : (a b c : Option (List ℕ)) (text new : List ℕ) → Gains a b text → GainsFront b c new → GainsFront a c (text ++ new)
+front-more a b None text new first second = tt
+front-more a None (Some now) text new first second = absurd second
+front-more None (Some mid) (Some now) text new first second = absurd first
+front-more (Some held) (Some mid) (Some now) text new first (front, rest, parts, gains) = (
+  text ++ front,
+  rest,
+  ap (λ v. text ++ v) parts ∙ sym (append_assoc text front rest),
+  gains ∙ ap (λ v. v ++ front) first ∙ append_assoc held text front,
+)
+
+pub unwritten : (text : List ℕ) (sink : SinkTells) → GainsFront sink.held sink.held text × NoneFailed sink.calls sink.calls
+unwritten text sink = (GainsFront-none sink.held text, NoneFailed-same sink.calls)
+
+-- ---- code that does an act so far
+
+-- it did a front of the act, and wrote all that this says; the rest is this act
+pub record Going {X : Type 0} (act rest : Act X) (a b : OutsideTells) (sink sink_now : SinkTells) : Type 0 where
+  pub made : Made
+  pub leads : Leads act made rest a b
+  pub wrote : Gains sink.held sink_now.held (text_of made)
+  pub writes : NoneFailed sink.calls sink_now.calls
+
+stopped-writing : (stop : Stop) (sink sink_mid sink_now : SinkTells) → NoneFailed sink.calls sink_mid.calls
+    → StopsWriting stop sink_mid.calls sink_now.calls → StopsWriting stop sink.calls sink_now.calls
+stopped-writing Fault sink sink_mid sink_now first second = LastFailed-after sink.calls sink_mid.calls sink_now.calls first second
+stopped-writing NoMemory sink sink_mid sink_now first second = NoneFailed-more sink.calls sink_mid.calls sink_now.calls first second
+
+module _ {X : Type 0} where
+  pub Going-start : (act : Act X) (t : OutsideTells) (sink : SinkTells) → Going act act t t sink sink
+  Going-start act t sink = record {
+    made = nothing;
+    leads = Leads-start act t;
+    wrote = Gains-none sink.held;
+    writes = NoneFailed-same sink.calls;
+  }
+
+  -- what says nothing
+  pub Going-silent : {Y : Type 0} (act : Act X) (one : Act Y) (next : Y → Act X) (y : Y) (a b c : OutsideTells) (sink sink_now : SinkTells)
+      → Going act (one >>= next) a b sink sink_now → Does one y nothing b c → Going act (next y) a c sink sink_now
+  Going-silent act one next y a b c sink sink_now going does = record {
+    made = with_more going.made nothing;
+    leads = Leads-more act one next y going.made nothing a b c going.leads does;
+    wrote = rw (append-nil going.made.said) going.wrote;
+    writes = going.writes;
+  }
+
+  pub Going-passed : {Y : Type 0} (Shows : Y → Type 0) (act : Act X) (one : Act Y) (next : Y → Act X) (a b c : OutsideTells) (sink sink_mid sink_now : SinkTells)
+      → Going act (one >>= next) a b sink sink_mid → Passed Shows one b c sink_mid sink_now
+      → (y : Y) × Shows y × Going act (next y) a c sink sink_now
+  Going-passed Shows act one next a b c sink sink_mid sink_now going passed = (
+    passed.value,
+    passed.shows,
+    record {
+      made = with_more going.made passed.made;
+      leads = Leads-more act one next passed.value going.made passed.made a b c going.leads passed.does;
+      wrote = rw (text-more going.made passed.made)
+          (Gains-more sink.held sink_mid.held sink_now.held (text_of going.made) (text_of passed.made) going.wrote passed.wrote);
+      writes = NoneFailed-more sink.calls sink_mid.calls sink_now.calls going.writes passed.writes;
+    },
+  )
+
+  pub Going-stopped : {Y : Type 0} (stop : Stop) (act : Act X) (one : Act Y) (next : Y → Act X) (a b c : OutsideTells) (sink sink_mid sink_now : SinkTells)
+      → Going act (one >>= next) a b sink sink_mid → Stopped one stop b c sink_mid sink_now → Stopped act stop a c sink sink_now
+  Going-stopped stop act one next a b c sink sink_mid sink_now going stopped = record {
+    made = with_more going.made stopped.made;
+    breaks = Breaks-more act one next going.made stopped.made a b c going.leads stopped.breaks;
+    wrote = rw (text-more going.made stopped.made)
+        (front-more sink.held sink_mid.held sink_now.held (text_of going.made) (text_of stopped.made) going.wrote stopped.wrote);
+    writes = stopped-writing stop sink sink_mid sink_now going.writes stopped.writes;
+  }
+
+  pub Going-end : (Shows : X → Type 0) (act : Act X) (x : X) (a b : OutsideTells) (sink sink_now : SinkTells)
+      → Going act (give x) a b sink sink_now → Shows x → Passed Shows act a b sink sink_now
+  Going-end Shows act x a b sink sink_now going shows = record {
+    value = x;
+    shows = shows;
+    made = going.made;
+    does = Leads-end act x going.made a b going.leads;
+    wrote = going.wrote;
+    writes = going.writes;
+  }
+
+-- ---- sending
+
+pub Breaks-does : {X : Type 0} (act : Act X) (x : X) (made : Made) (a b : OutsideTells) → Does act x made a b → Breaks act made a b
+Breaks-does act x made a b does = record {
+  back = λ later agrees.
+      let (start, start_is, done) = does.back later agrees in
+      (start, start_is, (nothing, ap (λ acted. acted.made) done ∙ sym (with_more-nothing made)));
+  links = does.links;
+}
+
+text-of-sent : (face : Face) (datagram : List ℕ) → text_of (only_sent face datagram) ≡ []
+text-of-sent Old datagram = refl
+text-of-sent New datagram = refl
+
+module _ {E : Type 0} (routed : Routed) (text : List ℕ) (a b : OutsideTells) (result : Result (Unit {0}) E)
+    (does : Does (sends routed) tt (made_by_send routed result) a b) where
+  pub sent-ok : (x : Unit {0}) → result ≡ Ok x → Sent (sends routed) tt text text a b
+  sent-ok x is = record {
+    made = only_sent routed.face routed.datagram;
+    does = rw is at does;
+    noted_is = rw (text-of-sent routed.face routed.datagram) (sym (append-nil text));
+  }
+
+  pub sent-noted : {F : Type 0} (e : E) → result ≡ Err e → (written : Result (Unit {0}) F) (text_now : List ℕ)
+      → OnOk written (text_now ≡ text ++ link_line routed.face true) → OnOk written (Sent (sends routed) tt text text_now a b)
+  sent-noted e is (Ok x) text_now added = record {
+    made = only_said (link_failed routed.face true);
+    does = rw is at does;
+    noted_is = rw (append-nil (link_line routed.face true)) added;
+  }
+  sent-noted e is (Err f) text_now added = tt
+
+  pub sent-unnoted : {F : Type 0} (written : Result (Unit {0}) F) → OnErr written (Unsent (sends routed) a b)
+  sent-unnoted (Ok x) = tt
+  sent-unnoted (Err f) = record {
+    made = made_by_send routed result;
+    breaks = Breaks-does (sends routed) tt (made_by_send routed result) a b does;
+  }
+
+-- ---- sending several
+
+pub left-is : {X : Type 0} (xs : List X) (i : ℕ) (x : X) → i < length xs → x ≡ get_or xs i x → drop i xs ≡ x ∷ drop (i + 1) xs
+left-is xs i x inside is = at_drop_more (λ v. v) xs i x inside ∙ ap (λ v. v ∷ drop (i + 1) xs) (sym is)
+
+pub on-err : {T E : Type 0} (r : Result T E) (P : Type 0) → P → OnErr r P
+on-err (Ok x) P p = tt
+on-err (Err e) P p = p
+
+-- some were sent of several, and the rest is left
+pub record Sending (out rest : List Routed) (text text_now : List ℕ) (a b : OutsideTells) : Type 0 where
+  pub made : Made
+  pub leads : Leads (sends_all out) made (sends_all rest) a b
+  pub noted_is : text_now ≡ text ++ text_of made
+
+pub sending-start : (out : List Routed) (text : List ℕ) (a : OutsideTells) → Sending out out text text a a
+sending-start out text a = record {
+  made = nothing;
+  leads = Leads-start (sends_all out) a;
+  noted_is = sym (append-nil text);
+}
+
+module _ (out : List Routed) (k : ℕ) (text text_mid text_now : List ℕ) (a b c : OutsideTells) (first : Routed)
+    (at : drop k out ≡ first ∷ drop (k + 1) out) (sending : Sending out (drop k out) text text_mid a b) where
+  leads_on : Leads (sends_all out) sending.made (sends first >>= (λ x. sends_all (drop (k + 1) out))) a b
+  unfolding sends_all
+  leads_on = rw at at sending.leads
+
+  pub sending-more : Sent (sends first) tt text_mid text_now b c → Sending out (drop (k + 1) out) text text_now a c
+  sending-more sent = record {
+    made = with_more sending.made sent.made;
+    leads = Leads-more (sends_all out) (sends first) (λ x. sends_all (drop (k + 1) out)) tt sending.made sent.made a b c leads_on sent.does;
+    noted_is = sent.noted_is ∙ ap (λ v. v ++ text_of sent.made) sending.noted_is ∙ append_assoc text (text_of sending.made) (text_of sent.made)
+        ∙ ap (λ v. text ++ v) (sym (text-more sending.made sent.made));
+  }
+
+  pub sending-stopped : Unsent (sends first) b c → Unsent (sends_all out) a c
+  sending-stopped unsent = record {
+    made = with_more sending.made unsent.made;
+    breaks = Breaks-more (sends_all out) (sends first) (λ x. sends_all (drop (k + 1) out)) sending.made unsent.made a b c leads_on unsent.breaks;
+  }
+
+pub sending-end : (out : List Routed) (text text_now : List ℕ) (a b : OutsideTells) → Sending out [] text text_now a b → Sent (sends_all out) tt text text_now a b
+unfolding sends_all
+sending-end out text text_now a b sending = record {
+  made = sending.made;
+  does = Leads-end (sends_all out) tt sending.made a b sending.leads;
+  noted_is = sending.noted_is;
+}
+
+-- ---- what a step does
+
+pub Does-then : {X Y : Type 0} (one : Act Y) (next : Y → Act X) (y : Y) (x : X) (first second : Made) (a b c : OutsideTells)
+    → Does one y first a b → Does (next y) x second b c → Does (one >>= next) x (with_more first second) a c
+Does-then one next y x first second a b c does then = record {
+  back = λ later agrees.
+      let (middle, middle_is, after) = then.back later agrees in
+      let (start, start_is, done) = does.back middle middle_is in
+      (start, start_is, ap (λ acted. put_before acted.made (next acted.value acted.outside)) done ∙ ap (put_before first) after);
+  links = LinksWent-more first second a b c does.links then.links;
+}
+
+Does-says : (text : List ℕ) (a : OutsideTells) → Does (says text) tt (only_said (lines text)) a a
+Does-says text a = record {
+  back = λ later agrees. (later, agrees, refl);
+  links = record {
+    old = record { gone = Gains-none a.old.gone; count = refl };
+    new = record { gone = Gains-none a.new.gone; count = refl };
+  };
+}
+
+module _ (effects : StepEffects) (a b : OutsideTells) (sink sink_now : SinkTells) where
+  does-all : (made : Made) → Does (sends_all effects.out) tt made a b → Does (does effects) tt (with_more made (only_said (lines effects.text))) a b
+  unfolding does
+  does-all made sent =
+      Does-then (sends_all effects.out) (λ x. says effects.text) tt tt made (only_said (lines effects.text)) a b b sent (Does-says effects.text b)
+
+  said-all : (made : Made) → text_of (with_more made (only_said (lines effects.text))) ≡ text_of made ++ effects.text
+  said-all made = text-more made (only_said (lines effects.text)) ∙ ap (λ v. text_of made ++ v) (append-nil effects.text)
+
+  pub performed : {T : Type 0} (notes : List ℕ) (result : Result T Stop) → Sent (sends_all effects.out) tt [] notes a b
+      → WroteText (notes ++ effects.text) sink sink_now result → Goes (λ t x. Unit {0}) (does effects) a b sink sink_now result
+  performed notes (Ok t) sent wrote = record {
+    value = tt;
+    shows = tt;
+    made = with_more sent.made (only_said (lines effects.text));
+    does = does-all sent.made sent.does;
+    wrote = rw (said-all sent.made, ← sent.noted_is) wrote.0;
+    writes = wrote.1;
+  }
+  performed notes (Err stop) sent wrote = record {
+    made = with_more sent.made (only_said (lines effects.text));
+    breaks = Breaks-does (does effects) tt _ a b (does-all sent.made sent.does);
+    wrote = rw (said-all sent.made, ← sent.noted_is) wrote.0;
+    writes = wrote.1;
+  }
+
+pub unperformed : (effects : StepEffects) (a b : OutsideTells) (sink : SinkTells) → Unsent (sends_all effects.out) a b
+    → Stopped (does effects) NoMemory a b sink sink
+unfolding does
+unperformed effects a b sink unsent = record {
+  made = unsent.made;
+  breaks = Breaks-more (does effects) (sends_all effects.out) (λ x. says effects.text) nothing unsent.made a a b
+      (Leads-start (does effects) a) unsent.breaks;
+  wrote = GainsFront-none sink.held (text_of unsent.made);
+  writes = NoneFailed-same sink.calls;
+}
+
+-- ---- polls
+
+pub polled-ok : {E : Type 0} (face : Face) (buffer : List ℕ) (a b : OutsideTells) (sink : SinkTells) (result : Result (Option ℕ) E) (came : Option ℕ)
+    → result ≡ Ok came → PollsAtMost result buffer
+    → Does (polls face) (polled_in buffer result) (notes_failed face (polled_in buffer result)) a b
+    → Passed (PolledAs buffer came) (polls face) a b sink sink
+polled-ok face buffer a b sink result None is bound does = record {
+  value = empty;
+  shows = tt;
+  made = nothing;
+  does = rw is at does;
+  wrote = Gains-none sink.held;
+  writes = NoneFailed-same sink.calls;
+}
+polled-ok face buffer a b sink result (Some n) is bound does = record {
+  value = gave (take n buffer);
+  shows = (rw is at bound, refl);
+  made = nothing;
+  does = rw is at does;
+  wrote = Gains-none sink.held;
+  writes = NoneFailed-same sink.calls;
+}
+
+pub polled-failed : {E : Type 0} (face : Face) (buffer : List ℕ) (a b : OutsideTells) (sink sink_now : SinkTells) (result : Result (Option ℕ) E) (e : E)
+    → result ≡ Err e → Does (polls face) (polled_in buffer result) (notes_failed face (polled_in buffer result)) a b
+    → {T : Type 0} (written : Result T Stop) (x : T) → written ≡ Ok x → WroteText (link_line face false) sink sink_now written
+    → Passed (PolledAs buffer None) (polls face) a b sink sink_now
+polled-failed face buffer a b sink sink_now result e is does written x ok wrote =
+    let done = rw ok at wrote in
+    record {
+      value = failed;
+      shows = tt;
+      made = only_said (link_failed face false);
+      does = rw is at does;
+      wrote = rw (append-nil (link_line face false)) done.0;
+      writes = done.1;
+    }
+
+pub polled-stopped : {E : Type 0} (face : Face) (buffer : List ℕ) (a b : OutsideTells) (sink sink_now : SinkTells) (result : Result (Option ℕ) E) (e : E)
+    → result ≡ Err e → Does (polls face) (polled_in buffer result) (notes_failed face (polled_in buffer result)) a b
+    → {T : Type 0} (written : Result T Stop) (stop : Stop) → written ≡ Err stop → WroteText (link_line face false) sink sink_now written
+    → Stopped (polls face) stop a b sink sink_now
+polled-stopped face buffer a b sink sink_now result e is does written stop err wrote =
+    let done = rw err at wrote in
+    record {
+      made = only_said (link_failed face false);
+      breaks = Breaks-does (polls face) failed (only_said (link_failed face false)) a b (rw is at does);
+      wrote = rw (append-nil (link_line face false)) done.0;
+      writes = done.1;
+    }
+
+-- ---- steps
+
+-- a step for which there was no memory: nothing is made
+pub stopped-at-once : {X : Type 0} (act : Act X) (a : OutsideTells) (sink : SinkTells) → Stopped act NoMemory a a sink sink
+stopped-at-once act a sink = record {
+  made = nothing;
+  breaks = record { back = λ later agrees. (later, agrees, ((act later).made, refl)); links = LinksWent-none a };
+  wrote = GainsFront-none sink.held [];
+  writes = NoneFailed-same sink.calls;
+}
+
+-- what is shown of a value is shown where the act comes to it
+pub goes-shown : {T X : Type 0} (act : Act X) (a b : OutsideTells) (sink sink_now : SinkTells) (result : Result T Stop)
+    → Goes (λ t x. Unit {0}) act a b sink sink_now result → (P : Type 0) → P → Goes (λ t x. P) act a b sink sink_now result
+goes-shown act a b sink sink_now (Ok t) goes P p = record {
+  value = goes.value;
+  shows = p;
+  made = goes.made;
+  does = goes.does;
+  wrote = goes.wrote;
+  writes = goes.writes;
+}
+goes-shown act a b sink sink_now (Err stop) goes P p = record {
+  made = goes.made;
+  breaks = goes.breaks;
+  wrote = goes.wrote;
+  writes = goes.writes;
+}
+
+-- ---- what came is taken
+
+Does-give : {X : Type 0} (x : X) (a : OutsideTells) → Does (give x) x nothing a a
+Does-give x a = record { back = λ later agrees. (later, agrees, refl); links = LinksWent-none a }
+
+passed-give : {X : Type 0} (Shows : X → Type 0) (x : X) (a : OutsideTells) (sink : SinkTells) → Shows x → Passed Shows (give x) a a sink sink
+passed-give Shows x a sink shows = record {
+  value = x;
+  shows = shows;
+  made = nothing;
+  does = Does-give x a;
+  wrote = Gains-none sink.held;
+  writes = NoneFailed-same sink.calls;
+}
+
+-- an act, and then a value
+then-give : {T X : Type 0} (Shows : X → Type 0) (act : Act (Unit {0})) (x : X) (a b : OutsideTells) (sink sink_now : SinkTells) (result : Result T Stop)
+    → Goes (λ t y. Unit {0}) act a b sink sink_now result → Shows x
+    → Goes (λ t. Shows) (act >>= (λ y. give x)) a b sink sink_now result
+then-give Shows act x a b sink sink_now (Ok t) goes shows = record {
+  value = x;
+  shows = shows;
+  made = goes.made;
+  does = subst (λ m. Does (act >>= (λ y. give x)) x m a b) (with_more-nothing goes.made)
+      (Does-then act (λ y. give x) goes.value x goes.made nothing a b b goes.does (Does-give x b));
+  wrote = goes.wrote;
+  writes = goes.writes;
+}
+then-give Shows act x a b sink sink_now (Err stop) goes shows = record {
+  made = goes.made;
+  breaks = Breaks-more (act >>= (λ y. give x)) act (λ y. give x) nothing goes.made a a b (Leads-start (act >>= (λ y. give x)) a) goes.breaks;
+  wrote = goes.wrote;
+  writes = goes.writes;
+}
+
+module _ {S : Type 0} (Shows : S → Type 0) (rules : TurnRules S) (face : Face) (now : ℕ) (buffer : List ℕ) (state : S) (a : OutsideTells) where
+  pub taken-none : (came : Option ℕ) → came ≡ None → (polled : Polled) → PolledAs buffer came polled → (sink : SinkTells) → Shows state
+      → Passed Shows (answers rules face now polled state) a a sink sink
+  taken-none (Some n) none polled is sink shows = absurd (cc)
+  taken-none None none failed is sink shows = passed-give Shows state a sink shows
+  taken-none None none empty is sink shows = passed-give Shows state a sink shows
+  taken-none None none (gave datagram) is sink shows = absurd is
+
+module _ {S : Type 0} (Shows : S → Type 0) (rules : TurnRules S) (face : Face) (now : ℕ) (buffer : List ℕ) (state : S) (a b : OutsideTells) where
+  pub taken-some : {T : Type 0} (came : Option ℕ) (n : ℕ) → came ≡ Some n → (polled : Polled) → PolledAs buffer came polled
+      → (sink sink_now : SinkTells) (result : Result T Stop) (effects : StepEffects)
+      → StepsTo Shows (rules.arrive face (take n buffer) now state) effects
+      → Goes (λ t y. Unit {0}) (does effects) a b sink sink_now result
+      → Goes (λ t. Shows) (answers rules face now polled state) a b sink sink_now result
+  taken-some None n some polled is sink sink_now result effects steps goes = absurd (cc)
+  taken-some (Some k) n some failed is sink sink_now result effects steps goes = absurd is
+  taken-some (Some k) n some empty is sink sink_now result effects steps goes = absurd is
+  taken-some (Some k) n some (gave datagram) is sink sink_now result effects steps goes =
+      let same : k ≡ n = cc in
+      let whole : take n buffer ≡ datagram = rw same at is.1 in
+      let now_steps = rw whole at steps in
+      then-give Shows (does (rules.arrive face datagram now state).effects) (rules.arrive face datagram now state).state a b sink sink_now result
+      (rw now_steps.effects_are at goes) now_steps.shows
+
+-- ---- halves and turns
+
+pub goes-err : {T X : Type 0} (Shows : T → X → Type 0) (act : Act X) (a b : OutsideTells) (sink sink_now : SinkTells) (result : Result T Stop) (stop : Stop)
+    → IsErrAnd result (λ e. e ≡ stop) → Stopped act stop a b sink sink_now → Goes Shows act a b sink sink_now result
+goes-err Shows act a b sink sink_now (Ok t) stop is stopped = absurd is
+goes-err Shows act a b sink sink_now (Err e) stop is stopped = rw is stopped
+
+-- the rest of an act is done
+pub goes-last : {T X : Type 0} (Shows : X → Type 0) (act rest : Act X) (a b c : OutsideTells) (sink sink_mid sink_now : SinkTells) (result : Result T Stop)
+    → Going act rest a b sink sink_mid → Goes (λ t. Shows) rest b c sink_mid sink_now result → Goes (λ t. Shows) act a c sink sink_now result
+goes-last Shows act rest a b c sink sink_mid sink_now (Ok t) going goes = record {
+  value = goes.value;
+  shows = goes.shows;
+  made = with_more going.made goes.made;
+  does = record {
+    back = λ later agrees.
+        let (middle, middle_is, done) = goes.does.back later agrees in
+        let (start, start_is, led) = going.leads.back middle middle_is in
+        (start, start_is, led ∙ ap (put_before going.made) done);
+    links = LinksWent-more going.made goes.made a b c going.leads.links goes.does.links;
+  };
+  wrote = rw (text-more going.made goes.made)
+      (Gains-more sink.held sink_mid.held sink_now.held (text_of going.made) (text_of goes.made) going.wrote goes.wrote);
+  writes = NoneFailed-more sink.calls sink_mid.calls sink_now.calls going.writes goes.writes;
+}
+goes-last Shows act rest a b c sink sink_mid sink_now (Err stop) going goes = record {
+  made = with_more going.made goes.made;
+  breaks = record {
+    back = λ later agrees.
+        let (middle, middle_is, (more, parts)) = goes.breaks.back later agrees in
+        let (start, start_is, led) = going.leads.back middle middle_is in
+        (start, start_is, (more, ap (λ acted. acted.made) led ∙ ap (with_more going.made) parts ∙ sym (with_more-assoc going.made goes.made more)));
+    links = LinksWent-more going.made goes.made a b c going.leads.links goes.breaks.links;
+  };
+  wrote = rw (text-more going.made goes.made)
+      (front-more sink.held sink_mid.held sink_now.held (text_of going.made) (text_of goes.made) going.wrote goes.wrote);
+  writes = stopped-writing stop sink sink_mid sink_now going.writes goes.writes;
+}
+
+module _ {S : Type 0} (rules : TurnRules S) (face : Face) (state : S) (now : ℕ) where
+  pub after-poll : Polled → Act S
+  after-poll came = answers rules face now came (rules.tick now state).state
+
+  pub after-pass : Act S
+  after-pass = polls face >>= after-poll
+
+  pub half-read : (a b : OutsideTells) (sink : SinkTells) → Does reads_clock now nothing a b
+      → Going (half rules face state) (does (rules.tick now state).effects >>= (λ x. after-pass)) a b sink sink
+  unfolding half after-pass after-poll
+  half-read a b sink read =
+      Going-silent (half rules face state) reads_clock (λ n. does (rules.tick n state).effects >>= (λ x. polls face >>= (λ came. answers rules face n came (rules.tick n state).state)))
+      now a a b sink sink (Going-start (half rules face state) a sink) read
+
+  module _ (a b c : OutsideTells) (sink sink_mid sink_now : SinkTells) where
+    pub polled-half : (Shows : Polled → Type 0) → Going (half rules face state) after-pass a b sink sink_mid
+        → Passed Shows (polls face) b c sink_mid sink_now
+        → (came : Polled) × Shows came × Going (half rules face state) (answers rules face now came (rules.tick now state).state) a c sink sink_now
+    unfolding after-pass after-poll
+    polled-half Shows going passed = Going-passed Shows (half rules face state) (polls face) after-poll a b c sink sink_mid sink_now going passed
+
+    pub polled-stopped-half : (stop : Stop) → Going (half rules face state) after-pass a b sink sink_mid
+        → Stopped (polls face) stop b c sink_mid sink_now → Stopped (half rules face state) stop a c sink sink_now
+    unfolding after-pass after-poll
+    polled-stopped-half stop going stopped = Going-stopped stop (half rules face state) (polls face) after-poll a b c sink sink_mid sink_now going stopped
+
+-- ---- a turn
+
+module _ {S : Type 0} (rules : TurnRules S) (state : S) (a b : OutsideTells) (sink sink_mid : SinkTells) where
+  begun : Going (turn rules state) (half rules Old state >>= half rules New) a a sink sink
+  unfolding turn
+  begun = Going-start (turn rules state) a sink
+
+  pub turn-stopped : (stop : Stop) → Stopped (half rules Old state) stop a b sink sink_mid → Stopped (turn rules state) stop a b sink sink_mid
+  turn-stopped stop stopped = Going-stopped stop (turn rules state) (half rules Old state) (half rules New) a a b sink sink sink_mid begun stopped
+
+  pub turn-between : (Shows : S → Type 0) → Passed Shows (half rules Old state) a b sink sink_mid
+      → (between : S) × Shows between × Going (turn rules state) (half rules New between) a b sink sink_mid
+  turn-between Shows passed = Going-passed Shows (turn rules state) (half rules Old state) (half rules New) a a b sink sink sink_mid begun passed
+
+-- ---- several turns
+
+-- turns that are left
+pub turns-done : {S : Type 0} (rules : TurnRules S) (left : ℕ) (state : S) (whole : Act S) (Shows : S → Type 0) (a b c : OutsideTells) (sink sink_mid sink_now : SinkTells)
+    → Going whole (turns rules (suc left) state) a b sink sink_mid → Passed Shows (turn rules state) b c sink_mid sink_now
+    → (next : S) × Shows next × Going whole (turns rules left next) a c sink sink_now
+unfolding turns
+turns-done rules left state whole Shows a b c sink sink_mid sink_now going passed =
+    Going-passed Shows whole (turn rules state) (turns rules left) a b c sink sink_mid sink_now going passed
+
+pub turns-stopped : {S : Type 0} (rules : TurnRules S) (left : ℕ) (state : S) (whole : Act S) (stop : Stop) (a b c : OutsideTells) (sink sink_mid sink_now : SinkTells)
+    → Going whole (turns rules (suc left) state) a b sink sink_mid → Stopped (turn rules state) stop b c sink_mid sink_now
+    → Stopped whole stop a c sink sink_now
+unfolding turns
+turns-stopped rules left state whole stop a b c sink sink_mid sink_now going stopped =
+    Going-stopped stop whole (turn rules state) (turns rules left) a b c sink sink_mid sink_now going stopped
+
+-- ---- a whole run
+
+-- links and a clock that go on as they tell
+goes_on_as : (tells : LinkTells) → (link : LinkAhead) × LinkAgrees tells link
+goes_on_as tells = by tells.coming tells.failing
+  where
+    by : (coming : Option (List (List ℕ))) (failing : Option (List Bool))
+        → (link : LinkAhead) × LinkAgrees (record { coming = coming; gone = tells.gone; failing = failing; faults = tells.faults }) link
+    by None None = (record { gives = []; failing = [] }, record { gives = tt; failing = tt })
+    by None (Some failing) = (record { gives = []; failing = failing }, record { gives = tt; failing = refl })
+    by (Some coming) None = (record { gives = map Some coming; failing = [] }, record { gives = refl; failing = tt })
+    by (Some coming) (Some failing) = (record { gives = map Some coming; failing = failing }, record { gives = refl; failing = refl })
+
+shows_as : (readings : Option (List ℕ)) → (clock : ClockAhead) × ClockAgrees readings clock
+shows_as None = (record { shows = 0; later = [] }, tt)
+shows_as (Some []) = (record { shows = 0; later = [] }, tt)
+shows_as (Some (first ∷ later)) = (record { shows = first; later = later }, (refl, refl))
+
+outside-as : (tells : OutsideTells) → (o : Outside) × Agrees tells o
+outside-as tells =
+    let (old, old_is) = goes_on_as tells.old in
+    let (new, new_is) = goes_on_as tells.new in
+    let (clock, clock_is) = shows_as tells.readings in
+    (record { old = old; new = new; clock = clock }, record { old = old_is; new = new_is; clock = clock_is })
+
+pub ran-stopped : {X : Type 0} (run : Act X) (stop : Stop) (a b : OutsideTells) (sink sink_now : SinkTells)
+    → Stopped run stop a b sink sink_now → RanTurns run (status_of stop) a b sink sink_now
+ran-stopped run stop a b sink sink_now stopped =
+    let (later, agrees) = outside-as b in
+    let (first, told, front) = stopped.breaks.back later agrees in
+    by stop stopped first told front
+  where
+    by : (why : Stop) → (stopped : Stopped run why a b sink sink_now) → (first : Outside) → Agrees a first → IsFrontOf stopped.made (run first).made
+        → RanTurns run (status_of why) a b sink sink_now
+    by Fault stopped first told front = record {
+      outside = first;
+      told = told;
+      made = stopped.made;
+      went = front;
+      links = stopped.breaks.links;
+      wrote = stopped.wrote;
+      writes = stopped.writes;
+    }
+    by NoMemory stopped first told front = record {
+      outside = first;
+      told = told;
+      made = stopped.made;
+      went = front;
+      links = stopped.breaks.links;
+      wrote = stopped.wrote;
+      writes = stopped.writes;
+    }
+
+pub ran-done : {S : Type 0} (rules : TurnRules S) (state : S) (run : Act S) (a b : OutsideTells) (sink sink_now : SinkTells)
+    → Going run (turns rules 0 state) a b sink sink_now → RanTurns run Done a b sink sink_now
+unfolding turns
+ran-done rules state run a b sink sink_now going =
+    let does = Leads-end run state going.made a b going.leads in
+    let (later, agrees) = outside-as b in
+    let (first, told, done) = does.back later agrees in
+    record {
+      outside = first;
+      told = told;
+      made = going.made;
+      went = (sym (ap (λ acted. acted.made) done), rw done agrees);
+      links = going.leads.links;
+      wrote = going.wrote;
+      writes = going.writes;
+    }
+
+-- turns of which none were made yet
+pub none-made : {S : Type 0} (Shows : S → Type 0) (rules : TurnRules S) (count : ℕ) (state : S) (a : OutsideTells) (sink : SinkTells) → Shows state
+    → (now : S) × Shows now × Going (turns rules count state) (turns rules count now) a a sink sink
+none-made Shows rules count state a sink shows = (state, shows, Going-start (turns rules count state) a sink)
+
+pub ran-out : {S : Type 0} (rules : TurnRules S) (run : Act S) (a b : OutsideTells) (sink sink_now : SinkTells) (left : ℕ) → left ≤ 0 → (state : S)
+    → Going run (turns rules left state) a b sink sink_now → RanTurns run Done a b sink sink_now
+ran-out rules run a b sink sink_now zero none state going = ran-done rules state run a b sink sink_now going
+ran-out rules run a b sink sink_now (suc n) none state going = absurd (omega arith)
+
+-- one turn of those left
+pub one-less : (left : ℕ) → 0 < left → left ≡ suc (left - 1)
+one-less zero some = absurd (omega arith)
+one-less (suc n) some = omega arith

@@ -1,0 +1,10 @@
+-- what a reader must believe, in this order
+pub mod Outside
+pub mod Turns
+pub mod WrittenLines
+pub mod Serve
+pub mod Tells
+pub mod Told
+-- what only ties code to these
+pub mod Effects
+pub mod Shows

@@ -1,0 +1,243 @@
+-- What links and a clock tell, and how a run went over them, whatever they tell.
+use Rattle.std.specs.Prelude.{◌≤◌, length, take, Result, Ok, Err, ◌≡◌, ℕ, zero, suc, ◌+◌, Bool, true, false, codes, List, [], ◌∷◌, ◌++◌, map, Option, None, Some, IfSome}
+use Rattle.std.specs.List.{flat_map}
+use Rattle.edge_traits.specs.Content.{Gains, GainsFront}
+use Rattle.edge_traits.specs.Faults.{one_more, Calls, NoneFailed, LastFailed}
+use Rattle.edge_traits.specs.Outcome.{SinkTells, WentWriting}
+use Rattle.edge_traits.specs.declared.status.Status.{Status}
+use Rattle.edge_traits.specs.declared.status.Status.TheVariants.{Done, Refused, Usage, ReadFault, WriteFault, Limit, Memory}
+use Rattle.gate_cases.specs.declared.face.Face.{Face}
+use Rattle.gate_cases.specs.declared.face.Face.TheVariants.{Old, New}
+use Rattle.replay_script.specs.Words.{spaced}
+use Rattle.replay_script.specs.Lines.{side_word, call_word}
+use Rattle.serve_run.specs.Outside.{LinkAhead, ClockAhead, Outside, Polled, failed, empty, gave}
+use Rattle.gateway_core.specs.declared.effects.Routed.{Routed}
+use Rattle.serve_run.specs.declared.stop.Stop.{Stop}
+use Rattle.serve_run.specs.declared.stop.Stop.TheVariants.{Fault, NoMemory}
+use Rattle.serve_run.specs.Turns.{Said, lines, link_failed, Made, with_more, only_said, only_sent, Act, Acted, put_before, Stepped, StepEffects}
+
+-- ---- what is told
+
+-- what a link tells: the datagrams to come, those that went, which of its calls are to fail, and its
+-- count of faults
+pub record LinkTells : Type 0 where
+  pub coming : Option (List (List ℕ))
+  pub gone : Option (List (List ℕ))
+  pub failing : Option (List Bool)
+  pub faults : ℕ
+
+-- what both links tell, and the clock of its readings to come
+pub record OutsideTells : Type 0 where
+  pub old : LinkTells
+  pub new : LinkTells
+  pub readings : Option (List ℕ)
+
+-- what a link tells, by the four words of its kind
+abbrev pub link_tells : {L : Type 0} → (L → Option (List (List ℕ))) → (L → Option (List (List ℕ))) → (L → Option (List Bool)) → (L → ℕ) → L → LinkTells
+link_tells coming gone failing faults link =
+    record { coming = coming link; gone = gone link; failing = failing link; faults = faults link }
+
+-- what two links of a kind tell, and a clock
+abbrev pub links_tell : {L : Type 0} → (L → Option (List (List ℕ))) → (L → Option (List (List ℕ))) → (L → Option (List Bool)) → (L → ℕ) → L → L → Option (List ℕ) → OutsideTells
+links_tell coming gone failing faults old new readings = record {
+  old = link_tells coming gone failing faults old;
+  new = link_tells coming gone failing faults new;
+  readings = readings;
+}
+
+-- a link goes on as it tells
+pub record LinkAgrees (tells : LinkTells) (link : LinkAhead) : Type 0 where
+  pub gives : IfSome tells.coming (λ coming. link.gives ≡ map Some coming)
+  pub failing : IfSome tells.failing (λ failing. link.failing ≡ failing)
+
+-- a clock goes on as it tells
+abbrev pub ClockAgrees : Option (List ℕ) → ClockAhead → Type 0
+ClockAgrees None clock = Unit {0}
+ClockAgrees (Some []) clock = Unit {0}
+ClockAgrees (Some (first ∷ later)) clock = (clock.shows ≡ first) × (clock.later ≡ later)
+
+pub record Agrees (tells : OutsideTells) (o : Outside) : Type 0 where
+  pub old : LinkAgrees tells.old o.old
+  pub new : LinkAgrees tells.new o.new
+  pub clock : ClockAgrees tells.readings o.clock
+
+-- ---- what was made
+
+-- the line that says of a face's link that a call failed
+abbrev pub is_old : Face → Bool
+is_old Old = true
+is_old New = false
+
+unfoldable pub link_line : Face → Bool → List ℕ
+link_line face send =
+    spaced (codes "note" ∷ side_word (is_old face) ∷ call_word send ∷ []) ++ codes "\n"
+
+abbrev pub said_text : Said → List ℕ
+said_text (lines text) = text
+said_text (link_failed face send) = link_line face send
+
+-- how many failed calls of a face's link are noted
+abbrev pub is_about : Face → Said → ℕ
+is_about face (lines text) = 0
+is_about Old (link_failed Old send) = 1
+is_about Old (link_failed New send) = 0
+is_about New (link_failed Old send) = 0
+is_about New (link_failed New send) = 1
+
+abbrev pub noted : Face → List Said → ℕ
+noted face [] = 0
+noted face (said ∷ later) = is_about face said + noted face later
+
+-- a count after so many faults more
+abbrev pub counted : ℕ → ℕ → ℕ
+counted faults zero = faults
+counted faults (suc n) = counted (one_more faults) n
+
+-- these datagrams went on a link, and its count rose by so many faults
+pub record LinkWent (sent : List (List ℕ)) (n : ℕ) (before now : LinkTells) : Type 0 where
+  pub gone : Gains before.gone now.gone sent
+  pub count : now.faults ≡ counted before.faults n
+
+-- this was made over two links
+pub record LinksWent (made : Made) (before now : OutsideTells) : Type 0 where
+  pub old : LinkWent made.old (noted Old made.said) before.old now.old
+  pub new : LinkWent made.new (noted New made.said) before.new now.new
+
+-- ---- how an act went
+
+-- However links and clock go on as they tell now, it is as if they had gone on so before that an act
+-- comes to this value and makes this.
+pub record Does {X : Type 0} (act : Act X) (value : X) (made : Made) (before now : OutsideTells) : Type 0 where
+  pub back : (later : Outside) → Agrees now later → (first : Outside) × Agrees before first
+      × (act first ≡ record { value = value; outside = later; made = made })
+  pub links : LinksWent made before now
+
+-- the same of an act of which a front is done, and the rest is this act
+pub record Leads {X : Type 0} (act : Act X) (made : Made) (rest : Act X) (before now : OutsideTells) : Type 0 where
+  pub back : (later : Outside) → Agrees now later → (first : Outside) × Agrees before first
+      × (act first ≡ put_before made (rest later))
+  pub links : LinksWent made before now
+
+-- what was made is a front of the whole
+abbrev pub IsFrontOf : Made → Made → Type 0
+IsFrontOf made whole = (rest : Made) × (whole ≡ with_more made rest)
+
+-- the same of an act that was broken off: what was made is a front of what it would make
+pub record Breaks {X : Type 0} (act : Act X) (made : Made) (before now : OutsideTells) : Type 0 where
+  pub back : (later : Outside) → Agrees now later → (first : Outside) × Agrees before first
+      × IsFrontOf made (act first).made
+  pub links : LinksWent made before now
+
+-- ---- how code went that does an act and writes what it says
+
+-- the text of what is said
+abbrev pub text_of : Made → List ℕ
+text_of made = flat_map said_text made.said
+
+-- it did the act, and wrote all that this says
+pub record Passed {X : Type 0} (Shows : X → Type 0) (act : Act X) (before now : OutsideTells) (sink sink_now : SinkTells) : Type 0 where
+  pub value : X
+  pub shows : Shows value
+  pub made : Made
+  pub does : Does act value made before now
+  pub wrote : Gains sink.held sink_now.held (text_of made)
+  pub writes : NoneFailed sink.calls sink_now.calls
+
+-- the writes of code that stopped
+abbrev pub StopsWriting : Stop → Calls → Calls → Type 0
+StopsWriting Fault before now = LastFailed before now
+StopsWriting NoMemory before now = NoneFailed before now
+
+-- it stopped, and wrote a front of what was said until then
+pub record Stopped {X : Type 0} (act : Act X) (stop : Stop) (before now : OutsideTells) (sink sink_now : SinkTells) : Type 0 where
+  pub made : Made
+  pub breaks : Breaks act made before now
+  pub wrote : GainsFront sink.held sink_now.held (text_of made)
+  pub writes : StopsWriting stop sink.calls sink_now.calls
+
+-- it did the act, with a value that the answer stands for, or stopped
+abbrev pub Goes : {T X : Type 0} → (T → X → Type 0) → Act X → OutsideTells → OutsideTells → SinkTells → SinkTells → Result T Stop → Type 0
+Goes Shows act before now sink sink_now (Ok t) = Passed (Shows t) act before now sink sink_now
+Goes Shows act before now sink sink_now (Err stop) = Stopped act stop before now sink sink_now
+
+-- ---- a whole run
+
+-- what was made is all that the run makes, and links and clock go on as they tell now; or it is a front
+abbrev pub WentOn : {X : Type 0} → Acted X → Made → OutsideTells → Status → Type 0
+WentOn run made now Done = (made ≡ run.made) × Agrees now run.outside
+WentOn run made now WriteFault = IsFrontOf made run.made
+WentOn run made now Memory = IsFrontOf made run.made
+WentOn run made now Refused = ⊥
+WentOn run made now Usage = ⊥
+WentOn run made now ReadFault = ⊥
+WentOn run made now Limit = ⊥
+
+-- what was written of what was made
+abbrev pub WroteMade : Made → Option (List ℕ) → Option (List ℕ) → Status → Type 0
+WroteMade made before now Done = Gains before now (text_of made)
+WroteMade made before now WriteFault = GainsFront before now (text_of made)
+WroteMade made before now Memory = GainsFront before now (text_of made)
+WroteMade made before now Refused = ⊥
+WroteMade made before now Usage = ⊥
+WroteMade made before now ReadFault = ⊥
+WroteMade made before now Limit = ⊥
+
+-- How a run ended that links and a clock are driven by: as they go on, which is as they told before
+-- it, this was made of it; exactly these datagrams went, each count rose by exactly the calls that are
+-- noted, and exactly that was written, or a front of it where the run ended early.
+pub record RanTurns {X : Type 0} (run : Act X) (status : Status) (before now : OutsideTells) (sink sink_now : SinkTells) : Type 0 where
+  pub outside : Outside
+  pub told : Agrees before outside
+  pub made : Made
+  pub went : WentOn (run outside) made now status
+  pub links : LinksWent made before now
+  pub wrote : WroteMade made sink.held sink_now.held status
+  pub writes : WentWriting status sink.calls sink_now.calls
+
+-- ---- what only ties code to these
+
+-- an answer and a buffer stand for what a poll came to; that it failed is noted already
+abbrev pub PolledAs : List ℕ → Option ℕ → Polled → Type 0
+PolledAs buffer None failed = Unit {0}
+PolledAs buffer None empty = Unit {0}
+PolledAs buffer None (gave datagram) = ⊥
+PolledAs buffer (Some n) failed = ⊥
+PolledAs buffer (Some n) empty = ⊥
+PolledAs buffer (Some n) (gave datagram) = (n ≤ length buffer) × (take n buffer ≡ datagram)
+
+-- what a poll answered
+abbrev pub polled_in : {E : Type 0} → List ℕ → Result (Option ℕ) E → Polled
+polled_in buffer (Ok None) = empty
+polled_in buffer (Ok (Some n)) = gave (take n buffer)
+polled_in buffer (Err e) = failed
+
+-- a send that was made or failed
+abbrev pub made_by_send : {E : Type 0} → Routed → Result (Unit {0}) E → Made
+made_by_send routed (Ok x) = only_sent routed.face routed.datagram
+made_by_send routed (Err e) = only_said (link_failed routed.face true)
+
+-- a text was written by code that passed or stopped
+abbrev pub WroteText : {T : Type 0} → List ℕ → SinkTells → SinkTells → Result T Stop → Type 0
+WroteText text sink now (Ok t) = Gains sink.held now.held text × NoneFailed sink.calls now.calls
+WroteText text sink now (Err stop) = GainsFront sink.held now.held text × StopsWriting stop sink.calls now.calls
+
+-- datagrams were sent, and what is said of those that failed was added to a text; where there was no
+-- memory for that, no more of them are sent
+pub record Sent {X : Type 0} (act : Act X) (value : X) (text text_now : List ℕ) (before now : OutsideTells) : Type 0 where
+  pub made : Made
+  pub does : Does act value made before now
+  pub noted_is : text_now ≡ text ++ text_of made
+
+pub record Unsent {X : Type 0} (act : Act X) (before now : OutsideTells) : Type 0 where
+  pub made : Made
+  pub breaks : Breaks act made before now
+
+-- a step of what is driven
+pub record StepsTo {S : Type 0} (Shows : S → Type 0) (stepped : Stepped S) (effects : StepEffects) : Type 0 where
+  pub shows : Shows stepped.state
+  pub effects_are : effects ≡ stepped.effects
+
+-- how a run ends that stopped
+abbrev pub status_of : Stop → Status
+status_of Fault = WriteFault
+status_of NoMemory = Memory

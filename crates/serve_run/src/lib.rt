@@ -1,0 +1,27 @@
+//! The command `serve`: a gateway between two links, driven in turns.
+//!
+//! A turn has a half for the old link and one for the new. In a half the clock is read, time passes at
+//! the gate, the half's link is polled, and what comes arrives at the gate. What the gate does in each of
+//! these steps is done before the next: its datagrams are sent, and then its lines are written, in one
+//! piece. A poll or a send that fails is noted and ends nothing.
+//!
+//! Turns know nothing of gateways: they drive a [`TurnStep`] (`specs/Turns.antt`). [`serve`] drives a
+//! gateway (`specs/Serve.antt`). Links and a clock go on in one way, of which they may tell something
+//! (`specs/Outside.antt`); what is said of a run holds as they tell, and where they tell nothing too
+//! (`specs/Tells.antt`).
+#![tactic(auto)]
+
+pub mod laws;
+mod links;
+mod notes;
+mod sending;
+mod serving;
+mod stop;
+mod turn_step;
+mod turning;
+mod written_lines;
+
+pub use serving::serve;
+pub use stop::Stop;
+pub use turn_step::{Effects, TurnStep};
+pub use turning::drive_turns;

@@ -1,14 +1,14 @@
 -- Steps of a gate one after the other.
 
-use Rattle.std.proofs.Common.{◌≡◌, List, [], ◌∷◌, ◌++◌, map, refl, sym, ◌∙◌, ap}
+use Rattle.std.proofs.Common.{◌≡◌, List, [], ◌∷◌, ◌++◌, map, refl, ◌∙◌, ap}
 use Rattle.std.proofs.lemmas.List.{append-nil, append_assoc, map-append}
 use Rattle.ltp_segment.specs.Spelling.{segment_octets}
 use Rattle.ltp_engine.specs.Effects.{effects_of, up_of}
 use Rattle.ltp_session.specs.Engine.{EngineStep, UpValue}
 use Rattle.ltp_segment.specs.Values.{SegmentValue}
 use Rattle.gate_cases.specs.declared.face.Face.{Face}
-use Rattle.gateway_core.specs.Gate.{Gate, GateStep, GateEffectsValue, RoutedValue, no_effects, with_more, stays_so, after_these, and_then, in_turn, effects_at, segment_at, up_at}
-use Rattle.gateway_core.specs.Effects.{routed_of, gate_effects_of, nothing_routed, routed_at, joined_with, datagram_at, told_at}
+use Rattle.gateway_core.specs.Gate.{Gate, GateStep, GateEffectsValue, no_effects, with_more, after_these, and_then, in_turn, effects_at, segment_at, up_at}
+use Rattle.gateway_core.specs.Effects.{routed_of, gate_effects_of, routed_at, joined_with, datagram_at, told_at}
 
 -- ---- effects one after the other
 

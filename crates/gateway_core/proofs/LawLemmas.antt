@@ -1,6 +1,6 @@
 -- What comes to each face, and what it hands up.
 
-use Rattle.std.proofs.Common.{◌≡◌, ℕ, ◌+◌, Bool, if◌then◌else◌, true, false, List, [], ◌∷◌, ◌++◌, length, map, Option, None, Some, Result, Ok, Err, refl, sym, ◌∙◌, ap, subst}
+use Rattle.std.proofs.Common.{◌≡◌, ℕ, ◌+◌, Bool, if◌then◌else◌, true, false, List, [], ◌∷◌, ◌++◌, length, map, Option, None, Some, Result, Ok, Err, refl, sym, ◌∙◌, ap}
 use Rattle.std.proofs.lemmas.List.{append-nil}
 use Rattle.ltp_segment.specs.declared.fault.SegmentCause.{SegmentCause}
 use Rattle.ltp_segment.specs.Values.{SegmentValue}
@@ -13,7 +13,6 @@ use Rattle.gate_cases.specs.declared.judged.Judged.{Judged}
 use Rattle.gate_cases.specs.declared.report.AskedReport.{AskedReport}
 use Rattle.gate_cases.specs.Faces.{other_of}
 use Rattle.gate_cases.specs.Bundles.{status_bundle}
-use Rattle.gateway_core.specs.declared.effects.FaceUp.{FaceUp}
 use Rattle.gateway_core.specs.declared.note.GateNote.TheVariants as notes
 use Rattle.gateway_core.specs.Gate.{Gate, GateSetup, GateStep, GateEvent, noted_at, reports_at, a_datagram_at, a_moment_at_both, at_face, and_then, in_turn, does_at, hears_at, submission_at, sends_unless, sends_at, is_unreported, answers_at, decides_at, passes_at, judged_at, arrives_at, ticks_gate, gate_with, gate_after, up_at}
 use Rattle.gateway_core.specs.Comings.{if_same, blocks_come, report_comes, decision_comes, passages_come, event_comes, comings_at}

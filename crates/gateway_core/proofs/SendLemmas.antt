@@ -11,7 +11,7 @@ use Rattle.ltp_segment.specs.declared.session.TheConstants.{BLOCK_MAX}
 use Rattle.ltp_session.specs.Step.{Change, stays, keeps, ends}
 use Rattle.ltp_session.specs.Sender.{Sending, begin}
 use Rattle.ltp_session.specs.Table.{put, without, settled}
-use Rattle.ltp_session.specs.Engine.{Party, Engine, EngineStep, SubmitFault, submits, submits_unless, submit_fault, submit_step}
+use Rattle.ltp_session.specs.Engine.{Engine, EngineStep, SubmitFault, submits, submits_unless, submit_fault, submit_step}
 use Rattle.ltp_engine.specs.declared.effects.Effects.{Effects}
 use Rattle.ltp_engine.specs.declared.refused.SubmitRefused.{SubmitRefused}
 use Rattle.ltp_engine.specs.declared.refused.SubmitRefused.TheVariants as causes

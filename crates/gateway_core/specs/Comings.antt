@@ -1,9 +1,8 @@
 -- What comes to the engine of each face with what happens to a gate: datagrams, the blocks that the
 -- gate itself submits there, and moments.
 
-use Rattle.std.specs.Prelude.{ℕ, Bool, List, [], ◌∷◌, ◌++◌, length, Option, None, Some}
+use Rattle.std.specs.Prelude.{ℕ, List, [], ◌∷◌, length, Option, None, Some}
 use Rattle.std.specs.Prelude.{if◌then◌else◌}
-use Rattle.endpoint.specs.declared.name.Endpoint.{Endpoint}
 use Rattle.ltp_session.specs.Engine.{UpValue}
 use Rattle.ltp_engine.specs.RedParts.{Coming, a_block_comes, a_datagram_comes, a_moment_comes}
 use Rattle.gate_cases.specs.declared.face.Face.{Face}

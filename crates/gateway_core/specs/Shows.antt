@@ -1,6 +1,6 @@
 -- A gateway of the code stands for a gate of the definition, where its engines stand for the gate's.
 
-use Rattle.std.specs.Prelude.{◌≡◌, ℕ, ◌≤◌, ◌^◌}
+use Rattle.std.specs.Prelude.{◌≡◌, ◌≤◌, ◌^◌}
 use Rattle.ltp_engine.specs.Shows.{Shows}
 use Rattle.ltp_engine.specs.Bounds.{IsBounded}
 use Rattle.gateway_core.specs.Gate.{Gate}

@@ -1,6 +1,6 @@
 -- What the code keeps, as a gateway's value, and what its parts do.
 
-use Rattle.std.specs.Prelude.{◌≡◌, ℕ, ◌+◌, ◌≤◌, ◌<◌, ◌^◌, Bool, ◌||◌, nat_le, nat_lt, false, List, length, map, Result, Ok, Err}
+use Rattle.std.specs.Prelude.{◌≡◌, ℕ, ◌+◌, ◌≤◌, ◌^◌, Bool, ◌||◌, nat_le, nat_lt, false, List, length, map, Result, Ok, Err}
 use Rattle.ltp_segment.specs.declared.session.TheConstants.{BLOCK_MAX}
 use Rattle.ltp_session.specs.Engine.{EngineStep, UpValue}
 use Rattle.ltp_engine.specs.declared.effects.Effects.{Effects}

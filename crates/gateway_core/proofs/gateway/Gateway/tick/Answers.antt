@@ -1,5 +1,4 @@
-use Rattle.std.proofs.Common.{rules, false, ap}
-use Rattle.gateway_core.specs.Ties.{live}
+use Rattle.std.proofs.Common.{rules}
 use Rattle.gateway_core.proofs.DidLemmas.{ticks-nothing}
 use Rattle.gateway_core.proofs.gateway.Gateway.tick.Goals as goal
 

@@ -1,3 +1,6 @@
 mod LinkLemmas
 mod FrontLemmas
+mod FallLemmas
+mod LeftLemmas
 mod WorldLemmas
+mod DrainLemmas

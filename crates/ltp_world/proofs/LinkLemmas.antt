@@ -26,6 +26,7 @@ pub shows-more : (old new : WorldValue) (events : List Event) (event : Event) �
     → ShowsLink new (happens (parties_of old) (link_after old events) event) → ShowsRun new (events ++ event ∷ [])
 shows-more old new events event shows same link = record {
   peers = rw same shows.peers;
+  alike = rw same shows.alike;
   first_small = rw (ap (λ (p : Party × Party). p.0) same) shows.first_small;
   second_small = rw (ap (λ (p : Party × Party). p.1) same) shows.second_small;
   link = subst (λ (ps : Party × Party). ShowsLink new (run ps (starts_world ps) (events ++ event ∷ []))) (sym same)

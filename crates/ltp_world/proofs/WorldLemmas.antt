@@ -1,6 +1,6 @@
 -- A call of a world is one event of every run where it stands.
 
-use Rattle.std.proofs.Common.{◌≡◌, ℕ, ◌<◌, ◌≤◌, Bool, true, false, ◌||◌, List, [], ◌∷◌, ◌++◌, length, map, Option, None, Some, Result, Ok, Err, refl, sym, ◌∙◌, ap, arith, subst, nat_lt, nat_le}
+use Rattle.std.proofs.Common.{◌≡◌, ℕ, ◌<◌, ◌≤◌, ◌^◌, Bool, true, false, ◌||◌, List, [], ◌∷◌, ◌++◌, length, map, Option, None, Some, Result, Ok, Err, refl, sym, ◌∙◌, ap, arith, subst, nat_lt, nat_le}
 use Rattle.std.specs.List.{slice_get}
 use Rattle.std.specs.Option.{option_map}
 use Rattle.std.proofs.lemmas.Bool.Decides.{nat_tests}
@@ -20,12 +20,13 @@ use Rattle.ltp_session.specs.World.{Sent as LinkSent}
 use Rattle.ltp_engine.specs.declared.effects.Effects.{Effects}
 use Rattle.ltp_engine.specs.declared.refused.SubmitRefused.{SubmitRefused}
 use Rattle.ltp_engine.specs.declared.refused.SubmitRefused.TheVariants as causes
-use Rattle.ltp_engine.specs.Effects.{effects_of, up_of}
+use Rattle.ltp_engine.specs.Effects.{effects_of, nothing_done, up_of}
 use Rattle.link_laws.specs.HandUps.{up_of as reply_up}
 use Rattle.ltp_engine.specs.Values.{EngineValue}
 use Rattle.ltp_engine.specs.Shows.{Shows}
 use Rattle.ltp_engine.specs.Steps.{Steps, IsSent, IsFault, IsNoFault}
 use Rattle.link_laws.specs.Log.{hand_ups_by, hand_up_of}
+use Rattle.drain_laws.specs.Hopeful.{AreAlike}
 use Rattle.link_laws.proofs.WritableLemmas.{segments_can_be_written}
 use Rattle.ltp_world.specs.declared.ends.End.{End}
 use Rattle.ltp_world.specs.declared.ends.End.TheVariants as ends
@@ -33,10 +34,10 @@ use Rattle.ltp_world.specs.declared.sent.Sent.{Sent}
 use Rattle.ltp_world.specs.declared.effects.EndEffects.{EndEffects}
 use Rattle.ltp_world.specs.Ends.{link_end, named, other_end}
 use Rattle.ltp_world.specs.Values.{WorldValue, parties_of, sent_from, both_ends}
-use Rattle.ltp_world.specs.Shows.{IsNew, spelled, ShowsLink, ShowsRun, link_after}
-use Rattle.ltp_world.specs.Steps.{submission_at, AreEffects, Submits, AreEffectsOf, Delivers, Ticks}
+use Rattle.ltp_world.specs.Shows.{IsNew, spelled, ShowsLink, ShowsRun, Stands, link_after}
+use Rattle.ltp_world.specs.Steps.{Happens, submission_at, AreEffects, Submits, AreEffectsOf, Delivers, Ticks}
 use Rattle.ltp_world.specs.RedParts.{HandsUpFronts, as_up}
-use Rattle.ltp_world.specs.Ties.{made_world, SubmitsAt, HearsAt}
+use Rattle.ltp_world.specs.Ties.{made_world, IsSound, SubmitsAt, HearsAt}
 use Rattle.ltp_world.proofs.LinkLemmas.{shows-more, link-step, got-spelled}
 use Rattle.ltp_world.proofs.FrontLemmas.{delivers-fronts}
 
@@ -172,7 +173,7 @@ submit-refused end olds news sent now block red causes.Busy does = (
 -- ---- a datagram is delivered
 
 -- what a datagram that was sent is read as
-read-back : (v : WorldValue) (events : List Event) (k : ℕ) (d : LinkSent) → ShowsRun v events → slice_get (link_after v events).sent k ≡ Some d
+pub read-back : (v : WorldValue) (events : List Event) (k : ℕ) (d : LinkSent) → ShowsRun v events → slice_get (link_after v events).sent k ≡ Some d
     → segment_of (segment_octets d.segment) ≡ Ok d.segment
 read-back v events k d shows is =
     segment-again d.segment (segments_can_be_written (parties_of v) events shows.peers shows.first_small shows.second_small k d is)
@@ -378,7 +379,7 @@ clock-done broken olds news sent was now first second later first_steps second_s
     not_back w shows = not_less now w.now (omega (arith, shows.now, later))
 
 -- a clock that would go back stays
-pub clock-stays : (old : WorldValue) (now : ℕ) → old.spent ≡ false → now < old.moment → Ticks old old now []
+pub clock-stays : (old : WorldValue) (now : ℕ) → old.spent ≡ false → now < old.moment → Ticks old old now (both_ends nothing_done nothing_done)
 clock-stays old now whole back = (
   record {
     whole = whole;
@@ -402,10 +403,11 @@ start-link parties now = rw (never now) refl where
   never : (n : ℕ) → nat_lt n 0 ≡ false
   never n = grind (arith, nat_tests)
 
-pub new-run : (first second : EngineValue) (now : ℕ) → IsNew first → IsNew second → ArePeers (first.party, second.party)
+pub new-run : (first second : EngineValue) (now : ℕ) → IsNew first → IsNew second → ArePeers (first.party, second.party) → AreAlike (first.party, second.party)
     → ShowsRun (made_world false (first, second) [] now) (clock now ∷ [])
-new-run first second now first_new second_new peers = record {
+new-run first second now first_new second_new peers alike = record {
   peers = peers;
+  alike = alike;
   first_small = first_new.small;
   second_small = second_new.small;
   link = subst (ShowsLink (made_world false (first, second) [] now)) (sym (start-link (first.party, second.party) now)) (record {
@@ -415,6 +417,60 @@ new-run first second now first_new second_new peers = record {
     now = refl;
   });
 }
+
+pub new-sound : (first second : EngineValue) (now : ℕ) → IsNew first → IsNew second → ArePeers (first.party, second.party) → AreAlike (first.party, second.party) → now < 2 ^ 62
+    → IsSound (made_world false (first, second) [] now)
+new-sound first second now first_new second_new peers alike below = record {
+  moment = below;
+  stands = λ _. record { events = clock now ∷ []; shows = new-run first second now first_new second_new peers alike };
+}
+
+-- ---- where a world stands
+
+pub happens-stands : (old new : WorldValue) (event : Event) → Stands old → Happens old new event → Stands new
+happens-stands old new event stands happens = record {
+  events = stands.events ++ event ∷ [];
+  shows = happens.run stands.events stands.shows;
+}
+
+-- a refusal that leaves the world whole leaves it where it stands
+pub refused-stands : (old new : WorldValue) (end : End) (block : List ℕ) (red : ℕ) (refusal : SubmitRefused) → Submits old new end block red (Err refusal)
+    → Stands old → new.spent ≡ false → Stands new
+refused-stands old new end block red causes.Memory does stands whole = absurd (let spent = does.0 in cc)
+refused-stands old new end block red causes.Empty does stands whole = subst Stands (sym does.0) stands
+refused-stands old new end block red causes.TooLarge does stands whole = subst Stands (sym does.0) stands
+refused-stands old new end block red causes.NumbersSpent does stands whole = subst Stands (sym does.0) stands
+refused-stands old new end block red causes.Busy does stands whole = subst Stands (sym does.0) stands
+
+-- a world in which memory ran out may stand anywhere
+pub broken-sound : (engines : EngineValue × EngineValue) (sent : List Sent) (now : ℕ) → now < 2 ^ 62 → IsSound (made_world true engines sent now)
+broken-sound engines sent now below = record { moment = below; stands = λ whole. absurd (cc) }
+
+pub spent-sound : (v : WorldValue) → v.moment < 2 ^ 62 → v.spent ≡ true → IsSound v
+spent-sound v below spent = record { moment = below; stands = λ whole. absurd (cc) }
+
+pub happens-sound : (old new : WorldValue) (event : Event) → IsSound old → old.spent ≡ false → Happens old new event → new.moment < 2 ^ 62 → IsSound new
+happens-sound old new event sound whole happens below = record {
+  moment = below;
+  stands = λ _. happens-stands old new event (sound.stands whole) happens;
+}
+
+pub refused-sound : (old new : WorldValue) (end : End) (block : List ℕ) (red : ℕ) (refusal : SubmitRefused) → Submits old new end block red (Err refusal)
+    → IsSound old → old.spent ≡ false → new.moment < 2 ^ 62 → IsSound new
+refused-sound old new end block red refusal does sound whole below = record {
+  moment = below;
+  stands = λ still. refused-stands old new end block red refusal does (sound.stands whole) still;
+}
+
+-- a world that is whole, and was marked as broken for a while
+pub unbroken : (broken : Bool) (engines : EngineValue × EngineValue) (sent : List Sent) (now : ℕ) (u : WorldValue) → made_world broken engines sent now ≡ u → u.spent ≡ false
+    → made_world false engines sent now ≡ u
+unbroken broken engines sent now u is whole =
+    subst (λ b. made_world b engines sent now ≡ u) (or_left broken (engines.0.spent || engines.1.spent) (ap (λ (v : WorldValue). v.spent) is ∙ whole)) is
+  where
+    or_left : (a b : Bool) → (a || b) ≡ false → a ≡ false
+    or_left false b is = refl
+    or_left true b is = absurd (cc)
 
 -- ---- as the code has it
 

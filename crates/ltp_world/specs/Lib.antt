@@ -5,5 +5,8 @@ pub mod Values
 pub mod Shows
 pub mod Steps
 pub mod RedParts
+pub mod Drain
 -- what ties the code to it
 pub mod Ties
+pub mod Work
+pub mod Clean

@@ -9,6 +9,7 @@ use Rattle.ltp_session.specs.World.{Sent as LinkSent}
 use Rattle.ltp_engine.specs.Values.{EngineValue}
 use Rattle.ltp_engine.specs.Shows.{Shows}
 use Rattle.ltp_engine.specs.Bounds.{IsBounded}
+use Rattle.drain_laws.specs.Hopeful.{AreAlike}
 use Rattle.link_laws.specs.Writable.{HasSmallNumbers}
 use Rattle.ltp_world.specs.declared.sent.Sent.{Sent}
 use Rattle.ltp_world.specs.Ends.{named}
@@ -43,6 +44,12 @@ link_after v events = run (parties_of v) (starts_world (parties_of v)) events
 -- the world stands where a run of these events leads
 pub record ShowsRun (v : WorldValue) (events : List Event) : Type 0 where
   pub peers : ArePeers (parties_of v)
+  pub alike : AreAlike (parties_of v)
   pub first_small : HasSmallNumbers v.engines.0.party
   pub second_small : HasSmallNumbers v.engines.1.party
   pub link : ShowsLink v (link_after v events)
+
+-- the world stands where some run leads
+pub record Stands (v : WorldValue) : Type 0 where
+  pub events : List Event
+  pub shows : ShowsRun v events

@@ -10,7 +10,7 @@ use Rattle.ltp_session.specs.World.{Sent as LinkSent}
 use Rattle.ltp_engine.specs.declared.effects.Effects.{Effects}
 use Rattle.ltp_engine.specs.declared.refused.SubmitRefused.{SubmitRefused}
 use Rattle.ltp_engine.specs.declared.refused.SubmitRefused.TheVariants as causes
-use Rattle.ltp_engine.specs.Effects.{effects_of}
+use Rattle.ltp_engine.specs.Effects.{effects_of, nothing_done}
 use Rattle.ltp_engine.specs.Steps.{IsFault, IsNoFault}
 use Rattle.ltp_world.specs.declared.effects.EndEffects.{EndEffects}
 use Rattle.ltp_world.specs.declared.ends.End.{End}
@@ -84,10 +84,10 @@ Delivers old new k (Err refused.Memory) = (k < length old.sent) × (new.spent �
 
 -- ---- the clock is set
 
--- what both ends do when they tick; a clock that would go back stays, and neither ticks
+-- what both ends do when they tick; a clock that would go back stays, and then they do nothing
 abbrev pub ticks_of : Party × Party → World → ℕ → List EndEffects
 ticks_of parties w now =
-    if nat_lt now w.now then []
+    if nat_lt now w.now then both_ends nothing_done nothing_done
     else both_ends (effects_of (tick_step parties.0 w.engines.0 now).effects)
     (effects_of (tick_step parties.1 w.engines.1 now).effects)
 

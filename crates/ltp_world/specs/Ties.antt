@@ -1,6 +1,6 @@
 -- What the code does at one of two engines.
 
-use Rattle.std.specs.Prelude.{◌≡◌, ℕ, ◌||◌, Bool, List, Result}
+use Rattle.std.specs.Prelude.{◌≡◌, ℕ, ◌<◌, ◌^◌, ◌||◌, Bool, false, List, Result}
 use Rattle.ltp_segment.specs.Reading.{segment_of}
 use Rattle.ltp_session.specs.Engine.{submits, submit_step, datagram_step}
 use Rattle.ltp_session.specs.World.{at_end, other}
@@ -12,6 +12,7 @@ use Rattle.ltp_engine.specs.Steps.{Submits as EngineSubmits}
 use Rattle.ltp_world.specs.declared.ends.End.{End}
 use Rattle.ltp_world.specs.declared.sent.Sent.{Sent}
 use Rattle.ltp_world.specs.Ends.{link_end}
+use Rattle.ltp_world.specs.Shows.{Stands}
 use Rattle.ltp_world.specs.Values.{WorldValue}
 
 -- a world of these parts; memory ran out in it, or in one of its engines, or in none
@@ -22,6 +23,11 @@ made_world broken engines sent now = record {
   sent = sent;
   moment = now;
 }
+
+-- what every call keeps of a world: a clock below 2^62, and that a run leads to where it stands
+pub record IsSound (v : WorldValue) : Type 0 where
+  pub moment : v.moment < 2 ^ 62
+  pub stands : v.spent ≡ false → Stands v
 
 -- the engine of the other end is as it was
 abbrev pub OtherStays : End → EngineValue × EngineValue → EngineValue × EngineValue → Type 0

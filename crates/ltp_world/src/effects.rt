@@ -1,10 +1,12 @@
 //! What ends of a link do in answer to an event.
 
-ghost use Rattle.std.specs.Prelude.{◌≡◌, [], IfOk};
+ghost use Rattle.std.specs.Prelude.{◌≡◌, [], ◌∷◌, length, IfOk};
+ghost use Rattle.ltp_engine.specs.Effects.{nothing_done};
 ghost use Rattle.ltp_world.specs.Values.{both_ends};
 
 use crate::ends::End;
-use ltp_engine::Effects;
+use ltp_engine::{Effects, Greens, Notes, Ups};
+use ltp_segment::Outs;
 use std::alloc::{AllocError, Global};
 use std::marker::Model;
 
@@ -33,13 +35,20 @@ impl Model for WorldEffects {
 }
 
 impl WorldEffects {
-    /// Nothing is done. It takes no memory.
-    pub(crate) fn none(alloc: Global) -> WorldEffects
-        ensures { result ≡ [] }
+    /// What one end does.
+    pub(crate) fn one(alloc: Global, told: EndEffects) -> Result<WorldEffects, AllocError>
+        ensures { IfOk result (λ one. one ≡ told ∷ []) }
     {
-        WorldEffects {
-            items: Vec::new(alloc),
-        }
+        let mut items = Vec::new(alloc);
+        items.push(told)?;
+        Ok(WorldEffects { items })
+    }
+
+    /// Both ends do nothing.
+    pub(crate) fn idle(alloc: Global) -> Result<WorldEffects, AllocError>
+        ensures { IfOk result (λ both. both ≡ both_ends nothing_done nothing_done) }
+    {
+        WorldEffects::of(alloc, nothing(alloc), nothing(alloc))
     }
 
     /// What both ends do, the first one first.
@@ -76,4 +85,72 @@ impl WorldEffects {
     {
         self.items.as_slice()
     }
+}
+
+/// Nothing is done. It takes no memory.
+fn nothing(alloc: Global) -> Effects
+    ensures { result ≡ nothing_done }
+{
+    Effects {
+        out: Outs::new(alloc),
+        ups: Ups::from_vec(Vec::new(alloc)),
+        greens: Greens::from_vec(Vec::new(alloc)),
+        notes: Notes::from_vec(Vec::new(alloc)),
+    }
+}
+
+/// What ends do at one event after the other.
+#[derive(Debug, Drop)]
+pub struct WorldSteps {
+    items: Vec<WorldEffects>,
+}
+
+impl Model for WorldSteps {
+    ghost use Rattle.std.specs.Prelude.{List};
+    ghost use Rattle.ltp_world.specs.declared.effects.EndEffects.{EndEffects};
+
+    ghost Value = { List (List EndEffects) };
+
+    ghost view = { λ steps. steps.items.items };
+}
+
+impl WorldSteps {
+    /// These steps, moved and not copied.
+    pub(crate) fn from_vec(items: Vec<WorldEffects>) -> WorldSteps
+        ensures { result ≡ items.items }
+    {
+        WorldSteps { items }
+    }
+
+    /// The steps, moved and not copied.
+    pub fn into_vec(self) -> Vec<WorldEffects>
+        ensures { result.items ≡ self }
+    {
+        let WorldSteps { items } = self;
+        items
+    }
+
+    /// The steps, lent.
+    pub fn as_slice(&self) -> &[WorldEffects]
+        ensures { result.now ≡ self.now }
+    {
+        self.items.as_slice()
+    }
+
+    /// How many steps there are.
+    pub fn len(&self) -> usize
+        ensures { result ≡ length self.now }
+    {
+        self.items.len()
+    }
+}
+
+/// What a drain did.
+#[derive(Debug, Drop)]
+pub struct Drained {
+    /// How many events there were.
+    pub events: u64,
+    /// What the ends did at each event, in order: where a datagram came the one that it came to, and where
+    /// the clock was set both, which ticked.
+    pub effects: WorldSteps,
 }

@@ -7,9 +7,11 @@
 //! segments: `ShowsRun` says after which events a value stands. So what `link_laws` says of every
 //! run holds of every world.
 //!
-//! Nothing is delivered unasked, and no deadline is looked at before the clock is set.
+//! Nothing is delivered unasked, and no deadline is looked at before the clock is set, but in a
+//! drain: then the link stops losing, and goes on by itself until nothing is left to do.
 #![tactic(auto)]
 
+mod drain;
 mod effects;
 mod ends;
 mod refused;
@@ -18,8 +20,8 @@ mod sent;
 mod tests;
 mod world;
 
-pub use effects::{EndEffects, WorldEffects};
+pub use effects::{Drained, EndEffects, WorldEffects, WorldSteps};
 pub use ends::End;
-pub use refused::DeliverRefused;
+pub use refused::{DeliverRefused, DrainRefused};
 pub use sent::Sent;
 pub use world::LinkWorld;

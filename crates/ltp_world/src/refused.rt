@@ -1,7 +1,7 @@
-//! Why a datagram isn't delivered.
+//! Why a datagram isn't delivered, and why a drain doesn't end.
 
 ghost use Rattle.std.specs.Prelude.{◌≡◌};
-ghost use Rattle.ltp_world.specs.Refused.{deliver_word};
+ghost use Rattle.ltp_world.specs.Refused.{deliver_word, drain_word};
 
 use std::alloc::AllocError;
 use thiserror::Error;
@@ -36,5 +36,38 @@ impl From<AllocError> for DeliverRefused {
 
     fn from(_error: AllocError) -> DeliverRefused {
         DeliverRefused::Memory
+    }
+}
+
+/// Why a drain doesn't come to its end.
+#[derive(Clone, Copy, Debug, PartialEq, Eq, Error)]
+pub enum DrainRefused {
+    /// The clock would be set to 2^62 or a later moment.
+    #[error("TooLate")]
+    TooLate,
+    /// There is no memory. The world may then only be dropped.
+    #[error("Memory")]
+    Memory,
+}
+
+impl DrainRefused {
+    /// The refusal's name.
+    pub fn word(&self) -> &'static str
+        ensures { result.now ≡ drain_word self.now }
+    {
+        match self {
+            DrainRefused::TooLate => "TooLate",
+            DrainRefused::Memory => "Memory",
+        }
+    }
+}
+
+impl From<AllocError> for DrainRefused {
+    ghost use Rattle.ltp_world.specs.declared.refused.DrainRefused.TheVariants.{Memory};
+
+    ghost from_gives = { λ _ e. e ≡ Memory };
+
+    fn from(_error: AllocError) -> DrainRefused {
+        DrainRefused::Memory
     }
 }

@@ -1,8 +1,9 @@
 //! Two engines, everything that was ever sent, and a clock.
 
 ghost use Rattle.std.specs.Prelude.{◌≡◌, ◌<◌, ◌≤◌, ◌^◌, false, [], ◌∷◌, length, IfOk, OnOk, OnErr};
-ghost use Rattle.std.specs.Prelude.{List, true, ◌||◌};
+ghost use Rattle.std.specs.Prelude.{List, true, ◌||◌, Ok};
 ghost use Rattle.ltp_session.specs.World.{ArePeers, Event, clock, deliver};
+ghost use Rattle.drain_laws.specs.Hopeful.{AreAlike};
 ghost use Rattle.ltp_world.specs.Ends.{link_end};
 ghost use Rattle.ltp_world.specs.Values.{WorldValue, parties_of};
 ghost use Rattle.ltp_world.specs.Shows.{IsNew, AreBounded, ShowsRun};
@@ -23,40 +24,38 @@ use std::marker::Model;
 /// After want of memory the value may only be dropped.
 #[derive(Debug, Drop)]
 pub struct LinkWorld {
-    alloc: Global,
-    first: Engine,
-    second: Engine,
+    pub(crate) alloc: Global,
+    pub(crate) first: Engine,
+    pub(crate) second: Engine,
     sent: Vec<Sent>,
     moment: u64,
-    /// Memory ran out before all that was sent was kept.
-    broken: bool,
+    /// Memory ran out before all that was done was kept.
+    pub(crate) broken: bool,
 }
 
 impl Model for LinkWorld {
-    ghost use Rattle.std.specs.Prelude.{◌||◌, ◌<◌, ◌^◌};
     ghost use Rattle.ltp_world.specs.Values.{WorldValue};
+    ghost use Rattle.ltp_world.specs.Ties.{made_world, IsSound};
 
     ghost Value = { WorldValue };
 
-    ghost view = { λ w. record {
-      spent = w.broken || (w.first.spent || w.second.spent);
-      engines = (w.first, w.second);
-      sent = w.sent.items;
-      moment = w.moment;
-    } };
+    ghost view = { λ w. made_world w.broken (w.first, w.second) w.sent.items w.moment };
 
-    ghost invariant = { λ w. w.moment < 2 ^ 62 };
+    ghost invariant = { λ w.
+        IsSound (made_world w.broken (w.first, w.second) w.sent.items w.moment) };
 }
 
 impl LinkWorld {
     /// Two engines at their beginning, at a moment below 2^62. Each one's own number is the
-    /// other's peer number, and they cut segments of at least one octet. Nothing was sent yet.
+    /// other's peer number, and both take blocks of the same greatest length, cut segments of two
+    /// octets at least and wait for answers. Nothing was sent yet.
     ///
     /// It takes no memory.
     pub fn new(alloc: Global, first: Engine, second: Engine, now: u64) -> LinkWorld
         requires first { IsNew first }
         requires second { IsNew second }
         requires peers { ArePeers (first.party, second.party) }
+        requires alike { AreAlike (first.party, second.party) }
         requires moment { now < 2 ^ 62 }
         ensures whole { result.spent ≡ false }
         ensures parties { parties_of result ≡ (first.party, second.party) }
@@ -120,10 +119,22 @@ impl LinkWorld {
         ensures fronts { IfOk result (λ told. (events : List Event) → ShowsRun self.old events
             → HandsUpFronts self.old events (deliver k) told.effects.ups) }
     {
-        let now = self.moment;
         if k >= self.sent.len() {
             return Err(DeliverRefused::NoSuchDatagram);
         }
+        let told = self.deliver_at(k)?;
+        Ok(told)
+    }
+
+    /// Datagram `k`, which was sent, comes to the end that didn't send it.
+    pub(crate) fn deliver_at(&mut self, k: usize) -> Result<EndEffects, AllocError>
+        requires whole { self.old.spent ≡ false }
+        requires there { k < length self.old.sent }
+        ensures done { IfOk result (λ told. Delivers self.old self.new k (Ok told)) }
+        ensures bounds { AreBounded self.old.engines → OnOk result (AreBounded self.new.engines) }
+        ensures err { OnErr result (self.new.spent ≡ true) }
+    {
+        let now = self.moment;
         let sent = &self.sent[k];
         let from = sent.from;
         let end = from.other();
@@ -136,7 +147,7 @@ impl LinkWorld {
     }
 
     /// The clock is set to a moment below 2^62, and both ends tick, the first one first. A clock
-    /// that would go back stays, and nothing is done.
+    /// that would go back stays, and both do nothing.
     pub fn clock(&mut self, now: u64) -> Result<WorldEffects, AllocError>
         requires whole { self.old.spent ≡ false }
         requires moment { now < 2 ^ 62 }
@@ -145,10 +156,12 @@ impl LinkWorld {
         ensures bounds { AreBounded self.old.engines → OnOk result (AreBounded self.new.engines) }
         ensures err { OnErr result (self.new.spent ≡ true) }
     {
-        if now < self.moment {
-            return Ok(WorldEffects::none(self.alloc));
-        }
         self.broken = true;
+        if now < self.moment {
+            let told = WorldEffects::idle(self.alloc)?;
+            self.broken = false;
+            return Ok(told);
+        }
         let first = self.first.tick(now)?;
         let second = self.second.tick(now)?;
         keep(self.alloc, &mut self.sent, End::First, first.out.as_slice())?;

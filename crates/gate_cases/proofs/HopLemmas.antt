@@ -1,5 +1,5 @@
 -- A hop count with one hop more is a hop count.
-use Rattle.std.proofs.Common.{◌≡◌, ℕ, ◌+◌, ◌<◌, ◌≤◌, ◌^◌, ◌==◌, nat_lt, nat_le, Bool, true, false, ◌&&◌, ◌||◌, if◌then◌else◌, List, [], ◌++◌, length, length-append, Option, Some, None, IfSome, Result, Ok, Err, refl, sym, ap, ◌∙◌, subst, arith, eqb-true}
+use Rattle.std.proofs.Common.{◌≡◌, ℕ, ◌+◌, ◌<◌, ◌≤◌, ◌^◌, ◌==◌, Bool, true, false, if◌then◌else◌, List, [], ◌++◌, length, length-append, Option, Some, None, IfSome, Result, Ok, Err, refl, sym, ap, subst, arith, eqb-true}
 use Rattle.std.specs.Result.{result_ok}
 use Rattle.std.proofs.lemmas.Bool.{ltb-false}
 use Rattle.std.proofs.lemmas.List.{append-nil}
@@ -12,10 +12,10 @@ use Rattle.wire_fields.proofs.WholeLemmas.{whole-found, whole-only}
 use Rattle.bundle7.specs.declared.body.Hop.{Hop}
 use Rattle.bundle7.specs.declared.fault.Cause7.{Cause7}
 use Rattle.bundle7.specs.declared.fault.Cause7.TheVariants.{ExtensionBody}
-use Rattle.bundle7.specs.Body.{hop, hop_count, IsBody}
+use Rattle.bundle7.specs.Body.{hop, hop_count}
 use Rattle.bundle_meaning.specs.declared.blocks.Block7Like.{Block7Like}
-use Rattle.bundle_meaning.specs.declared.blocks.Ext.TheVariants.{Six, Seven}
-use Rattle.bundle_meaning.specs.Blocks.{IsBlock7, is_marked}
+use Rattle.bundle_meaning.specs.declared.blocks.Ext.TheVariants.{Seven}
+use Rattle.bundle_meaning.specs.Blocks.{IsBlock7}
 use Rattle.translate.specs.Sound.{HasBody}
 use Rattle.gate_cases.specs.Passage.{hop_in, hop_octets, is_last, ends_here, one_more_in, counted}
 use Rattle.gate_cases.proofs.LengthLemmas.{length-head}

@@ -1,5 +1,5 @@
 -- What is found in a block, and what is decided then.
-use Rattle.std.proofs.Common.{◌≡◌, ℕ, ◌==◌, Bool, true, false, ◌⊎◌, if◌then◌else◌, List, [], ◌∷◌, ◌++◌, map, length, Option, Some, None, Result, Ok, Err, IfOk, OnErr, refl, sym, ap, ◌∙◌, subst, eqb-true, eq-eqb, ne_eqb}
+use Rattle.std.proofs.Common.{◌≡◌, ℕ, Bool, true, false, if◌then◌else◌, List, [], ◌∷◌, ◌++◌, map, length, Option, Some, None, Result, Ok, Err, IfOk, OnErr, refl, sym, ap, ◌∙◌, subst, eq-eqb, ne_eqb}
 use Rattle.wire_fields.specs.Gives.{Judges}
 use Rattle.wire_fields.specs.Refusal.{Stop}
 use Rattle.wire_fields.specs.Reading.{read}
@@ -23,12 +23,12 @@ use Rattle.gate_cases.specs.declared.cause.BadCause.{BadCause}
 use Rattle.gate_cases.specs.declared.cause.BadCause.TheVariants as bads
 use Rattle.gate_cases.specs.declared.face.Face.{Face}
 use Rattle.gate_cases.specs.declared.face.Face.TheVariants.{Old, New}
-use Rattle.gate_cases.specs.Blocks.{Arrival, Found, one, bad, alone, arrival6, arrival7, found6, found7, found_at}
+use Rattle.gate_cases.specs.Blocks.{Arrival, one, bad, alone, arrival6, arrival7, found6, found7, found_at}
 use Rattle.gate_cases.specs.declared.report.AskedReport.{AskedReport}
 use Rattle.gate_cases.specs.declared.sending.Sent.{Sent}
 use Rattle.gate_cases.specs.Faces.{other_of}
 use Rattle.gate_cases.specs.Reports.{asked}
-use Rattle.gate_cases.specs.Cases.{untranslated, stops, or_passed, case_of, Judgement, judgement_of, judged}
+use Rattle.gate_cases.specs.Cases.{untranslated, or_passed, case_of, Judgement, judgement_of, judged}
 use Rattle.gate_cases.specs.Promises.{HaveRoom}
 use Rattle.gate_cases.specs.Sending.{sent_arrival}
 use Rattle.gate_cases.proofs.CaseLemmas.{cause6-same, cause7-same}

@@ -1,15 +1,7 @@
 -- How long spellings are at most.
-use Rattle.std.proofs.Common.{◌≡◌, ℕ, ◌+◌, ◌≤◌, ◌<◌, ◌^◌, nat_lt, Bool, true, false, ◌&&◌, if◌then◌else◌, List, [], ◌∷◌, ◌++◌, length, length-append, codes, arith}
-use Rattle.std.specs.Fmt.{decimal}
+use Rattle.std.proofs.Common.{ℕ, ◌≤◌, ◌^◌, nat_lt, Bool, true, false, if◌then◌else◌, [], ◌∷◌, length, arith}
 use Rattle.std.specs.Int.{w8, w16, w32, w64, to_be_bytes}
-use Rattle.std.proofs.lemmas.Bool.{leb-true}
-use Rattle.std.proofs.lemmas.Fmt.{length-decimal-le}
-use Rattle.sdnv.specs.Shortest.{spelling}
-use Rattle.sdnv.proofs.ShortestLemmas.{length-leading, length-spelling}
 use Rattle.cbor_lite.specs.Head.{head, first_octet}
-use Rattle.endpoint.specs.declared.name.Endpoint.{Endpoint}
-use Rattle.endpoint.specs.declared.name.Endpoint.TheVariants.{Null, Ipn, Dtn}
-use Rattle.endpoint.specs.Endpoints.{IsEndpoint, ssp_of, text_of}
 
 -- a head has nine octets at most
 pub length-head : (kind n : ℕ) → length (head kind n) ≤ 9

@@ -1,6 +1,6 @@
 -- The pieces of a record: how many there are, that they are sound, and that they have too many blocks if and
 -- only if the record has.
-use Rattle.std.proofs.Common.{◌≡◌, ℕ, zero, suc, ◌+◌, ◌-◌, ◌/◌, ◌<◌, ◌==◌, ◌≤◌, Bool, true, false, not, ◌&&◌, ◌||◌, cond, nat_le, nat_lt, if◌then◌else◌, List, [], ◌∷◌, length, drop, All, refl, sym, ap, ◌∙◌, subst, arith, eqb-true, le-leb}
+use Rattle.std.proofs.Common.{◌≡◌, ℕ, zero, suc, ◌+◌, ◌-◌, ◌/◌, ◌<◌, ◌==◌, ◌≤◌, Bool, true, false, not, ◌&&◌, ◌||◌, cond, nat_le, if◌then◌else◌, List, [], ◌∷◌, length, drop, All, refl, arith, eqb-true, le-leb}
 use Rattle.std.specs.List.{filter, list_all}
 use Rattle.std.proofs.Math.ListN.{drop_of_length-le}
 use Rattle.std.proofs.lemmas.Bool.{leb-true, ltb-true}
@@ -17,8 +17,8 @@ use Rattle.bundle_meaning.specs.Expiry.{slack_of}
 use Rattle.bundle_meaning.specs.Reports.{no_time_of}
 use Rattle.bundle_meaning.specs.Valid.{IsValid}
 use Rattle.translate.specs.Sound.{HasBody, IsSound}
-use Rattle.translate.specs.View6.{is_same7, needs_residue6, fits6}
-use Rattle.translate.specs.View7.{is_null, is_default6, has_no_rest, needs_residue7, fits7}
+use Rattle.translate.specs.View6.{is_same7, needs_residue6}
+use Rattle.translate.specs.View7.{is_null, is_default6, has_no_rest, needs_residue7}
 use Rattle.fragments.specs.Cutting.{octets_of, is_longer, must_not, is_replicated, exts_in, after_in, how_many, piece, pieces_from, pieces}
 use Rattle.gate_cases.specs.declared.face.Face.{Face}
 use Rattle.gate_cases.specs.declared.face.Face.TheVariants.{Old, New}

@@ -1,7 +1,7 @@
 -- The pieces of a bundle that goes on have room.
-use Rattle.std.proofs.Common.{◌≡◌, ℕ, suc, ◌+◌, ◌<◌, ◌≤◌, Bool, true, false, ◌&&◌, ◌||◌, nat_lt, if◌then◌else◌, List, [], ◌∷◌, ◌++◌, map, length, Option, Some, None, All, refl, sym, ap, ◌∙◌, arith}
+use Rattle.std.proofs.Common.{◌≡◌, ℕ, ◌+◌, ◌<◌, Bool, true, false, ◌&&◌, ◌||◌, nat_lt, if◌then◌else◌, List, [], ◌∷◌, ◌++◌, map, length, Some, All, refl, arith}
 use Rattle.std.specs.List.{list_any}
-use Rattle.std.proofs.lemmas.Bool.{ltb-false, ltb-true}
+use Rattle.std.proofs.lemmas.Bool.{ltb-false}
 use Rattle.std.proofs.lemmas.List.{length-map}
 use Rattle.std.proofs.lemmas.List.Elements.{All-nil, All-cons}
 use Rattle.bundle6.specs.Spelling as six
@@ -12,14 +12,14 @@ use Rattle.translate.specs.Refusals.{first_that_holds}
 use Rattle.fragments.specs.Cutting.{octets_of, is_longer, must_not, how_many, pieces_from}
 use Rattle.gate_cases.specs.declared.case.TheConstants.{BLOCK_MAX, SENDING_MAX, NUMBERS}
 use Rattle.gate_cases.specs.declared.case.GateCase.{GateCase}
-use Rattle.gate_cases.specs.declared.case.GateCase.TheVariants.{BadBundle, Untranslated, Expired, HopLimit, Storage, Passed}
+use Rattle.gate_cases.specs.declared.case.GateCase.TheVariants.{Untranslated, Expired, HopLimit, Storage, Passed}
 use Rattle.gate_cases.specs.declared.case.Room.{Room}
 use Rattle.gate_cases.specs.declared.face.Face.{Face}
 use Rattle.gate_cases.specs.declared.face.Face.TheVariants.{Old, New}
 use Rattle.gate_cases.specs.Faces.{other_of, octets_at}
 use Rattle.gate_cases.specs.Passage.{pieces_on, passage}
-use Rattle.gate_cases.specs.Blocks.{Arrival, Found, one, bad, found_at}
-use Rattle.gate_cases.specs.Cases.{is_short, untranslated, records_of, or_passed, case_of, pieces_if, judgement_of, judged}
+use Rattle.gate_cases.specs.Blocks.{Found, one, bad, found_at}
+use Rattle.gate_cases.specs.Cases.{is_short, untranslated, records_of, or_passed, case_of, judgement_of, judged}
 use Rattle.gate_cases.specs.Promises.{IsBlock, HaveRoom, PiecesHaveRoom}
 use Rattle.gate_cases.proofs.PieceLemmas.{length-from}
 

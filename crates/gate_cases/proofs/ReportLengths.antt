@@ -22,7 +22,6 @@ use Rattle.bundle_meaning.specs.declared.creation.Id7.{Id7}
 use Rattle.bundle_meaning.specs.declared.report.Part.{Part}
 use Rattle.bundle_meaning.specs.declared.report.Stamp.{Stamp}
 use Rattle.bundle_meaning.specs.declared.report.Stamp.TheVariants.{No, Yes, At}
-use Rattle.bundle_meaning.specs.Body.{name_octets}
 use Rattle.status_reports.specs.declared.report6.Report6.{Report6}
 use Rattle.status_reports.specs.declared.report6.Time6.{Time6}
 use Rattle.status_reports.specs.declared.report7.Report7.{Report7}

@@ -1,5 +1,5 @@
 -- What is decided about records that would go on.
-use Rattle.std.proofs.Common.{◌≡◌, ℕ, ◌+◌, Bool, true, false, not, ◌||◌, nat_lt, if◌then◌else◌, List, [], ◌∷◌, ◌++◌, map, length, Option, Some, None, Result, Ok, Err, IfOk, refl, sym, ap, ◌∙◌, subst}
+use Rattle.std.proofs.Common.{◌≡◌, ℕ, ◌+◌, Bool, true, false, not, ◌||◌, nat_lt, if◌then◌else◌, List, [], ◌∷◌, map, length, Option, Some, None, Result, Ok, Err, IfOk, refl, sym, ap, ◌∙◌}
 use Rattle.std.specs.List.{list_all, list_any}
 use Rattle.std.proofs.lemmas.List.{length-map}
 use Rattle.bundle_meaning.specs.declared.full.Full.{Full}
@@ -8,14 +8,14 @@ use Rattle.translate.specs.declared.refused.Refused.TheVariants.{TooManyBlocks}
 use Rattle.translate.specs.Refusals.{first_that_holds}
 use Rattle.gate_cases.specs.declared.case.TheConstants.{BLOCK_MAX, SENDING_MAX, NUMBERS}
 use Rattle.gate_cases.specs.declared.case.GateCase.{GateCase}
-use Rattle.gate_cases.specs.declared.case.GateCase.TheVariants.{Untranslated, Storage, Passed}
+use Rattle.gate_cases.specs.declared.case.GateCase.TheVariants.{Untranslated, Storage}
 use Rattle.gate_cases.specs.declared.case.Room.{Room}
 use Rattle.gate_cases.specs.declared.face.Face.{Face}
 use Rattle.gate_cases.specs.declared.sending.Sent.{Sent}
 use Rattle.gate_cases.specs.Faces.{octets_at, fits_at}
 use Rattle.gate_cases.specs.Blocks.{Arrival}
 use Rattle.gate_cases.specs.Passage.{pieces_on}
-use Rattle.gate_cases.specs.Cases.{is_short, lacks, or_passed, pieces_if, records_of}
+use Rattle.gate_cases.specs.Cases.{is_short, or_passed, records_of}
 use Rattle.gate_cases.specs.Sending.{has_sessions, sent_in, sent_records, sent_full, sent_arrival, Reads}
 use Rattle.gate_cases.proofs.PieceLemmas.{fits-pieces}
 use Rattle.gate_cases.proofs.CaseLemmas.{first-after, first-refused}

@@ -1,5 +1,5 @@
 -- The report that is asked for, and the bundle with it, are legal.
-use Rattle.std.proofs.Common.{◌≡◌, ℕ, ◌+◌, ◌*◌, ◌/◌, ◌%◌, ◌<◌, ◌≤◌, ◌^◌, Bool, true, false, if◌then◌else◌, List, [], ◌∷◌, length, None, All, refl, arith}
+use Rattle.std.proofs.Common.{◌≡◌, ℕ, ◌+◌, ◌<◌, ◌^◌, Bool, true, false, if◌then◌else◌, List, [], ◌∷◌, length, None, All, refl, arith}
 use Rattle.std.proofs.lemmas.List.Elements.{All-nil, All-cons}
 use Rattle.endpoint.specs.declared.name.Endpoint.{Endpoint}
 use Rattle.endpoint.specs.Endpoints.{IsEndpoint, is_singleton}
@@ -8,15 +8,14 @@ use Rattle.bundle6.specs.Bits.{has_bit}
 use Rattle.bundle6.specs.Legal as six
 use Rattle.bundle_meaning.specs.declared.creation.Id6.{Id6}
 use Rattle.bundle_meaning.specs.declared.creation.Id7.{Id7}
-use Rattle.bundle_meaning.specs.declared.report.Stamp.{Stamp}
-use Rattle.bundle_meaning.specs.declared.report.Stamp.TheVariants.{No, Yes, At}
+use Rattle.bundle_meaning.specs.declared.report.Stamp.TheVariants.{No}
 use Rattle.bundle_meaning.specs.Reports.{IsStamp}
 use Rattle.status_reports.specs.Fields.{is_set}
 use Rattle.status_reports.specs.Table6.{is_status}
 use Rattle.status_reports.specs.Legal.{IsTime, AreTimes, IsReport6, IsReport7}
 use Rattle.gate_cases.specs.declared.report.AskedReport.{AskedReport}
 use Rattle.gate_cases.specs.declared.report.Statuses.{Statuses}
-use Rattle.gate_cases.specs.Bundles.{time6_if, times6_of, report6_of, bundle6_with, stamp_if, stamps_of, report7_of}
+use Rattle.gate_cases.specs.Bundles.{time6_if, times6_of, report6_of, bundle6_with, stamp_if, report7_of}
 use Rattle.gate_cases.specs.Promises.{IsAskable}
 
 -- ---- version 6

@@ -6,3 +6,5 @@
 
 #[cfg(test)]
 mod adapters;
+#[cfg(test)]
+mod serving;

@@ -1,10 +1,11 @@
 -- What a run wrote, by its command.
-use Rattle.std.proofs.Common.{◌≡◌, ℕ, List, [], ◌++◌, Option, None, Some, IfSome, refl, sym, ◌∙◌}
+use Rattle.std.proofs.Common.{◌≡◌, ℕ, ◌+◌, ◌-◌, ◌<◌, ◌^◌, min, inl, inr, List, [], ◌++◌, Option, None, Some, IfSome, refl, sym, ◌∙◌, arith}
 use Rattle.std.proofs.lemmas.List.{append-nil}
 use Rattle.edge_traits.specs.declared.status.Status.{Status}
 use Rattle.edge_traits.specs.declared.status.Status.TheVariants as statuses
 use Rattle.edge_traits.specs.Content.{GainsFront, most_input}
-use Rattle.edge_traits.specs.Outcome.{SourceTells, SinkTells, EndsAs, Wrote, Ran, IsAnswer}
+use Rattle.edge_traits.specs.Faults.{Calls}
+use Rattle.edge_traits.specs.Outcome.{SourceTells, SinkTells, EndsAs, Wrote, WentReading, WentWriting, Ran, IsAnswer}
 use Rattle.gateway_run.specs.declared.commands.command.Command.{Command}
 use Rattle.gateway_run.specs.declared.commands.command.Command.TheVariants as commands
 use Rattle.gateway_run.specs.Receive.{Limits, the_limits, receive_rules}
@@ -15,7 +16,7 @@ use Rattle.node_run.specs.RedParts.{AnswersLines}
 use Rattle.node_run.proofs.RunLemmas.{answers_lines}
 use Rattle.command_frame.specs.Task.{Settling}
 use Rattle.gateway_run.specs.ReceiverLaw.{KeepsReceiverLaw}
-use Rattle.gateway_run.specs.Words.{settles, KeepsLaw, WritesLawfully, IsLawful}
+use Rattle.gateway_run.specs.Words.{settles, CompletesCommand, KeepsLaw, WritesLawfully, IsLawful}
 use Rattle.edge_traits.specs.Settled.{at_end, EarliestDecides}
 use Rattle.command_frame.specs.Within.{within}
 use Rattle.command_frame.proofs.WithinLemmas.{within-front}
@@ -131,3 +132,45 @@ keeps_ran None status source source_now sink sink_now ran = nothing source.left
     nothing (Some input) = tt
 keeps_ran (Some command) status source source_now sink sink_now ran =
     keeps_law source.left (Some command) command status source_now.left sink.held sink_now.held refl ran.wrote
+
+-- a count that rose isn't what it was
+rises : (n most : ℕ) → n < most → n ≡ min (n + 1) most → ⊥
+rises n most below is = omega arith
+
+-- a run in which no count rose ends as its input has it, or for want of memory
+module _ (command : Command) (source source_now sink sink_now : Calls)
+    (reads : source.faults < 2 ^ 64 - 1) (writes : sink.faults < 2 ^ 64 - 1)
+    (read : source_now.faults ≡ source.faults) (written : sink_now.faults ≡ sink.faults) where
+  ends_so : (status : Status) (input : List ℕ) (left held after : Option (List ℕ))
+      → Wrote (settles command) status input left held after → WentReading status source source_now → WentWriting status sink sink_now
+      → CompletesCommand (Some command) input status
+  ends_so statuses.Done input left held after wrote went gone = inl wrote.0
+  ends_so statuses.Refused input left held after wrote went gone = inl wrote.0
+  ends_so statuses.Limit input left held after wrote went gone = inl wrote.0
+  ends_so statuses.Usage input left held after wrote went gone = absurd wrote
+  ends_so statuses.ReadFault input left held after wrote went gone =
+      absurd (rises source.faults (2 ^ 64 - 1) reads (sym read ∙ went.count))
+  ends_so statuses.WriteFault input left held after wrote went gone =
+      absurd (rises sink.faults (2 ^ 64 - 1) writes (sym written ∙ gone.count))
+  ends_so statuses.Memory input left held after wrote went gone = inr refl
+
+  ends_told : (status : Status) (told left held after : Option (List ℕ))
+      → IfSome told (λ input. Wrote (settles command) status input left held after)
+      → WentReading status source source_now → WentWriting status sink sink_now
+      → IfSome told (λ input. CompletesCommand (Some command) input status)
+  ends_told status None left held after wrote went gone = tt
+  ends_told status (Some input) left held after wrote went gone = ends_so status input left held after wrote went gone
+
+pub completes_ran : (named : Option Command) (status : Status) (source source_now : SourceTells) (sink sink_now : SinkTells)
+    → IfSome named (λ command. Ran (settles command) status source source_now sink sink_now)
+    → source.calls.faults < 2 ^ 64 - 1 → sink.calls.faults < 2 ^ 64 - 1
+    → source_now.calls.faults ≡ source.calls.faults → sink_now.calls.faults ≡ sink.calls.faults
+    → IfSome source.left (λ input. CompletesCommand named input status)
+completes_ran None status source source_now sink sink_now ran reads writes read written = nothing source.left
+  where
+    nothing : (left : Option (List ℕ)) → IfSome left (λ input. CompletesCommand None input status)
+    nothing None = tt
+    nothing (Some input) = tt
+completes_ran (Some command) status source source_now sink sink_now ran reads writes read written =
+    ends_told command source.calls source_now.calls sink.calls sink_now.calls reads writes read written
+    status source.left source_now.left sink.held sink_now.held ran.wrote ran.reads ran.writes

@@ -1,3 +1,4 @@
+pub mod ServeLemmas
 pub mod BlockLemmas
 pub mod CellLemmas
 pub mod LawLemmas

@@ -1,4 +1,5 @@
 pub mod Words
+pub mod ServeWords
 pub mod LineContent
 pub mod Session
 pub mod KeptSessions

@@ -4,4 +4,5 @@ pub mod command;
 pub mod passed;
 pub mod receive;
 pub mod run;
+pub mod serving;
 pub mod word;

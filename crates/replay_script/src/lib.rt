@@ -6,7 +6,8 @@
 //! judged before memory is taken for it, so that a refusal costs none.
 //!
 //! [`write_line`] appends a line of a transcript to octets, and [`push_line`] to a text; a line's
-//! octets are written in lower case. [`number_in`] reads a number, of a line or of a call.
+//! octets are written in lower case. [`number_in`] reads a number, of a line or of a call; [`is_gate`]
+//! judges the name of a gate, and [`gate_in`] reads it.
 //!
 //! Which line may follow which, where a run ends, and the lines of the other commands are not known
 //! here.
@@ -28,5 +29,6 @@ pub use event::{Event, NodeEvent};
 pub use fault::LineFault;
 pub use line::{Line, Route, Site};
 pub use numeral::number_in;
-pub use reading::{read_line, read_node_line};
+pub use path::is_gate;
+pub use reading::{gate_in, read_line, read_node_line};
 pub use writing::{push_line, write_line};

@@ -96,7 +96,7 @@ impl<'a> PathTexts<'a> {
 }
 
 /// Whether a text names an endpoint, and not the null one. It takes no memory.
-pub(crate) fn is_gate(text: &[u8]) -> bool
+pub fn is_gate(text: &[u8]) -> bool
     ensures { result ≡ is_some (gate_of text.now) }
 {
     is_gate_text(text)

@@ -28,9 +28,10 @@ pub fn read_node_line(alloc: Global, line: &[u8]) -> Result<NodeEvent, LineFault
     node_owned(alloc, judge_node(line)?)
 }
 
-/// The endpoint that a gate's name is.
+/// The endpoint of a gate's name. [`is_gate`](crate::is_gate) says which texts are such, so that only
+/// want of memory is answered by an error.
 #[tactic(auto, unfolding(crate::specs::Events::gate_of))]
-fn gate_in(alloc: Global, text: &[u8]) -> Result<Endpoint, AllocError>
+pub fn gate_in(alloc: Global, text: &[u8]) -> Result<Endpoint, AllocError>
     requires { is_some (gate_of text.now) ≡ true }
     ensures { IfOk result (λ gate. gate_of text.now ≡ Some gate) }
 {

@@ -1,20 +1,26 @@
 //! The program's one call.
 ghost use Rattle.std.specs.Prelude.{◌≡◌, ◌↔◌, ◌-◌, ◌<◌, ◌^◌, None, is_some, IfSome};
 ghost use Rattle.edge_traits.specs.Outcome.{Ran, source_tells, sink_tells};
+ghost use Rattle.gateway_run.specs.ServeWords.{serve_of};
+ghost use Rattle.serve_run.specs.Serve.{serve_turns};
+ghost use Rattle.serve_run.specs.Tells.{RanTurns, links_tell};
 ghost use Rattle.gateway_run.specs.Words.{command_of, is_limit, settles, CompletesCommand, KeepsLaw, IsSound};
 
 use crate::commands::command::{Command, command_named};
 use crate::commands::passed::{Ended, Passed, ended_with, passed_by_node, passed_by_receive};
 use crate::commands::receive::Receive;
+use crate::commands::serving::serve_named;
 use crate::commands::word::Word;
 use bundle_runs::bundles;
 use command_frame::{LineReader, drive};
 use edge_traits::{Clock, Link, Sink, Source, Status};
 use node_run::Node;
-use std::alloc::Global;
+use replay_script::gate_in;
+use serve_run::serve;
+use std::alloc::{AllocError, Global};
 
 /// Answers the command that the words name, from the source to the sink, and writes what the
-/// octets read settle before it reads on. The links and the clock are for commands to come.
+/// octets read settle before it reads on. The links and the clock are for `serve`, which reads nothing.
 pub fn run<S: Source, K: Sink, L: Link, C: Clock>(
     alloc: Global,
     words: &[Word],
@@ -28,7 +34,7 @@ pub fn run<S: Source, K: Sink, L: Link, C: Clock>(
     requires sink { K.faults sink.old < 2 ^ 64 - 1 }
 
     // Words that name no command are answered as such, and nothing is read or written.
-    ensures usage { (result ≡ Status.Usage) ↔ (command_of words.now ≡ None) }
+    ensures usage { (result ≡ Status.Usage) ↔ ((command_of words.now ≡ None) × (serve_of words.now ≡ None)) }
     ensures untouched { result ≡ Status.Usage → (source.new ≡ source.old) × (sink.new ≡ sink.old) }
 
     // What is written, how the run ends, and how its reads and writes went, by what the octets of
@@ -47,9 +53,16 @@ pub fn run<S: Source, K: Sink, L: Link, C: Clock>(
     ensures red_parts { IfSome (S.left source.old) (λ input.
         KeepsLaw (command_of words.now) input result (K.held sink.old) (K.held sink.new)) }
 
-    ensures old_link { old_link.new ≡ old_link.old }
-    ensures new_link { new_link.new ≡ new_link.old }
-    ensures clock { clock.new ≡ clock.old }
+    // `serve` makes its turns over the links and the clock, and reads nothing. Every other command leaves
+    // links and clock as they were.
+    ensures served { IfSome (serve_of words.now) (λ s. RanTurns (serve_turns s.gate s.count) result
+        (links_tell L.coming L.gone L.failing L.faults old_link.old new_link.old (C.readings clock.old))
+        (links_tell L.coming L.gone L.failing L.faults old_link.new new_link.new (C.readings clock.new))
+        (sink_tells K.held K.faults K.failing sink.old) (sink_tells K.held K.faults K.failing sink.new)) }
+    ensures unread { IfSome (serve_of words.now) (λ s. source.new ≡ source.old) }
+    ensures old_link { serve_of words.now ≡ None → old_link.new ≡ old_link.old }
+    ensures new_link { serve_of words.now ≡ None → new_link.new ≡ new_link.old }
+    ensures clock { serve_of words.now ≡ None → clock.new ≡ clock.old }
 {
     run_told(alloc, words, source, sink, old_link, new_link, clock).status
 }
@@ -65,7 +78,7 @@ pub fn run_told<S: Source, K: Sink, L: Link, C: Clock>(
     new_link: &mut L,
     clock: &mut C,
 ) -> Ended
-    ensures usage { (result.status ≡ Status.Usage) ↔ (command_of words.now ≡ None) }
+    ensures usage { (result.status ≡ Status.Usage) ↔ ((command_of words.now ≡ None) × (serve_of words.now ≡ None)) }
     ensures untouched { result.status ≡ Status.Usage → (source.new ≡ source.old) × (sink.new ≡ sink.old) }
     ensures ran { IfSome (command_of words.now) (λ command. Ran (settles command) result.status
         (source_tells S.left S.faults S.failing source.old) (source_tells S.left S.faults S.failing source.new)
@@ -74,14 +87,49 @@ pub fn run_told<S: Source, K: Sink, L: Link, C: Clock>(
     // A limit is named if and only if the run ended with one.
     ensures passed { is_some result.passed ≡ is_limit result.status }
 
-    ensures old_link { old_link.new ≡ old_link.old }
-    ensures new_link { new_link.new ≡ new_link.old }
-    ensures clock { clock.new ≡ clock.old }
+    // `serve` makes its turns over the links and the clock, and reads nothing. Every other command leaves
+    // links and clock as they were.
+    ensures served { IfSome (serve_of words.now) (λ s. RanTurns (serve_turns s.gate s.count) result.status
+        (links_tell L.coming L.gone L.failing L.faults old_link.old new_link.old (C.readings clock.old))
+        (links_tell L.coming L.gone L.failing L.faults old_link.new new_link.new (C.readings clock.new))
+        (sink_tells K.held K.faults K.failing sink.old) (sink_tells K.held K.faults K.failing sink.new)) }
+    ensures unread { IfSome (serve_of words.now) (λ s. source.new ≡ source.old) }
+    ensures old_link { serve_of words.now ≡ None → old_link.new ≡ old_link.old }
+    ensures new_link { serve_of words.now ≡ None → new_link.new ≡ new_link.old }
+    ensures clock { serve_of words.now ≡ None → clock.new ≡ clock.old }
 {
     match command_named(words) {
-        None => ended_with(Status::Usage, Passed::Size),
         Some(command) => run_command(alloc, command, source, sink),
+        None => run_serve(alloc, words, sink, old_link, new_link, clock),
     }
+}
+
+/// Serves, where the words are those of `serve`.
+fn run_serve<K: Sink, L: Link, C: Clock>(
+    alloc: Global,
+    words: &[Word],
+    sink: &mut K,
+    old_link: &mut L,
+    new_link: &mut L,
+    clock: &mut C,
+) -> Ended
+    ensures usage { (result.status ≡ Status.Usage) ↔ (serve_of words.now ≡ None) }
+    ensures untouched { serve_of words.now ≡ None
+        → (sink.new ≡ sink.old) × (old_link.new ≡ old_link.old) × (new_link.new ≡ new_link.old) × (clock.new ≡ clock.old) }
+    ensures served { IfSome (serve_of words.now) (λ s. RanTurns (serve_turns s.gate s.count) result.status
+        (links_tell L.coming L.gone L.failing L.faults old_link.old new_link.old (C.readings clock.old))
+        (links_tell L.coming L.gone L.failing L.faults old_link.new new_link.new (C.readings clock.new))
+        (sink_tells K.held K.faults K.failing sink.old) (sink_tells K.held K.faults K.failing sink.new)) }
+    ensures passed { is_some result.passed ≡ is_limit result.status }
+{
+    let Some(served) = serve_named(words) else {
+        return ended_with(Status::Usage, Passed::Size);
+    };
+    let status = match gate_in(alloc, served.gate) {
+        Ok(gate) => serve(alloc, gate, served.count, sink, old_link, new_link, clock),
+        Err(AllocError) => Status::Memory,
+    };
+    ended_with(status, Passed::Size)
 }
 
 /// Runs a command: an arm for each, which makes its task and drives it.

@@ -24,6 +24,13 @@ impl Word {
         Word { text }
     }
 
+    /// The word as text.
+    pub fn text(&self) -> &str
+        ensures { result.now ≡ self.now }
+    {
+        self.text.as_str()
+    }
+
     /// The word's octets.
     pub fn octets(&self) -> &[u8]
         ensures { result.now ≡ self.now }

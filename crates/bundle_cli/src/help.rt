@@ -13,6 +13,8 @@ usage: fimdahol receive < DATAGRAMS      hands up the red parts of recorded LTP 
        fimdahol cut SIZE < BUNDLES       cuts each recorded bundle into pieces
        fimdahol join < BUNDLES           puts recorded pieces together
        fimdahol node OWN PEER < EVENTS   is one end of an LTP link, by the numbers of two engines
+       fimdahol serve GATE OLD_BIND OLD_PEER NEW_BIND NEW_PEER TURNS
+                                         is a gateway between two UDP sockets
        fimdahol --help | --version
 
 receive reads one datagram in hex a line and writes
@@ -46,11 +48,27 @@ clock MS (time passes), and writes what the engine does
   refused CAUSE                  a block isn't sent
   refused line LINE CAUSE        last, where a line is no event
 
+serve stands between a node of BPv6, at the old link, and one of BPv7, at the new link; GATE is its
+own endpoint, as ipn:9.0. Each link is a UDP socket at an address of its own (BIND) with one peer;
+an address is an IP address or a host's name, and a port: 127.0.0.1:1113, [::1]:1113. TURNS says
+how often both links are polled, up to 1000000000. It writes, at g.o of the old link and at g.n
+of the new
+  up PLACE SESSION HEX           a block came whole: a bundle
+  note PLACE Passed SESSION PIECES             it went on
+  note PLACE BadBundle SESSION AT CAUSE        it is no bundle, and where
+  note PLACE Untranslated SESSION CAUSE        it can't be translated
+  note PLACE Expired|HopLimit|Storage SESSION  it has expired, made too many hops, finds no room
+  note PLACE Reported|Unreported SESSION       the report that it asks for was sent, or wasn't
+  note PLACE NAME ..             what an engine notes
+  note old Poll, note new Poll   a datagram couldn't be taken from a link
+  note old Send, note new Send   a datagram couldn't be sent on a link, and is lost
+
 limits: 67108864 octets of input; of receive and node 1000000 lines and 9000000 octets a line;
         of receive 64 unfinished sessions; of node a clock of 4611686018427387903 ms
 
 status: 0 done, 1 the input was refused, 2 wrong usage, 3 a read failed, 4 a write failed,
-        6 the input passes a limit, 7 memory ran out; standard error says more of 2 to 7
+        5 an address can't be used, 6 the input passes a limit, 7 memory ran out; standard error
+        says more of 2 to 7
 ";
 
 /// What `--version` prints.

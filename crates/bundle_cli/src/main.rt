@@ -10,16 +10,26 @@
 mod help;
 mod limit;
 mod outside;
+mod sockets;
+#[cfg(test)]
+mod tests;
 mod unused;
 mod why;
 
-use edge_traits::Status;
-use gateway_run::Word;
+use edge_traits::{Pause, Status, SystemClock};
+use gateway_run::{Word, is_serve};
 use help::{HELP, VERSION};
 use limit::limit_line;
 use outside::{call, words_of};
+use sockets::{Unusable, links_over};
+use std::net::Net;
 use std::process::ExitCode;
+use std::time::Clock as StdClock;
+use unused::Unused;
 use why::{Call, reason};
+
+/// The status of a call whose sockets can't be used.
+const UNUSABLE: u8 = 5;
 
 fn main(rt: HostRuntime) -> ExitCode {
     let words = match words_of(&rt) {
@@ -31,12 +41,40 @@ fn main(rt: HostRuntime) -> ExitCode {
             say(&rt, HELP)
         }
         [word] if word.octets() == b"--version".as_slice() => say(&rt, VERSION),
+        [_, _, old_bind, old_peer, new_bind, new_peer, _] if is_serve(&words) => {
+            serve(&rt, &words, [old_bind, old_peer, new_bind, new_peer])
+        }
         words => {
-            let ended = call(&rt, words);
-            complain(&rt, words, ended);
-            ExitCode::from(ended.ended.status.code())
+            let (mut old, mut new, mut clock) = (Unused, Unused, Unused);
+            ended(&rt, words, call(&rt, words, &mut old, &mut new, &mut clock))
         }
     }
+}
+
+/// Serves over the sockets of these addresses: the own ends and the peers of the old and of the new
+/// link. Where an address can't be used, nothing is run.
+fn serve<R: Net + StdClock + Input + Print + Eprint + AllocGlobal + Drop>(
+    rt: &R,
+    words: &[Word],
+    addresses: [&Word; 4],
+) -> ExitCode {
+    let pause = Pause::new(rt);
+    match links_over(rt, addresses, &pause) {
+        Ok((mut old, mut new)) => {
+            let mut clock = SystemClock::new(rt);
+            ended(rt, words, call(rt, words, &mut old, &mut new, &mut clock))
+        }
+        Err(Unusable { address, cause }) => {
+            let _ = eprintln!(rt; "fimdahol: the address {address} can't be used: {cause}");
+            ExitCode::from(UNUSABLE)
+        }
+    }
+}
+
+/// Ends as a run did, and says why where its output doesn't.
+fn ended<R: Eprint + AllocGlobal>(rt: &R, words: &[Word], call: Call) -> ExitCode {
+    complain(rt, words, call);
+    ExitCode::from(call.ended.status.code())
 }
 
 /// Says on standard error why the run ended, where its output doesn't. Where there is no memory for

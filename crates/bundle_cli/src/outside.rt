@@ -1,11 +1,13 @@
 //! The real outside.
 ghost use Rattle.std.specs.Prelude.{◌≡◌, ◌↔◌, ◌⊎◌, ◌-◌, ◌<◌, ◌^◌, None, IfErr, IfSome};
 ghost use Rattle.edge_traits.specs.Outcome.{Ran, source_tells, sink_tells};
+ghost use Rattle.serve_run.specs.Serve.{serve_turns};
+ghost use Rattle.serve_run.specs.Tells.{RanTurns, links_tell};
+ghost use Rattle.gateway_run.specs.ServeWords.{serve_of};
 ghost use Rattle.gateway_run.specs.Words.{command_of, settles};
 
-use crate::unused::Unused;
 use crate::why::Call;
-use edge_traits::{Reading, Sink, Source, Status, Writing};
+use edge_traits::{Clock, Link, Reading, Sink, Source, Status, Writing};
 use gateway_run::{Ended, Word, run_told};
 use std::alloc::Global;
 use std::env;
@@ -32,33 +34,45 @@ pub fn words_of<R: Env + AllocGlobal>(rt: &R) -> Result<Vec<Word>, Status>
 }
 
 /// Runs the command that the words name over standard input and standard output.
-pub fn call<R: Input + Print + AllocGlobal>(rt: &R, words: &[Word]) -> Call
-    ensures usage { (result.ended.status ≡ Status.Usage) ↔ (command_of words.now ≡ None) }
+pub fn call<R: Input + Print + AllocGlobal, L: Link, C: Clock>(
+    rt: &R,
+    words: &[Word],
+    old: &mut L,
+    new: &mut L,
+    clock: &mut C,
+) -> Call
+    ensures usage { (result.ended.status ≡ Status.Usage) ↔ ((command_of words.now ≡ None) × (serve_of words.now ≡ None)) }
 {
     let mut source = Reading::new(rt.reader());
     let mut sink = Writing::new(io::writer(rt));
-    let ended = run_over(rt.alloc(), words, &mut source, &mut sink);
+    let ended = run_over(rt.alloc(), words, &mut source, &mut sink, old, new, clock);
     Call {
         ended,
         reader_gone: sink.is_reader_gone(),
     }
 }
 
-/// Runs it over any source and sink: no link is used, and no clock.
-fn run_over<S: Source, K: Sink>(
+/// Runs it over any source and sink.
+fn run_over<S: Source, K: Sink, L: Link, C: Clock>(
     alloc: Global,
     words: &[Word],
     source: &mut S,
     sink: &mut K,
+    old: &mut L,
+    new: &mut L,
+    clock: &mut C,
 ) -> Ended
     requires source { S.faults source.old < 2 ^ 64 - 1 }
     requires sink { K.faults sink.old < 2 ^ 64 - 1 }
-    ensures usage { (result.status ≡ Status.Usage) ↔ (command_of words.now ≡ None) }
+    ensures usage { (result.status ≡ Status.Usage) ↔ ((command_of words.now ≡ None) × (serve_of words.now ≡ None)) }
     ensures untouched { result.status ≡ Status.Usage → (source.new ≡ source.old) × (sink.new ≡ sink.old) }
     ensures ran { IfSome (command_of words.now) (λ command. Ran (settles command) result.status
         (source_tells S.left S.faults S.failing source.old) (source_tells S.left S.faults S.failing source.new)
         (sink_tells K.held K.faults K.failing sink.old) (sink_tells K.held K.faults K.failing sink.new)) }
+    ensures served { IfSome (serve_of words.now) (λ s. RanTurns (serve_turns s.gate s.count) result.status
+        (links_tell L.coming L.gone L.failing L.faults old.old new.old (C.readings clock.old))
+        (links_tell L.coming L.gone L.failing L.faults old.new new.new (C.readings clock.new))
+        (sink_tells K.held K.faults K.failing sink.old) (sink_tells K.held K.faults K.failing sink.new)) }
 {
-    let (mut old, mut new, mut clock) = (Unused, Unused, Unused);
-    run_told(alloc, words, source, sink, &mut old, &mut new, &mut clock)
+    run_told(alloc, words, source, sink, old, new, clock)
 }

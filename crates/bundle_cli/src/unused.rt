@@ -1,4 +1,4 @@
-//! A link and a clock for runs that use none: no command does yet.
+//! A link and a clock for runs that use none: only `serve` does.
 ghost use Rattle.std.specs.Prelude.{[], None, Some};
 
 use edge_traits::{Clock, Failed, Link};

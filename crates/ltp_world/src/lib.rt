@@ -12,6 +12,8 @@
 #![tactic(auto)]
 
 mod drain;
+#[cfg(test)]
+mod drain_tests;
 mod effects;
 mod ends;
 mod refused;

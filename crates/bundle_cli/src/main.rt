@@ -17,7 +17,7 @@ mod unused;
 mod why;
 
 use edge_traits::{Pause, Status, SystemClock};
-use gateway_run::{Word, is_serve};
+use gateway_run::Word;
 use help::{HELP, VERSION};
 use limit::limit_line;
 use outside::{call, words_of};
@@ -41,7 +41,9 @@ fn main(rt: HostRuntime) -> ExitCode {
             say(&rt, HELP)
         }
         [word] if word.octets() == b"--version".as_slice() => say(&rt, VERSION),
-        [_, _, old_bind, old_peer, new_bind, new_peer, _] if is_serve(&words) => {
+        // Its addresses are looked at first, whatever its other words are.
+        [word, _, old_bind, old_peer, new_bind, new_peer, _]
+            if word.octets() == b"serve".as_slice() => {
             serve(&rt, &words, [old_bind, old_peer, new_bind, new_peer])
         }
         words => {

@@ -24,6 +24,5 @@ mod written_lines;
 
 pub use commands::passed::{Ended, Passed};
 pub use commands::run::{run, run_told};
-pub use commands::serving::is_serve;
 pub use commands::word::Word;
 pub use laws::{earliest_place_decides, red_part_is_front_of_block};

@@ -22,29 +22,15 @@ const MOST_ADDRESS: usize = 64;
 /// The most turns that words name.
 const MOST_TURNS: u64 = 1_000_000_000;
 
-/// Whether the words are those of `serve`. Its addresses are then the third word to the sixth: the own
-/// end of the old link and its peer, and those of the new link.
-pub fn is_serve(words: &[Word]) -> bool
-    ensures { result ≡ is_some (serve_of words.now) }
-{
-    serve_named(words).is_some()
-}
-
-/// What the words say, where they are those of `serve`.
+/// What the words say, where they are those of `serve`. Its addresses are the third word to the sixth:
+/// the own end of the old link and its peer, and those of the new link.
 pub fn serve_named(words: &[Word]) -> Option<ServeWords<'_>>
     ensures exact { option_and_then said_in result ≡ serve_of words.now }
     ensures gate { IfSome result (λ s. is_some (gate_of s.gate.now) ≡ true) }
 {
     match words {
-        [
-            word,
-            gate,
-            old_bind,
-            old_peer,
-            new_bind,
-            new_peer,
-            count,
-        ] if word.octets() == b"serve".as_slice() => served_by(
+        [word, gate, old_bind, old_peer, new_bind, new_peer, count]
+            if word.octets() == b"serve".as_slice() => served_by(
             gate.octets(),
             old_bind.octets(),
             old_peer.octets(),

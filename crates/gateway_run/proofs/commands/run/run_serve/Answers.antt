@@ -11,6 +11,6 @@ serve-status-requires-clause-legal g c = gate-legal _ _ c.in-Ok.ensures
 
 pub returns-clause-served : goal.returns-clause-served
 returns-clause-served g c = rw c.ended_with-2.ensures.status (elim c.match-gate_in.branch [
-      | in-Ok w ↦ rw (w.sink-is, w.old_link-is, w.new_link-is, w.clock-is, w.status-is, sym c.in-Some.ensures.exact, w.in-Ok.ensures) w.serve-status.ensures
-      | in-Err w ↦ rw (w.sink-is, w.old_link-is, w.new_link-is, w.clock-is, w.status-is) (ran-none _ _ _)
-    ])
+  | in-Ok w ↦ rw (w.sink-is, w.old_link-is, w.new_link-is, w.clock-is, w.status-is, sym c.in-Some.ensures.exact, w.in-Ok.ensures) w.serve-status.ensures
+  | in-Err w ↦ rw (w.sink-is, w.old_link-is, w.new_link-is, w.clock-is, w.status-is) (ran-none _ _ _)
+])

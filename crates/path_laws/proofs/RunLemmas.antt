@@ -14,16 +14,16 @@ use Rattle.gate_cases.specs.declared.face.Face.{Face}
 use Rattle.gate_cases.specs.declared.face.Face.TheVariants as faces
 use Rattle.gate_cases.specs.Faces.{other_of}
 use Rattle.gateway_core.specs.Gate.{GateStep, does_at, effects_at, hears_at, ticks_at, passes_at, arrives_at, ticks_gate, and_then, in_turn}
-use Rattle.path_world.specs.declared.places.PathEnd.{PathEnd}
-use Rattle.path_world.specs.declared.places.PathEnd.TheVariants as ends
-use Rattle.path_world.specs.declared.places.Place.{Place}
-use Rattle.path_world.specs.declared.places.Place.TheVariants as places
-use Rattle.path_world.specs.Places.{face_of, node_place, across, link_of, if_link, on_link, at_gate, stand_of}
-use Rattle.path_world.specs.Path.{PathSetup, Path, PathStep, SentFrom, up_from, PathEvent, sends, delivers, clock_shows, at_path_end, node_does, gate_does, gate_effects, sends_block, sent_unless, comes_to, all_tick, then_does, nothing_done, delivers_if, path_step, path_run, starts_path}
-use Rattle.path_world.specs.Log.{a_send, Begun, begun_unless, come_begun, delivered_begun, begun_at, begun_in, ups_in}
-use Rattle.path_world.specs.Links.{link_parties, link_engines, link_sent, sent_on, link_at, submits_on, delivery_on, events_at, link_events}
-use Rattle.path_world.proofs.ChunkLemmas.{Chunk, chunk-none, chunk-then, place_at, ups_on, does_end, if-here, begun_as, sends-no-up, submit-chunk, deliver-chunk, clock-chunk, clock-stays}
-use Rattle.path_world.proofs.StepLemmas.{node_end, gate_end, either_face, ups-there, chunk-there, link-node-here, link-node-there, link-gate-here, link-gate-there, gate-ups, gate-path-then, gate-then, GateChunk, send-passed, chunk-as, begun-there}
+use Rattle.path_laws.specs.declared.places.PathEnd.{PathEnd}
+use Rattle.path_laws.specs.declared.places.PathEnd.TheVariants as ends
+use Rattle.path_laws.specs.declared.places.Place.{Place}
+use Rattle.path_laws.specs.declared.places.Place.TheVariants as places
+use Rattle.path_laws.specs.Places.{face_of, node_place, across, link_of, if_link, on_link, at_gate, stand_of}
+use Rattle.path_laws.specs.Path.{PathSetup, Path, PathStep, SentFrom, up_from, PathEvent, sends, delivers, clock_shows, at_path_end, node_does, gate_does, gate_effects, sends_block, sent_unless, comes_to, all_tick, then_does, nothing_done, delivers_if, path_step, path_run, starts_path}
+use Rattle.path_laws.specs.Log.{a_send, Begun, begun_unless, come_begun, delivered_begun, begun_at, begun_in, ups_in}
+use Rattle.path_laws.specs.Links.{link_parties, link_engines, link_sent, sent_on, link_at, submits_on, delivery_on, events_at, link_events}
+use Rattle.path_laws.proofs.ChunkLemmas.{Chunk, chunk-none, chunk-then, place_at, ups_on, does_end, if-here, begun_as, sends-no-up, submit-chunk, deliver-chunk, clock-chunk, clock-stays}
+use Rattle.path_laws.proofs.StepLemmas.{node_end, gate_end, either_face, ups-there, chunk-there, link-node-here, link-node-there, link-gate-here, link-gate-there, gate-ups, gate-path-then, gate-then, GateChunk, send-passed, chunk-as, begun-there}
 
 -- ---- the k-th segment on its link
 

@@ -20,18 +20,18 @@ use Rattle.gate_cases.specs.Passage.{passage, pieces_on}
 use Rattle.gate_cases.specs.Cases.{untranslated, case_of, pieces_if, judgement_of, judged, or_passed}
 use Rattle.gate_cases.specs.Bundles.{status_bundle}
 use Rattle.gateway_core.specs.Gate.{Gate, GateSetup, at_face, does_at, hears_at, submission_at, sends_at, in_turn, judged_at, is_unreported, passes_at, arrives_at, room_of}
-use Rattle.path_world.specs.declared.effects.UpAt.{UpAt}
-use Rattle.path_world.specs.declared.places.PathEnd.{PathEnd}
-use Rattle.path_world.specs.declared.places.PathEnd.TheVariants as ends
-use Rattle.path_world.specs.declared.places.Place.{Place}
-use Rattle.path_world.specs.Places.{face_of, end_of, node_place, face_place, across, other_path_end, Stand, at_node, at_gate, stand_of}
-use Rattle.path_world.specs.Path.{PathSetup, Path, SentFrom, PathEvent, sends, delivers, clock_shows, at_path_end, gate_effects, sends_block, comes_to, delivers_if, path_step}
-use Rattle.path_world.specs.Log.{Begun, Origin, a_send, a_piece, a_report, begun_unless, begun_by, pieces_begun, report_begun, decided_begun, passed_begun, come_begun, delivered_begun, begun_at, begun_in, ups_in}
-use Rattle.path_world.specs.Laws.{IsAsSent, IsSameUp, IsSameNumber, IsSameOrigin, NoTwo, IsSent, IsPieceOf, IsReportOn, ComesFrom, IsReceivedAt}
-use Rattle.path_world.specs.Path.{up_from}
-use Rattle.path_world.proofs.ChunkLemmas.{begun_as}
-use Rattle.path_world.proofs.StepLemmas.{gate-ups, gate-ups-then}
-use Rattle.path_world.proofs.LogLemmas.{in-left, in-right, all-in, all-of, all-more, no-two-left, no-two-right, no-two-apart, no-two-more}
+use Rattle.path_laws.specs.declared.effects.UpAt.{UpAt}
+use Rattle.path_laws.specs.declared.places.PathEnd.{PathEnd}
+use Rattle.path_laws.specs.declared.places.PathEnd.TheVariants as ends
+use Rattle.path_laws.specs.declared.places.Place.{Place}
+use Rattle.path_laws.specs.Places.{face_of, end_of, node_place, face_place, across, other_path_end, Stand, at_node, at_gate, stand_of}
+use Rattle.path_laws.specs.Path.{PathSetup, Path, SentFrom, PathEvent, sends, delivers, clock_shows, at_path_end, gate_effects, sends_block, comes_to, delivers_if, path_step}
+use Rattle.path_laws.specs.Log.{Begun, Origin, a_send, a_piece, a_report, begun_unless, begun_by, pieces_begun, report_begun, decided_begun, passed_begun, come_begun, delivered_begun, begun_at, begun_in, ups_in}
+use Rattle.path_laws.specs.Laws.{IsAsSent, IsSameUp, IsSameNumber, IsSameOrigin, NoTwo, IsSent, IsPieceOf, IsReportOn, ComesFrom, IsReceivedAt}
+use Rattle.path_laws.specs.Path.{up_from}
+use Rattle.path_laws.proofs.ChunkLemmas.{begun_as}
+use Rattle.path_laws.proofs.StepLemmas.{gate-ups, gate-ups-then}
+use Rattle.path_laws.proofs.LogLemmas.{in-left, in-right, all-in, all-of, all-more, no-two-left, no-two-right, no-two-apart, no-two-more}
 
 -- ---- what is known where a session is begun
 

@@ -13,14 +13,14 @@ use Rattle.gate_cases.specs.Blocks.{Arrival, one, found_at}
 use Rattle.gate_cases.specs.Passage.{passage, pieces_on}
 use Rattle.gate_cases.specs.Cases.{judged}
 use Rattle.gate_cases.specs.Bundles.{status_bundle}
-use Rattle.path_world.specs.declared.effects.UpAt.{UpAt}
-use Rattle.path_world.specs.declared.places.PathEnd.{PathEnd}
-use Rattle.path_world.specs.declared.places.PathEnd.TheVariants as ends
-use Rattle.path_world.specs.declared.places.Place.{Place}
-use Rattle.path_world.specs.Places.{face_of, face_place, node_place, across, other_path_end}
-use Rattle.path_world.specs.Path.{PathSetup, PathEvent, at_path_end, starts_path, path_run}
-use Rattle.path_world.specs.Log.{Begun, Origin, a_send, a_piece, a_report, begun_in, ups_in}
-use Rattle.path_world.specs.Links.{link_parties, link_at, link_events}
+use Rattle.path_laws.specs.declared.effects.UpAt.{UpAt}
+use Rattle.path_laws.specs.declared.places.PathEnd.{PathEnd}
+use Rattle.path_laws.specs.declared.places.PathEnd.TheVariants as ends
+use Rattle.path_laws.specs.declared.places.Place.{Place}
+use Rattle.path_laws.specs.Places.{face_of, face_place, node_place, across, other_path_end}
+use Rattle.path_laws.specs.Path.{PathSetup, PathEvent, at_path_end, starts_path, path_run}
+use Rattle.path_laws.specs.Log.{Begun, Origin, a_send, a_piece, a_report, begun_in, ups_in}
+use Rattle.path_laws.specs.Links.{link_parties, link_at, link_events}
 
 -- ---- the links
 

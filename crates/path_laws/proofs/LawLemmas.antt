@@ -9,18 +9,18 @@ use Rattle.link_laws.specs.View.{IsIn}
 use Rattle.link_laws.proofs.LogLemmas.{red_parts_are_fronts}
 use Rattle.gate_cases.specs.declared.face.Face.{Face}
 use Rattle.gate_cases.specs.declared.face.Face.TheVariants as faces
-use Rattle.path_world.specs.declared.effects.UpAt.{UpAt}
-use Rattle.path_world.specs.declared.places.Place.{Place}
-use Rattle.path_world.specs.declared.places.Place.TheVariants as places
-use Rattle.path_world.specs.Places.{across, link_of, link_end_of}
-use Rattle.path_world.specs.Path.{PathSetup, PathEvent, starts_path}
-use Rattle.path_world.specs.Log.{Begun, begun_in, ups_in}
-use Rattle.path_world.specs.Links.{link_parties, link_events}
-use Rattle.path_world.specs.Laws.{IsAsSent, IsSameUp, NoTwo}
-use Rattle.path_world.specs.Laws.{IsSameNumber as IsSameBegun}
-use Rattle.path_world.proofs.ChunkLemmas.{place_at, hand_up_from, same_up, ups_on, submission_from, submissions_on}
-use Rattle.path_world.proofs.LogLemmas.{all-in, all-of, made-in, in-link, OnLink, link-in, no-two-made, no-two-links}
-use Rattle.path_world.proofs.RunLemmas.{whole-chunk}
+use Rattle.path_laws.specs.declared.effects.UpAt.{UpAt}
+use Rattle.path_laws.specs.declared.places.Place.{Place}
+use Rattle.path_laws.specs.declared.places.Place.TheVariants as places
+use Rattle.path_laws.specs.Places.{across, link_of, link_end_of}
+use Rattle.path_laws.specs.Path.{PathSetup, PathEvent, starts_path}
+use Rattle.path_laws.specs.Log.{Begun, begun_in, ups_in}
+use Rattle.path_laws.specs.Links.{link_parties, link_events}
+use Rattle.path_laws.specs.Laws.{IsAsSent, IsSameUp, NoTwo}
+use Rattle.path_laws.specs.Laws.{IsSameNumber as IsSameBegun}
+use Rattle.path_laws.proofs.ChunkLemmas.{place_at, hand_up_from, same_up, ups_on, submission_from, submissions_on}
+use Rattle.path_laws.proofs.LogLemmas.{all-in, all-of, made-in, in-link, OnLink, link-in, no-two-made, no-two-links}
+use Rattle.path_laws.proofs.RunLemmas.{whole-chunk}
 
 -- ---- places and ends
 

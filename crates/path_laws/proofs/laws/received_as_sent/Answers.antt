@@ -1,14 +1,14 @@
 use Rattle.std.proofs.Common.{ℕ, List}
 use Rattle.std.specs.List.{AllByRecursion}
 use Rattle.gate_cases.specs.declared.face.Face.{Face}
-use Rattle.path_world.specs.declared.effects.UpAt.{UpAt}
-use Rattle.path_world.specs.Laws.{HandsOn, IsLinked, IsAsSent, IsSameUp, IsSameNumber, IsSameOrigin, NoTwo}
-use Rattle.path_world.specs.Log.{Begun, begun_in, ups_in}
-use Rattle.path_world.specs.Path.{PathSetup, PathEvent, starts_path}
-use Rattle.path_world.proofs.LawLemmas.{OneLink, one-link, as-sent, ups-once, numbers-once}
-use Rattle.path_world.proofs.OriginLemmas.{run-tagged, origins-once, all-received}
-use Rattle.path_world.proofs.SendLemmas.{all-different, all-count-start}
-use Rattle.path_world.proofs.laws.received_as_sent.Goals as goal
+use Rattle.path_laws.specs.declared.effects.UpAt.{UpAt}
+use Rattle.path_laws.specs.Laws.{HandsOn, IsLinked, IsAsSent, IsSameUp, IsSameNumber, IsSameOrigin, NoTwo}
+use Rattle.path_laws.specs.Log.{Begun, begun_in, ups_in}
+use Rattle.path_laws.specs.Path.{PathSetup, PathEvent, starts_path}
+use Rattle.path_laws.proofs.LawLemmas.{OneLink, one-link, as-sent, ups-once, numbers-once}
+use Rattle.path_laws.proofs.OriginLemmas.{run-tagged, origins-once, all-received}
+use Rattle.path_laws.proofs.SendLemmas.{all-different, all-count-start}
+use Rattle.path_laws.proofs.laws.received_as_sent.Goals as goal
 
 hands-on : (s : PathSetup) (start : ℕ) (events : List PathEvent) → IsLinked s
     → HandsOn s (begun_in s (starts_path s start) events) (ups_in s (starts_path s start) events)

@@ -1,8 +1,8 @@
 -- The names of what an end's joiner answers.
 
 use Rattle.std.specs.Prelude.{ℕ, List, codes}
-use Rattle.path_world.specs.declared.effects.EndJoin.{EndJoin}
-use Rattle.path_world.specs.declared.effects.EndJoin.TheVariants as told
+use Rattle.path_laws.specs.declared.effects.EndJoin.{EndJoin}
+use Rattle.path_laws.specs.declared.effects.EndJoin.TheVariants as told
 
 abbrev pub join_word : EndJoin → List ℕ
 join_word told.Waiting = codes "Waiting"

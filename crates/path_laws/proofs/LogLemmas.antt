@@ -5,9 +5,9 @@ use Rattle.std.specs.List.{AllByRecursion}
 use Rattle.link_laws.specs.View.{IsIn}
 use Rattle.gate_cases.specs.declared.face.Face.{Face}
 use Rattle.gate_cases.specs.declared.face.Face.TheVariants as faces
-use Rattle.path_world.specs.declared.places.Place.{Place}
-use Rattle.path_world.specs.Places.{link_of, if_link, on_link}
-use Rattle.path_world.specs.Laws.{NoTwo}
+use Rattle.path_laws.specs.declared.places.Place.{Place}
+use Rattle.path_laws.specs.Places.{link_of, if_link, on_link}
+use Rattle.path_laws.specs.Laws.{NoTwo}
 
 -- ---- what is in a list
 

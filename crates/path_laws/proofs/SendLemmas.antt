@@ -19,16 +19,16 @@ use Rattle.gate_cases.specs.declared.face.Face.{Face}
 use Rattle.gateway_core.specs.Gate.{Gate, GateSetup, does_at, hears_at, judged_at, sends_at, in_turn, passes_at}
 use Rattle.gate_cases.specs.declared.judged.Judged.{Judged}
 use Rattle.gate_cases.specs.Faces.{other_of}
-use Rattle.path_world.specs.declared.effects.UpAt.{UpAt}
-use Rattle.path_world.specs.declared.places.PathEnd.{PathEnd}
-use Rattle.path_world.specs.declared.places.PathEnd.TheVariants as ends
-use Rattle.path_world.specs.Places.{end_of, node_place, across, Stand, at_node, at_gate, stand_of}
-use Rattle.path_world.specs.Path.{PathSetup, Path, PathStep, SentFrom, PathEvent, sends, delivers, clock_shows, at_path_end, node_does, sends_block, sent_unless, comes_to, delivers_if, all_tick, nothing_done, then_does, path_step, starts_path}
-use Rattle.path_world.specs.Log.{Begun, a_send, a_piece, a_report, begun_unless, pieces_begun, report_begun, decided_begun, passed_begun, come_begun, delivered_begun, begun_at, begun_in}
-use Rattle.path_world.specs.Laws.{IsSameUp, IsSameOrigin, NoTwo, ShareOrigin, send_of, sends_of, CountFrom}
-use Rattle.path_world.proofs.ChunkLemmas.{begun_as}
-use Rattle.path_world.proofs.LogLemmas.{all-of, all-in, all-more}
-use Rattle.path_world.proofs.OriginLemmas.{pieces-all, report-all}
+use Rattle.path_laws.specs.declared.effects.UpAt.{UpAt}
+use Rattle.path_laws.specs.declared.places.PathEnd.{PathEnd}
+use Rattle.path_laws.specs.declared.places.PathEnd.TheVariants as ends
+use Rattle.path_laws.specs.Places.{end_of, node_place, across, Stand, at_node, at_gate, stand_of}
+use Rattle.path_laws.specs.Path.{PathSetup, Path, PathStep, SentFrom, PathEvent, sends, delivers, clock_shows, at_path_end, node_does, sends_block, sent_unless, comes_to, delivers_if, all_tick, nothing_done, then_does, path_step, starts_path}
+use Rattle.path_laws.specs.Log.{Begun, a_send, a_piece, a_report, begun_unless, pieces_begun, report_begun, decided_begun, passed_begun, come_begun, delivered_begun, begun_at, begun_in}
+use Rattle.path_laws.specs.Laws.{IsSameUp, IsSameOrigin, NoTwo, ShareOrigin, send_of, sends_of, CountFrom}
+use Rattle.path_laws.proofs.ChunkLemmas.{begun_as}
+use Rattle.path_laws.proofs.LogLemmas.{all-of, all-in, all-more}
+use Rattle.path_laws.proofs.OriginLemmas.{pieces-all, report-all}
 
 -- ---- no two blocks at an end have one origin
 

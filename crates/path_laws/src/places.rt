@@ -1,7 +1,7 @@
 //! The places of a path.
 
 ghost use Rattle.std.specs.Prelude.{◌≡◌};
-ghost use Rattle.path_world.specs.Places.{across, face_of, node_place, face_place};
+ghost use Rattle.path_laws.specs.Places.{across, face_of, node_place, face_place};
 
 use gate_cases::Face;
 

@@ -4,10 +4,10 @@ use Rattle.std.specs.Prelude.{List, [], ◌∷◌, ◌++◌}
 use Rattle.gate_cases.specs.declared.face.Face.{Face}
 use Rattle.gate_cases.specs.declared.face.Face.TheVariants as faces
 use Rattle.ltp_session.specs.World.{End, first_end, second_end}
-use Rattle.path_world.specs.declared.places.PathEnd.{PathEnd}
-use Rattle.path_world.specs.declared.places.PathEnd.TheVariants as ends
-use Rattle.path_world.specs.declared.places.Place.{Place}
-use Rattle.path_world.specs.declared.places.Place.TheVariants as places
+use Rattle.path_laws.specs.declared.places.PathEnd.{PathEnd}
+use Rattle.path_laws.specs.declared.places.PathEnd.TheVariants as ends
+use Rattle.path_laws.specs.declared.places.Place.{Place}
+use Rattle.path_laws.specs.declared.places.Place.TheVariants as places
 
 -- the face of the gate that an end's link leads to, whose version the end speaks
 abbrev pub face_of : PathEnd → Face

@@ -27,16 +27,16 @@ use Rattle.gateway_core.specs.declared.effects.FaceNote.{FaceNote}
 use Rattle.gateway_core.specs.declared.note.GateNote.TheVariants as notes
 use Rattle.gateway_core.specs.Gate.{GateSetup, Gate, GateStep, GateEffectsValue, RoutedValue}
 use Rattle.gateway_core.specs.Gate.{party_of, gate_parties, starts_gate, arrives_at, ticks_gate}
-use Rattle.path_world.specs.declared.effects.EndJoin.{EndJoin}
-use Rattle.path_world.specs.declared.effects.EndJoin.TheVariants as told
-use Rattle.path_world.specs.declared.effects.JoinAt.{JoinAt}
-use Rattle.path_world.specs.declared.effects.NoteAt.{NoteAt}
-use Rattle.path_world.specs.declared.effects.UpAt.{UpAt}
-use Rattle.path_world.specs.declared.places.PathEnd.{PathEnd}
-use Rattle.path_world.specs.declared.places.PathEnd.TheVariants as ends
-use Rattle.path_world.specs.declared.places.Place.{Place}
-use Rattle.path_world.specs.Places.{face_of, node_place, face_place, across, Stand, at_node}
-use Rattle.path_world.specs.Places.{at_gate, stand_of}
+use Rattle.path_laws.specs.declared.effects.EndJoin.{EndJoin}
+use Rattle.path_laws.specs.declared.effects.EndJoin.TheVariants as told
+use Rattle.path_laws.specs.declared.effects.JoinAt.{JoinAt}
+use Rattle.path_laws.specs.declared.effects.NoteAt.{NoteAt}
+use Rattle.path_laws.specs.declared.effects.UpAt.{UpAt}
+use Rattle.path_laws.specs.declared.places.PathEnd.{PathEnd}
+use Rattle.path_laws.specs.declared.places.PathEnd.TheVariants as ends
+use Rattle.path_laws.specs.declared.places.Place.{Place}
+use Rattle.path_laws.specs.Places.{face_of, node_place, face_place, across, Stand, at_node}
+use Rattle.path_laws.specs.Places.{at_gate, stand_of}
 
 -- ---- a path
 

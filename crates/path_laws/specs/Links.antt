@@ -6,10 +6,10 @@ use Rattle.ltp_session.specs.World.{Event, World, clock, deliver, submit}
 use Rattle.ltp_session.specs.World.{Sent as LinkSent}
 use Rattle.gate_cases.specs.declared.face.Face.{Face}
 use Rattle.gate_cases.specs.declared.face.Face.TheVariants as faces
-use Rattle.path_world.specs.Places.{link_of, link_end_of, if_link, on_link}
-use Rattle.path_world.specs.Path.{PathSetup, Path, SentFrom, PathEvent, sends, delivers}
-use Rattle.path_world.specs.Path.{clock_shows, path_step}
-use Rattle.path_world.specs.Log.{Begun, begun_at}
+use Rattle.path_laws.specs.Places.{link_of, link_end_of, if_link, on_link}
+use Rattle.path_laws.specs.Path.{PathSetup, Path, SentFrom, PathEvent, sends, delivers}
+use Rattle.path_laws.specs.Path.{clock_shows, path_step}
+use Rattle.path_laws.specs.Log.{Begun, begun_at}
 
 -- who is on a link, by the face that it leads to
 abbrev pub link_parties : PathSetup → Face → Party × Party

@@ -1,7 +1,7 @@
 //! What a path does in answer to an event.
 
 ghost use Rattle.std.specs.Prelude.{◌≡◌};
-ghost use Rattle.path_world.specs.Words.{join_word};
+ghost use Rattle.path_laws.specs.Words.{join_word};
 
 use crate::places::Place;
 use endpoint::Octets;
@@ -29,7 +29,7 @@ pub struct SentList {
 
 impl Model for SentList {
     ghost use Rattle.std.specs.Prelude.{List};
-    ghost use Rattle.path_world.specs.declared.effects.SentAt.{SentAt};
+    ghost use Rattle.path_laws.specs.declared.effects.SentAt.{SentAt};
 
     ghost Value = { List SentAt };
 
@@ -79,7 +79,7 @@ pub struct PlaceUps {
 
 impl Model for PlaceUps {
     ghost use Rattle.std.specs.Prelude.{List};
-    ghost use Rattle.path_world.specs.declared.effects.UpAt.{UpAt};
+    ghost use Rattle.path_laws.specs.declared.effects.UpAt.{UpAt};
 
     ghost Value = { List UpAt };
 
@@ -163,7 +163,7 @@ pub struct PlaceJoins {
 
 impl Model for PlaceJoins {
     ghost use Rattle.std.specs.Prelude.{List};
-    ghost use Rattle.path_world.specs.declared.effects.JoinAt.{JoinAt};
+    ghost use Rattle.path_laws.specs.declared.effects.JoinAt.{JoinAt};
 
     ghost Value = { List JoinAt };
 
@@ -211,7 +211,7 @@ pub struct PlaceNotes {
 
 impl Model for PlaceNotes {
     ghost use Rattle.std.specs.Prelude.{List};
-    ghost use Rattle.path_world.specs.declared.effects.NoteAt.{NoteAt};
+    ghost use Rattle.path_laws.specs.declared.effects.NoteAt.{NoteAt};
 
     ghost Value = { List NoteAt };
 

@@ -11,13 +11,13 @@ use Rattle.gate_cases.specs.Faces.{other_of}
 use Rattle.gate_cases.specs.Bundles.{status_bundle}
 use Rattle.gateway_core.specs.Gate.{GateSetup, Gate, at_face, does_at, hears_at, submission_at}
 use Rattle.gateway_core.specs.Gate.{sends_at, in_turn, judged_at, is_unreported, passes_at}
-use Rattle.path_world.specs.declared.effects.UpAt.{UpAt}
-use Rattle.path_world.specs.declared.places.PathEnd.{PathEnd}
-use Rattle.path_world.specs.declared.places.Place.{Place}
-use Rattle.path_world.specs.Places.{end_of, face_place, node_place, across, Stand, at_node, at_gate}
-use Rattle.path_world.specs.Places.{stand_of}
-use Rattle.path_world.specs.Path.{PathSetup, Path, SentFrom, PathEvent, sends, delivers}
-use Rattle.path_world.specs.Path.{clock_shows, at_path_end, sends_block, path_step}
+use Rattle.path_laws.specs.declared.effects.UpAt.{UpAt}
+use Rattle.path_laws.specs.declared.places.PathEnd.{PathEnd}
+use Rattle.path_laws.specs.declared.places.Place.{Place}
+use Rattle.path_laws.specs.Places.{end_of, face_place, node_place, across, Stand, at_node, at_gate}
+use Rattle.path_laws.specs.Places.{stand_of}
+use Rattle.path_laws.specs.Path.{PathSetup, Path, SentFrom, PathEvent, sends, delivers}
+use Rattle.path_laws.specs.Path.{clock_shows, at_path_end, sends_block, path_step}
 use Rattle.ltp_segment.specs.Values.{SegmentValue}
 
 -- ---- sessions that are begun

@@ -1,6 +1,6 @@
 //! What holds of every path.
 
-ghost use Rattle.path_world.specs.Laws.{LinksRun, ReceivedAsSent};
+ghost use Rattle.path_laws.specs.Laws.{LinksRun, ReceivedAsSent};
 
 /// Each link of a path runs as two engines on a link do, so that the laws of links hold of both.
 pub fn links_run()

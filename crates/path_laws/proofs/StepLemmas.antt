@@ -16,15 +16,15 @@ use Rattle.gate_cases.specs.Bundles.{status_bundle}
 use Rattle.gateway_core.specs.declared.note.GateNote.{GateNote}
 use Rattle.gateway_core.specs.declared.note.GateNote.TheVariants as notes
 use Rattle.gateway_core.specs.Gate.{Gate, GateStep, segment_at, up_at, at_face, does_at, effects_at, sends_unless, submission_at, sends_at, judged_at, is_unreported, case_note, reports_at, answers_at, decides_at, passes_at, noted_at, stays_so, and_then, in_turn}
-use Rattle.path_world.specs.declared.effects.UpAt.{UpAt}
-use Rattle.path_world.specs.declared.places.PathEnd.{PathEnd}
-use Rattle.path_world.specs.declared.places.PathEnd.TheVariants as ends
-use Rattle.path_world.specs.declared.places.Place.TheVariants as places
-use Rattle.path_world.specs.Places.{face_of, end_of, face_place, link_of, on_link}
-use Rattle.path_world.specs.Path.{PathSetup, Path, SentFrom, sent_from, up_from, gate_sent, gate_up, node_does, gate_does, gate_effects}
-use Rattle.path_world.specs.Log.{Origin, a_piece, a_report, Begun, begun_unless, begun_by, pieces_begun, report_begun, decided_begun, passed_begun}
-use Rattle.path_world.specs.Links.{link_parties, link_sent, sent_on, link_at, submit_of, submits_on}
-use Rattle.path_world.proofs.ChunkLemmas.{on-append, Chunk, chunk-none, chunk-then, place_at, ups_on, submission_from, does_end, link-place, end-place, if-here, if-there, begun_as, sends-no-up, submit-chunk}
+use Rattle.path_laws.specs.declared.effects.UpAt.{UpAt}
+use Rattle.path_laws.specs.declared.places.PathEnd.{PathEnd}
+use Rattle.path_laws.specs.declared.places.PathEnd.TheVariants as ends
+use Rattle.path_laws.specs.declared.places.Place.TheVariants as places
+use Rattle.path_laws.specs.Places.{face_of, end_of, face_place, link_of, on_link}
+use Rattle.path_laws.specs.Path.{PathSetup, Path, SentFrom, sent_from, up_from, gate_sent, gate_up, node_does, gate_does, gate_effects}
+use Rattle.path_laws.specs.Log.{Origin, a_piece, a_report, Begun, begun_unless, begun_by, pieces_begun, report_begun, decided_begun, passed_begun}
+use Rattle.path_laws.specs.Links.{link_parties, link_sent, sent_on, link_at, submit_of, submits_on}
+use Rattle.path_laws.proofs.ChunkLemmas.{on-append, Chunk, chunk-none, chunk-then, place_at, ups_on, submission_from, does_end, link-place, end-place, if-here, if-there, begun_as, sends-no-up, submit-chunk}
 
 -- ---- here and there
 

@@ -14,12 +14,12 @@ use Rattle.link_laws.specs.Log.{HandUp, Submission, hand_up_of, hand_ups, hand_u
 use Rattle.gate_cases.specs.declared.face.Face.{Face}
 use Rattle.gate_cases.specs.declared.face.Face.TheVariants as faces
 use Rattle.gate_cases.specs.Faces.{other_of}
-use Rattle.path_world.specs.declared.effects.UpAt.{UpAt}
-use Rattle.path_world.specs.declared.places.Place.{Place}
-use Rattle.path_world.specs.declared.places.Place.TheVariants as places
-use Rattle.path_world.specs.Places.{link_of, link_end_of, if_link, on_link}
-use Rattle.path_world.specs.Path.{up_from}
-use Rattle.path_world.specs.Log.{Begun, Origin}
+use Rattle.path_laws.specs.declared.effects.UpAt.{UpAt}
+use Rattle.path_laws.specs.declared.places.Place.{Place}
+use Rattle.path_laws.specs.declared.places.Place.TheVariants as places
+use Rattle.path_laws.specs.Places.{link_of, link_end_of, if_link, on_link}
+use Rattle.path_laws.specs.Path.{up_from}
+use Rattle.path_laws.specs.Log.{Begun, Origin}
 
 -- ---- lists
 

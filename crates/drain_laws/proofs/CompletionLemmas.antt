@@ -177,7 +177,7 @@ pub first_rank : Party × Party → World → End → ℕ → ℕ
 first_rank parties w o n = start_rank (at_end parties o).policy (view parties w o n).sender
     (view parties w o n).receiver
 
-starts-going : (parties : Party × Party) (w : World) → IsReady parties w
+pub starts-going : (parties : Party × Party) (w : World) → IsReady parties w
     → IsGoing parties w (length w.sent) (first_rank parties w)
 unfolding first_rank
 starts-going parties w ready = record {
@@ -211,7 +211,7 @@ pub first-none : (parties : Party × Party) (w : World) (o : End) (n : ℕ)
 unfolding first_rank start_rank
 first-none parties w o n no_sender no_receiver = rw (no_sender, no_receiver) refl
 
-starts-low : (parties : Party × Party) (w v : World)
+pub starts-low : (parties : Party × Party) (w v : World)
     → ((o : End) → (at_end v.engines o).next ≡ (at_end w.engines o).next)
     → sum_of w (first_rank parties w) ≤ cost parties w v
 unfolding first_rank cost

@@ -305,13 +305,13 @@ used-next : (p : Party) (n : ℕ) → p.first ≤ n → (nat_le p.first n && nat
 used-next p n low = grind (arith, nat_tests)
 
 -- a submit is refused, or accepted
-data Submits (p : Party) (e : Engine) (block : List ℕ) (red now : ℕ) (x : Option Reply) : Type 0
+pub data Submits (p : Party) (e : Engine) (block : List ℕ) (red now : ℕ) (x : Option Reply) : Type 0
   where
     refuses : x ≡ None → Submits p e block red now x
     accepts : length block ≤ p.most → x ≡ Some (begun_engine e
         (begin p.policy e.next block red now)) → Submits p e block red now x
 
-submits-is : (p : Party) (e : Engine) (block : List ℕ) (red now : ℕ)
+pub submits-is : (p : Party) (e : Engine) (block : List ℕ) (red now : ℕ)
     → Submits p e block red now (unless_refused (submits p e block red now))
 unfolding submits
 submits-is p e block red now =

@@ -204,9 +204,9 @@ due-of parties d rank now holds o n (inr (r, t, is, at, low)) = by_phase r.phase
 -- ---- costs grow
 
 -- a world after another: more was sent, and more sessions may have begun
-record Grows (w w' : World) : Type 0 where
-  sent : w'.sent ≡ w.sent ++ since w w'
-  next : (o : End) → (at_end w.engines o).next ≤ (at_end w'.engines o).next
+pub record Grows (w w' : World) : Type 0 where
+  pub sent : w'.sent ≡ w.sent ++ since w w'
+  pub next : (o : End) → (at_end w.engines o).next ≤ (at_end w'.engines o).next
 
 used-more : (p : Party) (e e' : Engine) (n : ℕ) → e.next ≤ e'.next → is_used p e n ≡ true
     → is_used p e' n ≡ true
@@ -247,7 +247,7 @@ begun-grows parties w w' o n grows = by_used (view parties w o n).used refl
         (grows.next o) is in
         rw now (omega (arith, more))
 
-cost-grows : (parties : Party × Party) (w v v' : World) (o : End) (n : ℕ) → Grows v v'
+pub cost-grows : (parties : Party × Party) (w v v' : World) (o : End) (n : ℕ) → Grows v v'
     → session_cost parties w v o n ≤ session_cost parties w v' o n
 cost-grows parties w v v' o n grows = by_test (nat_lt n (at_end w.engines o).next)
   where
@@ -325,7 +325,7 @@ takes-steps parties w d rank from x peers keeps is = record {
     next = delivery-next SessionFacts session-gives parties d rank (other from) x peers
         keeps.holds (room-roomy parties d.world keeps.room) back
 
-ticked-grows : (parties : Party × Party) (w : World) (now : ℕ)
+pub ticked-grows : (parties : Party × Party) (w : World) (now : ℕ)
     → Grows w (ticks parties now second_end (ticks parties now first_end w))
 ticked-grows parties w now = subst (Grows w) (sym (ticks-are parties w now)) (record {
   sent = sent-ticked parties w now ∙ ap (λ (ds : List Sent). w.sent ++ ds)
@@ -461,7 +461,7 @@ submits-more p e block red now r is = by_fault (submit_fault p e block) is
         let same : begun e (begin p.policy e.next block red now) ≡ r = cc in
         subst (λ (r : Reply). e.next ≤ r.engine.next) same (omega arith)
 
-submitted-grows : (parties : Party × Party) (w : World) (end : End) (block : List ℕ) (red : ℕ)
+pub submitted-grows : (parties : Party × Party) (w : World) (end : End) (block : List ℕ) (red : ℕ)
     → Grows w (submitted parties w end block red)
 unfolding submitted
 submitted-grows parties w end block red = by_length (nat_le red (length block))
@@ -483,7 +483,7 @@ submitted-grows parties w end block red = by_length (nat_le red (length block))
     }
     by_length false = record { sent = replies-since w end name None; next = λ o. omega arith }
 
-ends-same : (a b : End) → (a ≡ b) ⊎ (a ≢ b)
+pub ends-same : (a b : End) → (a ≡ b) ⊎ (a ≢ b)
 ends-same first_end first_end = inl refl
 ends-same second_end second_end = inl refl
 ends-same first_end second_end = inr (λ h. cc)

@@ -31,3 +31,4 @@ pub use judged::{Judged, Pieces};
 pub use judging::judge;
 pub use laws::pieces_have_room;
 pub use report::{AskedReport, Creation, Statuses};
+pub use sending::spelled;

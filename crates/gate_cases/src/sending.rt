@@ -232,7 +232,7 @@ fn all_spelled(alloc: Global, to: Face, records: &[Full]) -> Result<Option<Piece
 }
 
 /// The octets of a record's bundle at a face, if there is room for its blocks.
-fn spelled(alloc: Global, to: Face, full: &Full) -> Result<Option<Octets>, AllocError>
+pub fn spelled(alloc: Global, to: Face, full: &Full) -> Result<Option<Octets>, AllocError>
     requires { IsSound full.now }
     ensures { IfOk result (λ octets. octets ≡ (if fits_at to full.now then Some (octets_at to full.now) else None)) }
 {

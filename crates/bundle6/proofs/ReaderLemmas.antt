@@ -1,6 +1,6 @@
 -- Reading a stream: octets that are open, whole bundles at their front, and pieces.
 
-use Rattle.std.proofs.Common.{◌≡◌, ◌≢◌, ℕ, zero, suc, ◌∷◌, ◌+◌, ◌-◌, ◌<◌, ◌≤◌, ltb, min, Bool, false, List, [], ◌++◌, length, take, drop, Option, Some, None, Result, Ok, Err, IsErrAnd, refl, sym, ap, ◌∙◌, subst, inl, inr, lit<, arith, append_assoc, append-nil, length-append, take-append-drop}
+use Rattle.std.proofs.Common.{◌≡◌, ◌≢◌, ℕ, zero, suc, ◌∷◌, ◌+◌, ◌-◌, ◌<◌, ◌≤◌, ltb, min, Bool, false, List, [], ◌++◌, length, take, drop, Option, Some, None, Result, Ok, Err, IsOk, IsErrAnd, refl, sym, ap, ◌∙◌, subst, inl, inr, lit<, arith, append_assoc, append-nil, length-append, take-append-drop}
 use Rattle.std.proofs.lemmas.Bool.{cases_lt, ltb-true, ltb-false}
 use Rattle.std.proofs.lemmas.List.{take-append-le, drop-append-le, length-take-le, length-drop, take_all}
 use Rattle.wire_fields.specs.Refusal.{Stop, truncated, because}
@@ -26,7 +26,7 @@ use Rattle.bundle6.specs.Table.{primary, bundle}
 use Rattle.bundle6.specs.Judging.{judged_bundle}
 use Rattle.bundle6.specs.Passing.{texts_in, left_at, left_of, Fits, Stands, Comes}
 use Rattle.bundle6.specs.Legal.{Spells6}
-use Rattle.bundle6.specs.Streaming.{Stream, IsOpen, IsSpared, Takes, TakesSize, near, Refuses, Feeds, JudgesPiece, later, CutsAlike}
+use Rattle.bundle6.specs.Streaming.{Stream, IsOpen, Takes, TakesSize, near, Refuses, BeginsOpen, Feeds, JudgesPiece, later, CutsAlike}
 use Rattle.bundle6.specs.Holding.{stream_of, text_of, IsHeld, IsRefused, IsWhole, HasEnded, IsOpenWith, PassesOver}
 use Rattle.bundle6.proofs.LegalLemmas.{begun-legal}
 use Rattle.bundle6.proofs.PassLemmas.{judges-ended, judges-stopped}
@@ -100,16 +100,6 @@ pub settled-text : (text : List ℕ) (cut : Bool) (pass : Pass) (e : Refused6) �
     → e.cause ≢ causes.Truncated → IsRefused text cut e.at e.cause
 settled-text text cut pass e comes other =
     inl (stopped-at text pass e comes ∙ ap (stopped e.at) (is-because e.cause other))
-
--- ---- no refusal
-
-spared-ok : (text : List ℕ) (b : Bundle6) (k : ℕ) → read (bundle 64) text 0 ≡ found b k → IsSpared text
-spared-ok text b k is at cause refused = let no : found b k ≡ stopped at (because cause) = sym is ∙ refused in absurd (cc)
-
-pub spared-open : (text : List ℕ) → IsOpen text → IsSpared text
-spared-open text (p, is) at cause refused =
-    let both = stopped_is {A = Bundle6 × ℕ} p at truncated (because cause) (sym is ∙ refused) in
-    let no = both.1 in absurd (cc)
 
 -- what was judged is built, but for want of memory
 pub built : (text : List ℕ) (b : Bundle6) (k : ℕ) (e : Fail6) → IsWhole text b k
@@ -320,7 +310,7 @@ feeds-memory longest old piece part b k new is whole empty =
     let reads : read (bundle 64) (old.kept ++ part) 0 ≡ found b k =
     ap (λ t. read (bundle 64) t 0) (sym (append-nil (old.kept ++ part))) ∙ whole.reads [] in
     let alone : read (bundle 64) part 0 ≡ found b k = ap (λ xs. read (bundle 64) (xs ++ part) 0) (sym empty) ∙ reads in
-    subst IsSpared is (spared-ok part b k alone)
+    inr (subst (λ t. IsOk (read (bundle 64) t 0)) is (rw alone refl))
 
 -- what a pass over a part of a piece tells of the piece
 module _ (longest : ℕ) (old new : Held) (piece part : List ℕ) (cut : Bool) (small : length old.kept.items ≤ longest)
@@ -368,25 +358,27 @@ module _ (longest : ℕ) (old new : Held) (piece part : List ℕ) (cut : Bool) (
       let long : length new.kept.items ≡ length (old.kept.items ++ part) = ap (λ s. length s.kept) opened.stream in
       omega (arith, long, length-append old.kept.items part, takes.0, takes.1)
 
+  -- memory ran out for a piece that is to be kept
+  begins-open : PassesOver old part cut (Err Memory) new → old.kept.items ≡ [] → BeginsOpen longest piece
+  begins-open passes empty =
+      let all = all-of longest (stream_of old) piece part cut small is cuts in
+      let open_piece = passes.begun empty in
+      let sizes = part-of (longest - length old.kept.items) piece part is in
+      (omega (arith, ap length (all open_piece.0), sizes.within), subst IsOpen (all open_piece.0) open_piece.1)
+
   pub feeds-fail : (fail : Fail6) (result : Result Fed6 Fail6) → PassesOver old part cut (Err fail) new → IsErrAnd result (λ e. e ≡ fail)
       → Feeds longest (stream_of old) piece result (stream_of new)
   feeds-fail fail (Ok x) passes same = absurd same
   feeds-fail (Refused at cause) (Err e) passes same =
       rw same (refuses longest (stream_of old) piece part cut small is cuts at cause passes.place passes.refused passes.spot)
-  feeds-fail Memory (Err e) passes same =
-      rw same (λ empty. subst IsSpared is (spared-open part (passes.begun empty).1))
+  feeds-fail Memory (Err e) passes same = rw same (λ empty. inl (begins-open passes empty))
 
   pub judges-fail : (fail : Fail6) (result : Result Judged6 Fail6) → PassesOver old part cut (Err fail) new → IsErrAnd result (λ e. e ≡ fail)
       → JudgesPiece longest (stream_of old) piece result (stream_of new)
   judges-fail fail (Ok x) passes same = absurd same
   judges-fail (Refused at cause) (Err e) passes same =
       rw same (refuses longest (stream_of old) piece part cut small is cuts at cause passes.place passes.refused passes.spot)
-  judges-fail Memory (Err e) passes same =
-      let all = all-of longest (stream_of old) piece part cut small is cuts in
-      rw same (λ empty.
-      let open_piece = passes.begun empty in
-      let sizes = part-of (longest - length old.kept.items) piece part is in
-      (omega (arith, ap length (all open_piece.0), sizes.within), subst IsOpen (all open_piece.0) open_piece.1))
+  judges-fail Memory (Err e) passes same = rw same (begins-open passes)
 
 pub stays-fail : (old new : Held) (part : List ℕ) (cut : Bool) (fail : Fail6) → PassesOver old part cut (Err fail) new
     → IsHeld new × (stream_of new ≡ stream_of old)

@@ -1,6 +1,6 @@
 -- Reading a stream of bundles in pieces.
 
-use Rattle.std.specs.Prelude.{◌≡◌, ℕ, ◌+◌, ◌-◌, ◌<◌, ◌≤◌, Bool, true, false, nat_lt, if◌then◌else◌, List, [], ◌++◌, length, take, Option, Some, None, Result, Ok, Err, ◌⊎◌}
+use Rattle.std.specs.Prelude.{◌≡◌, ℕ, ◌+◌, ◌-◌, ◌<◌, ◌≤◌, Bool, true, false, nat_lt, if◌then◌else◌, List, [], ◌++◌, length, take, Option, Some, None, Result, Ok, Err, IsOk, ◌⊎◌}
 use Rattle.wire_fields.specs.Refusal.{Stop, truncated, because}
 use Rattle.wire_fields.specs.Reading.{read, IsOctets}
 use Rattle.bundle6.specs.declared.fault.Cause6.{Cause6}
@@ -28,10 +28,6 @@ pub record Reading : Type 0 where
 -- the octets end inside a bundle that they begin, or are none
 abbrev pub IsOpen : List ℕ → Type 0
 IsOpen text = (at : ℕ) × (read (bundle 64) text 0 ≡ Err (at, truncated))
-
--- the octets are not refused for a cause
-abbrev pub IsSpared : List ℕ → Type 0
-IsSpared text = (at : ℕ) (cause : Cause6) → read (bundle 64) text 0 ≡ Err (at, because cause) → ⊥
 
 -- A piece was taken: up to the end of the first bundle, which is legal, or all of it where none ends in
 -- it.
@@ -66,12 +62,17 @@ abbrev pub Refuses : ℕ → Stream → List ℕ → ℕ → Cause6 → Type 0
 Refuses longest old piece at cause =
     HasRefusal old (near longest old piece) at cause ⊎ IsTooLong longest old piece at cause
 
--- What a piece gives. Memory is wanted for a bundle and for octets that are kept: where nothing was kept
--- before the piece, want of memory hides no refusal.
+-- all of a piece begins a bundle that it leaves open, and is no longer than the longest
+abbrev pub BeginsOpen : ℕ → List ℕ → Type 0
+BeginsOpen longest piece = (length piece ≤ longest) × IsOpen piece
+
+-- What a piece gives. Where nothing was kept before the piece, memory is wanted only for all of it, which
+-- is to be kept, or for a bundle that it has at its front.
 abbrev pub Feeds : ℕ → Stream → List ℕ → Result Fed6 Fail6 → Stream → Type 0
 Feeds longest old piece (Ok fed) new = Takes longest old piece fed.used fed.bundle new
 Feeds longest old piece (Err (Refused at cause)) new = Refuses longest old piece at cause
-Feeds longest old piece (Err Memory) new = old.kept ≡ [] → IsSpared (near longest old piece)
+Feeds longest old piece (Err Memory) new =
+    old.kept ≡ [] → BeginsOpen longest piece ⊎ IsOk (read (bundle 64) (near longest old piece) 0)
 
 -- A piece was taken as `Takes` has it, and of a bundle that is whole no more is told than how many octets
 -- it has. They spell it.
@@ -88,8 +89,7 @@ abbrev pub JudgesPiece : ℕ → Stream → List ℕ → Result Judged6 Fail6 �
 JudgesPiece longest old piece (Ok judged) new =
     TakesSize longest old piece judged.used judged.whole new
 JudgesPiece longest old piece (Err (Refused at cause)) new = Refuses longest old piece at cause
-JudgesPiece longest old piece (Err Memory) new =
-    old.kept ≡ [] → (length piece ≤ longest) × IsOpen piece
+JudgesPiece longest old piece (Err Memory) new = old.kept ≡ [] → BeginsOpen longest piece
 
 -- The end of the stream: nothing is kept, or the octets end inside a bundle.
 abbrev pub Finishes : Stream → Result (Unit {0}) Fail6 → Type 0

@@ -100,16 +100,16 @@ impl Blocks6 {
 
 /// The blocks so far, as far as they decide on the next.
 #[derive(Clone, Copy)]
-pub(crate) struct Seen {
+pub struct Seen {
     /// A payload block is among them.
-    pub(crate) paid: bool,
+    pub paid: bool,
     /// How many of another type are among them.
-    pub(crate) others: u64,
+    pub others: u64,
 }
 
 impl Seen {
     /// No blocks yet.
-    pub(crate) const NONE: Seen = Seen {
+    pub const NONE: Seen = Seen {
         paid: false,
         others: 0,
     };
@@ -258,7 +258,7 @@ fn is_within(part: Option<Fragment>, payload: bool, size: u64) -> bool
 }
 
 /// How many octets a block has. Those of a payload lie within the whole of which it is a fragment.
-pub(crate) fn size_at(
+pub fn size_at(
     text: &[u8],
     at: usize,
     part: Option<Fragment>,

@@ -20,22 +20,24 @@ use endpoint::{Fragment, ipn_named, is_ssp};
 
 /// Where the dictionary lies.
 #[derive(Clone, Copy)]
-pub(crate) struct Texts {
-    pub(crate) from: usize,
-    pub(crate) to: usize,
+pub struct Texts {
+    /// Its first octet.
+    pub from: usize,
+    /// The first octet after it.
+    pub to: usize,
 }
 
 /// The head of a block, as far as later fields look at it.
 #[derive(Clone, Copy)]
-pub(crate) struct Head {
+pub struct Head {
     /// The blocks so far, with this one.
-    pub(crate) seen: Seen,
+    pub seen: Seen,
     /// Whether it is the payload.
-    pub(crate) payload: bool,
+    pub payload: bool,
     /// Whether it is marked as the last.
-    pub(crate) last: bool,
+    pub last: bool,
     /// How many references follow.
-    pub(crate) count: u64,
+    pub count: u64,
 }
 
 /// What stands next.
@@ -217,7 +219,10 @@ impl Pass {
 
 /// The primary block: where the payload lies in the whole, and where the dictionary lies.
 #[tactic(auto, unfolding(crate::specs::Judging::judged_primary))]
-fn primary_judged(text: &[u8], at: usize) -> Result<((Option<Fragment>, Texts), usize), Refused6>
+pub fn primary_judged(
+    text: &[u8],
+    at: usize,
+) -> Result<((Option<Fragment>, Texts), usize), Refused6>
     requires { at ≤ length text.now }
     ensures within { IfOk result (λ x. IsOn at text.now x.1) }
     ensures order { IfOk result (λ x. x.0.1.from ≤ x.0.1.to) }
@@ -258,7 +263,7 @@ fn dictionary_judged(text: &[u8], at: usize, pairs: Pairs) -> Result<(Texts, usi
 
 /// The head of a block: its type, flags and how many references follow.
 #[tactic(auto, unfolding(crate::specs::Judging::judged_head))]
-fn head_judged(text: &[u8], at: usize, most: u64, seen: Seen) -> Result<(Head, usize), Refused6>
+pub fn head_judged(text: &[u8], at: usize, most: u64, seen: Seen) -> Result<(Head, usize), Refused6>
     requires place { at ≤ length text.now }
     requires few { seen.others ≤ most }
     requires small { most < 2 ^ 64 - 1 }
@@ -300,7 +305,7 @@ fn body_judged(
 
 /// A reference, which resolves.
 #[tactic(auto, unfolding(crate::specs::Judging::judged_name))]
-fn name_judged(text: &[u8], at: usize, dictionary: &[u8]) -> Result<((), usize), Refused6>
+pub fn name_judged(text: &[u8], at: usize, dictionary: &[u8]) -> Result<((), usize), Refused6>
     requires { at ≤ length text.now }
     ensures within { IfOk result (λ x. IsOn at text.now x.1) }
     ensures exact { Gives (λ _. tt) refused_at result

@@ -19,7 +19,7 @@ use endpoint::Fragment;
 use std::alloc::Global;
 
 /// The most blocks of another type than the payload. Own rule.
-pub(crate) const MOST_OTHERS: u64 = 64;
+pub const MOST_OTHERS: u64 = 64;
 
 /// The bundle at the front of some octets, and how many of them it takes. More may follow.
 ///

@@ -94,11 +94,15 @@ impl Blocks7 {
 
 /// What a block has before its body.
 #[derive(Clone, Copy)]
-pub(crate) struct Lead {
-    pub(crate) kind: u64,
-    pub(crate) number: u64,
-    pub(crate) flags: u64,
-    pub(crate) crc: u8,
+pub struct Lead {
+    /// The block's type.
+    pub kind: u64,
+    /// The block's number.
+    pub number: u64,
+    /// The block's flags.
+    pub flags: u64,
+    /// The type of its check.
+    pub crc: u8,
 }
 
 /// A block whose body is lent out of the octets.

@@ -49,7 +49,7 @@ pub fn age_of(body: &[u8]) -> Option<u64>
 }
 
 /// Whether the octets are a body that a block of this type may have.
-pub(crate) fn is_body(kind: u64, body: &[u8]) -> bool
+pub fn is_body(kind: u64, body: &[u8]) -> bool
     ensures { result ≡ is_body kind body.now }
 {
     match kind {

@@ -7,7 +7,8 @@
 //! one spelling, since heads are the shortest and only the outer array is without a length.
 //! [`read_eid`] and [`write_eid`] do the same for an endpoint alone, and [`hop_of`], [`age_of`] and
 //! [`previous_of`] read the bodies of the three extension blocks that are known here: hop count,
-//! bundle age and previous node.
+//! bundle age and previous node. [`start_judged`] and [`front_judged`] judge a part of a bundle each,
+//! for a judge that keeps no octets of it.
 //!
 //! The payload is the last block, as the standard has it. A check of type 0, which is none, is
 //! accepted on every block, the primary too (own rule). Security, administrative records and other
@@ -30,14 +31,16 @@ mod reading;
 mod seen;
 mod writing;
 
-pub use block::{Block7, Blocks7};
-pub use body::{Hop, age_of, hop_of};
+pub use block::{Block7, Blocks7, Lead};
+pub use body::{Hop, age_of, hop_of, is_body};
 pub use bundle::Bundle7;
 pub use eid::{previous_of, read_eid, write_eid};
 pub use fault::{Cause7, EidFault, Fail7, Refused7};
 pub use judging::judge7;
 pub use laws::{cuts_alike, exactly_one, one_body, one_eid, one_spelling};
+pub use pass::{Front, front_judged, start_judged};
 pub use primary::Primary7;
-pub use reader::{Fed7, Judged7, Reader7};
+pub use reader::{Fed7, Judged7, LONGEST, Reader7};
 pub use reading::decode7;
+pub use seen::{MOST_EXTENSIONS, Seen};
 pub use writing::encode7;

@@ -19,10 +19,11 @@ use endpoint::Fragment;
 
 /// What a block has before the octets of its body.
 #[derive(Clone, Copy)]
-pub(crate) struct Front {
-    pub(crate) lead: Lead,
+pub struct Front {
+    /// What stands before the length of the body.
+    pub lead: Lead,
     /// How many octets the body has.
-    pub(crate) size: u64,
+    pub size: u64,
 }
 
 /// What stands next.
@@ -225,7 +226,7 @@ fn is_last(kind: u64, count: u64, most: u64) -> bool
 
 /// The mark and the primary block: where the payload lies in the whole.
 #[tactic(auto, unfolding(crate::specs::Judging::judged_start))]
-fn start_judged(text: &[u8], at: usize) -> Result<(Option<Fragment>, usize), Refused7>
+pub fn start_judged(text: &[u8], at: usize) -> Result<(Option<Fragment>, usize), Refused7>
     requires { at ≤ length text.now }
     ensures within { IfOk result (λ x. IsOn at text.now x.1) }
     ensures exact { Gives (λ part. part) refused result (read judged_start text.now at) }
@@ -237,7 +238,7 @@ fn start_judged(text: &[u8], at: usize) -> Result<(Option<Fragment>, usize), Ref
 
 /// What a block has before the octets of its body.
 #[tactic(auto, unfolding(crate::specs::Judging::judged_front))]
-fn front_judged(
+pub fn front_judged(
     text: &[u8],
     at: usize,
     part: Option<Fragment>,

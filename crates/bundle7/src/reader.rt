@@ -15,7 +15,7 @@ use std::alloc::{AllocError, Global};
 use std::marker::Model;
 
 /// The most octets of a bundle of a stream. Own rule.
-const LONGEST: usize = 67_108_864;
+pub const LONGEST: usize = 67_108_864;
 
 /// What a piece gave.
 #[derive(Debug, Drop)]

@@ -5,7 +5,7 @@ ghost use Rattle.std.specs.Prelude.{◌≡◌, ◌<◌, ◌++◌, ◌∷◌, [],
 use std::marker::Model;
 
 /// The most extension blocks that a bundle has. Own rule.
-pub(crate) const MOST_EXTENSIONS: u64 = 64;
+pub const MOST_EXTENSIONS: u64 = 64;
 
 /// At most so many numbers, in their order. They ask for no memory.
 #[derive(Drop)]
@@ -70,7 +70,7 @@ impl Numbers {
 
 /// The types and the numbers of the extension blocks so far.
 #[derive(Drop)]
-pub(crate) struct Seen {
+pub struct Seen {
     pub(crate) kinds: Numbers,
     pub(crate) numbers: Numbers,
 }
@@ -79,7 +79,7 @@ impl Seen {
     ghost use Rattle.bundle7.specs.Seen.{seen_with};
 
     /// No blocks yet.
-    pub(crate) fn none() -> Seen
+    pub fn none() -> Seen
         ensures { result ≡ record { kinds = []; numbers = [] } }
     {
         Seen {
@@ -89,7 +89,7 @@ impl Seen {
     }
 
     /// Forgets all.
-    pub(crate) fn clear(&mut self)
+    pub fn clear(&mut self)
         ensures { self.new ≡ record { kinds = []; numbers = [] } }
     {
         self.kinds.clear();
@@ -97,14 +97,14 @@ impl Seen {
     }
 
     /// How many blocks there are.
-    pub(crate) fn count(&self) -> u64
+    pub fn count(&self) -> u64
         ensures { result ≡ length self.now.kinds }
     {
         self.kinds.count()
     }
 
     /// One more block, of this type and number.
-    pub(crate) fn push(&mut self, kind: u64, number: u64)
+    pub fn push(&mut self, kind: u64, number: u64)
         requires kinds { length self.old.kinds < 64 }
         requires numbers { length self.old.numbers < 64 }
         ensures { self.new ≡ seen_with self.old kind number }

@@ -47,12 +47,12 @@ use Rattle.drain_laws.proofs.StartLemmas.{session-gives}
 -- ---- lists
 
 -- what stands at a place, and what comes after it
-record Taken {X : Type 0} (xs : List X) (k : ℕ) : Type 0 where
-  x : X
-  got : slice_get xs k ≡ Some x
-  rest : drop k xs ≡ x ∷ drop (suc k) xs
+pub record Taken {X : Type 0} (xs : List X) (k : ℕ) : Type 0 where
+  pub x : X
+  pub got : slice_get xs k ≡ Some x
+  pub rest : drop k xs ≡ x ∷ drop (suc k) xs
 
-taken : {X : Type 0} (xs : List X) (k : ℕ) → k < length xs → Taken xs k
+pub taken : {X : Type 0} (xs : List X) (k : ℕ) → k < length xs → Taken xs k
 taken [] k low = absurd (omega (arith, low))
 taken (x ∷ xs) zero low = record { x = x; got = refl; rest = refl }
 taken (x ∷ xs) (suc k) low =
@@ -453,7 +453,7 @@ tick-goes parties w c rank now es peers alike going over next_is =
 
 -- ---- an event
 
-run-more : (parties : Party × Party) (w : World) (events : List Event) (event : Event)
+pub run-more : (parties : Party × Party) (w : World) (events : List Event) (event : Event)
     → run parties w (events ++ event ∷ []) ≡ happens parties (run parties w events) event
 run-more parties w [] event = refl
 run-more parties w (first ∷ events) event = run-more parties (happens parties w first) events

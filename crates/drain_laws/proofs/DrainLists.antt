@@ -18,14 +18,14 @@ same_end-true second_end second_end is = refl
 same_end-true first_end second_end is = absurd (cc)
 same_end-true second_end first_end is = absurd (cc)
 
-said-skips : (who : End) (o n : ℕ) (d : Sent) (ds : List Sent) → is_of who o n d ≡ false
-    → said who o n (d ∷ ds) ≡ said who o n ds
+pub said-none : (who : End) (o n : ℕ) → said who o n [] ≡ []
 unfolding said
-said-skips who o n d ds is = rw is refl
+said-none who o n = refl
 
 pub said-skip : (who : End) (o n : ℕ) (d : Sent) (ds : List Sent) → is_of who o n d ≡ false
     → said who o n (d ∷ ds) ≡ said who o n ds
-said-skip who o n d ds is = said-skips who o n d ds is
+unfolding said
+said-skip who o n d ds is = rw is refl
 
 pub said-take : (who : End) (o n : ℕ) (d : Sent) (ds : List Sent) → is_of who o n d ≡ true
     → said who o n (d ∷ ds) ≡ (d.segment).content ∷ said who o n ds
@@ -97,9 +97,9 @@ said-oldest from p n (d ∷ ds) o is = go (finds from d ds o is) (said-oldest fr
         (o.first ∷ o.others)) found refl
     go (later apart x some found) deeper = subst
         (λ (o : Oldest). said from p n (d ∷ ds) ≡ said from p n (o.first ∷ o.others)) found
-        (said-skips from p n d ds (apart-not from p n d apart) ∙ deeper x some
+        (said-skip from p n d ds (apart-not from p n d apart) ∙ deeper x some
         ∙ said-cons from p n x.first x.others (d ∷ x.others)
-        (sym (said-skips from p n d x.others (apart-not from p n d apart))))
+        (sym (said-skip from p n d x.others (apart-not from p n d apart))))
 
 pub said-oldest_other : (from who : End) (p n : ℕ) (new : List Sent) (o : Oldest)
     → same_end from who ≡ false → oldest from new ≡ Some o
@@ -112,7 +112,7 @@ said-oldest_other from who p n (d ∷ ds) o two_of is =
         → said who p n ds ≡ said who p n x.others) → said who p n (d ∷ ds) ≡ said who p n o.others
     go (at_once mine found) deeper = subst (λ (o : Oldest). said who p n (d ∷ ds) ≡ said who p n
         o.others) found
-        (said-skips who p n d ds (apart-not who p n d
+        (said-skip who p n d ds (apart-not who p n d
         (subst (λ e. same_end e who ≡ false) (sym (same_end-true d.from from mine)) two_of)))
     go (later apart x some found) deeper = subst
         (λ (o : Oldest). said who p n (d ∷ ds) ≡ said who p n o.others) found

@@ -41,7 +41,7 @@ use Rattle.drain_laws.proofs.DrainFrame.{never_begun, AllStand, Begun, Gives, Re
 use Rattle.drain_laws.proofs.DrainFrame.{Touches, arrival-touches, is-begun, is-of, own_session}
 use Rattle.drain_laws.proofs.DrainFrame.{peer_session, stands-so}
 use Rattle.drain_laws.proofs.DrainLists.{Finds, at_once, drop-front, finds, later, nothing-oldest}
-use Rattle.drain_laws.proofs.DrainLists.{said-take, sum-less, sum-most}
+use Rattle.drain_laws.proofs.DrainLists.{said-none, said-take, sum-less, sum-most}
 use Rattle.drain_laws.proofs.DrainStarts.{none-asked, none-reported}
 use Rattle.drain_laws.proofs.TickFrame.{TickLower, own-receiver-says, own-sender-says, own-ticks}
 use Rattle.drain_laws.proofs.TickFrame.{own-ticks-advance, peer-receiver-says, peer-sender-says}
@@ -596,10 +596,6 @@ delivery-next F gives parties d rank me o peers holds room is =
         known.first)) touches)
 
 -- ---- a tick
-
-said-none : (who : End) (o n : ℕ) → said who o n [] ≡ []
-unfolding said
-said-none who o n = refl
 
 pub stands-idle : (F : List ℕ → ℕ → View → Type 0) (parties : Party × Party) (d : Draining)
     (rank : End → ℕ → ℕ) → DrainHolds F parties d rank → d.new ≡ []

@@ -26,6 +26,7 @@ use Rattle.drain_laws.specs.Hopeful.{IsOpen}
 use Rattle.drain_laws.specs.Rank.{IsAskedOn, IsReportedOn, RankAtMost, ahead, weights}
 use Rattle.drain_laws.proofs.RankLemmas.{ahead-append, ahead-round, weights-append, weights-round}
 use Rattle.drain_laws.proofs.ReceiverDrains.{no_cancels-append}
+use Rattle.drain_laws.proofs.SenderRows.{has-last}
 use Rattle.drain_laws.proofs.SenderDrains.{PartFits, cut-fit, fit-append, round-fit, round-plain}
 
 -- ---- a rank of 0
@@ -282,11 +283,6 @@ green-fit most (part ∷ next ∷ parts) all q (inl here) =
     (all.0.some, all.0.within)
 green-fit most (part ∷ next ∷ parts) all q (inr among) =
     green-fit most (next ∷ parts) all.1 q among
-
-has-last : (p : ℕ × List ℕ) (ps : List (ℕ × List ℕ)) → last_segment (p ∷ ps) ≡ None → ⊥
-unfolding last_segment
-has-last p [] none = cc
-has-last p (q ∷ qs) none = has-last q qs none
 
 no-pieces : (last : ℕ × List ℕ → PieceValue) (parts : List (ℕ × List ℕ)) (c : ContentValue)
     → last_segment parts ≡ None → IsIn c (red_pieces last parts) → ⊥

@@ -27,3 +27,6 @@ pub mod OffsetLemmas
 pub mod RankSteps
 pub mod ReadyLemmas
 pub mod DrainedLemmas
+pub mod FallLemmas
+pub mod LeftLemmas
+pub mod WearLemmas

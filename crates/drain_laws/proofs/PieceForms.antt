@@ -29,11 +29,13 @@ use Rattle.link_laws.specs.Kept.{IfKept}
 use Rattle.link_laws.specs.Serials.{pending_of}
 use Rattle.link_laws.proofs.CellLemmas.{cell-filled}
 use Rattle.link_laws.proofs.ClaimLemmas.{claims_from, report_with, report_of-with}
+use Rattle.link_laws.proofs.HandUpLemmas.{filled-reach}
 use Rattle.link_laws.proofs.ListLemmas.{both_arms, by_arms}
 use Rattle.link_laws.proofs.ReceiverLemmas.{end-within, fresh-is}
 use Rattle.link_laws.proofs.StepLemmas.{met}
 use Rattle.link_laws.proofs.WholeLemmas.{one-claim}
 use Rattle.drain_laws.specs.Rank.{has_cell}
+use Rattle.drain_laws.proofs.RankLemmas.{or_first}
 
 -- ---- tests
 
@@ -163,9 +165,6 @@ filled-here cells q i is = rw (cell-filled cells q.offset q.body i)
     has true h = rw h refl
     has false h = absurd (cc)
 
-or_handed : (a b : Bool) → a ≡ true → (a || b) ≡ true
-or_handed a b is = rw is refl
-
 pub piece-takes : (block : List ℕ) (red : ℕ) (policy : PolicyValue) (r : Receiving)
     (q : PieceValue) (now : ℕ) → IsReceiverOf block red r → IsPieceOf block red q
     → is_cancelling r.phase ≡ false → (is_checkpoint q.kind ≡ true → (r.serial == 2 ^ 32) ≡ false)
@@ -181,14 +180,14 @@ piece-takes block red policy r q now is of listening serials =
     (record {
       old = filled-old r.cells q.offset q.body;
       here = filled-here r.cells q;
-      handed = λ h. or_handed r.handed_up _ h;
+      handed = λ h. or_first r.handed_up _ h;
       listening = refl;
     }) refl refl))
     (λ plain. fills_only _ plain refl refl
     (record {
       old = filled-old r.cells q.offset q.body;
       here = filled-here r.cells q;
-      handed = λ h. or_handed r.handed_up _ h;
+      handed = λ h. or_first r.handed_up _ h;
       listening = listening;
     }) refl refl))
     (λ green_kind. fills_only _ (green-plain q.kind green_kind) refl refl
@@ -286,17 +285,6 @@ all-some (c ∷ cells) each = (
       (λ i low. each (suc i) (omega arith)),
 )
 
--- cells end where the last filled one is
-reaches : (red : ℕ) (cells : List (Option ℕ)) → AllFilled red cells → red ≤ length cells
-reaches zero cells all = omega arith
-reaches (suc red) [] all = absurd (let h : is_some (cell [] zero) ≡ true = all zero
-    (omega arith) in cc)
-reaches (suc red) (c ∷ cells) all = omega (
-  arith,
-  reaches red cells
-      (λ i low. all (suc i) (omega arith)),
-)
-
 take-all : {X : Type 0} (xs : List X) (n : ℕ) → length xs ≡ n → take n xs ≡ xs
 take-all [] zero is = refl
 take-all [] (suc n) is = absurd (omega (arith, is))
@@ -323,7 +311,7 @@ report-whole red r q some known reach all =
     (sym whole) (record { claims = refl; lower = refl })))
   where
     size : length r.cells ≡ red
-    size = omega (arith, reach, reaches red r.cells all)
+    size = omega (arith, reach, filled-reach red r.cells all)
 
     whole : claims_from 0 (take red r.cells) ≡ record { offset = 0; length = red } ∷ []
     whole = ap (claims_from 0) (take-all r.cells red size)

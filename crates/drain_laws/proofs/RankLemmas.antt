@@ -145,7 +145,7 @@ or_later : (a b : Bool) → b ≡ true → (a || b) ≡ true
 or_later true b is = refl
 or_later false b is = is
 
-or_first : (a b : Bool) → a ≡ true → (a || b) ≡ true
+pub or_first : (a b : Bool) → a ≡ true → (a || b) ≡ true
 or_first a b is = rw is refl
 
 pub ahead-round : (size red serial report c i : ℕ) (parts : List (ℕ × List ℕ)) → HasPart i parts

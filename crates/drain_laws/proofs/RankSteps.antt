@@ -33,7 +33,7 @@ use Rattle.drain_laws.specs.Draining.{sets_clock, since, submits_block, takes_ol
 use Rattle.drain_laws.specs.Hopeful.{AreAlike, Room, begun_cost, different, offsets_of}
 use Rattle.drain_laws.specs.Hopeful.{session_cost, view_cost}
 use Rattle.drain_laws.specs.Rank.{RankAtMost}
-use Rattle.drain_laws.specs.Ranks.{IsAtRest, IsDueBy, RanksFall, RanksOn}
+use Rattle.drain_laws.specs.Ranks.{HasRanks, IsAtRest, IsDueBy, MayFollow, RanksFall, after_steps}
 use Rattle.drain_laws.specs.Standing.{NextOf, BelowDeadlines, DrainHolds, IsDueOf, TickedTo}
 use Rattle.drain_laws.specs.Standing.{due_receiver, due_sender, setting}
 use Rattle.drain_laws.proofs.CleanSteps.{drop-end, replies-since, since-arrival}
@@ -670,29 +670,43 @@ step-steps parties w d rank (sets_clock now) peers alike before keeps may =
 step-steps parties w d rank (submits_block end block red) peers alike before keeps may =
     submit-steps parties w d rank end block red peers alike before keeps may
 
-ranks-on : (parties : Party × Party) (w : World) → ArePeers parties → AreAlike parties
-    → (steps : List DrainStep) (d : Draining) (rank : End → ℕ → ℕ)
-    → ((o : End) → (at_end w.engines o).next ≤ ((at_end (d.world).engines o).next))
-    → Keeps parties w d rank → RanksOn parties w d rank steps
-ranks-on parties w peers alike [] d rank before keeps =
-    record { within = keeps.within; rests = still parties d rank keeps.holds }
-ranks-on parties w peers alike (step ∷ steps) d rank before keeps = (
-  record { within = keeps.within; rests = still parties d rank keeps.holds },
-  λ may.
-      let next = step-steps parties w d rank step peers alike before keeps may in (
-        next.rank',
-        next.falls,
-        ranks-on parties w peers alike steps (after_step parties d step)
-            next.rank'
-            (λ o. next-on parties w d step may o (before o)) next.keeps,
-      ),
-)
+-- what is kept after steps
+record KeptAfter (parties : Party × Party) (w : World) (steps : List DrainStep) : Type 0 where
+  rank : End → ℕ → ℕ
+  before : (o : End) → (at_end w.engines o).next
+      ≤ (at_end (after_steps parties (begins_at w) steps).world.engines o).next
+  keeps : Keeps parties w (after_steps parties (begins_at w) steps) rank
+
+kept-after : (parties : Party × Party) (w : World) → IsReady parties w
+    → (steps : List DrainStep) → MayFollow parties (begins_at w) steps
+    → KeptAfter parties w steps
+kept-after parties w ready [] may = record {
+  rank = first_rank parties w;
+  before = λ o. omega arith;
+  keeps = started-rank parties w ready;
+}
+kept-after parties w ready (step ∷ earlier) may =
+    let was = kept-after parties w ready earlier may.0 in
+    let next = step-steps parties w (after_steps parties (begins_at w) earlier) was.rank step
+    ready.peers ready.alike was.before was.keeps may.1 in
+    record {
+      rank = next.rank';
+      before = λ o. next-on parties w (after_steps parties (begins_at w) earlier) step may.1 o
+          (was.before o);
+      keeps = next.keeps;
+    }
 
 pub sessions-have-ranks : (parties : Party × Party) (w : World) → IsReady parties w
-    → (rank : End → ℕ → ℕ)
-    × ((steps : List DrainStep) → RanksOn parties w (begins_at w) rank steps)
-sessions-have-ranks parties w ready = (
-  first_rank parties w,
-  λ steps. ranks-on parties w ready.peers ready.alike steps (begins_at w) (first_rank parties w)
-      (λ o. omega arith) (started-rank parties w ready),
-)
+    → HasRanks parties w
+unfolding kept-after
+sessions-have-ranks parties w ready = record {
+  rank = λ steps may. (kept-after parties w ready steps may).rank;
+  are = λ steps may. (let kept = kept-after parties w ready steps may in record {
+    within = (kept.keeps).within;
+    rests = still parties (after_steps parties (begins_at w) steps) kept.rank
+        (kept.keeps).holds;
+  });
+  fall = λ step earlier may next. (let was = kept-after parties w ready earlier may in
+      (step-steps parties w (after_steps parties (begins_at w) earlier) was.rank step ready.peers
+      ready.alike was.before was.keeps next).falls);
+}

@@ -42,7 +42,7 @@ open-place (true ∷ bs) is =
     let rest = open-place bs is in
     record { i = suc rest.i; within = omega (arith, rest.within); is = rest.is }
 
-has-last : (p : ℕ × List ℕ) (ps : List (ℕ × List ℕ)) → last_segment (p ∷ ps) ≡ None → ⊥
+pub has-last : (p : ℕ × List ℕ) (ps : List (ℕ × List ℕ)) → last_segment (p ∷ ps) ≡ None → ⊥
 unfolding last_segment
 has-last p [] none = cc
 has-last p (q ∷ qs) none = has-last q qs none

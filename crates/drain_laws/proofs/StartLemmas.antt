@@ -37,6 +37,7 @@ use Rattle.drain_laws.specs.Hopeful.{IsReached, kept_cost, limit_at}
 use Rattle.drain_laws.specs.Rank.{RankAtMost}
 use Rattle.drain_laws.specs.Standing.{DrainHolds, Stands, StandsBy, setting}
 use Rattle.drain_laws.proofs.DrainFrame.{Gives}
+use Rattle.drain_laws.proofs.DrainLists.{said-none}
 use Rattle.drain_laws.proofs.DrainStarts.{calm-starts, rank-starts-kept, rank-starts-none}
 use Rattle.drain_laws.proofs.DrainStarts.{rank-starts-over}
 use Rattle.drain_laws.proofs.SizeLemmas.{AreOctets, SaysOctets, run-octets, submitted-within}
@@ -186,10 +187,6 @@ start-serials limit_s limit_r session rank v hopeful low = record {
 }
 
 -- ---- every session where a drain begins
-
-said-none : (who : End) (o n : ℕ) → said who o n [] ≡ []
-unfolding said
-said-none who o n = refl
 
 pub most-at : (parties : Party × Party) → AreAlike parties → (o : End)
     → (at_end parties (other o)).most ≡ (at_end parties o).most

@@ -52,7 +52,7 @@ IsHanded (Some r) = r.handed_up ≡ true
 -- ---- hopeful
 
 -- the sender isn't cancelling; its current checkpoint was sent fewer times than the limit, and its
--- serial is far from the last
+-- serial is far from the last: of the next serial, which is one more, this asks a little less
 abbrev pub IsHopefulSending : ℕ → SendingPhase → Type 0
 IsHopefulSending limit (sender_open checkpoint timer) =
     (timer.times < limit) × (checkpoint.checkpoint < 2 ^ 32 - 2 ^ 22)

@@ -4,6 +4,8 @@ pub mod Effects
 -- when a drain completes, what it costs, and what it promises
 pub mod Hopeful
 pub mod Completion
+-- why every drain ends
+pub mod Left
 -- the rank of each session, from step to step
 pub mod Draining
 pub mod Ranks

@@ -51,18 +51,35 @@ RanksFall parties d rank rank' (sets_clock now) =
 RanksFall parties d rank rank' (submits_block end block red) =
     (o : End) (n : ℕ) → (view parties d.world o n).used ≡ true → rank' o n ≤ rank o n
 
--- ranks fall from step to step, as long as each may happen
-abbrev pub RanksOn : Party × Party → World → Draining → (End → ℕ → ℕ) → List DrainStep → Type 0
-RanksOn parties w d rank [] = AreRanks parties w d rank
-RanksOn parties w d rank (step ∷ steps) =
-    AreRanks parties w d rank
-    × (MayHappen parties d step
-    → (rank' : End → ℕ → ℕ) × RanksFall parties d rank rank' step
-    × RanksOn parties w (after_step parties d step) rank' steps)
+-- ---- after steps
 
--- from a world that is ready there are such ranks, whatever steps follow
+-- a drain after steps, of which the latest comes first
+abbrev pub after_steps : Party × Party → Draining → List DrainStep → Draining
+after_steps parties d [] = d
+after_steps parties d (step ∷ earlier) =
+    after_step parties (after_steps parties d earlier) step
+
+-- each of them may happen after those before it
+abbrev pub MayFollow : Party × Party → Draining → List DrainStep → Type 0
+MayFollow parties d [] = Unit {0}
+MayFollow parties d (step ∷ earlier) =
+    MayFollow parties d earlier × MayHappen parties (after_steps parties d earlier) step
+
+-- a rank of each session after any steps that may follow a world; it is settled by these steps,
+-- whatever follows them, and falls with the next one
+pub record HasRanks (parties : Party × Party) (w : World) : Type 0 where
+  pub rank : (steps : List DrainStep) → MayFollow parties (begins_at w) steps → End → ℕ → ℕ
+  pub are :
+      (steps : List DrainStep) (may : MayFollow parties (begins_at w) steps)
+      → AreRanks parties w (after_steps parties (begins_at w) steps) (rank steps may)
+  pub fall :
+      (step : DrainStep) (earlier : List DrainStep)
+      (may : MayFollow parties (begins_at w) earlier)
+      (next : MayHappen parties (after_steps parties (begins_at w) earlier) step)
+      → RanksFall parties (after_steps parties (begins_at w) earlier) (rank earlier may)
+      (rank (step ∷ earlier) (may, next)) step
+
+-- from a world that is ready
 abbrev pub SessionsHaveRanks : Type 0
 SessionsHaveRanks =
-    (parties : Party × Party) (w : World) → IsReady parties w
-    → (rank : End → ℕ → ℕ)
-    × ((steps : List DrainStep) → RanksOn parties w (begins_at w) rank steps)
+    (parties : Party × Party) (w : World) → IsReady parties w → HasRanks parties w

@@ -6,6 +6,7 @@ ghost use Rattle.ltp_session.specs.World.{Event, World, run};
 ghost use Rattle.drain_laws.specs.Clean.{AreClean, AreCleanFrom, IsDrained, clean_event, passed};
 ghost use Rattle.drain_laws.specs.Completion.{CleanEventsAreFew, CleanRunsEnd};
 ghost use Rattle.drain_laws.specs.Completion.{CleanRunsComplete};
+ghost use Rattle.drain_laws.specs.Left.{DrainsWearOut};
 ghost use Rattle.drain_laws.specs.Ranks.{SessionsHaveRanks};
 
 /// One clean event more, where the events before it are clean.
@@ -37,16 +38,22 @@ pub fn clean_runs_end()
     ensures { CleanRunsEnd }
 {}
 
-/// There every session that was open at its sender has been noted as sent, and its red part handed
-/// up; no timer runs, and nobody gave a session up.
+/// There every session that was open at its sender was noted as sent, and its red part was handed up
+/// before or in the run. No sender is kept any more, no receiver is cancelling, and no timer runs.
 pub fn clean_runs_complete()
     ensures { CleanRunsComplete }
 {}
 
-/// Each session has a rank, from such a world on. It is no more than the session's cost; a delivery
-/// of what an end sent first lowers the rank of its session, and a clock that of each session of
-/// which a timer fires; no rank rises, whatever the ends submit besides; and a session of rank 0 is
-/// at rest.
+/// Every drain ends, hopeful or not: in each world that a run leads to a clean delivery leaves less to
+/// deliver than there was, and a clean clock is set to a later moment.
+pub fn drains_wear_out()
+    ensures { DrainsWearOut }
+{}
+
+/// Each session has a rank after any steps of a drain from such a world, whatever follows them. It is
+/// no more than the session's cost; a delivery of what an end sent first lowers the rank of its
+/// session, and a clock that of each session of which a timer fires; no rank rises, whatever the ends
+/// submit besides; and a session of rank 0 is at rest.
 pub fn sessions_have_ranks()
     ensures { SessionsHaveRanks }
 {}

@@ -133,7 +133,7 @@ pub stands-next : (most : ℕ) (text : List ℕ) (pass next : Pass) → Stands m
 stands-next most text pass next stands step more = stands more ∙ step more
 
 -- what is left is refused, and so is the bundle
-here : (most : ℕ) (text : List ℕ) (pass : Pass) → Stands most text pass
+pub here : (most : ℕ) (text : List ℕ) (pass : Pass) → Stands most text pass
     → read (judged_bundle most) text 0 ≡ read (left_of most text pass) text pass.at
 here most text pass stands =
     subst (λ t. read (judged_bundle most) t 0 ≡ read (left_of most text pass) t pass.at) (append-nil text) (stands [])
@@ -144,7 +144,7 @@ comes-refused most text pass e stands step = here most text pass stands ∙ step
 
 -- ---- judging
 
-ended : (most : ℕ) (text : List ℕ) (pass : Pass) → Stands most text pass → pass.stage ≡ stages.Ended
+pub ended : (most : ℕ) (text : List ℕ) (pass : Pass) → Stands most text pass → pass.stage ≡ stages.Ended
     → read (judged_bundle most) text 0 ≡ Ok (pass.seen, pass.at)
 ended most text pass stands is =
     here most text pass stands

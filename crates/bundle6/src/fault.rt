@@ -94,7 +94,7 @@ pub struct Refused6 {
 
 impl Refused6 {
     /// The same, with its place counted from so many octets before.
-    pub(crate) fn after(self, before: usize) -> Refused6
+    pub fn after(self, before: usize) -> Refused6
         requires { before + self.at < 2 ^ 64 }
         ensures { result ≡ refused (before + self.at) self.cause }
     {

@@ -210,7 +210,7 @@ pub stands-kept : (most : ℕ) (text : List ℕ) (old new : Pass) → new ≡ ol
 stands-kept most text old new same stands = subst (Stands most text) (sym same) stands
 
 -- what is left is refused, and so is the bundle
-here : (most : ℕ) (text : List ℕ) (pass : Pass) → Stands most text pass
+pub here : (most : ℕ) (text : List ℕ) (pass : Pass) → Stands most text pass
     → read (judged_bundle most) text 0 ≡ read (left_of most pass) text pass.at
 here most text pass stands =
     subst (λ t. read (judged_bundle most) t 0 ≡ read (left_of most pass) t pass.at) (append-nil text) (stands [])
@@ -221,7 +221,7 @@ comes-refused most text pass e stands fails = here most text pass stands ∙ fai
 
 -- ---- judging
 
-ended : (most : ℕ) (text : List ℕ) (pass : Pass) → Stands most text pass → pass.stage ≡ stages.Ended
+pub ended : (most : ℕ) (text : List ℕ) (pass : Pass) → Stands most text pass → pass.stage ≡ stages.Ended
     → read (judged_bundle most) text 0 ≡ Ok (tt, pass.at)
 ended most text pass stands is =
     here most text pass stands

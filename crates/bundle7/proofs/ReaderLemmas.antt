@@ -259,13 +259,13 @@ take-past (suc n) (x ∷ xs) ys h =
     let left : n - length xs ≡ suc n - length (x ∷ xs) = omega arith in
     ap (λ t. x ∷ t) rest ∙ ap (λ m. x ∷ (xs ++ take m ys)) left
 
-record PartOf (n : ℕ) (piece part : List ℕ) : Type 0 where
-  shorter : length part ≤ length piece
-  within : length part ≤ n
-  cut : length part < length piece → length part ≡ n
-  whole : length piece ≤ length part → part ≡ piece
+pub record PartOf (n : ℕ) (piece part : List ℕ) : Type 0 where
+  pub shorter : length part ≤ length piece
+  pub within : length part ≤ n
+  pub cut : length part < length piece → length part ≡ n
+  pub whole : length piece ≤ length part → part ≡ piece
 
-part-of : (n : ℕ) (piece part : List ℕ) → part ≡ take n piece → PartOf n piece part
+pub part-of : (n : ℕ) (piece part : List ℕ) → part ≡ take n piece → PartOf n piece part
 part-of n piece part is =
     elim (cases_lt (length piece) n) [
       | inl all ↦
@@ -289,7 +289,7 @@ part-of n piece part is =
 
 module _ (longest : ℕ) (old : Stream) (piece part : List ℕ) (cut : Bool) (small : length old.kept ≤ longest)
     (is : part ≡ near longest old piece) (cuts : cut ≡ ltb (length part) (length piece)) where
-  sizes : PartOf (longest - length old.kept) piece part
+  pub sizes : PartOf (longest - length old.kept) piece part
   sizes = part-of (longest - length old.kept) piece part is
 
   rest : List ℕ
@@ -331,7 +331,7 @@ module _ (longest : ℕ) (old : Stream) (piece part : List ℕ) (cut : Bool) (sm
       ∙ take-append-le (k - length old.kept) part rest (omega (arith, whole.within, late, long)) in
       subst (λ t. Spells7 b t) (take-past k old.kept part late ∙ ap (λ t. old.kept ++ t) (sym inside)) begins.spells
 
-  takes-size : (b : Bundle7) (k : ℕ) (new : Stream) → IsWhole (old.kept ++ part) b k → length old.kept ≤ k
+  pub takes-size : (b : Bundle7) (k : ℕ) (new : Stream) → IsWhole (old.kept ++ part) b k → length old.kept ≤ k
       → new ≡ stream (old.before + k) [] → TakesSize longest old piece (k - length old.kept) (Some k) new
   takes-size b k new whole late stands = (
     omega (arith, late),
@@ -339,10 +339,10 @@ module _ (longest : ℕ) (old : Stream) (piece part : List ℕ) (cut : Bool) (sm
   )
 
   -- all of the part is all of the piece, where no more may be cut off
-  all-of : cut ≡ false → part ≡ piece
+  pub all-of : cut ≡ false → part ≡ piece
   all-of last = sizes.whole (ltb-false (length part) (length piece) (sym cuts ∙ last))
 
-  takes-open : (new : Stream) → cut ≡ false → IsOpen (old.kept ++ part) → new ≡ stream old.before (old.kept ++ part)
+  pub takes-open : (new : Stream) → cut ≡ false → IsOpen (old.kept ++ part) → new ≡ stream old.before (old.kept ++ part)
       → Takes longest old piece (length part) None new
   takes-open new last begun stands =
       let same = all-of last in (
@@ -352,7 +352,7 @@ module _ (longest : ℕ) (old : Stream) (piece part : List ℕ) (cut : Bool) (sm
         stands ∙ ap (λ t. stream old.before (old.kept ++ t)) same,
       )
 
-  refuses : (at : ℕ) (cause : Cause7) (p : ℕ) → IsRefused (old.kept ++ part) cut p cause → at ≡ old.before + p
+  pub refuses : (at : ℕ) (cause : Cause7) (p : ℕ) → IsRefused (old.kept ++ part) cut p cause → at ≡ old.before + p
       → Refuses longest old piece at cause
   refuses at cause p (inl reads) spot =
       inl (record { place = p; reads = ap (λ t. read (bundle 64) (old.kept ++ t) 0) (sym is) ∙ reads; spot = spot })

@@ -126,7 +126,7 @@ pub struct Refused7 {
 
 impl Refused7 {
     /// The same, with its place counted from so many octets before.
-    pub(crate) fn after(self, before: usize) -> Refused7
+    pub fn after(self, before: usize) -> Refused7
         requires { before + self.at < 2 ^ 64 }
         ensures { result ≡ refusal_at (before + self.at) self.cause }
     {

@@ -31,7 +31,7 @@ skip : {X : Type 0} (l ys zs : List X) (v : X) → slice_get ys (length zs) ≡ 
 skip [] ys zs v is = is
 skip (x ∷ l) ys zs v is = skip l ys zs v is
 
-got-on : (face : Face) (sent : List SentFrom) (k : ℕ) (d : SentFrom) → slice_get sent k ≡ Some d → link_of d.from ≡ face
+pub got-on : (face : Face) (sent : List SentFrom) (k : ℕ) (d : SentFrom) → slice_get sent k ≡ Some d → link_of d.from ≡ face
     → slice_get (sent_on face sent) (length (sent_on face (take k sent))) ≡ Some (link_sent d)
 unfolding on_link
 got-on face [] k d is on = absurd (cc)

@@ -1,7 +1,7 @@
-mod ChunkLemmas
-mod StepLemmas
-mod RunLemmas
-mod LogLemmas
-mod LawLemmas
-mod OriginLemmas
-mod SendLemmas
+pub mod ChunkLemmas
+pub mod StepLemmas
+pub mod RunLemmas
+pub mod LogLemmas
+pub mod LawLemmas
+pub mod OriginLemmas
+pub mod SendLemmas

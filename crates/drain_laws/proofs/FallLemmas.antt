@@ -30,13 +30,13 @@ unfolding contents_burden
 contents-append [] ys = omega arith
 contents-append (x ∷ xs) ys = let rest = contents-append xs ys in omega (arith, rest)
 
-pieces-burden : (checkpoint : ℕ × List ℕ → PieceValue) (parts : List (ℕ × List ℕ)) → contents_burden (red_pieces checkpoint parts) ≡ 3 * length parts
+pub pieces-burden : (checkpoint : ℕ × List ℕ → PieceValue) (parts : List (ℕ × List ℕ)) → contents_burden (red_pieces checkpoint parts) ≡ 3 * length parts
 unfolding red_pieces contents_burden
 pieces-burden checkpoint [] = omega arith
 pieces-burden checkpoint (part ∷ []) = omega arith
 pieces-burden checkpoint (part ∷ next ∷ parts) = let rest = pieces-burden checkpoint (next ∷ parts) in omega (arith, rest)
 
-parts-few : (size n at : ℕ) (octets : List ℕ) → length (segments_from size n at octets) ≤ n
+pub parts-few : (size n at : ℕ) (octets : List ℕ) → length (segments_from size n at octets) ≤ n
 unfolding segments_from
 parts-few size zero at octets = omega arith
 parts-few size (suc n) at [] = omega arith

@@ -89,12 +89,12 @@ got-drop [] k x is = absurd (cc)
 got-drop (y ∷ xs) zero x is = answered (λ z. y ∷ xs ≡ z ∷ xs) y x is refl
 got-drop (y ∷ xs) (suc k) x is = got-drop xs k x is
 
-sent_burden-append : (xs ys : List Sent) → sent_burden (xs ++ ys) ≡ sent_burden xs + sent_burden ys
+pub sent_burden-append : (xs ys : List Sent) → sent_burden (xs ++ ys) ≡ sent_burden xs + sent_burden ys
 unfolding sent_burden
 sent_burden-append [] ys = omega arith
 sent_burden-append (x ∷ xs) ys = let rest = sent_burden-append xs ys in omega (arith, rest)
 
-sent_burden-by : (end : End) (name : SessionName) (cs : List ContentValue) → sent_burden (sent_by end (headed_all name cs)) ≡ contents_burden cs
+pub sent_burden-by : (end : End) (name : SessionName) (cs : List ContentValue) → sent_burden (sent_by end (headed_all name cs)) ≡ contents_burden cs
 unfolding sent_burden contents_burden
 sent_burden-by end name [] = refl
 sent_burden-by end name (c ∷ cs) = ap (λ n. burden c + n) (sent_burden-by end name cs)

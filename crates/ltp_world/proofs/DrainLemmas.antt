@@ -17,6 +17,8 @@ use Rattle.link_laws.proofs.ListLemmas.{all-append}
 use Rattle.drain_laws.specs.Effects.{effects_at, effects_in, deliver_effects, IsNoted, IsHandedUp}
 use Rattle.drain_laws.specs.Effects.{EndEffects as LinkEffects}
 use Rattle.drain_laws.specs.Hopeful.{cost}
+use Rattle.drain_laws.specs.Left.{link_left, sent_burden}
+use Rattle.drain_laws.proofs.LeftLemmas.{delivery-falls, runs-are-tame, deadline-ahead}
 use Rattle.drain_laws.specs.Completion.{IsReady, IsComplete}
 use Rattle.drain_laws.proofs.CompletionLemmas.{clean-completes, clean-few}
 use Rattle.drain_laws.specs.Clean.{link_deadline, clean_event, passed_after, AreClean, passed}
@@ -36,8 +38,7 @@ use Rattle.ltp_world.specs.Drain.{told_of, done_in, IsTold, TellsNote, TellsUp, 
 use Rattle.ltp_world.specs.Shows.{spelled, ShowsLink, ShowsRun, Stands, link_after}
 use Rattle.ltp_world.specs.Steps.{AreEffectsOf, Delivers, Ticks, ticks_of}
 use Rattle.ltp_world.specs.Values.{WorldValue, parties_of}
-use Rattle.ltp_world.specs.Work.{sent_burden, link_left, datagrams_burden, left_of}
-use Rattle.ltp_world.proofs.LeftLemmas.{delivery-falls, runs-are-tame, deadline-ahead}
+use Rattle.ltp_world.specs.Work.{datagrams_burden, left_of}
 use Rattle.ltp_world.proofs.WorldLemmas.{read-back}
 
 -- ---- events after events

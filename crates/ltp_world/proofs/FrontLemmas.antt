@@ -27,7 +27,7 @@ submissions-more parties w (e ∷ events) event =
     ap (λ rest. submissions_at parties w e ++ rest) (submissions-more parties (happens parties w e) events event)
     ∙ sym (append_assoc (submissions_at parties w e) (submissions parties (happens parties w e) events) (submissions_at parties (run parties (happens parties w e) events) event))
 
-all-right : {X : Type 0} (P : X → Type 0) (xs ys : List X) → AllByRecursion P (xs ++ ys) → AllByRecursion P ys
+pub all-right : {X : Type 0} (P : X → Type 0) (xs ys : List X) → AllByRecursion P (xs ++ ys) → AllByRecursion P ys
 all-right P [] ys all = all
 all-right P (x ∷ xs) ys all = all-right P xs ys all.1
 

@@ -1,6 +1,5 @@
 mod LinkLemmas
 mod FrontLemmas
-mod FallLemmas
-mod LeftLemmas
 mod WorldLemmas
 mod DrainLemmas
+mod DrainFrontLemmas

@@ -9,6 +9,7 @@ use Rattle.ltp_session.specs.Engine.{Party, Engine}
 use Rattle.ltp_session.specs.World.{first_end, second_end, other, at_end, with_end, Event, World, sent_by, happens, run, starts_world}
 use Rattle.ltp_session.specs.World.{End as LinkEnd}
 use Rattle.ltp_session.specs.World.{Sent as LinkSent}
+use Rattle.drain_laws.proofs.CleanSteps.{run-more}
 use Rattle.ltp_engine.specs.Shows.{Shows}
 use Rattle.ltp_world.specs.declared.sent.Sent.{Sent}
 use Rattle.ltp_world.specs.Ends.{named}
@@ -16,11 +17,6 @@ use Rattle.ltp_world.specs.Values.{WorldValue, parties_of, sent_from}
 use Rattle.ltp_world.specs.Shows.{spelled, ShowsLink, ShowsRun, link_after}
 
 -- ---- one more event
-
-pub run-more : (parties : Party × Party) (w : World) (events : List Event) (event : Event)
-    → run parties w (events ++ event ∷ []) ≡ happens parties (run parties w events) event
-run-more parties w [] event = refl
-run-more parties w (e ∷ events) event = run-more parties (happens parties w e) events event
 
 pub shows-more : (old new : WorldValue) (events : List Event) (event : Event) → ShowsRun old events → parties_of new ≡ parties_of old
     → ShowsLink new (happens (parties_of old) (link_after old events) event) → ShowsRun new (events ++ event ∷ [])

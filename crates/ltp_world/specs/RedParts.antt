@@ -1,12 +1,15 @@
 -- What a world hands up: fronts of the blocks that were submitted, each once.
 
-use Rattle.std.specs.Prelude.{◌≡◌, List, map}
-use Rattle.std.specs.List.{AllByRecursion}
+use Rattle.std.specs.Prelude.{◌≡◌, List, ◌++◌, map}
+use Rattle.std.specs.List.{AllByRecursion, flat_map}
 use Rattle.ltp_session.specs.World.{Event, starts_world}
-use Rattle.link_laws.specs.Log.{HandUp, IsFront, IsSame, Submission, hand_ups, hand_ups_at}
-use Rattle.link_laws.specs.Log.{submissions}
+use Rattle.link_laws.specs.Log.{AtMostOnce, HandUp, IsFront, IsSame, Submission, hand_ups}
+use Rattle.link_laws.specs.Log.{hand_ups_at, submissions}
 use Rattle.ltp_engine.specs.declared.effects.Up.{Up}
-use Rattle.ltp_world.specs.Shows.{link_after}
+use Rattle.ltp_world.specs.declared.effects.EndEffects.{EndEffects}
+use Rattle.ltp_world.specs.declared.ends.End.{End}
+use Rattle.ltp_world.specs.Ends.{named}
+use Rattle.ltp_world.specs.Shows.{ShowsRun, link_after}
 use Rattle.ltp_world.specs.Values.{WorldValue, parties_of}
 
 abbrev pub submitted_in : WorldValue → List Event → List Submission
@@ -31,3 +34,30 @@ pub record HandsUpFronts
   pub fronts :
       AllByRecursion (IsFrontOnce v events)
       (hand_ups_at (parties_of v) (link_after v events) event)
+
+-- ---- in a drain
+
+-- the red parts that ends tell of at some events, in order, each with its end
+abbrev pub ups_of : EndEffects → List (End × Up)
+ups_of told = map (λ up. (told.end, up)) told.effects.ups
+
+abbrev pub ups_in : List (List EndEffects) → List (End × Up)
+ups_in steps = flat_map (λ step. flat_map ups_of step) steps
+
+abbrev pub as_told : HandUp → End × Up
+as_told u = (named u.end, as_up u)
+
+-- the red parts that are told of at events after a run; each is the front of the block that the
+-- run submitted for its session, up to its red length; and no end handed two of one session up,
+-- before or since
+pub record HandsUpFrontsIn (v : WorldValue) (events : List Event) (steps : List (List EndEffects))
+    : Type 0 where
+  pub handed : List HandUp
+  pub told : ups_in steps ≡ map as_told handed
+  pub fronts : AllByRecursion (IsFront (parties_of v) (submitted_in v events)) handed
+  pub once : AtMostOnce (handed_up_in v events ++ handed)
+
+-- wherever the world stands
+abbrev pub DrainHandsUpFronts : WorldValue → List (List EndEffects) → Type 0
+DrainHandsUpFronts v steps =
+    (events : List Event) → ShowsRun v events → HandsUpFrontsIn v events steps

@@ -1,4 +1,4 @@
--- Why a datagram isn't delivered, and why a drain doesn't end.
+-- Why a datagram isn't delivered, and why a drain stops before its end.
 
 use Rattle.std.specs.Prelude.{ℕ, List, codes}
 use Rattle.ltp_world.specs.declared.refused.DeliverRefused.{DeliverRefused}

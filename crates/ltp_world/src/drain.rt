@@ -6,6 +6,7 @@ ghost use Rattle.ltp_session.specs.Engine.{earlier};
 ghost use Rattle.ltp_world.specs.Shows.{AreBounded};
 ghost use Rattle.ltp_world.specs.Drain.{Drains, Completes};
 ghost use Rattle.ltp_world.specs.Clean.{LeadsOn, deadline_in};
+ghost use Rattle.ltp_world.specs.RedParts.{DrainHandsUpFronts};
 ghost use Rattle.ltp_world.specs.Work.{left_of};
 
 use crate::effects::{Drained, WorldEffects, WorldSteps};
@@ -26,6 +27,8 @@ impl LinkWorld {
     pub fn drain(&mut self) -> Result<Drained, DrainRefused>
         requires whole { self.old.spent ≡ false }
         ensures does { Drains self.old self.new result }
+        // What is handed up is the front of a submitted block, once.
+        ensures fronts { IfOk result (λ drained. DrainHandsUpFronts self.old drained.effects) }
         // A hopeful world that has room completes its sessions.
         ensures completes { IfOk result (Completes self.old) }
         // Both engines keep their bounds, unless memory runs out.

@@ -12,14 +12,10 @@
 #![tactic(auto)]
 
 mod drain;
-#[cfg(test)]
-mod drain_tests;
 mod effects;
 mod ends;
 mod refused;
 mod sent;
-#[cfg(test)]
-mod tests;
 mod world;
 
 pub use effects::{Drained, EndEffects, WorldEffects, WorldSteps};

@@ -1,4 +1,4 @@
-//! Why a datagram isn't delivered, and why a drain doesn't end.
+//! Why a datagram isn't delivered, and why a drain stops before its end.
 
 ghost use Rattle.std.specs.Prelude.{◌≡◌};
 ghost use Rattle.ltp_world.specs.Refused.{deliver_word, drain_word};
@@ -39,7 +39,7 @@ impl From<AllocError> for DeliverRefused {
     }
 }
 
-/// Why a drain doesn't come to its end.
+/// Why a drain stops before its end.
 #[derive(Clone, Copy, Debug, PartialEq, Eq, Error)]
 pub enum DrainRefused {
     /// The clock would be set to 2^62 or a later moment.

@@ -1,6 +1,7 @@
 use Rattle.std.proofs.Common.{◌≡◌, [], length, Some, None, sym, arith, subst, rules}
 use Rattle.ltp_world.specs.Clean.{LeadsOn, deadline_in}
 use Rattle.ltp_world.proofs.DrainLemmas.{advance-none, advance-more, drain-done, drain-late, drain-completes}
+use Rattle.ltp_world.proofs.DrainFrontLemmas.{drain-fronts}
 use Rattle.ltp_world.proofs.world.LinkWorld.drain.Goals as goal
 
 pub ticking-init : goal.ticking-init
@@ -37,3 +38,6 @@ returns-clause-does c =
 
 pub returns-clause-completes : goal.returns-clause-completes
 returns-clause-completes c = drain-completes c.args.self.now c.deliver_from.new.self (record { events = c.len-events.result; effects = c.from_vec-effects.result }) (returns-clause-does c)
+
+pub returns-clause-fronts : goal.returns-clause-fronts
+returns-clause-fronts c = drain-fronts c.args.self.now c.deliver_from.new.self (record { events = c.len-events.result; effects = c.from_vec-effects.result }) (returns-clause-does c)

@@ -1,0 +1,17 @@
+pub mod WayLemmas
+pub mod CountSteps
+pub mod Arrivals
+pub mod ArrivalSums
+pub mod TickSums
+pub mod SubmitSteps
+pub mod RoomBack
+pub mod RoomNotes
+pub mod PieceCounts
+pub mod CaseNotes
+pub mod RunFacts
+pub mod RoomOwed
+pub mod GateSteps
+pub mod PathSteps
+pub mod PathNotes
+pub mod RoomLaws
+pub mod ExampleLemmas

@@ -1,0 +1,18 @@
+-- The laws of room on a path, all together.
+
+use Rattle.path_room.proofs.CaseNotes.{path-notes}
+use Rattle.path_room.proofs.RoomLaws.{room-kept}
+use Rattle.path_room.proofs.RoomOwed.{room-starts}
+use Rattle.path_room.proofs.RunFacts.{nodes-red}
+use Rattle.path_drain_laws.specs.Completion.{PathEventsAreFew, PathRunsComplete}
+use Rattle.path_drain_laws.proofs.CompletionLemmas.{RoomLaws, path-completes, path-few}
+
+room-laws : RoomLaws
+room-laws =
+    record { starts = room-starts; reds = nodes-red; kept = room-kept; cases = path-notes }
+
+pub events-few : PathEventsAreFew
+events-few = path-few room-laws
+
+pub runs-complete : PathRunsComplete
+runs-complete = path-completes room-laws

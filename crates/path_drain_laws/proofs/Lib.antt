@@ -1,0 +1,12 @@
+pub mod AdvanceLemmas
+pub mod LinkMoves
+pub mod SubmitMoves
+pub mod PathLists
+pub mod CleanLemmas
+pub mod ShownLemmas
+pub mod PathSteps
+pub mod PathRuns
+pub mod WholeLemmas
+pub mod CompletionLemmas
+pub mod LawLemmas
+pub mod ExampleLemmas

@@ -1,0 +1,7 @@
+-- clean events, and what is noted and handed up in them
+pub mod Clean
+pub mod Effects
+-- when a drain completes, and what it costs
+pub mod Hopeful
+-- what it promises
+pub mod Completion

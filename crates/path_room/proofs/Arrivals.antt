@@ -1,7 +1,8 @@
 -- What the oldest new segment of an end does to the engine that it comes to, in a drain.
 
 use Rattle.std.proofs.Common.{◌≡◌, ℕ, zero, suc, ◌+◌, ◌<◌, ◌≤◌, Bool, true, false, not, ◌==◌}
-use Rattle.std.proofs.Common.{◌&&◌, ◌||◌, is_some, List, [], ◌∷◌, ◌++◌, length, take, get_or, Option, None, Some}
+use Rattle.std.proofs.Common.{◌&&◌, ◌||◌, is_some, List, [], ◌∷◌, ◌++◌, length, take, get_or}
+use Rattle.std.proofs.Common.{Option, None, Some}
 use Rattle.std.proofs.Common.{◌⊎◌, inl, inr, refl, sym, ◌∙◌, ap, arith, subst, nat_lt, nat_le}
 use Rattle.std.proofs.Common.{if◌then◌else◌}
 use Rattle.std.specs.Option.{option_map}
@@ -35,7 +36,8 @@ use Rattle.ltp_session.specs.World.{replies, second_end, with_end}
 use Rattle.link_laws.specs.Blocks.{BlockFacts, IfKnown, IsAt, IsReceiverOf, IsSenderOf}
 use Rattle.link_laws.specs.Facts.{SessionFacts}
 use Rattle.link_laws.specs.Kept.{IfKeeps, IfKept, KeepsOrEnds}
-use Rattle.link_laws.specs.Steps.{HandsUp, ReceiverStep, again, fills, idle, over, reports_on, turns}
+use Rattle.link_laws.specs.Steps.{HandsUp, ReceiverStep, again, fills, idle, over, reports_on}
+use Rattle.link_laws.specs.Steps.{turns}
 use Rattle.link_laws.specs.View.{IsIn, View, closed_after, said, session_of, view_by}
 use Rattle.link_laws.proofs.CellLemmas.{all_octets-cell, all_octets-length}
 use Rattle.link_laws.proofs.FrameLemmas.{AreTwo, closed-with_receiver}

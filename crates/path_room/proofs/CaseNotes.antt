@@ -32,7 +32,8 @@ use Rattle.path_laws.specs.Path.{Path, PathSetup, SentFrom, all_tick}
 use Rattle.path_laws.specs.Path.{clock_shows, comes_to, delivers, gate_effects, gate_note, gate_up}
 use Rattle.path_laws.specs.Path.{delivers_if, nothing_done, path_step, sends}
 use Rattle.path_laws.specs.Path.{sends_block, sent_unless, then_does, up_from}
-use Rattle.path_laws.specs.Places.{Stand, across, at_gate, at_node, face_place, node_place, stand_of}
+use Rattle.path_laws.specs.Places.{Stand, across, at_gate, at_node, face_place, node_place}
+use Rattle.path_laws.specs.Places.{stand_of}
 use Rattle.path_laws.proofs.ChunkLemmas.{sends-no-up}
 use Rattle.path_laws.proofs.LogLemmas.{made-in}
 use Rattle.path_room.specs.Pieces.{CasesAreNoted, IsCaseNoted, IsCaseNotedAt, PathNotesCases}
@@ -111,7 +112,8 @@ noted-before s now first next up noted =
     record { room = noted.room; among = in-left _ first next noted.among }
 
 all-noted : (s : GateSetup) (face : Face) (now : ℕ) (ups : List UpValue) (g : Gate) (up : UpValue)
-    → IsIn up ups → IsCaseNoted s now (in_turn (passes_at s face now) ups g).effects.notes (up_at face up)
+    → IsIn up ups
+    → IsCaseNoted s now (in_turn (passes_at s face now) ups g).effects.notes (up_at face up)
 unfolding in_turn and_then
 all-noted s face now [] g up among = absurd among
 all-noted s face now (x ∷ ups) g up (inl same) =

@@ -111,15 +111,20 @@ pieces-few face block now cut room =
         → length (judged face block now cut room).pieces ≤ piece_count face cut block
     by cases.Passed is counted = omega (arith, counted.passed is)
     by (cases.BadBundle at cause) is counted =
-        few (judged face block now cut room).pieces (counted.stopped (λ h. let i = sym is ∙ h in cc))
+        few (judged face block now cut room).pieces
+        (counted.stopped (λ h. let i = sym is ∙ h in cc))
     by (cases.Untranslated cause) is counted =
-        few (judged face block now cut room).pieces (counted.stopped (λ h. let i = sym is ∙ h in cc))
+        few (judged face block now cut room).pieces
+        (counted.stopped (λ h. let i = sym is ∙ h in cc))
     by cases.Expired is counted =
-        few (judged face block now cut room).pieces (counted.stopped (λ h. let i = sym is ∙ h in cc))
+        few (judged face block now cut room).pieces
+        (counted.stopped (λ h. let i = sym is ∙ h in cc))
     by cases.HopLimit is counted =
-        few (judged face block now cut room).pieces (counted.stopped (λ h. let i = sym is ∙ h in cc))
+        few (judged face block now cut room).pieces
+        (counted.stopped (λ h. let i = sym is ∙ h in cc))
     by cases.Storage is counted =
-        few (judged face block now cut room).pieces (counted.stopped (λ h. let i = sym is ∙ h in cc))
+        few (judged face block now cut room).pieces
+        (counted.stopped (λ h. let i = sym is ∙ h in cc))
 
 -- ---- want of storage
 
@@ -148,10 +153,13 @@ last-is false false false false refused is = absurd (cc)
 
 short-where : (room : Room) (pieces : List (List ℕ)) (k : ℕ) → length pieces ≡ k
     → room.sending + k ≤ SENDING_MAX → room.next_session + k ≤ NUMBERS
-    → is_short room pieces ≡ true → list_any (λ piece. nat_lt BLOCK_MAX (length piece)) pieces ≡ true
+    → is_short room pieces ≡ true
+    → list_any (λ piece. nat_lt BLOCK_MAX (length piece)) pieces ≡ true
 short-where room pieces k size sending numbers is =
-    let first : nat_lt SENDING_MAX (room.sending + length pieces) ≡ false = below (omega (arith, size, sending)) in
-    let last : nat_lt NUMBERS (room.next_session + length pieces) ≡ false = below (omega (arith, size, numbers)) in
+    let first : nat_lt SENDING_MAX (room.sending + length pieces) ≡ false =
+    below (omega (arith, size, sending)) in
+    let last : nat_lt NUMBERS (room.next_session + length pieces) ≡ false =
+    below (omega (arith, size, numbers)) in
     by first last is
   where
     below : {most n : ℕ} → n ≤ most → nat_lt most n ≡ false

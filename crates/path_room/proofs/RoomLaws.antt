@@ -1,6 +1,6 @@
 -- Each event of a path that drains leaves room.
 
-use Rattle.std.proofs.Common.{◌≡◌, ℕ, Bool, true, false, List, [], ◌∷◌, ◌++◌, map}
+use Rattle.std.proofs.Common.{arith, ◌≡◌, ℕ, Bool, true, false, List, [], ◌∷◌, ◌++◌, map}
 use Rattle.std.proofs.Common.{Option, Some, Ok, sym, ◌∙◌}
 use Rattle.std.proofs.Common.{subst, nat_lt, if◌then◌else◌}
 use Rattle.std.specs.List.{AllByRecursion, slice_get}
@@ -33,7 +33,7 @@ use Rattle.path_room.specs.Owing.{RoomOwing, none_owed}
 use Rattle.path_room.specs.RoomKept.{RoomIsKept}
 use Rattle.path_room.proofs.CaseNotes.{make-in}
 use Rattle.path_room.proofs.PathNotes.{PlaceFine, both-fine, engine-fine, gate-fine, node-fine}
-use Rattle.path_room.proofs.PathNotes.{none-for_room, storage-long, ups-fine}
+use Rattle.path_room.proofs.PathNotes.{none-for_room, storage-long, unreported-late, ups-fine}
 use Rattle.path_room.proofs.PathSteps.{arrives-room, clock-reds, clock-room, gate_end, gate-form}
 use Rattle.path_room.proofs.PathSteps.{heard-room, heard_path, node_end, node-form, node-reds}
 use Rattle.path_room.proofs.PathSteps.{node-room}
@@ -70,25 +70,26 @@ through-event s w event room face =
     (room-on_link s (path_step s w event).path none_owed room face))
 
 -- what a step leaves: room, and notes that are right
-record StepLeaves (s : PathSetup) (step : PathStep) : Type 0 where
+record StepLeaves (s : PathSetup) (now : ℕ) (step : PathStep) : Type 0 where
   kept : IsRoomyPath s step.path
-  noted : AllByRecursion (PlaceFine s step.effects.ups) step.effects.notes
+  noted : AllByRecursion (PlaceFine s step.effects.ups now step.path.gate.counter)
+      step.effects.notes
 
 -- ---- a segment that comes to a place
 
 gate-leaves : (s : PathSetup) (w : Path) (new : Face → List Sent) (rank : Face → End → ℕ → ℕ)
     (at : Face) (o : Oldest) → PathStands s w new rank → IsRoomyPath s w
     → oldest (node_end at) (new at) ≡ Some o
-    → StepLeaves s (comes_to s w (at_gate at) (o.first).segment)
+    → StepLeaves s w.now (comes_to s w (at_gate at) (o.first).segment)
 unfolding arrives_at and_then
 gate-leaves s w new rank at o stands roomy is = record {
   kept = record { room = arrives-room s w new rank at o stands roomy is; reds = roomy.reds };
-  noted = gate-fine s at ups _ within _ (both-fine s at ups _ _
-      (engine-fine s at ups at _ (arrival-notes (at_face s.gate.parties at)
+  noted = gate-fine s at ups _ w.now _ within _ (both-fine s at ups w.now _ _ _
+      (engine-fine s at ups w.now _ at _ (arrival-notes (at_face s.gate.parties at)
       (at_face w.gate.engines at) _ (o.first).segment w.now
       (gate-form s w new rank at o stands roomy.room is)))
-      (ups-fine s (heard_path s w at (o.first).segment) at ups ups (λ up among. among)
-      (heard-room s w new rank at o stands roomy is)));
+      (ups-fine s (heard_path s w at (o.first).segment) at ups _ ups (λ up among. among)
+      (heard-room s w new rank at o stands roomy is) (omega arith)));
 }
   where
     ups : List UpValue
@@ -108,13 +109,13 @@ gate-leaves s w new rank at o stands roomy is = record {
 node-leaves : (s : PathSetup) (w : Path) (new : Face → List Sent) (rank : Face → End → ℕ → ℕ)
     (at : Face) (o : Oldest) → PathStands s w new rank → IsRoomyPath s w
     → oldest (gate_end at) (new at) ≡ Some o
-    → StepLeaves s (comes_to s w (at_node (end_of at)) (o.first).segment)
+    → StepLeaves s w.now (comes_to s w (at_node (end_of at)) (o.first).segment)
 node-leaves s w new rank at o stands roomy is = record {
   kept = record {
     room = node-room s w new rank at o stands roomy.room is;
     reds = node-reds s w new rank at o stands roomy is;
   };
-  noted = node-fine s _ (node_place (end_of at)) _
+  noted = node-fine s _ w.now _ (node_place (end_of at)) _
       (arrival-notes (at_path_end s.nodes (end_of at)) (at_path_end w.nodes (end_of at)) _
       (o.first).segment w.now (node-form s w new rank at o stands roomy.room is));
 }
@@ -122,7 +123,7 @@ node-leaves s w new rank at o stands roomy is = record {
 come-leaves : (s : PathSetup) (w : Path) (new : Face → List Sent) (rank : Face → End → ℕ → ℕ)
     (from : Place) (o : Oldest) → PathStands s w new rank → IsRoomyPath s w
     → oldest (link_end_of from) (new (link_of from)) ≡ Some o
-    → StepLeaves s (comes_to s w (stand_of (across from)) (o.first).segment)
+    → StepLeaves s w.now (comes_to s w (stand_of (across from)) (o.first).segment)
 come-leaves s w new rank places.OldNode o stands roomy is =
     gate-leaves s w new rank faces.Old o stands roomy is
 come-leaves s w new rank places.OldFace o stands roomy is =
@@ -135,38 +136,41 @@ come-leaves s w new rank places.NewNode o stands roomy is =
 -- ---- events
 
 -- the notes of a clock
-clock-noted : (s : PathSetup) (w : Path) (now : ℕ)
-    → AllByRecursion (PlaceFine s (all_tick s now w).effects.ups) (all_tick s now w).effects.notes
+clock-noted : (s : PathSetup) (w : Path) (now before : ℕ)
+    → AllByRecursion (PlaceFine s (all_tick s now w).effects.ups before
+    (all_tick s now w).path.gate.counter) (all_tick s now w).effects.notes
 unfolding then_does ticks_gate and_then
-clock-noted s w now =
-    all-append (PlaceFine s _) _ _
-    (node-fine s _ places.OldNode _ (tick-notes_room s.nodes.0 w.nodes.0 now))
-    (all-append (PlaceFine s _) _ _
-    (gate-fine s faces.Old [] _ (λ up among. absurd among) _ (both-fine s faces.Old [] _ _
-    (engine-fine s faces.Old [] faces.Old _
+clock-noted s w now before =
+    all-append (PlaceFine s _ before w.gate.counter) _ _
+    (node-fine s _ before _ places.OldNode _ (tick-notes_room s.nodes.0 w.nodes.0 now))
+    (all-append (PlaceFine s _ before w.gate.counter) _ _
+    (gate-fine s faces.Old [] _ before _ (λ up among. absurd among) _
+    (both-fine s faces.Old [] before w.gate.counter _ _
+    (engine-fine s faces.Old [] before w.gate.counter faces.Old _
     (tick-notes_room s.gate.parties.0 w.gate.engines.0 now))
-    (engine-fine s faces.Old [] faces.New _
+    (engine-fine s faces.Old [] before w.gate.counter faces.New _
     (tick-notes_room s.gate.parties.1 w.gate.engines.1 now))))
-    (node-fine s _ places.NewNode _ (tick-notes_room s.nodes.1 w.nodes.1 now)))
+    (node-fine s _ before _ places.NewNode _ (tick-notes_room s.nodes.1 w.nodes.1 now)))
 
 event-leaves : (s : PathSetup) (w : Path) (new : Face → List Sent) (rank : Face → End → ℕ → ℕ)
     (event : PathEvent) → PathStands s w new rank → IsRoomyPath s w
-    → MayFollow w new event → StepLeaves s (path_step s w event)
+    → MayFollow w new event → StepLeaves s w.now (path_step s w event)
 unfolding path_step
 event-leaves s w new rank (sends end block) stands roomy may = absurd may
 event-leaves s w new rank (delivers k) stands roomy (d, o, got, is, same) =
     by (slice_get w.sent k) got
   where
-    leaves : StepLeaves s (comes_to s w (stand_of (across d.from)) d.segment)
-    leaves = subst (λ (x : Sent). StepLeaves s (comes_to s w (stand_of (across d.from)) x.segment)) same
+    leaves : StepLeaves s w.now (comes_to s w (stand_of (across d.from)) d.segment)
+    leaves = subst (λ (x : Sent). StepLeaves s w.now
+        (comes_to s w (stand_of (across d.from)) x.segment)) same
         (come-leaves s w new rank d.from o stands roomy is)
 
-    by : (x : Option SentFrom) → x ≡ Some d → StepLeaves s (delivers_if s w x)
-    by x is_d = subst (λ x. StepLeaves s (delivers_if s w x)) (sym is_d)
+    by : (x : Option SentFrom) → x ≡ Some d → StepLeaves s w.now (delivers_if s w x)
+    by x is_d = subst (λ x. StepLeaves s w.now (delivers_if s w x)) (sym is_d)
         (record { kept = leaves.kept; noted = leaves.noted })
 event-leaves s w new rank (clock_shows now) stands roomy none = by (nat_lt now w.now)
   where
-    by : (t : Bool) → StepLeaves s (if t then record { path = w; effects = nothing_done }
+    by : (t : Bool) → StepLeaves s w.now (if t then record { path = w; effects = nothing_done }
         else all_tick s now w)
     by true = record { kept = roomy; noted = tt }
     by false = record {
@@ -174,7 +178,7 @@ event-leaves s w new rank (clock_shows now) stands roomy none = by (nat_lt now w
         room = clock-room s w new rank now stands roomy.room none;
         reds = clock-reds s w new rank now stands roomy.reds;
       };
-      noted = clock-noted s w now;
+      noted = clock-noted s w now w.now;
     }
 
 pub room-kept : RoomIsKept
@@ -182,6 +186,7 @@ room-kept s w new rank event stands roomy may =
     let leaves = event-leaves s w new rank event stands roomy may in record {
       kept = leaves.kept;
       through = through-event s w event (leaves.kept).room;
-      noted = none-for_room s _ _ leaves.noted;
-      storage = storage-long s _ _ leaves.noted;
+      noted = none-for_room s _ w.now _ _ leaves.noted;
+      storage = storage-long s _ w.now _ _ leaves.noted;
+      unreported = unreported-late s _ w.now _ _ leaves.noted;
     }

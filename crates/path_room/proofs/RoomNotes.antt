@@ -16,7 +16,8 @@ use Rattle.ltp_session.specs.Engine.{tick_remarks, tick_step}
 use Rattle.ltp_session.specs.Receiver.{Receiving, receiver_tick}
 use Rattle.ltp_session.specs.Sender.{Sending, SendingPhase, begin, sender_cancelling, sender_due}
 use Rattle.ltp_session.specs.Sender.{sender_open, sender_tick, sending_timer}
-use Rattle.ltp_session.specs.Step.{NoteValue, StepValue, note_bad_bounds, note_cancelled, note_closed}
+use Rattle.ltp_session.specs.Step.{NoteValue, StepValue, note_bad_bounds, note_cancelled}
+use Rattle.ltp_session.specs.Step.{note_closed}
 use Rattle.ltp_session.specs.Step.{note_failed, note_history_full, note_refused, note_sent}
 use Rattle.ltp_session.specs.Timer.{is_due, may_repeat}
 use Rattle.ltp_session.specs.Views.{note_of}

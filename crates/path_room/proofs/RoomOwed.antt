@@ -67,12 +67,12 @@ pub room-step : (s : PathSetup) (w w' : Path) (owed owed' : Face → ℕ)
     → ((face : Face) → (gate_at w' face).next ≤ (gate_at w face).next)
     → RoomOwing s w owed → RoomOwing s w' owed'
 room-step s w w' owed owed' nodes faces most next room = record {
-  nodes = λ face. room-left 0 0 (will_begin s w face + owed face) (will_begin s w' face + owed' face)
-      (node_at w face) (gate_at w face) (node_at w' face) (gate_at w' face) (nodes face)
-      (omega arith) (most face) (room.nodes face);
-  faces = λ face. room-left (will_begin s w face + owed face) (will_begin s w' face + owed' face) 0 0
-      (gate_at w face) (node_at w face) (gate_at w' face) (node_at w' face) (faces face)
-      (most face) (omega arith) (room.faces face);
+  nodes = λ face. room-left 0 0 (will_begin s w face + owed face)
+      (will_begin s w' face + owed' face) (node_at w face) (gate_at w face) (node_at w' face)
+      (gate_at w' face) (nodes face) (omega arith) (most face) (room.nodes face);
+  faces = λ face. room-left (will_begin s w face + owed face)
+      (will_begin s w' face + owed' face) 0 0 (gate_at w face) (node_at w face) (gate_at w' face)
+      (node_at w' face) (faces face) (most face) (omega arith) (room.faces face);
   numbers = λ face. omega (arith, room.numbers face, most face, next face);
 }
 

@@ -48,15 +48,16 @@ tick-same_block : (policy : PolicyValue) (now : ℕ) (s : Sending)
     → SameBlock s (sender_tick policy s now).next
 unfolding sender_tick
 tick-same_block policy now s =
-    both_arms (λ (t : StepValue Sending). SameBlock s t.next) (is_due (sending_timer s.phase) now) _ _ (by_phase s.phase)
-    tt
+    both_arms (λ (t : StepValue Sending). SameBlock s t.next) (is_due (sending_timer s.phase) now)
+    _ _ (by_phase s.phase) tt
   where
     by_phase : (phase : SendingPhase) → SameBlock s (sender_due policy s phase now).next
     by_phase (sender_open c timer) =
-        both_arms (λ (t : StepValue Sending). SameBlock s t.next) (may_repeat policy timer) _ _ (refl, refl)
-        (refl, refl)
+        both_arms (λ (t : StepValue Sending). SameBlock s t.next) (may_repeat policy timer) _ _
+        (refl, refl) (refl, refl)
     by_phase (sender_cancelling reason timer) =
-        both_arms (λ (t : StepValue Sending). SameBlock s t.next) (may_repeat policy timer) _ _ (refl, refl) tt
+        both_arms (λ (t : StepValue Sending). SameBlock s t.next) (may_repeat policy timer) _ _
+        (refl, refl) tt
 
 -- ---- a receiver that has handed its red part up
 

@@ -47,7 +47,8 @@ pub way-less : (count : List ℕ → ℕ) (rs rs' : List (ℕ × Receiving)) (n 
 unfolding sum_on_way find
 way-less count rs rs' n s [] most was now kept = absurd (cc)
 way-less count rs rs' n s (e ∷ es) most was now kept =
-    by_test (e.0 == n) refl (way-less count rs rs' n s es (λ entry among. most entry (inr among)) was now)
+    by_test (e.0 == n) refl
+    (way-less count rs rs' n s es (λ entry among. most entry (inr among)) was now)
     (way-most count rs rs' es (λ entry among. most entry (inr among))) kept
   where
     by_test : (same : Bool) → (e.0 == n) ≡ same
@@ -136,7 +137,8 @@ SameBlock s stays = Unit {0}
 SameBlock s (keeps s') = (s'.block ≡ s.block) × (s'.red ≡ s.red)
 SameBlock s ends = Unit {0}
 
-pub way-ticked : (count : List ℕ → ℕ) (rs : List (ℕ × Receiving)) (change : Sending → Change Sending)
+pub way-ticked : (count : List ℕ → ℕ) (rs : List (ℕ × Receiving))
+    (change : Sending → Change Sending)
     (es : List (ℕ × Sending)) → ((s : Sending) → SameBlock s (change s))
     → sum_on_way count rs (ticked change es) ≤ sum_on_way count rs es
 unfolding sum_on_way ticked

@@ -71,7 +71,8 @@ pub record IsCaseNoted (s : GateSetup) (now : ℕ) (noted : List FaceNote) (up :
     pub room : Room
     pub among :
         IsIn
-        (note_at up.face (case_note up.session (length (judged up.face up.body now s.cut room).pieces)
+        (note_at up.face
+        (case_note up.session (length (judged up.face up.body now s.cut room).pieces)
         (judged up.face up.body now s.cut room).case)) noted
 
 -- whatever comes to a face, each block that is handed up has its case noted with it

@@ -1,7 +1,7 @@
 -- Room is kept while a path drains: after each event there is room for what is still on its way,
 -- and within a step of the gate for each session that it begins.
 
-use Rattle.std.specs.Prelude.{◌≡◌, ℕ, List, [], ◌∷◌, length, Some, slice_get}
+use Rattle.std.specs.Prelude.{◌≡◌, ℕ, ◌^◌, ◌<◌, ◌≤◌, List, [], ◌∷◌, length, Some, slice_get, ◌⊎◌}
 use Rattle.ltp_segment.specs.declared.session.Note.TheVariants as notes
 use Rattle.ltp_session.specs.Engine.{Engine, Party}
 use Rattle.ltp_session.specs.Sender.{Sending}
@@ -49,8 +49,8 @@ pub record PathStands (s : PathSetup) (w : Path) (new : Face → List Sent)
       → DrainHolds SessionFacts (link_parties s face)
       (record { world = link_at face w; new = new face }) (rank face)
 
--- a segment comes that is the oldest new one of its place; or the clock is set, where nothing is new
--- on either link
+-- a segment comes that is the oldest new one of its place; or the clock is set, where nothing is
+-- new on either link
 abbrev pub MayFollow : Path → (Face → List Sent) → PathEvent → Type 0
 MayFollow w new (sends end block) = ⊥
 MayFollow w new (delivers k) =
@@ -80,6 +80,11 @@ pub record IsOfLength (s : PathSetup) (ups : List UpAt) (face : Face) (n : ℕ) 
   pub session : up.session ≡ n
   pub long : HasLongPiece face up.body s.gate.cut
 
+-- at a moment, and once so many reports were made, no report can be made: the clock shows less
+-- than a second, or the numbers of reports are spent
+abbrev pub HasNoReports : ℕ → ℕ → Type 0
+HasNoReports now made = (now < 1000) ⊎ (2 ^ 32 ≤ made)
+
 pub record RoomAfter (s : PathSetup) (w : Path) (event : PathEvent) : Type 0 where
   pub kept : IsRoomyPath s (path_step s w event).path
   -- on each link, after each block that the gate submits there
@@ -94,6 +99,11 @@ pub record RoomAfter (s : PathSetup) (w : Path) (event : PathEvent) : Type 0 whe
       → IsIn (record { place = face_place face; note = gate_notes.Storage n })
       (path_step s w event).effects.notes
       → IsOfLength s (path_step s w event).effects.ups face n
+  pub unreported :
+      (face : Face) (n : ℕ)
+      → IsIn (record { place = face_place face; note = gate_notes.Unreported n })
+      (path_step s w event).effects.notes
+      → HasNoReports w.now (path_step s w event).path.gate.counter
 
 -- a drain keeps room, from event to event
 abbrev pub RoomIsKept : Type 0

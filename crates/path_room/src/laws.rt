@@ -55,7 +55,9 @@ pub fn submits_are_owed()
 
 /// In a drain each event leaves room for all that is still on its way. Each link has room after
 /// each block that the gate submits; no session is closed to make room, and none finds the record
-/// of closed numbers full; and storage is short only for a piece that is too long.
+/// of closed numbers full; storage is short only for a piece that is too long; and a report that
+/// is asked for isn't made only while the clock shows less than a second, or once its numbers are
+/// spent.
 pub fn room_is_kept()
     ensures { RoomIsKept }
 {}

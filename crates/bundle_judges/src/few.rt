@@ -1,0 +1,64 @@
+//! The first octets of a field that is under way.
+
+ghost use Rattle.std.specs.Prelude.{◌≡◌, ◌<◌, ◌++◌, ◌∷◌, [], length};
+
+use std::marker::Model;
+
+/// At most so many octets. They ask for no memory.
+#[derive(Drop)]
+pub(crate) struct Few {
+    items: [u8; 32],
+    count: usize,
+}
+
+impl Model for Few {
+    ghost use Rattle.std.specs.Prelude.{◌≤◌, ℕ, List, take};
+
+    ghost Value = { List ℕ };
+
+    ghost view = { λ few. take few.count few.items };
+
+    ghost invariant = { λ few. few.count ≤ 32 };
+}
+
+impl Few {
+    /// No octets yet.
+    pub(crate) fn none() -> Few
+        ensures { result ≡ [] }
+    {
+        Few {
+            items: [0; 32],
+            count: 0,
+        }
+    }
+
+    /// Forgets all.
+    pub(crate) fn clear(&mut self)
+        ensures { self.new ≡ [] }
+    {
+        self.count = 0;
+    }
+
+    /// How many there are.
+    pub(crate) fn len(&self) -> usize
+        ensures { result ≡ length self.now }
+    {
+        self.count
+    }
+
+    /// The octets, lent.
+    pub(crate) fn as_slice(&self) -> &[u8]
+        ensures { result.now ≡ self.now }
+    {
+        &self.items[..self.count]
+    }
+
+    /// One more.
+    pub(crate) fn push(&mut self, octet: u8)
+        requires { length self.old < 32 }
+        ensures { self.new ≡ self.old ++ octet ∷ [] }
+    {
+        self.items[self.count] = octet;
+        self.count += 1;
+    }
+}

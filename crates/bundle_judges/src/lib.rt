@@ -1,0 +1,16 @@
+//! Judging streams of bundles, without the octets of the bundle that is under way.
+//!
+//! [`Judge6`] tells of a stream of version 6 what [`bundle6::Reader6::judge`] tells, piece by piece: the
+//! end of each bundle, and the refusal at its place. It keeps only what later octets can need: the
+//! primary block, whose dictionary the references are looked up in; the first octets of the field that
+//! is under way, of which there are fewer than 32; and how many octets of a body are still to come. So
+//! what it keeps of a bundle grows with its dictionary, and with nothing else.
+#![tactic(auto)]
+
+mod few;
+mod judge6;
+mod stand6;
+#[cfg(test)]
+mod tests;
+
+pub use judge6::Judge6;

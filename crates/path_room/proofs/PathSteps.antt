@@ -17,10 +17,10 @@ use Rattle.gate_cases.specs.declared.face.Face.{Face}
 use Rattle.gate_cases.specs.declared.face.Face.TheVariants as faces
 use Rattle.gate_cases.specs.Faces.{other_of}
 use Rattle.gateway_core.specs.Gate.{and_then, arrives_at, at_face, does_at, hears_at}
-use Rattle.gateway_core.specs.Gate.{ticks_gate, with_face}
+use Rattle.gateway_core.specs.Gate.{ticks_gate}
 use Rattle.path_laws.specs.Links.{link_at, link_parties}
 use Rattle.path_laws.specs.Path.{Path, PathSetup, all_tick, at_path_end, gate_does, node_does}
-use Rattle.path_laws.specs.Path.{then_does, with_path_end}
+use Rattle.path_laws.specs.Path.{then_does}
 use Rattle.path_laws.specs.Places.{end_of}
 use Rattle.path_room.specs.OnTheWay.{gate_at, node_at, piece_count, report_count}
 use Rattle.path_room.specs.OnTheWay.{sum_on_way, will_begin}
@@ -32,7 +32,7 @@ use Rattle.path_room.proofs.ArrivalSums.{Needs, arrived-needs, arrived-sent, arr
 use Rattle.path_room.proofs.ArrivalSums.{arrived-red, engine_after}
 use Rattle.path_room.proofs.CountSteps.{NoMore, same-need}
 use Rattle.path_room.proofs.GateSteps.{owing, owing-most, pieces_owed, ups-room}
-use Rattle.path_room.proofs.RoomOwed.{bare, room-on_link, room-step}
+use Rattle.path_room.proofs.RoomOwed.{room-on_link, room-step, with_gate, with_node}
 use Rattle.path_room.proofs.RunFacts.{kept-unclosed}
 use Rattle.path_room.proofs.TickSums.{ticked-red, ticked-way, ticks-need}
 
@@ -101,12 +101,51 @@ abbrev pub heard_path : PathSetup → Path → Face → SegmentValue → Path
 heard_path s w face segment =
     (gate_does w (does_at face w.gate (hears_at s.gate face w.gate (Ok segment) w.now))).path
 
--- a path with another engine at a face, and at a node
-abbrev with_gate : Path → Face → Engine → Path
-with_gate w at e = record w { gate = record w.gate { engines = with_face w.gate.engines at e } }
+-- another engine at a face, whose link needs no more room for it
+gate-need : (w : Path) (at : Face) (e : Engine)
+    → NoMore (node_at w at) (gate_at w at) (node_at w at) e → (face : Face)
+    → NoMore (node_at w face) (gate_at w face) (node_at (with_gate w at e) face)
+    (gate_at (with_gate w at e) face)
+gate-need w faces.Old e need faces.Old = need
+gate-need w faces.Old e need faces.New = same-need w.nodes.1 w.gate.engines.1
+gate-need w faces.New e need faces.Old = same-need w.nodes.0 w.gate.engines.0
+gate-need w faces.New e need faces.New = need
 
-abbrev with_node : Path → Face → Engine → Path
-with_node w at e = record w { nodes = with_path_end w.nodes (end_of at) e }
+gate-need_peer : (w : Path) (at : Face) (e : Engine)
+    → NoMore (gate_at w at) (node_at w at) e (node_at w at) → (face : Face)
+    → NoMore (gate_at w face) (node_at w face) (gate_at (with_gate w at e) face)
+    (node_at (with_gate w at e) face)
+gate-need_peer w faces.Old e need faces.Old = need
+gate-need_peer w faces.Old e need faces.New = same-need w.gate.engines.1 w.nodes.1
+gate-need_peer w faces.New e need faces.Old = same-need w.gate.engines.0 w.nodes.0
+gate-need_peer w faces.New e need faces.New = need
+
+gate-next : (w : Path) (at : Face) (e : Engine) → e.next ≡ (gate_at w at).next → (face : Face)
+    → (gate_at (with_gate w at e) face).next ≤ (gate_at w face).next
+gate-next w faces.Old e same faces.Old = omega (arith, same)
+gate-next w faces.Old e same faces.New = omega arith
+gate-next w faces.New e same faces.Old = omega arith
+gate-next w faces.New e same faces.New = omega (arith, same)
+
+-- what came to it is on its way no more, and is owed
+abbrev LessOnWay : (List ℕ → ℕ) → Path → Face → Engine → ℕ → Type 0
+LessOnWay count w at e less =
+    sum_on_way count e.receivers (node_at w at).senders + less
+    ≤ sum_on_way count (gate_at w at).receivers (node_at w at).senders
+
+gate-most : (s : PathSetup) (w : Path) (at : Face) (e : Engine) (own across : ℕ)
+    (owed : Face → ℕ) → ((face : Face) → owed face ≤ owing at own across face)
+    → LessOnWay report_count w at e own → LessOnWay (piece_count at s.gate.cut) w at e across
+    → (face : Face)
+    → will_begin s (with_gate w at e) face + owed face ≤ will_begin s w face + none_owed face
+gate-most s w faces.Old e own across owed few reports pieces faces.Old =
+    omega (arith, few faces.Old, reports)
+gate-most s w faces.Old e own across owed few reports pieces faces.New =
+    omega (arith, few faces.New, pieces)
+gate-most s w faces.New e own across owed few reports pieces faces.Old =
+    omega (arith, few faces.Old, pieces)
+gate-most s w faces.New e own across owed few reports pieces faces.New =
+    omega (arith, few faces.New, reports)
 
 gate-heard : (s : PathSetup) (w : Path) (at : Face) (n : ℕ) (x : Option Reply)
     (owed : Face → ℕ) → Arrived (gate_at w at) (node_at w at) n x → SendsRed (node_at w at)
@@ -115,82 +154,16 @@ gate-heard : (s : PathSetup) (w : Path) (at : Face) (n : ℕ) (x : Option Reply)
     (counted (piece_count at s.gate.cut) (up_of x)) face)
     → RoomOwing s w none_owed
     → RoomOwing s (with_gate w at (engine_after (gate_at w at) x)) owed
-gate-heard s w faces.Old n x owed arrived red senders receivers few room =
-    room-step s w (with_gate w faces.Old (engine_after w.gate.engines.0 x)) none_owed owed nodes
-    by_face most next room
-  where
-    needs : Needs w.gate.engines.0 w.nodes.0 (engine_after w.gate.engines.0 x)
-    needs = arrived-needs w.gate.engines.0 w.nodes.0 n x arrived senders receivers
-
-    nodes : (face : Face) → NoMore (node_at w face) (gate_at w face)
-        (node_at (with_gate w faces.Old (engine_after w.gate.engines.0 x)) face)
-        (gate_at (with_gate w faces.Old (engine_after w.gate.engines.0 x)) face)
-    nodes faces.Old = needs.1
-    nodes faces.New = same-need w.nodes.1 w.gate.engines.1
-
-    by_face : (face : Face) → NoMore (gate_at w face) (node_at w face)
-        (gate_at (with_gate w faces.Old (engine_after w.gate.engines.0 x)) face)
-        (node_at (with_gate w faces.Old (engine_after w.gate.engines.0 x)) face)
-    by_face faces.Old = needs.0
-    by_face faces.New = same-need w.gate.engines.1 w.nodes.1
-
-    most : (face : Face)
-        → will_begin s (with_gate w faces.Old (engine_after w.gate.engines.0 x)) face + owed face
-        ≤ will_begin s w face + none_owed face
-    most faces.Old = omega (
-      arith,
-      few faces.Old,
-      arrived-way report_count w.gate.engines.0 w.nodes.0 n x arrived red,
-    )
-    most faces.New = omega (
-      arith,
-      few faces.New,
-      arrived-way (piece_count faces.Old s.gate.cut) w.gate.engines.0 w.nodes.0 n x arrived red,
-    )
-
-    next : (face : Face)
-        → (gate_at (with_gate w faces.Old (engine_after w.gate.engines.0 x)) face).next
-        ≤ (gate_at w face).next
-    next faces.Old = omega (arith, next-after w.gate.engines.0 w.nodes.0 n x arrived)
-    next faces.New = omega arith
-gate-heard s w faces.New n x owed arrived red senders receivers few room =
-    room-step s w (with_gate w faces.New (engine_after w.gate.engines.1 x)) none_owed owed nodes
-    by_face most next room
-  where
-    needs : Needs w.gate.engines.1 w.nodes.1 (engine_after w.gate.engines.1 x)
-    needs = arrived-needs w.gate.engines.1 w.nodes.1 n x arrived senders receivers
-
-    nodes : (face : Face) → NoMore (node_at w face) (gate_at w face)
-        (node_at (with_gate w faces.New (engine_after w.gate.engines.1 x)) face)
-        (gate_at (with_gate w faces.New (engine_after w.gate.engines.1 x)) face)
-    nodes faces.Old = same-need w.nodes.0 w.gate.engines.0
-    nodes faces.New = needs.1
-
-    by_face : (face : Face) → NoMore (gate_at w face) (node_at w face)
-        (gate_at (with_gate w faces.New (engine_after w.gate.engines.1 x)) face)
-        (node_at (with_gate w faces.New (engine_after w.gate.engines.1 x)) face)
-    by_face faces.Old = same-need w.gate.engines.0 w.nodes.0
-    by_face faces.New = needs.0
-
-    most : (face : Face)
-        → will_begin s (with_gate w faces.New (engine_after w.gate.engines.1 x)) face + owed face
-        ≤ will_begin s w face + none_owed face
-    most faces.Old = omega (
-      arith,
-      few faces.Old,
-      arrived-way (piece_count faces.New s.gate.cut) w.gate.engines.1 w.nodes.1 n x arrived red,
-    )
-    most faces.New = omega (
-      arith,
-      few faces.New,
-      arrived-way report_count w.gate.engines.1 w.nodes.1 n x arrived red,
-    )
-
-    next : (face : Face)
-        → (gate_at (with_gate w faces.New (engine_after w.gate.engines.1 x)) face).next
-        ≤ (gate_at w face).next
-    next faces.Old = omega arith
-    next faces.New = omega (arith, next-after w.gate.engines.1 w.nodes.1 n x arrived)
+gate-heard s w at n x owed arrived red senders receivers few room =
+    let e' : Engine = engine_after (gate_at w at) x in
+    let needs : Needs (gate_at w at) (node_at w at) e' =
+    arrived-needs (gate_at w at) (node_at w at) n x arrived senders receivers in
+    room-step s w (with_gate w at e') none_owed owed (gate-need w at e' needs.1)
+    (gate-need_peer w at e' needs.0)
+    (gate-most s w at e' _ _ owed few
+    (arrived-way report_count (gate_at w at) (node_at w at) n x arrived red)
+    (arrived-way (piece_count at s.gate.cut) (gate_at w at) (node_at w at) n x arrived red))
+    (gate-next w at e' (next-after (gate_at w at) (node_at w at) n x arrived)) room
 
 -- which end of its link a face is
 abbrev pub gate_end : Face → End
@@ -275,87 +248,57 @@ arrives-room s w new rank at o stands roomy is =
 
 -- ---- a segment comes to a node
 
+-- another engine at a node, whose link needs no more room for it
+node-need : (w : Path) (at : Face) (e : Engine)
+    → NoMore (node_at w at) (gate_at w at) e (gate_at w at) → (face : Face)
+    → NoMore (node_at w face) (gate_at w face) (node_at (with_node w at e) face)
+    (gate_at (with_node w at e) face)
+node-need w faces.Old e need faces.Old = need
+node-need w faces.Old e need faces.New = same-need w.nodes.1 w.gate.engines.1
+node-need w faces.New e need faces.Old = same-need w.nodes.0 w.gate.engines.0
+node-need w faces.New e need faces.New = need
+
+node-need_peer : (w : Path) (at : Face) (e : Engine)
+    → NoMore (gate_at w at) (node_at w at) (gate_at w at) e → (face : Face)
+    → NoMore (gate_at w face) (node_at w face) (gate_at (with_node w at e) face)
+    (node_at (with_node w at e) face)
+node-need_peer w faces.Old e need faces.Old = need
+node-need_peer w faces.Old e need faces.New = same-need w.gate.engines.1 w.nodes.1
+node-need_peer w faces.New e need faces.Old = same-need w.gate.engines.0 w.nodes.0
+node-need_peer w faces.New e need faces.New = need
+
+-- no more is on its way from it
+abbrev NoMoreOnWay : (List ℕ → ℕ) → Path → Face → Engine → Type 0
+NoMoreOnWay count w at e =
+    sum_on_way count (gate_at w at).receivers e.senders
+    ≤ sum_on_way count (gate_at w at).receivers (node_at w at).senders
+
+node-most : (s : PathSetup) (w : Path) (at : Face) (e : Engine)
+    → NoMoreOnWay report_count w at e → NoMoreOnWay (piece_count at s.gate.cut) w at e
+    → (face : Face)
+    → will_begin s (with_node w at e) face + none_owed face ≤ will_begin s w face + none_owed face
+node-most s w faces.Old e reports pieces faces.Old = omega (arith, reports)
+node-most s w faces.Old e reports pieces faces.New = omega (arith, pieces)
+node-most s w faces.New e reports pieces faces.Old = omega (arith, pieces)
+node-most s w faces.New e reports pieces faces.New = omega (arith, reports)
+
 node-heard : (s : PathSetup) (w : Path) (at : Face) (n : ℕ) (x : Option Reply)
     → Arrived (node_at w at) (gate_at w at) n x
     → AreAscending 0 (node_at w at).senders → AreAscending 0 (node_at w at).receivers
     → RoomOwing s w none_owed
     → RoomOwing s (with_node w at (engine_after (node_at w at) x)) none_owed
-node-heard s w faces.Old n x arrived senders receivers room =
-    room-step s w (with_node w faces.Old (engine_after w.nodes.0 x)) none_owed none_owed nodes
-    by_face most next room
-  where
-    needs : Needs w.nodes.0 w.gate.engines.0 (engine_after w.nodes.0 x)
-    needs = arrived-needs w.nodes.0 w.gate.engines.0 n x arrived senders receivers
-
-    nodes : (face : Face) → NoMore (node_at w face) (gate_at w face)
-        (node_at (with_node w faces.Old (engine_after w.nodes.0 x)) face)
-        (gate_at (with_node w faces.Old (engine_after w.nodes.0 x)) face)
-    nodes faces.Old = needs.0
-    nodes faces.New = same-need w.nodes.1 w.gate.engines.1
-
-    by_face : (face : Face) → NoMore (gate_at w face) (node_at w face)
-        (gate_at (with_node w faces.Old (engine_after w.nodes.0 x)) face)
-        (node_at (with_node w faces.Old (engine_after w.nodes.0 x)) face)
-    by_face faces.Old = needs.1
-    by_face faces.New = same-need w.gate.engines.1 w.nodes.1
-
-    most : (face : Face)
-        → will_begin s (with_node w faces.Old (engine_after w.nodes.0 x)) face + none_owed face
-        ≤ will_begin s w face + none_owed face
-    most faces.Old = omega (
-      arith,
-      arrived-sent report_count w.gate.engines.0.receivers w.nodes.0 w.gate.engines.0 n x arrived
-          senders,
-    )
-    most faces.New = omega (
-      arith,
-      arrived-sent (piece_count faces.Old s.gate.cut) w.gate.engines.0.receivers w.nodes.0
-          w.gate.engines.0 n x arrived senders,
-    )
-
-    next : (face : Face)
-        → (gate_at (with_node w faces.Old (engine_after w.nodes.0 x)) face).next
-        ≤ (gate_at w face).next
-    next faces.Old = omega arith
-    next faces.New = omega arith
-node-heard s w faces.New n x arrived senders receivers room =
-    room-step s w (with_node w faces.New (engine_after w.nodes.1 x)) none_owed none_owed nodes
-    by_face most next room
-  where
-    needs : Needs w.nodes.1 w.gate.engines.1 (engine_after w.nodes.1 x)
-    needs = arrived-needs w.nodes.1 w.gate.engines.1 n x arrived senders receivers
-
-    nodes : (face : Face) → NoMore (node_at w face) (gate_at w face)
-        (node_at (with_node w faces.New (engine_after w.nodes.1 x)) face)
-        (gate_at (with_node w faces.New (engine_after w.nodes.1 x)) face)
-    nodes faces.Old = same-need w.nodes.0 w.gate.engines.0
-    nodes faces.New = needs.0
-
-    by_face : (face : Face) → NoMore (gate_at w face) (node_at w face)
-        (gate_at (with_node w faces.New (engine_after w.nodes.1 x)) face)
-        (node_at (with_node w faces.New (engine_after w.nodes.1 x)) face)
-    by_face faces.Old = same-need w.gate.engines.0 w.nodes.0
-    by_face faces.New = needs.1
-
-    most : (face : Face)
-        → will_begin s (with_node w faces.New (engine_after w.nodes.1 x)) face + none_owed face
-        ≤ will_begin s w face + none_owed face
-    most faces.Old = omega (
-      arith,
-      arrived-sent (piece_count faces.New s.gate.cut) w.gate.engines.1.receivers w.nodes.1
-          w.gate.engines.1 n x arrived senders,
-    )
-    most faces.New = omega (
-      arith,
-      arrived-sent report_count w.gate.engines.1.receivers w.nodes.1 w.gate.engines.1 n x arrived
-          senders,
-    )
-
-    next : (face : Face)
-        → (gate_at (with_node w faces.New (engine_after w.nodes.1 x)) face).next
-        ≤ (gate_at w face).next
-    next faces.Old = omega arith
-    next faces.New = omega arith
+node-heard s w at n x arrived senders receivers room =
+    let e' : Engine = engine_after (node_at w at) x in
+    let needs : Needs (node_at w at) (gate_at w at) e' =
+    arrived-needs (node_at w at) (gate_at w at) n x arrived senders receivers in
+    room-step s w (with_node w at e') none_owed none_owed (node-need w at e' needs.0)
+    (node-need_peer w at e' needs.1)
+    (node-most s w at e'
+    (arrived-sent report_count (gate_at w at).receivers (node_at w at) (gate_at w at) n x arrived
+    senders)
+    (arrived-sent (piece_count at s.gate.cut) (gate_at w at).receivers (node_at w at)
+    (gate_at w at) n x arrived senders))
+    (λ face. omega arith) room
 
 pub node-room : (s : PathSetup) (w : Path) (new : Face → List Sent) (rank : Face → End → ℕ → ℕ)
     (at : Face) (o : Oldest) → PathStands s w new rank → RoomOwing s w none_owed
@@ -402,11 +345,15 @@ node-reds s w new rank at o stands roomy is face = by at face own (roomy.reds fa
 
 -- all engines of a path, once they ticked
 abbrev ticked_path : PathSetup → Path → ℕ → Path
-ticked_path s w now = bare
-    (tick_engine s.nodes.0 w.nodes.0 now, tick_engine s.nodes.1 w.nodes.1 now) (
+ticked_path s w now = record w {
+  nodes = (tick_engine s.nodes.0 w.nodes.0 now, tick_engine s.nodes.1 w.nodes.1 now);
+  gate = record w.gate {
+    engines = (
       tick_engine s.gate.parties.0 w.gate.engines.0 now,
       tick_engine s.gate.parties.1 w.gate.engines.1 now,
-    )
+    );
+  };
+}
 
 pub clock-room : (s : PathSetup) (w : Path) (new : Face → List Sent) (rank : Face → End → ℕ → ℕ)
     (now : ℕ) → PathStands s w new rank → RoomOwing s w none_owed

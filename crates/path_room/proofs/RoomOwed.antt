@@ -1,6 +1,6 @@
 -- Room on a path, from one of its states to the next.
 
-use Rattle.std.proofs.Common.{◌≡◌, ℕ, ◌+◌, ◌^◌, ◌<◌, ◌≤◌, List, [], length, Result, Ok, Err, ◌⊎◌}
+use Rattle.std.proofs.Common.{◌≡◌, ℕ, ◌+◌, ◌^◌, ◌<◌, ◌≤◌, List, length, Result, Ok, Err, ◌⊎◌}
 use Rattle.std.proofs.Common.{sym, ◌∙◌, ap, arith, subst}
 use Rattle.ltp_session.specs.Engine.{Engine, EngineStep, SubmitFault, block_empty}
 use Rattle.ltp_session.specs.Engine.{block_too_large}
@@ -12,7 +12,8 @@ use Rattle.gate_cases.specs.declared.face.Face.TheVariants as faces
 use Rattle.gateway_core.specs.Gate.{at_face, sends_at}
 use Rattle.gateway_core.specs.Gate.{sends_unless, submission_at, with_face}
 use Rattle.path_laws.specs.Links.{link_at}
-use Rattle.path_laws.specs.Path.{Path, PathSetup, gate_does}
+use Rattle.path_laws.specs.Path.{Path, PathSetup, gate_does, with_path_end}
+use Rattle.path_laws.specs.Places.{end_of}
 use Rattle.path_room.specs.OnTheWay.{gate_at, node_at, will_begin}
 use Rattle.path_room.specs.PathRoom.{HasRoomFor, PathRoom}
 use Rattle.path_room.specs.Owing.{OwedHavePlace, RoomOwing, RoomStarts, SubmitsAreOwed}
@@ -90,79 +91,60 @@ as-it-is : (own own' peer peer' : ℕ) (e f : Engine) → own' ≤ own → peer'
 as-it-is own own' peer peer' e f mine yours room =
     room-left own own' peer peer' e f e f (same-need e f) mine yours room
 
--- a path of which only the engines are looked at
-abbrev pub bare : Engine × Engine → Engine × Engine → Path
-bare nodes gates = record {
-  nodes = nodes;
-  gate = record { engines = gates; counter = 0 };
-  joins = ([], []);
-  sent = [];
-  now = 0;
-}
+-- a path with another engine at a face, and at a node
+abbrev pub with_gate : Path → Face → Engine → Path
+with_gate w at e = record w { gate = record w.gate { engines = with_face w.gate.engines at e } }
+
+abbrev pub with_node : Path → Face → Engine → Path
+with_node w at e = record w { nodes = with_path_end w.nodes (end_of at) e }
 
 -- a session more at a face
 begun-room : (s : PathSetup) (w : Path) (at : Face) (t : StepValue Sending)
     (owed owed' : Face → ℕ) → ((face : Face) → owed' face + one_at at face ≤ owed face)
-    → RoomOwing s w owed
-    → RoomOwing s (bare w.nodes (with_face w.gate.engines at (with_begun (gate_at w at) t))) owed'
-begun-room s w faces.Old t owed owed' less room =
-    record { nodes = nodes; faces = by_face; numbers = numbers }
+    → RoomOwing s w owed → RoomOwing s (with_gate w at (with_begun (gate_at w at) t)) owed'
+begun-room s w at t owed owed' less room = record {
+  nodes = nodes at less;
+  faces = by_face at less;
+  numbers = numbers at less;
+}
   where
-    nodes : (face : Face) → HasRoomFor 0
-        (will_begin s (bare w.nodes (with_begun w.gate.engines.0 t, w.gate.engines.1)) face
-        + owed' face)
-        (node_at (bare w.nodes (with_begun w.gate.engines.0 t, w.gate.engines.1)) face)
-        (gate_at (bare w.nodes (with_begun w.gate.engines.0 t, w.gate.engines.1)) face)
-    nodes faces.Old = peer-begun 0 0 _ _ w.gate.engines.0 w.nodes.0 t (omega arith)
+    nodes : (at : Face) → ((face : Face) → owed' face + one_at at face ≤ owed face)
+        → (face : Face)
+        → HasRoomFor 0
+        (will_begin s (with_gate w at (with_begun (gate_at w at) t)) face + owed' face)
+        (node_at (with_gate w at (with_begun (gate_at w at) t)) face)
+        (gate_at (with_gate w at (with_begun (gate_at w at) t)) face)
+    nodes faces.Old less faces.Old = peer-begun 0 0 _ _ w.gate.engines.0 w.nodes.0 t (omega arith)
         (omega (arith, less faces.Old)) (room.nodes faces.Old)
-    nodes faces.New = as-it-is 0 0 _ _ w.nodes.1 w.gate.engines.1 (omega arith)
+    nodes faces.Old less faces.New = as-it-is 0 0 _ _ w.nodes.1 w.gate.engines.1 (omega arith)
+        (omega (arith, less faces.New)) (room.nodes faces.New)
+    nodes faces.New less faces.Old = as-it-is 0 0 _ _ w.nodes.0 w.gate.engines.0 (omega arith)
+        (omega (arith, less faces.Old)) (room.nodes faces.Old)
+    nodes faces.New less faces.New = peer-begun 0 0 _ _ w.gate.engines.1 w.nodes.1 t (omega arith)
         (omega (arith, less faces.New)) (room.nodes faces.New)
 
-    by_face : (face : Face) → HasRoomFor
-        (will_begin s (bare w.nodes (with_begun w.gate.engines.0 t, w.gate.engines.1)) face
-        + owed' face) 0
-        (gate_at (bare w.nodes (with_begun w.gate.engines.0 t, w.gate.engines.1)) face)
-        (node_at (bare w.nodes (with_begun w.gate.engines.0 t, w.gate.engines.1)) face)
-    by_face faces.Old = own-begun _ _ 0 0 w.gate.engines.0 w.nodes.0 t
+    by_face : (at : Face) → ((face : Face) → owed' face + one_at at face ≤ owed face)
+        → (face : Face)
+        → HasRoomFor (will_begin s (with_gate w at (with_begun (gate_at w at) t)) face + owed' face)
+        0 (gate_at (with_gate w at (with_begun (gate_at w at) t)) face)
+        (node_at (with_gate w at (with_begun (gate_at w at) t)) face)
+    by_face faces.Old less faces.Old = own-begun _ _ 0 0 w.gate.engines.0 w.nodes.0 t
         (omega (arith, less faces.Old)) (omega arith) (room.faces faces.Old)
-    by_face faces.New = as-it-is _ _ 0 0 w.gate.engines.1 w.nodes.1
+    by_face faces.Old less faces.New = as-it-is _ _ 0 0 w.gate.engines.1 w.nodes.1
+        (omega (arith, less faces.New)) (omega arith) (room.faces faces.New)
+    by_face faces.New less faces.Old = as-it-is _ _ 0 0 w.gate.engines.0 w.nodes.0
+        (omega (arith, less faces.Old)) (omega arith) (room.faces faces.Old)
+    by_face faces.New less faces.New = own-begun _ _ 0 0 w.gate.engines.1 w.nodes.1 t
         (omega (arith, less faces.New)) (omega arith) (room.faces faces.New)
 
-    numbers : (face : Face) →
-        (gate_at (bare w.nodes (with_begun w.gate.engines.0 t, w.gate.engines.1)) face).next
-        + (will_begin s (bare w.nodes (with_begun w.gate.engines.0 t, w.gate.engines.1)) face
-        + owed' face) ≤ 2 ^ 32
-    numbers faces.Old = omega (arith, room.numbers faces.Old, less faces.Old)
-    numbers faces.New = omega (arith, room.numbers faces.New, less faces.New)
-begun-room s w faces.New t owed owed' less room =
-    record { nodes = nodes; faces = by_face; numbers = numbers }
-  where
-    nodes : (face : Face) → HasRoomFor 0
-        (will_begin s (bare w.nodes (w.gate.engines.0, with_begun w.gate.engines.1 t)) face
-        + owed' face)
-        (node_at (bare w.nodes (w.gate.engines.0, with_begun w.gate.engines.1 t)) face)
-        (gate_at (bare w.nodes (w.gate.engines.0, with_begun w.gate.engines.1 t)) face)
-    nodes faces.Old = as-it-is 0 0 _ _ w.nodes.0 w.gate.engines.0 (omega arith)
-        (omega (arith, less faces.Old)) (room.nodes faces.Old)
-    nodes faces.New = peer-begun 0 0 _ _ w.gate.engines.1 w.nodes.1 t (omega arith)
-        (omega (arith, less faces.New)) (room.nodes faces.New)
-
-    by_face : (face : Face) → HasRoomFor
-        (will_begin s (bare w.nodes (w.gate.engines.0, with_begun w.gate.engines.1 t)) face
-        + owed' face) 0
-        (gate_at (bare w.nodes (w.gate.engines.0, with_begun w.gate.engines.1 t)) face)
-        (node_at (bare w.nodes (w.gate.engines.0, with_begun w.gate.engines.1 t)) face)
-    by_face faces.Old = as-it-is _ _ 0 0 w.gate.engines.0 w.nodes.0
-        (omega (arith, less faces.Old)) (omega arith) (room.faces faces.Old)
-    by_face faces.New = own-begun _ _ 0 0 w.gate.engines.1 w.nodes.1 t
-        (omega (arith, less faces.New)) (omega arith) (room.faces faces.New)
-
-    numbers : (face : Face) →
-        (gate_at (bare w.nodes (w.gate.engines.0, with_begun w.gate.engines.1 t)) face).next
-        + (will_begin s (bare w.nodes (w.gate.engines.0, with_begun w.gate.engines.1 t)) face
-        + owed' face) ≤ 2 ^ 32
-    numbers faces.Old = omega (arith, room.numbers faces.Old, less faces.Old)
-    numbers faces.New = omega (arith, room.numbers faces.New, less faces.New)
+    numbers : (at : Face) → ((face : Face) → owed' face + one_at at face ≤ owed face)
+        → (face : Face)
+        → (gate_at (with_gate w at (with_begun (gate_at w at) t)) face).next
+        + (will_begin s (with_gate w at (with_begun (gate_at w at) t)) face + owed' face) ≤ 2 ^ 32
+    numbers faces.Old less faces.Old = omega (arith, room.numbers faces.Old, less faces.Old)
+    numbers faces.Old less faces.New = omega (arith, room.numbers faces.New, less faces.New)
+    numbers faces.New less faces.Old = omega (arith, room.numbers faces.Old, less faces.Old)
+    numbers faces.New less faces.New = omega (arith, room.numbers faces.New, less faces.New)
 
 -- ---- a block that is submitted where there is a place for it
 
@@ -209,10 +191,9 @@ room-submitted s w at block owed owed' less room =
 
     begun_with : (step : EngineStep) (t : StepValue Sending)
         → step.engine ≡ with_begun (gate_at w at) t
-        → RoomOwing s (bare w.nodes (with_face w.gate.engines at step.engine)) owed'
-    begun_with step t is =
-        subst (λ (e : Engine). RoomOwing s (bare w.nodes (with_face w.gate.engines at e)) owed')
-        (sym is) (begun-room s w at t owed owed' less room)
+        → RoomOwing s (with_gate w at step.engine) owed'
+    begun_with step t is = subst (λ (e : Engine). RoomOwing s (with_gate w at e) owed') (sym is)
+        (begun-room s w at t owed owed' less room)
 
     by : (r : Result EngineStep SubmitFault) → Submitted (gate_at w at) r
         → RoomOwing s (gate_does w (sends_unless at w.gate r)).path owed'

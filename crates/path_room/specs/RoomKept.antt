@@ -85,6 +85,7 @@ pub record IsOfLength (s : PathSetup) (ups : List UpAt) (face : Face) (n : ℕ) 
 abbrev pub HasNoReports : ℕ → ℕ → Type 0
 HasNoReports now made = (now < 1000) ⊎ (2 ^ 32 ≤ made)
 
+-- what an event of a drain leaves of the room, and what it notes of it
 pub record RoomAfter (s : PathSetup) (w : Path) (event : PathEvent) : Type 0 where
   pub kept : IsRoomyPath s (path_step s w event).path
   -- on each link, after each block that the gate submits there

@@ -1,0 +1,5 @@
+pub mod SubmitLemmas
+pub mod LinkLeft
+pub mod PathLeft
+pub mod PathWears
+pub mod PathEnds

@@ -17,8 +17,8 @@ use Rattle.link_laws.proofs.TableLemmas.{find-without_other, self_eqb}
 use Rattle.drain_laws.proofs.DrainFrame.{find-with_receiver_other}
 use Rattle.path_room.specs.OnTheWay.{is_handed_up, is_on_its_way, sum_on_way}
 use Rattle.path_room.specs.RoomKept.{SendsRed}
-use Rattle.path_room.proofs.Arrivals.{Arrived, IsAwaited, StaysUp, by_receiver, by_sender, kept-of}
-use Rattle.path_room.proofs.Arrivals.{unheard}
+use Rattle.path_room.proofs.Arrivals.{Arrived, IsAwaited, StaysUp, by_receiver, by_sender}
+use Rattle.path_room.proofs.Arrivals.{kept-of, unheard}
 use Rattle.path_room.proofs.CountSteps.{NoMore, need-received, need-received_peer, need-sent}
 use Rattle.path_room.proofs.CountSteps.{need-sent_peer, same-need}
 use Rattle.path_room.proofs.WayLemmas.{OfBlock, way-less, way-most, way-settled}

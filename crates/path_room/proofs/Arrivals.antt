@@ -1,66 +1,47 @@
 -- What the oldest new segment of an end does to the engine that it comes to, in a drain.
 
-use Rattle.std.proofs.Common.{◌≡◌, ℕ, zero, suc, ◌+◌, ◌<◌, ◌≤◌, Bool, true, false, not, ◌==◌}
-use Rattle.std.proofs.Common.{◌&&◌, ◌||◌, is_some, List, [], ◌∷◌, ◌++◌, length, take, get_or}
-use Rattle.std.proofs.Common.{Option, None, Some}
-use Rattle.std.proofs.Common.{◌⊎◌, inl, inr, refl, sym, ◌∙◌, ap, arith, subst, nat_lt, nat_le}
-use Rattle.std.proofs.Common.{if◌then◌else◌}
-use Rattle.std.specs.Option.{option_map}
+use Rattle.std.proofs.Common.{◌≡◌, ℕ, ◌+◌, ◌<◌, Bool, true, false, ◌==◌, List, [], ◌∷◌, length}
+use Rattle.std.proofs.Common.{take, Option, None, Some, ◌⊎◌, inl, inr, refl, sym, ◌∙◌, ap, arith}
+use Rattle.std.proofs.Common.{subst, nat_le, if◌then◌else◌}
 use Rattle.std.proofs.lemmas.Bool.{eqb-true}
 use Rattle.std.proofs.lemmas.Bool.Decides.{nat_tests}
-use Rattle.std.proofs.lemmas.List.{get_or-take, length-take}
-use Rattle.ltp_segment.specs.declared.session.Note.TheVariants as notes
-use Rattle.ltp_segment.specs.Kinds.{is_red, is_checkpoint}
+use Rattle.ltp_segment.specs.Kinds.{is_red}
 use Rattle.ltp_segment.specs.Policy.{PolicyValue}
-use Rattle.ltp_segment.specs.Values.{ContentValue, PieceValue, ReportValue, SegmentValue, a_piece}
+use Rattle.ltp_segment.specs.Values.{ContentValue, PieceValue, SegmentValue, a_piece}
 use Rattle.ltp_segment.specs.Values.{a_receiver_cancel, a_receiver_cancel_ack, a_report}
 use Rattle.ltp_segment.specs.Values.{a_report_ack, a_sender_cancel, a_sender_cancel_ack}
-use Rattle.ltp_session.specs.Cells.{all_octets, cell, whole_part}
-use Rattle.ltp_session.specs.Claims.{is_whole_claim}
 use Rattle.ltp_session.specs.Engine.{Engine, Party, Reply, arrives, closed_runs, evicted_by}
-use Rattle.ltp_session.specs.Engine.{evicted_of, is_closed, is_used, list_of, notes_of, place_of}
-use Rattle.ltp_session.specs.Engine.{without_evicted}
+use Rattle.ltp_session.specs.Engine.{evicted_of, is_closed, is_used, notes_of, place_of}
 use Rattle.ltp_session.specs.Engine.{receiver_replies, sender_replies, with_receiver}
-use Rattle.ltp_session.specs.Receiver.{Place, Receiving, ReceivingPhase, acknowledged}
-use Rattle.ltp_session.specs.Receiver.{acknowledged_in, fresh, is_cancelling, is_miscoloured}
-use Rattle.ltp_session.specs.Receiver.{is_outside, on_piece, piece_for, piece_step, piece_stop}
-use Rattle.ltp_session.specs.Receiver.{receiver_answers, receiver_cancelling, receiver_open}
-use Rattle.ltp_session.specs.Sender.{Sending, SendingPhase, ends_cancelling, is_all_claimed}
-use Rattle.ltp_session.specs.Sender.{report_step, sender_answers, sender_cancelling, sender_open}
-use Rattle.ltp_session.specs.Sender.{sends_again, takes_report, with_report}
-use Rattle.ltp_session.specs.Step.{Change, StepValue, after, ends, keeps, note_history_full, stays}
+use Rattle.ltp_session.specs.Receiver.{Place, Receiving, fresh, receiver_answers}
+use Rattle.ltp_session.specs.Sender.{Sending, sender_answers}
+use Rattle.ltp_session.specs.Step.{Change, StepValue, after, ends, keeps, stays}
 use Rattle.ltp_session.specs.Table.{find}
-use Rattle.ltp_session.specs.Timer.{is_past_serials}
-use Rattle.ltp_session.specs.World.{ArePeers, End, Sent, World, arrival, at_end, first_end, other}
-use Rattle.ltp_session.specs.World.{replies, second_end, with_end}
-use Rattle.link_laws.specs.Blocks.{BlockFacts, IfKnown, IsAt, IsReceiverOf, IsSenderOf}
+use Rattle.ltp_session.specs.World.{ArePeers, End, Sent, at_end, first_end, other, second_end}
+use Rattle.link_laws.specs.Blocks.{BlockFacts, IsSenderOf}
 use Rattle.link_laws.specs.Facts.{SessionFacts}
 use Rattle.link_laws.specs.Kept.{IfKeeps, IfKept, KeepsOrEnds}
-use Rattle.link_laws.specs.Steps.{HandsUp, ReceiverStep, again, fills, idle, over, reports_on}
-use Rattle.link_laws.specs.Steps.{turns}
-use Rattle.link_laws.specs.View.{IsIn, View, closed_after, said, session_of, view_by}
-use Rattle.link_laws.proofs.CellLemmas.{all_octets-cell, all_octets-length}
-use Rattle.link_laws.proofs.FrameLemmas.{AreTwo, closed-with_receiver}
-use Rattle.link_laws.proofs.HandUpLemmas.{heard-piece, met-kept}
-use Rattle.link_laws.proofs.ListLemmas.{answered, both_arms, by_arms}
-use Rattle.link_laws.proofs.ReceiverLemmas.{fresh-is, with_red-is}
+use Rattle.link_laws.specs.Steps.{HandsUp}
+use Rattle.link_laws.specs.View.{View, said, view_by}
+use Rattle.link_laws.proofs.FrameLemmas.{AreTwo}
+use Rattle.link_laws.proofs.ListLemmas.{answered}
 use Rattle.link_laws.proofs.RedPartLemmas.{hears-ups}
-use Rattle.link_laws.proofs.RunLemmas.{Linked, linked-at, two_ends}
+use Rattle.link_laws.proofs.RunLemmas.{Linked}
 use Rattle.link_laws.proofs.SenderLemmas.{sender-keeps}
 use Rattle.link_laws.proofs.StepLemmas.{hears-form, met}
 use Rattle.link_laws.proofs.WalkLemmas.{OnPiece, walk-segment}
 use Rattle.drain_laws.specs.Calm.{Calm, IsComing, Setting}
-use Rattle.drain_laws.specs.Draining.{Draining, Oldest, oldest, since}
+use Rattle.drain_laws.specs.Draining.{Draining, Oldest, oldest}
 use Rattle.drain_laws.specs.Hopeful.{IsHanded, IsOpen, is_unknown}
-use Rattle.drain_laws.specs.Standing.{DrainHolds, IsRoomy, NextOf, Stands, setting, setting_by}
-use Rattle.drain_laws.proofs.DrainFrame.{AllStand, Begun, Shorter, is-begun, never_begun}
-use Rattle.drain_laws.proofs.DrainFrame.{shorter, stands-so, was_begun}
-use Rattle.drain_laws.proofs.DrainRun.{all-stand, delivery-next}
+use Rattle.drain_laws.specs.Standing.{DrainHolds, IsRoomy, Stands, setting, setting_by}
+use Rattle.drain_laws.proofs.DrainFrame.{AllStand, Begun, Shorter, is-begun, never_begun, shorter}
+use Rattle.drain_laws.proofs.DrainFrame.{stands-so, was_begun}
 use Rattle.drain_laws.proofs.ReceiverDrains.{receiver-opens}
 use Rattle.drain_laws.proofs.RoomSteps.{Comes_to, OfComing, OfKept}
-use Rattle.drain_laws.proofs.StartLemmas.{session-gives}
 use Rattle.path_room.specs.OnTheWay.{is_handed_up}
 use Rattle.path_room.proofs.WayLemmas.{OfBlock}
+use Rattle.path_room.proofs.FullLemmas.{FindsRoom, NotFull, receiver-not_full, sender-not_full}
+use Rattle.path_room.proofs.HandedLemmas.{handed-after, handed-front}
 
 -- ---- what comes of a segment
 
@@ -78,10 +59,6 @@ abbrev pub StaysUp : Engine → Engine → ℕ → Change Receiving → Type 0
 StaysUp e f n c = (s : Sending) → find n f.senders ≡ Some s
     → is_handed_up (find n e.receivers) ≡ true
     → is_handed_up (after c (find n e.receivers)) ≡ true
-
--- there was room for the session
-abbrev pub NotFull : {S : Type 0} → StepValue S → Type 0
-NotFull t = t.note ≡ Some note_history_full → ⊥
 
 -- a reply about a receiver, for which no other session makes room
 abbrev pub received : Engine → ℕ → StepValue Receiving → Reply
@@ -150,126 +127,7 @@ block-of block red policy n es content now t is hears =
     by_kept None none is still = none-of policy n es content now t none hears
     by_kept (Some s) some is still = by_some s some is t.next still
 
--- a sender needs no room in the record of closed numbers
-report-not_full : (policy : PolicyValue) (s : Sending) (x : ReportValue) (now : ℕ)
-    → NotFull (report_step policy s x now)
-unfolding report_step
-report-not_full policy s x now =
-    both_arms NotFull (nat_lt s.red x.upper) _ _ (λ h. absurd (cc)) (by_phase s.phase)
-  where
-    again_or : (s' : Sending) (c : ℕ × List ℕ → PieceValue) (segments : List (ℕ × List ℕ))
-        (last : Option (ℕ × List ℕ)) (acks : List ContentValue)
-        → NotFull (sends_again policy s' now segments c last acks)
-    again_or s' c segments None acks = λ h. absurd (cc)
-    again_or s' c segments (Some segment) acks = λ h. absurd (cc)
-
-    by_phase : (phase : SendingPhase)
-        → NotFull (takes_report policy s phase x now (a_report_ack x.serial ∷ []))
-    by_phase (sender_open checkpoint timer) =
-        both_arms NotFull (is_all_claimed (with_report s x).claimed) _ _ (λ h. absurd (cc))
-        (both_arms NotFull (x.checkpoint == checkpoint.checkpoint) _ _
-        (both_arms NotFull (is_past_serials (checkpoint.checkpoint + 1)) _ _ (λ h. absurd (cc))
-        (again_or (with_report s x) _ _ _ _)) (λ h. absurd (cc)))
-    by_phase (sender_cancelling reason timer) = λ h. absurd (cc)
-
-sender-not_full : (policy : PolicyValue) (kept : Option Sending) (content : ContentValue) (now : ℕ)
-    (t : StepValue Sending) → sender_answers policy kept content now ≡ Some t → NotFull t
-unfolding sender_answers
-sender-not_full policy None (a_report x) now t hears = answered NotFull _ t hears (λ h. absurd (cc))
-sender-not_full policy (Some s) (a_report x) now t hears =
-    answered NotFull _ t hears (report-not_full policy s x now)
-sender-not_full policy None (a_receiver_cancel reason) now t hears =
-    answered NotFull _ t hears (λ h. absurd (cc))
-sender-not_full policy (Some s) (a_receiver_cancel reason) now t hears =
-    answered NotFull _ t hears (λ h. absurd (cc))
-sender-not_full policy None a_sender_cancel_ack now t hears =
-    answered NotFull _ t hears (λ h. absurd (cc))
-sender-not_full policy (Some s) a_sender_cancel_ack now t hears =
-    answered NotFull _ t hears (by_phase s.phase)
-  where
-    by_phase : (phase : SendingPhase) → NotFull (ends_cancelling phase)
-    by_phase (sender_open checkpoint timer) h = absurd (cc)
-    by_phase (sender_cancelling reason timer) h = absurd (cc)
-sender-not_full policy kept (a_piece q) now t hears = absurd (cc)
-sender-not_full policy kept (a_report_ack serial) now t hears = absurd (cc)
-sender-not_full policy kept (a_sender_cancel reason) now t hears = absurd (cc)
-sender-not_full policy kept a_receiver_cancel_ack now t hears = absurd (cc)
-
 -- ---- a receiver's step
-
-piece-not_full : (policy : PolicyValue) (r : Receiving) (q : PieceValue) (now : ℕ)
-    → NotFull (piece_step policy r q now)
-unfolding piece_step
-piece-not_full policy r q now =
-    both_arms NotFull (is_outside r q) _ _ (λ h. absurd (cc))
-    (both_arms NotFull (is_miscoloured r q) _ _ (λ h. absurd (cc))
-    (both_arms NotFull (is_red q.kind) _ _
-    (both_arms NotFull (is_checkpoint q.kind) _ _
-    (both_arms NotFull (is_past_serials r.serial) _ _ (λ h. absurd (cc)) (λ h. absurd (cc)))
-    (λ h. absurd (cc))) (λ h. absurd (cc))))
-
--- a red piece of a number of which nothing is kept, and that isn't closed, finds room
-abbrev FindsRoom : Place → Option Receiving → ContentValue → Type 0
-FindsRoom place kept content = (q : PieceValue) → content ≡ a_piece q → is_red q.kind ≡ true
-    → kept ≡ None → place.closed ≡ false → place.full ≡ false
-
-comes-not_full : (policy : PolicyValue) (place : Place) (kept : Option Receiving) (q : PieceValue)
-    (now : ℕ) → FindsRoom place kept (a_piece q) → NotFull (on_piece policy place kept q now)
-comes-not_full policy place kept q now finds =
-    both_arms NotFull (not (q.service == 1)) _ _ (λ h. absurd (cc))
-    (both_arms NotFull ((length q.body == 0) || nat_lt place.most (piece_stop q)) _ _
-    (λ h. absurd (cc)) (by_kept kept refl))
-  where
-    not_false : (b : Bool) → not b ≡ false → b ≡ true
-    not_false true h = refl
-    not_false false h = absurd (cc)
-
-    by_kept : (k : Option Receiving) → kept ≡ k → NotFull (piece_for policy place k q now)
-    by_kept None is =
-        by_arms NotFull (not (is_red q.kind)) _ _ (λ green h. absurd (cc))
-        (λ red. by_arms NotFull place.closed _ _ (λ closed h. absurd (cc))
-        (λ unclosed. by_arms NotFull place.full _ _
-        (λ full h. absurd (let room : place.full ≡ false =
-        finds q refl (not_false (is_red q.kind) red) is unclosed in cc))
-        (λ room. piece-not_full policy (fresh place.session) q now)))
-    by_kept (Some r) is =
-        both_arms NotFull (is_cancelling r.phase) _ _ (λ h. absurd (cc))
-        (piece-not_full policy r q now)
-
-acknowledged-not_full : (r : Receiving) (serial : ℕ) → NotFull (acknowledged r serial)
-unfolding acknowledged
-acknowledged-not_full r serial = by_phase r.phase
-  where
-    by_phase : (phase : ReceivingPhase) → NotFull (acknowledged_in r phase serial)
-    by_phase (receiver_open None) = λ h. absurd (cc)
-    by_phase (receiver_open (Some p)) =
-        both_arms NotFull (p.report.serial == serial) _ _
-        (both_arms NotFull (is_whole_claim r.length p.report.claims) _ _ (λ h. absurd (cc))
-        (λ h. absurd (cc))) (λ h. absurd (cc))
-    by_phase (receiver_cancelling reason timer) = λ h. absurd (cc)
-
-receiver-not_full : (policy : PolicyValue) (place : Place) (kept : Option Receiving)
-    (content : ContentValue) (now : ℕ) (t : StepValue Receiving) → FindsRoom place kept content
-    → receiver_answers policy place kept content now ≡ Some t → NotFull t
-unfolding receiver_answers
-receiver-not_full policy place kept (a_piece q) now t finds hears =
-    answered NotFull _ t hears (comes-not_full policy place kept q now finds)
-receiver-not_full policy place None (a_report_ack serial) now t finds hears =
-    answered NotFull _ t hears (λ h. absurd (cc))
-receiver-not_full policy place (Some r) (a_report_ack serial) now t finds hears =
-    answered NotFull _ t hears (acknowledged-not_full r serial)
-receiver-not_full policy place None (a_sender_cancel reason) now t finds hears =
-    answered NotFull _ t hears (λ h. absurd (cc))
-receiver-not_full policy place (Some r) (a_sender_cancel reason) now t finds hears =
-    answered NotFull _ t hears (λ h. absurd (cc))
-receiver-not_full policy place None a_receiver_cancel_ack now t finds hears =
-    answered NotFull _ t hears (λ h. absurd (cc))
-receiver-not_full policy place (Some r) a_receiver_cancel_ack now t finds hears =
-    answered NotFull _ t hears (both_arms NotFull (is_cancelling r.phase) _ _ (λ h. absurd (cc))
-    (λ h. absurd (cc)))
-receiver-not_full policy place kept (a_report x) now t finds hears = absurd (cc)
-receiver-not_full policy place kept (a_receiver_cancel reason) now t finds hears = absurd (cc)
-receiver-not_full policy place kept a_sender_cancel_ack now t finds hears = absurd (cc)
 
 -- a receiver that isn't kept doesn't end
 abbrev NeverEnds : StepValue Receiving → Type 0
@@ -326,91 +184,6 @@ received-of policy place e f n content now t hears opens = by_kept (find n e.rec
     by_kept : (o : Option Receiving) → find n e.receivers ≡ o → OfComing e f n t.next
     by_kept None none = by_none none t.next refl
     by_kept (Some r) some = by_some r some t.next
-
--- ---- what was handed up stays so
-
-keeps-same : (r r' : Receiving) → keeps r ≡ keeps r' → r ≡ r'
-keeps-same r r' is = cc
-
-or_later : (a b : Bool) → a ≡ true → (a || b) ≡ true
-or_later true b is = refl
-or_later false b is = absurd (cc)
-
-pub handed-stays : (content : ContentValue) (r r' : Receiving) (t : StepValue Receiving)
-    → ReceiverStep content r t → r.handed_up ≡ true → t.next ≡ keeps r' → r'.handed_up ≡ true
-handed-stays content r r' t (idle next none) was is = absurd (let h : stays ≡ keeps r' =
-    sym next ∙ is in cc)
-handed-stays content r r' t (over next none) was is = absurd (let h : ends ≡ keeps r' =
-    sym next ∙ is in cc)
-handed-stays content r r' t (turns x next turned none) was is =
-    let same : x ≡ r' = keeps-same x r' (sym next ∙ is) in
-    ap (λ (y : Receiving). y.handed_up) (sym same) ∙ turned.handed ∙ was
-handed-stays content r r' t (again p timer pending next out) was is =
-    let same = keeps-same _ r' (sym next ∙ is) in
-    ap (λ (y : Receiving). y.handed_up) (sym same) ∙ was
-handed-stays content r r' t (fills q x is_piece red_kind next filling none) was is =
-    let same : x ≡ r' = keeps-same x r' (sym next ∙ is) in
-    ap (λ (y : Receiving). y.handed_up) (sym same) ∙ filling.handed ∙ or_later r.handed_up _ was
-handed-stays content r r' t (reports_on q x is_piece red_kind checkpoint next reporting out) was
-    is =
-    let same : x ≡ r' = keeps-same x r' (sym next ∙ is) in
-    ap (λ (y : Receiving). y.handed_up) (sym same) ∙ reporting.handed ∙ or_later r.handed_up _ was
-
--- a kept receiver, or none, after a step
-handed-after : (content : ContentValue) (session : ℕ) (kept : Option Receiving)
-    (t : StepValue Receiving) → ReceiverStep content (met session kept) t
-    → (t.next ≡ ends → is_handed_up kept ≡ true → is_handed_up None ≡ true)
-    → is_handed_up kept ≡ true → is_handed_up (after t.next kept) ≡ true
-handed-after content session None t form gone was = absurd (cc)
-handed-after content session (Some r) t form gone was = by_change t.next refl
-  where
-    by_change : (c : Change Receiving) → t.next ≡ c → is_handed_up (after c (Some r)) ≡ true
-    by_change stays is = was
-    by_change (keeps r') is = handed-stays content r r' t form was is
-    by_change ends is = gone is was
-
--- ---- the block that is handed up
-
-same-octets : (xs ys : List ℕ) → length xs ≡ length ys
-    → ((k : ℕ) → k < length xs → get_or xs k 0 ≡ get_or ys k 0) → xs ≡ ys
-same-octets [] [] size same = refl
-same-octets [] (y ∷ ys) size same = absurd (omega (arith, size))
-same-octets (x ∷ xs) [] size same = absurd (omega (arith, size))
-same-octets (x ∷ xs) (y ∷ ys) size same =
-    let here : x ≡ y = same zero (omega arith) in
-    let rest : xs ≡ ys =
-    same-octets xs ys (omega (arith, size)) (λ k low. same (suc k) (omega (arith, low))) in
-    rw (here, rest) refl
-
-whole-front : (block : List ℕ) (red : ℕ) (cells : List (Option ℕ)) (known : Option ℕ)
-    (body : List ℕ) → red ≤ length block
-    → ((k octet : ℕ) → cell cells k ≡ Some octet → IsAt block k octet) → IfKnown red known
-    → whole_part cells known ≡ Some body → body ≡ take red block
-whole-front block red cells None body within of bound is = absurd (cc)
-whole-front block red cells (Some end) body within of bound is =
-    by_test (end == length cells) refl is
-  where
-    by_test : (all : Bool) → (end == length cells) ≡ all → (if all then all_octets cells else None)
-        ≡ Some body → body ≡ take red block
-    by_test false same is = absurd (cc)
-    by_test true same is =
-        let size = all_octets-length cells body is in
-        let end_is = eqb-true end (length cells) same in
-        let taken = length-take red block in
-        same-octets body (take red block) (omega (arith, size, end_is, taken, bound, within))
-        (λ k low. sym (of k (get_or body k 0) (all_octets-cell cells body is k low)).1 ∙ sym
-        (get_or-take red block k 0 (omega (arith, low, size, end_is, bound))))
-
--- a piece of the block makes it whole
-handed-front : (block : List ℕ) (red : ℕ) (v : View) (content : ContentValue) (session : ℕ)
-    (t : StepValue Receiving) (body : List ℕ) → BlockFacts block red v → IsIn content v.by_sender
-    → HandsUp content (met session v.receiver) t body → body ≡ take red block
-handed-front block red v content session t body facts among h =
-    let is = with_red-is block red (met session v.receiver) h.piece
-    (met-kept (IsReceiverOf block red) session v.receiver (fresh-is block red session)
-    facts.receiver)
-    (heard-piece block red v content facts among h.piece h.is_piece) h.red_kind in
-    whole-front block red _ _ body facts.within is.cells is.known h.whole
 
 -- ---- a link in a drain
 
@@ -477,15 +250,15 @@ receives e n t nobody = rw nobody refl
 
 -- the parties, engines and sessions of a link in a drain, as an end sees them to which the oldest
 -- new segment of the other comes
-record Meets (me you : End) (p q : Party) (e f : Engine) (sent new : List Sent)
+pub record Meets (me you : End) (p q : Party) (e f : Engine) (sent new : List Sent)
     (rank_p rank_q : ℕ → ℕ) (o : Oldest) : Type 0 where
-  both : AreTwo me you
-  linked : Linked p q
-  all : AllStand SessionFacts me you p q e f sent new rank_p rank_q
-  is : oldest you new ≡ Some o
-  room : (n : ℕ) → Comes_to e f n → (length e.receivers < 64)
+  pub both : AreTwo me you
+  pub linked : Linked p q
+  pub all : AllStand SessionFacts me you p q e f sent new rank_p rank_q
+  pub is : oldest you new ≡ Some o
+  pub room : (n : ℕ) → Comes_to e f n → (length e.receivers < 64)
       × (closed_runs e.closed + length e.receivers < 65536)
-  unclosed : (n : ℕ) (r : Receiving) → find n e.receivers ≡ Some r → is_closed n e.closed ≡ false
+  pub unclosed : (n : ℕ) (r : Receiving) → find n e.receivers ≡ Some r → is_closed n e.closed ≡ false
 
 -- a session of the other end, to which this content comes
 Heard : End → End → Party → Party → Engine → Engine → List Sent → (ℕ → ℕ) → Oldest → Type 0
@@ -710,7 +483,7 @@ peer-form me you p q e f sent new rank_p rank_q o now t meets peer hears gone =
                 none unclosed)).1 in
                 grind (arith, nat_tests)
 
-arrives-form : (me you : End) (p q : Party) (e f : Engine) (sent new : List Sent)
+pub arrives-form : (me you : End) (p q : Party) (e f : Engine) (sent new : List Sent)
     (rank_p rank_q : ℕ → ℕ) (o : Oldest) (now : ℕ)
     → Meets me you p q e f sent new rank_p rank_q o
     → ((t : StepValue Receiving) → arrives p e o.first.segment now
@@ -769,128 +542,3 @@ arrives-form me you p q e f sent new rank_p rank_q o now meets gone =
     by_tests false is used true is_peer gone = peer_hears
         (eqb-true (o.first.segment).originator p.peer is_peer ∙ (meets.linked).knows) _ refl gone
     by_tests false is used false is_peer gone = unheard refl
-
--- ---- on a link
-
-at-set : {X : Type 0} (pair : X × X) (me : End) (x : X) → at_end (with_end pair me x) me ≡ x
-at-set pair first_end x = refl
-at-set pair second_end x = refl
-
-at-other : {X : Type 0} (pair : X × X) (me : End) (x : X)
-    → at_end (with_end pair me x) (other me) ≡ at_end pair (other me)
-at-other pair first_end x = refl
-at-other pair second_end x = refl
-
--- the reply of a receiver that ends closes the number
-record Closing (e : Engine) (n : ℕ) (t : StepValue Receiving) : Type 0 where
-  reply : Reply
-  is : receiver_replies e n (Some t) ≡ Some reply
-  closed : t.next ≡ ends → is_closed n (reply.engine).closed ≡ true
-
-closing : (e : Engine) (n : ℕ) (t : StepValue Receiving) → Closing e n t
-closing e n t = record {
-  reply = record {
-    engine = with_receiver g n t.next;
-    out = t.out;
-    up = t.up;
-    green = t.green;
-    notes = list_of (option_map notes.Evicted (evicted_by e (find n e.receivers) t.next))
-        ++ notes_of n t;
-  };
-  is = refl;
-  closed = λ ended. closed-with_receiver g n t.next
-      ∙ ap (λ c. closed_after c (is_closed n g.closed)) ended;
-}
-  where
-    g : Engine
-    g = without_evicted e (evicted_by e (find n e.receivers) t.next)
-
--- a receiver ends only after its sender
-gone-late : (parties : Party × Party) (d : Draining) (rank : End → ℕ → ℕ) (me : End) (o : Oldest)
-    → LinkDrains parties d rank → oldest (other me) d.new ≡ Some o → (t : StepValue Receiving)
-    → arrives (at_end parties me) (at_end (d.world).engines me) o.first.segment (d.world).now
-    ≡ receiver_replies (at_end (d.world).engines me) (o.first.segment).session (Some t)
-    → t.next ≡ ends
-    → find (o.first.segment).session (at_end (d.world).engines (other me)).senders ≡ None
-gone-late parties d rank me o link is t replied ended =
-    by_sender (find n (at_end (d.world).engines (other me)).senders) refl
-  where
-    n : ℕ
-    n = (o.first.segment).session
-
-    c : Closing (at_end (d.world).engines me) (o.first.segment).session t
-    c = closing (at_end (d.world).engines me) (o.first.segment).session t
-
-    w' : World
-    w' = arrival parties d.world me o.first.segment
-
-    next : NextOf SessionFacts parties d (record {
-      world = arrival parties d.world me o.first.segment;
-      new = o.others ++ since d.world (arrival parties d.world me o.first.segment);
-    }) rank (o.first.segment).originator (o.first.segment).session
-    next = delivery-next SessionFacts session-gives parties d rank me o link.peers link.holds
-        link.room is
-
-    engines : (arrival parties d.world me o.first.segment).engines
-        ≡ with_end (d.world).engines me (c.reply).engine
-    engines = ap (λ x. (replies d.world me (session_of (o.first.segment).originator
-        (o.first.segment).session) x).engines) (replied ∙ c.is)
-
-    by_sender : (x : Option Sending)
-        → find (o.first.segment).session (at_end (d.world).engines (other me)).senders ≡ x
-        → find (o.first.segment).session (at_end (d.world).engines (other me)).senders ≡ None
-    by_sender None none = none
-    by_sender (Some s) some = absurd (
-        let kept : find (o.first.segment).session
-        (at_end (arrival parties d.world me o.first.segment).engines (other me)).senders ≡ Some s =
-        ap (λ (es : Engine × Engine). find (o.first.segment).session (at_end es (other me)).senders)
-        engines
-        ∙ ap (λ (e : Engine). find (o.first.segment).session e.senders)
-        (at-other (d.world).engines me (c.reply).engine) ∙ some in
-        let unclosed : is_closed (o.first.segment).session
-        (at_end (arrival parties d.world me o.first.segment).engines me).closed ≡ false =
-        unclosed-in parties _ _ me (next.next).holds (o.first.segment).session s kept in
-        let closed : is_closed (o.first.segment).session
-        (at_end (arrival parties d.world me o.first.segment).engines me).closed ≡ true =
-        ap (λ (es : Engine × Engine). is_closed (o.first.segment).session (at_end es me).closed)
-        engines
-        ∙ ap (λ (e : Engine). is_closed (o.first.segment).session e.closed)
-        (at-set (d.world).engines me (c.reply).engine) ∙ c.closed ended in
-        cc)
-
-is-coming : (e f : Engine) (n : ℕ) → Comes_to e f n
-    → IsOpen (find n f.senders) × (find n e.receivers ≡ None) × (is_closed n e.closed ≡ false)
-is-coming e f n c =
-    let of = by_kept (find n e.receivers) (is_closed n e.closed) c.unknown in
-    (subst IsOpen (sym c.kept) tt, of.0, of.1)
-  where
-    by_kept : (kept : Option Receiving) (closed : Bool) → (not (is_some kept) && not closed) ≡ true
-        → (kept ≡ None) × (closed ≡ false)
-    by_kept None false is = (refl, refl)
-    by_kept None true is = absurd (cc)
-    by_kept (Some r) closed is = absurd (cc)
-
--- there is room for each session that comes
-room-at : (parties : Party × Party) (w : World) (me : End) → IsRoomy parties w → (n : ℕ)
-    → Comes_to (at_end w.engines me) (at_end w.engines (other me)) n
-    → (length (at_end w.engines me).receivers < 64)
-    × (closed_runs (at_end w.engines me).closed + length (at_end w.engines me).receivers < 65536)
-room-at parties w first_end room n c = room.room second_end n (is-coming w.engines.0 w.engines.1 n c)
-room-at parties w second_end room n c = room.room first_end n (is-coming w.engines.1 w.engines.0 n c)
-
-pub arrival-form : (parties : Party × Party) (d : Draining) (rank : End → ℕ → ℕ) (me : End)
-    (o : Oldest) → LinkDrains parties d rank → oldest (other me) d.new ≡ Some o
-    → Arrived (at_end (d.world).engines me) (at_end (d.world).engines (other me))
-    (o.first.segment).session
-    (arrives (at_end parties me) (at_end (d.world).engines me) o.first.segment (d.world).now)
-arrival-form parties d rank me o link is =
-    arrives-form me (other me) (at_end parties me) (at_end parties (other me))
-    (at_end (d.world).engines me) (at_end (d.world).engines (other me)) (d.world).sent d.new
-    (rank me) (rank (other me)) o (d.world).now (record {
-      both = two_ends me;
-      linked = linked-at parties me link.peers;
-      all = all-stand SessionFacts parties d rank me link.holds;
-      is = is;
-      room = room-at parties d.world me link.room;
-      unclosed = link.unclosed me;
-    }) (gone-late parties d rank me o link is)

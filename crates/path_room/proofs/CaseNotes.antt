@@ -1,13 +1,12 @@
 -- Each block that is handed up has its case noted.
 
 use Rattle.std.proofs.Common.{◌≡◌, ℕ, ◌+◌, Bool, true, false, List, [], ◌∷◌, ◌++◌, map, length}
-use Rattle.std.proofs.Common.{Option, None, Some, Result, Ok, Err, inl, inr, refl, ◌∙◌, ap}
-use Rattle.std.proofs.Common.{subst, nat_lt, if◌then◌else◌}
+use Rattle.std.proofs.Common.{Option, None, Some, Result, Ok, Err, inl, inr, refl, ◌∙◌, ap, subst}
+use Rattle.std.proofs.Common.{nat_lt, if◌then◌else◌}
 use Rattle.std.proofs.lemmas.List.{append-nil}
 use Rattle.std.specs.List.{slice_get}
 use Rattle.ltp_segment.specs.Values.{SegmentValue}
-use Rattle.ltp_session.specs.Engine.{EngineStep, SubmitFault, UpValue}
-use Rattle.ltp_session.specs.Engine.{tick_step}
+use Rattle.ltp_session.specs.Engine.{EngineStep, SubmitFault, UpValue, tick_step}
 use Rattle.link_laws.specs.View.{IsIn}
 use Rattle.link_laws.proofs.RunLemmas.{in-left, in-right}
 use Rattle.gate_cases.specs.declared.face.Face.{Face}
@@ -21,17 +20,17 @@ use Rattle.gateway_core.specs.declared.effects.FaceUp.{FaceUp}
 use Rattle.gateway_core.specs.declared.note.GateNote.TheVariants as notes
 use Rattle.gateway_core.specs.Gate.{Gate, GateSetup, GateStep, and_then, answers_at, arrives_at}
 use Rattle.gateway_core.specs.Gate.{at_face, case_note, decides_at, does_at, hears_at, in_turn}
-use Rattle.gateway_core.specs.Gate.{is_unreported, judged_at, noted_at, passes_at}
-use Rattle.gateway_core.specs.Gate.{reports_at, room_of, sends_at, sends_unless, submission_at}
-use Rattle.gateway_core.specs.Gate.{ticks_gate, up_at}
+use Rattle.gateway_core.specs.Gate.{is_unreported, judged_at, noted_at, passes_at, reports_at}
+use Rattle.gateway_core.specs.Gate.{room_of, sends_at, sends_unless, submission_at, ticks_gate}
+use Rattle.gateway_core.specs.Gate.{up_at}
 use Rattle.path_laws.specs.declared.effects.NoteAt.{NoteAt}
 use Rattle.path_laws.specs.declared.effects.UpAt.{UpAt}
 use Rattle.path_laws.specs.declared.places.PathEnd.{PathEnd}
 use Rattle.path_laws.specs.declared.places.PathEnd.TheVariants as ends
-use Rattle.path_laws.specs.Path.{Path, PathSetup, SentFrom, all_tick}
-use Rattle.path_laws.specs.Path.{clock_shows, comes_to, delivers, gate_effects, gate_note, gate_up}
-use Rattle.path_laws.specs.Path.{delivers_if, nothing_done, path_step, sends}
-use Rattle.path_laws.specs.Path.{sends_block, sent_unless, then_does, up_from}
+use Rattle.path_laws.specs.Path.{Path, PathSetup, SentFrom, all_tick, clock_shows, comes_to}
+use Rattle.path_laws.specs.Path.{delivers, gate_effects, gate_note, gate_up, delivers_if}
+use Rattle.path_laws.specs.Path.{nothing_done, path_step, sends, sends_block, sent_unless}
+use Rattle.path_laws.specs.Path.{then_does, up_from}
 use Rattle.path_laws.specs.Places.{Stand, across, at_gate, at_node, face_place, node_place}
 use Rattle.path_laws.specs.Places.{stand_of}
 use Rattle.path_laws.proofs.ChunkLemmas.{sends-no-up}

@@ -1,8 +1,8 @@
 -- What steps of an engine leave of its room: no count rises, but where a block is submitted.
 
 use Rattle.std.proofs.Common.{◌≡◌, ◌≢◌, ℕ, ◌+◌, ◌<◌, ◌≤◌, Bool, true, false, not, ◌==◌, ◌&&◌}
-use Rattle.std.proofs.Common.{List, [], ◌∷◌, ◌++◌, length, Option, None, Some, is_some, inl}
-use Rattle.std.proofs.Common.{inr, refl, sym, ◌∙◌, ap, arith, subst, nat_lt, if◌then◌else◌}
+use Rattle.std.proofs.Common.{List, [], ◌∷◌, ◌++◌, length, Option, None, Some, is_some, inl, inr}
+use Rattle.std.proofs.Common.{refl, sym, ◌∙◌, ap, arith, subst, nat_lt, if◌then◌else◌}
 use Rattle.std.specs.Prelude.{cond}
 use Rattle.std.proofs.lemmas.Bool.{eqb-true, eqb-false, ne_eqb}
 use Rattle.ltp_session.specs.Engine.{Engine, Party, closed_runs, is_closed, receiver_changes}

@@ -1,8 +1,8 @@
 -- What the gate does about blocks that came whole keeps room: each piece and each report was
 -- counted.
 
-use Rattle.std.proofs.Common.{ℕ, suc, ◌+◌, ◌≤◌, Bool, true, false, List, [], ◌∷◌, length}
-use Rattle.std.proofs.Common.{Option, None, Some, arith, if◌then◌else◌}
+use Rattle.std.proofs.Common.{ℕ, suc, ◌+◌, ◌≤◌, Bool, true, false, List, [], ◌∷◌, length, Option}
+use Rattle.std.proofs.Common.{None, Some, arith, if◌then◌else◌}
 use Rattle.ltp_session.specs.Engine.{UpValue}
 use Rattle.gate_cases.specs.declared.face.Face.{Face}
 use Rattle.gate_cases.specs.declared.face.Face.TheVariants as faces
@@ -10,9 +10,9 @@ use Rattle.gate_cases.specs.declared.report.AskedReport.{AskedReport}
 use Rattle.gate_cases.specs.Bundles.{status_bundle}
 use Rattle.gate_cases.specs.Faces.{other_of}
 use Rattle.gateway_core.specs.declared.note.GateNote.TheVariants as notes
-use Rattle.gateway_core.specs.Gate.{and_then, answers_at, at_face}
-use Rattle.gateway_core.specs.Gate.{decides_at, in_turn, is_unreported, judged_at}
-use Rattle.gateway_core.specs.Gate.{noted_at, passes_at, reports_at, room_of, sends_at}
+use Rattle.gateway_core.specs.Gate.{and_then, answers_at, at_face, decides_at, in_turn}
+use Rattle.gateway_core.specs.Gate.{is_unreported, judged_at, noted_at, passes_at, reports_at}
+use Rattle.gateway_core.specs.Gate.{room_of, sends_at}
 use Rattle.path_laws.specs.Path.{Path, PathSetup, gate_does}
 use Rattle.path_room.specs.OnTheWay.{piece_count}
 use Rattle.path_room.specs.Owing.{RoomOwing, none_owed, one_at}

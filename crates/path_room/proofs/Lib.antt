@@ -1,6 +1,9 @@
 pub mod WayLemmas
 pub mod CountSteps
+pub mod FullLemmas
+pub mod HandedLemmas
 pub mod Arrivals
+pub mod LinkArrivals
 pub mod ArrivalSums
 pub mod TickSums
 pub mod SubmitSteps

@@ -1,7 +1,7 @@
 -- An event of a path that drains keeps room.
 
-use Rattle.std.proofs.Common.{◌≡◌, ℕ, ◌+◌, ◌≤◌, List, [], length}
-use Rattle.std.proofs.Common.{Option, None, Some, Ok, refl, sym, ◌∙◌, ap, arith, subst}
+use Rattle.std.proofs.Common.{◌≡◌, ℕ, ◌+◌, ◌≤◌, List, [], length, Option, None, Some, Ok, refl}
+use Rattle.std.proofs.Common.{sym, ◌∙◌, ap, arith, subst}
 use Rattle.std.specs.Option.{option_map}
 use Rattle.ltp_segment.specs.Values.{SegmentValue}
 use Rattle.ltp_session.specs.Engine.{Engine, Party, Reply, UpValue, arrives, datagram_step}
@@ -16,18 +16,17 @@ use Rattle.drain_laws.proofs.RoomRuns.{room-roomy}
 use Rattle.gate_cases.specs.declared.face.Face.{Face}
 use Rattle.gate_cases.specs.declared.face.Face.TheVariants as faces
 use Rattle.gate_cases.specs.Faces.{other_of}
-use Rattle.gateway_core.specs.Gate.{and_then, arrives_at, at_face, does_at, hears_at}
-use Rattle.gateway_core.specs.Gate.{ticks_gate}
+use Rattle.gateway_core.specs.Gate.{and_then, arrives_at, at_face, does_at, hears_at, ticks_gate}
 use Rattle.path_laws.specs.Links.{link_at, link_parties}
 use Rattle.path_laws.specs.Path.{Path, PathSetup, all_tick, at_path_end, gate_does, node_does}
 use Rattle.path_laws.specs.Path.{then_does}
 use Rattle.path_laws.specs.Places.{end_of}
-use Rattle.path_room.specs.OnTheWay.{gate_at, node_at, piece_count, report_count}
-use Rattle.path_room.specs.OnTheWay.{sum_on_way, will_begin}
+use Rattle.path_room.specs.OnTheWay.{gate_at, node_at, piece_count, report_count, sum_on_way}
+use Rattle.path_room.specs.OnTheWay.{will_begin}
 use Rattle.path_room.specs.Owing.{RoomOwing, none_owed}
 use Rattle.path_room.specs.RoomKept.{IsRoomyPath, PathStands, SendsRed}
-use Rattle.path_room.proofs.Arrivals.{Arrived, LinkDrains, arrival-form, by_receiver, by_sender}
-use Rattle.path_room.proofs.Arrivals.{unheard}
+use Rattle.path_room.proofs.Arrivals.{Arrived, LinkDrains, by_receiver, by_sender, unheard}
+use Rattle.path_room.proofs.LinkArrivals.{arrival-form}
 use Rattle.path_room.proofs.ArrivalSums.{Needs, arrived-needs, arrived-sent, arrived-way, counted}
 use Rattle.path_room.proofs.ArrivalSums.{arrived-red, engine_after}
 use Rattle.path_room.proofs.CountSteps.{NoMore, same-need}

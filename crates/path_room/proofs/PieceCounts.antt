@@ -16,8 +16,8 @@ use Rattle.gate_cases.specs.declared.case.GateCase.TheVariants as cases
 use Rattle.gate_cases.specs.declared.case.Room.{Room}
 use Rattle.gate_cases.specs.declared.face.Face.{Face}
 use Rattle.gate_cases.specs.Blocks.{Arrival, Found, one, bad, found_at}
-use Rattle.gate_cases.specs.Cases.{case_of, is_short, judged, judgement_of, or_passed}
-use Rattle.gate_cases.specs.Cases.{pieces_if, records_of, untranslated}
+use Rattle.gate_cases.specs.Cases.{case_of, is_short, judged, judgement_of, or_passed, pieces_if}
+use Rattle.gate_cases.specs.Cases.{records_of, untranslated}
 use Rattle.gate_cases.specs.Faces.{other_of, octets_at}
 use Rattle.gate_cases.specs.Passage.{passage, pieces_on}
 use Rattle.gate_cases.proofs.CaseLemmas.{first-after, first-refused}

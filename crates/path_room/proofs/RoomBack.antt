@@ -1,16 +1,15 @@
 -- A submit takes room and gives none back, so that where a link has room after some submits, it had
 -- room before each.
 
-use Rattle.std.proofs.Common.{◌≡◌, ℕ, suc, ◌+◌, ◌≤◌, Bool, true, false, ◌==◌, List, [], ◌∷◌, length}
-use Rattle.std.proofs.Common.{Option, None, Some, ◌⊎◌, inl, inr, refl, arith}
-use Rattle.std.proofs.Common.{subst, nat_lt, nat_le, if◌then◌else◌}
+use Rattle.std.proofs.Common.{◌≡◌, ℕ, suc, ◌+◌, ◌≤◌, Bool, true, false, ◌==◌, List, [], ◌∷◌}
+use Rattle.std.proofs.Common.{length, Option, None, Some, ◌⊎◌, inl, inr, refl, arith, subst}
+use Rattle.std.proofs.Common.{nat_lt, nat_le, if◌then◌else◌}
 use Rattle.std.specs.Prelude.{cond}
 use Rattle.std.proofs.lemmas.Bool.{eqb-true}
 use Rattle.ltp_segment.specs.Policy.{PolicyValue}
 use Rattle.ltp_session.specs.declared.name.SessionName.{SessionName}
 use Rattle.ltp_session.specs.Engine.{Engine, Party, Reply, SubmitFault, begun as begun_engine}
-use Rattle.ltp_session.specs.Engine.{submit_fault, submits}
-use Rattle.ltp_session.specs.Engine.{submits_unless}
+use Rattle.ltp_session.specs.Engine.{submit_fault, submits, submits_unless}
 use Rattle.ltp_segment.specs.Values.{PieceValue}
 use Rattle.ltp_session.specs.Sender.{Sending, begin, checkpoint_at, last_segment, opened}
 use Rattle.ltp_session.specs.Sender.{red_segments}

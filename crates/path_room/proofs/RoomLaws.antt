@@ -1,8 +1,7 @@
 -- Each event of a path that drains leaves room.
 
-use Rattle.std.proofs.Common.{arith, ◌≡◌, ℕ, Bool, true, false, List, [], ◌∷◌, ◌++◌, map}
-use Rattle.std.proofs.Common.{Option, Some, Ok, sym, ◌∙◌}
-use Rattle.std.proofs.Common.{subst, nat_lt, if◌then◌else◌}
+use Rattle.std.proofs.Common.{arith, ◌≡◌, ℕ, Bool, true, false, List, [], ◌∷◌, ◌++◌, map, Option}
+use Rattle.std.proofs.Common.{Some, Ok, sym, ◌∙◌, subst, nat_lt, if◌then◌else◌}
 use Rattle.std.specs.List.{AllByRecursion, slice_get}
 use Rattle.ltp_session.specs.Engine.{UpValue}
 use Rattle.ltp_session.specs.World.{End, Sent, run}
@@ -17,20 +16,18 @@ use Rattle.gateway_core.specs.Gate.{and_then, arrives_at, at_face, does_at, hear
 use Rattle.gateway_core.specs.Gate.{passes_at, ticks_gate, up_at}
 use Rattle.path_laws.specs.declared.places.Place.{Place}
 use Rattle.path_laws.specs.declared.places.Place.TheVariants as places
-use Rattle.path_laws.specs.Links.{first_on, link_at, link_parties, submit_of}
-use Rattle.path_laws.specs.Links.{submits_on}
+use Rattle.path_laws.specs.Links.{first_on, link_at, link_parties, submit_of, submits_on}
 use Rattle.path_laws.specs.Log.{Begun, begun_at}
 use Rattle.path_laws.specs.Path.{Path, PathEvent, PathSetup, PathStep, SentFrom, all_tick}
-use Rattle.path_laws.specs.Path.{at_path_end, gate_up}
-use Rattle.path_laws.specs.Path.{clock_shows, comes_to, delivers, delivers_if}
-use Rattle.path_laws.specs.Path.{nothing_done, path_step, sends, then_does}
+use Rattle.path_laws.specs.Path.{at_path_end, gate_up, clock_shows, comes_to, delivers}
+use Rattle.path_laws.specs.Path.{delivers_if, nothing_done, path_step, sends, then_does}
 use Rattle.path_laws.specs.Places.{across, at_gate, at_node, end_of, if_link, link_end_of}
 use Rattle.path_laws.specs.Places.{link_of, node_place, on_link, stand_of}
 use Rattle.path_laws.proofs.ChunkLemmas.{run-append}
 use Rattle.path_laws.proofs.RunLemmas.{step-chunk}
 use Rattle.path_room.specs.RoomKept.{IsRoomyPath, IsRoomyThrough, MayFollow, PathStands}
-use Rattle.path_room.specs.Owing.{RoomOwing, none_owed}
 use Rattle.path_room.specs.RoomKept.{RoomIsKept}
+use Rattle.path_room.specs.Owing.{RoomOwing, none_owed}
 use Rattle.path_room.proofs.CaseNotes.{make-in}
 use Rattle.path_room.proofs.PathNotes.{PlaceFine, both-fine, engine-fine, gate-fine, node-fine}
 use Rattle.path_room.proofs.PathNotes.{none-for_room, storage-long, unreported-late, ups-fine}

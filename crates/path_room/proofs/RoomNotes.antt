@@ -10,20 +10,20 @@ use Rattle.ltp_segment.specs.Policy.{PolicyValue}
 use Rattle.ltp_segment.specs.Values.{SegmentValue}
 use Rattle.ltp_session.specs.Engine.{Engine, EngineStep, Party, Reply, SubmitFault, arrives}
 use Rattle.ltp_session.specs.Engine.{datagram_step, list_of, notes_of, submit_fault, submit_step}
-use Rattle.ltp_session.specs.Engine.{submits, submits_unless}
-use Rattle.ltp_session.specs.Engine.{receiver_ticks, replied_or_stranger, sender_ticks}
-use Rattle.ltp_session.specs.Engine.{tick_remarks, tick_step}
+use Rattle.ltp_session.specs.Engine.{submits, submits_unless, receiver_ticks, replied_or_stranger}
+use Rattle.ltp_session.specs.Engine.{sender_ticks, tick_remarks, tick_step}
 use Rattle.ltp_session.specs.Receiver.{Receiving, receiver_tick}
 use Rattle.ltp_session.specs.Sender.{Sending, SendingPhase, begin, sender_cancelling, sender_due}
 use Rattle.ltp_session.specs.Sender.{sender_open, sender_tick, sending_timer}
 use Rattle.ltp_session.specs.Step.{NoteValue, StepValue, note_bad_bounds, note_cancelled}
-use Rattle.ltp_session.specs.Step.{note_closed}
-use Rattle.ltp_session.specs.Step.{note_failed, note_history_full, note_refused, note_sent}
+use Rattle.ltp_session.specs.Step.{note_closed, note_failed, note_history_full, note_refused}
+use Rattle.ltp_session.specs.Step.{note_sent}
 use Rattle.ltp_session.specs.Timer.{is_due, may_repeat}
 use Rattle.ltp_session.specs.Views.{note_of}
 use Rattle.link_laws.proofs.ListLemmas.{all-append, both_arms}
 use Rattle.link_laws.proofs.WalkLemmas.{walk-tick}
-use Rattle.path_room.proofs.Arrivals.{Arrived, NotFull, by_receiver, by_sender, unheard}
+use Rattle.path_room.proofs.Arrivals.{Arrived, by_receiver, by_sender, unheard}
+use Rattle.path_room.proofs.FullLemmas.{NotFull}
 
 -- a note of something else
 abbrev pub NotForRoom : Note → Type 0

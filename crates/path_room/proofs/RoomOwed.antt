@@ -1,7 +1,7 @@
 -- Room on a path, from one of its states to the next.
 
-use Rattle.std.proofs.Common.{◌≡◌, ℕ, ◌+◌, ◌^◌, ◌<◌, ◌≤◌, List, length, Result, Ok, Err, ◌⊎◌}
-use Rattle.std.proofs.Common.{sym, ◌∙◌, ap, arith, subst}
+use Rattle.std.proofs.Common.{◌≡◌, ℕ, ◌+◌, ◌^◌, ◌<◌, ◌≤◌, List, length, Result, Ok, Err, ◌⊎◌, sym}
+use Rattle.std.proofs.Common.{◌∙◌, ap, arith, subst}
 use Rattle.ltp_session.specs.Engine.{Engine, EngineStep, SubmitFault, block_empty}
 use Rattle.ltp_session.specs.Engine.{block_too_large}
 use Rattle.ltp_session.specs.Step.{StepValue}
@@ -9,18 +9,17 @@ use Rattle.ltp_session.specs.Sender.{Sending}
 use Rattle.drain_laws.specs.Hopeful.{Room}
 use Rattle.gate_cases.specs.declared.face.Face.{Face}
 use Rattle.gate_cases.specs.declared.face.Face.TheVariants as faces
-use Rattle.gateway_core.specs.Gate.{at_face, sends_at}
-use Rattle.gateway_core.specs.Gate.{sends_unless, submission_at, with_face}
+use Rattle.gateway_core.specs.Gate.{at_face, sends_at, sends_unless, submission_at, with_face}
 use Rattle.path_laws.specs.Links.{link_at}
 use Rattle.path_laws.specs.Path.{Path, PathSetup, gate_does, with_path_end}
 use Rattle.path_laws.specs.Places.{end_of}
 use Rattle.path_room.specs.OnTheWay.{gate_at, node_at, will_begin}
 use Rattle.path_room.specs.PathRoom.{HasRoomFor, PathRoom}
-use Rattle.path_room.specs.Owing.{OwedHavePlace, RoomOwing, RoomStarts, SubmitsAreOwed}
-use Rattle.path_room.specs.Owing.{none_owed, one_at}
+use Rattle.path_room.specs.Owing.{OwedHavePlace, RoomOwing, RoomStarts, SubmitsAreOwed, none_owed}
+use Rattle.path_room.specs.Owing.{one_at}
 use Rattle.path_room.proofs.CountSteps.{NoMore, link-room, room-left, same-need}
-use Rattle.path_room.proofs.SubmitSteps.{Submitted, is_accepted, is_refused, own-begun, peer-begun}
-use Rattle.path_room.proofs.SubmitSteps.{submitted-is, with_begun}
+use Rattle.path_room.proofs.SubmitSteps.{Submitted, is_accepted, is_refused, own-begun}
+use Rattle.path_room.proofs.SubmitSteps.{peer-begun, submitted-is, with_begun}
 
 -- ---- at the beginning, and at the end
 

@@ -1,8 +1,8 @@
 -- What every run of a path keeps of its links: blocks are sent all red, and nothing is kept of a
 -- closed number.
 
-use Rattle.std.proofs.Common.{◌≡◌, ℕ, Bool, true, false, List, ◌∷◌, length, None, Some}
-use Rattle.std.proofs.Common.{sym, ◌∙◌, ap, subst}
+use Rattle.std.proofs.Common.{◌≡◌, ℕ, Bool, true, false, List, ◌∷◌, length, None, Some, sym, ◌∙◌}
+use Rattle.std.proofs.Common.{ap, subst}
 use Rattle.ltp_session.specs.Engine.{Party, is_closed}
 use Rattle.ltp_session.specs.Receiver.{Receiving}
 use Rattle.ltp_session.specs.Sender.{Sending}

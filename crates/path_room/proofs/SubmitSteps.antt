@@ -1,15 +1,14 @@
 -- A block that is submitted where there is a place for its session.
 
-use Rattle.std.proofs.Common.{◌≡◌, ℕ, ◌+◌, ◌^◌, ◌<◌, ◌≤◌, Bool, true, false, ◌==◌, List}
-use Rattle.std.proofs.Common.{length, None, Some, Result, Ok, Err, ◌⊎◌, inl, inr}
-use Rattle.std.proofs.Common.{refl, arith, nat_lt, nat_le, if◌then◌else◌}
+use Rattle.std.proofs.Common.{◌≡◌, ℕ, ◌+◌, ◌^◌, ◌<◌, ◌≤◌, Bool, true, false, ◌==◌, List, length}
+use Rattle.std.proofs.Common.{None, Some, Result, Ok, Err, ◌⊎◌, inl, inr, refl, arith, nat_lt}
+use Rattle.std.proofs.Common.{nat_le, if◌then◌else◌}
 use Rattle.std.proofs.lemmas.Bool.Decides.{nat_tests}
 use Rattle.ltp_session.specs.Engine.{Engine, EngineStep, Party, SubmitFault, begun, block_empty}
-use Rattle.ltp_session.specs.Engine.{block_too_large, numbers_spent, senders_busy}
-use Rattle.ltp_session.specs.Engine.{submit_step, submits, submits_unless}
+use Rattle.ltp_session.specs.Engine.{block_too_large, numbers_spent, senders_busy, submit_step}
+use Rattle.ltp_session.specs.Engine.{submits, submits_unless}
 use Rattle.ltp_session.specs.Sender.{Sending, begin}
-use Rattle.ltp_session.specs.Step.{Change, StepValue, ends, keeps}
-use Rattle.ltp_session.specs.Step.{stays}
+use Rattle.ltp_session.specs.Step.{Change, StepValue, ends, keeps, stays}
 use Rattle.ltp_session.specs.Table.{settled}
 use Rattle.drain_laws.specs.Hopeful.{coming, is_unknown}
 use Rattle.drain_laws.proofs.RoomLemmas.{how_many, length-put_new, length-without, many-without}

@@ -27,7 +27,8 @@ use Rattle.drain_laws.proofs.DrainRun.{tick-holds, ticked-new, ticked-world}
 use Rattle.drain_laws.proofs.StartLemmas.{session-gives}
 use Rattle.path_room.specs.OnTheWay.{is_handed_up, is_on_its_way, sum_on_way}
 use Rattle.path_room.specs.RoomKept.{SendsRed}
-use Rattle.path_room.proofs.Arrivals.{handed-stays, unclosed-in}
+use Rattle.path_room.proofs.Arrivals.{unclosed-in}
+use Rattle.path_room.proofs.HandedLemmas.{handed-stays}
 use Rattle.path_room.proofs.ArrivalSums.{found-in, not-true}
 use Rattle.path_room.proofs.CountSteps.{NoMore, need-ticked, need-ticked_peer, then-need}
 use Rattle.path_room.proofs.WayLemmas.{SameBlock, way-most, way-ticked}

@@ -1,97 +1,168 @@
--- A path on which nothing was sent is ready.
+-- Paths that are ready: one on which nothing was sent, and one on which a block was.
 
-use Rattle.std.proofs.Common.{ℕ, ◌-◌, ◌<◌, ◌^◌, [], refl, arith}
+use Rattle.std.proofs.Common.{ℕ, ◌-◌, ◌<◌, ◌≤◌, ◌^◌, ◌==◌, [], ◌∷◌, refl, arith}
 use Rattle.endpoint.specs.declared.name.Endpoint.{Endpoint}
 use Rattle.gate_cases.specs.declared.face.Face.{Face}
 use Rattle.gate_cases.specs.declared.face.Face.TheVariants as faces
+use Rattle.ltp_session.specs.Engine.{closed_runs, submits}
 use Rattle.ltp_session.specs.Examples.{policy}
-use Rattle.ltp_session.specs.Table.{find}
+use Rattle.ltp_session.specs.Sender.{begin, green_pieces, last_segment, red_pieces, segments_from}
+use Rattle.ltp_session.specs.Table.{find, put}
 use Rattle.ltp_session.specs.World.{ArePeers, End, at_end, first_end, other, second_end}
+use Rattle.link_laws.specs.Kept.{IfKept}
 use Rattle.link_laws.specs.View.{view}
+use Rattle.link_laws.proofs.ListLemmas.{both_arms}
 use Rattle.drain_laws.specs.Hopeful.{AreAlike, Hopeful, IsHopeful, limit_at}
-use Rattle.path_laws.specs.Path.{path_run, path_setup, starts_path}
+use Rattle.path_laws.specs.declared.places.PathEnd.TheVariants as ends
+use Rattle.path_laws.specs.Path.{path_run, path_setup, path_step, sends, starts_path}
 use Rattle.path_laws.specs.Links.{link_at, link_parties}
+use Rattle.path_room.specs.OnTheWay.{gate_at, node_at, piece_count, sum_on_way, will_begin}
+use Rattle.path_room.specs.PathRoom.{HasRoomFor, PathRoom}
 use Rattle.path_room.proofs.ExampleLemmas.{starts-room}
 use Rattle.path_drain_laws.specs.Completion.{IsPathReady}
+use Rattle.path_drain_laws.specs.Examples.{path_that_sent}
+
+-- ---- the engines
+
+peers : (gate : Endpoint) (cut : ℕ) (face : Face)
+    → ArePeers (link_parties (path_setup gate policy cut) face)
+peers gate cut faces.Old = record {
+  differ = λ h. absurd (cc);
+  first_knows = refl;
+  second_knows = refl;
+  first_cuts = omega arith;
+  second_cuts = omega arith;
+}
+peers gate cut faces.New = record {
+  differ = λ h. absurd (cc);
+  first_knows = refl;
+  second_knows = refl;
+  first_cuts = omega arith;
+  second_cuts = omega arith;
+}
+
+alike : (gate : Endpoint) (cut : ℕ) (face : Face)
+    → AreAlike (link_parties (path_setup gate policy cut) face)
+alike gate cut faces.Old = record {
+  same_most = refl;
+  most = omega arith;
+  first_cuts = omega arith;
+  second_cuts = omega arith;
+  first_waits = (omega arith, omega arith);
+  second_waits = (omega arith, omega arith);
+}
+alike gate cut faces.New = record {
+  same_most = refl;
+  most = omega arith;
+  first_cuts = omega arith;
+  second_cuts = omega arith;
+  first_waits = (omega arith, omega arith);
+  second_waits = (omega arith, omega arith);
+}
+
+-- ---- nothing was sent
+
+silent-hopeful : (gate : Endpoint) (cut now : ℕ) (face : Face)
+    → Hopeful (link_parties (path_setup gate policy cut) face)
+    (link_at face (starts_path (path_setup gate policy cut) now))
+unfolding find
+silent-hopeful gate cut now face = record { sessions = by face; numbers = numbers face }
+  where
+    by : (face : Face) (o : End) (n : ℕ) → IsHopeful
+        (limit_at (link_parties (path_setup gate policy cut) face) o)
+        (limit_at (link_parties (path_setup gate policy cut) face) (other o))
+        (view (link_parties (path_setup gate policy cut) face)
+        (link_at face (starts_path (path_setup gate policy cut) now)) o n)
+    by faces.Old first_end n = record { sender = tt; receiver = tt }
+    by faces.Old second_end n = record { sender = tt; receiver = tt }
+    by faces.New first_end n = record { sender = tt; receiver = tt }
+    by faces.New second_end n = record { sender = tt; receiver = tt }
+
+    numbers : (face : Face) (o : End) → (at_end (link_at face
+        (starts_path (path_setup gate policy cut) now)).engines o).next < 2 ^ 32 - 2 ^ 22
+    numbers faces.Old first_end = omega arith
+    numbers faces.Old second_end = omega arith
+    numbers faces.New first_end = omega arith
+    numbers faces.New second_end = omega arith
 
 pub silent-ready : (gate : Endpoint) (cut now : ℕ)
     → IsPathReady (path_setup gate policy cut) (starts_path (path_setup gate policy cut) now)
-unfolding path_run find
+unfolding path_run
 silent-ready gate cut now = record {
-  linked = record { each = peers };
-  alike = record { each = alike };
+  linked = record { each = peers gate cut };
+  alike = record { each = alike gate cut };
   reached = record { start = now; events = []; leads = refl };
-  hopeful = record { each = hopeful };
+  hopeful = record { each = silent-hopeful gate cut now };
   room = starts-room (path_setup gate policy cut) now;
 }
+
+-- ---- the old node sent a block of two octets
+
+sent-hopeful : (gate : Endpoint) (cut now x y : ℕ) (face : Face)
+    → Hopeful (link_parties (path_setup gate policy cut) face)
+    (link_at face (path_that_sent gate cut now (x ∷ y ∷ [])))
+unfolding path_run path_step submits begin segments_from last_segment red_pieces green_pieces find
+    put
+sent-hopeful gate cut now x y face = record { sessions = by face; numbers = numbers face }
   where
-    peers : (face : Face) → ArePeers (link_parties (path_setup gate policy cut) face)
-    peers faces.Old = record {
-      differ = λ h. absurd (cc);
-      first_knows = refl;
-      second_knows = refl;
-      first_cuts = omega arith;
-      second_cuts = omega arith;
+    by : (face : Face) (o : End) (n : ℕ) → IsHopeful
+        (limit_at (link_parties (path_setup gate policy cut) face) o)
+        (limit_at (link_parties (path_setup gate policy cut) face) (other o))
+        (view (link_parties (path_setup gate policy cut) face)
+        (link_at face (path_that_sent gate cut now (x ∷ y ∷ []))) o n)
+    by faces.Old first_end n = record {
+      sender = both_arms (IfKept _) (1 == n) _ _
+          (record { phase = (omega arith, omega arith); unclosed = refl }) tt;
+      receiver = tt;
     }
-    peers faces.New = record {
-      differ = λ h. absurd (cc);
-      first_knows = refl;
-      second_knows = refl;
-      first_cuts = omega arith;
-      second_cuts = omega arith;
+    by faces.Old second_end n = record { sender = tt; receiver = tt }
+    by faces.New first_end n = record { sender = tt; receiver = tt }
+    by faces.New second_end n = record { sender = tt; receiver = tt }
+
+    numbers : (face : Face) (o : End) → (at_end (link_at face
+        (path_that_sent gate cut now (x ∷ y ∷ []))).engines o).next < 2 ^ 32 - 2 ^ 22
+    numbers faces.Old first_end = omega arith
+    numbers faces.Old second_end = omega arith
+    numbers faces.New first_end = omega arith
+    numbers faces.New second_end = omega arith
+
+sent-room : (gate : Endpoint) (cut now x y : ℕ) → piece_count faces.Old cut (x ∷ y ∷ []) ≤ 64
+    → PathRoom (path_setup gate policy cut) (path_that_sent gate cut now (x ∷ y ∷ []))
+unfolding path_run path_step submits begin segments_from last_segment red_pieces green_pieces find
+    put closed_runs sum_on_way
+sent-room gate cut now x y few = record { nodes = nodes; faces = by_face }
+  where
+    nodes : (face : Face) → HasRoomFor 0
+        (will_begin (path_setup gate policy cut) (path_that_sent gate cut now (x ∷ y ∷ [])) face)
+        (node_at (path_that_sent gate cut now (x ∷ y ∷ [])) face)
+        (gate_at (path_that_sent gate cut now (x ∷ y ∷ [])) face)
+    nodes faces.Old =
+        record { senders = omega arith; receivers = omega arith; numbers = omega arith }
+    nodes faces.New = record {
+      senders = omega arith;
+      receivers = omega (arith, few);
+      numbers = omega (arith, few);
     }
 
-    alike : (face : Face) → AreAlike (link_parties (path_setup gate policy cut) face)
-    alike faces.Old = record {
-      same_most = refl;
-      most = omega arith;
-      first_cuts = omega arith;
-      second_cuts = omega arith;
-      first_waits = (omega arith, omega arith);
-      second_waits = (omega arith, omega arith);
-    }
-    alike faces.New = record {
-      same_most = refl;
-      most = omega arith;
-      first_cuts = omega arith;
-      second_cuts = omega arith;
-      first_waits = (omega arith, omega arith);
-      second_waits = (omega arith, omega arith);
+    by_face : (face : Face) → HasRoomFor
+        (will_begin (path_setup gate policy cut) (path_that_sent gate cut now (x ∷ y ∷ [])) face) 0
+        (gate_at (path_that_sent gate cut now (x ∷ y ∷ [])) face)
+        (node_at (path_that_sent gate cut now (x ∷ y ∷ [])) face)
+    by_face faces.Old =
+        record { senders = omega arith; receivers = omega arith; numbers = omega arith }
+    by_face faces.New = record {
+      senders = omega (arith, few);
+      receivers = omega arith;
+      numbers = omega arith;
     }
 
-    hopeful : (face : Face) → Hopeful (link_parties (path_setup gate policy cut) face)
-        (link_at face (starts_path (path_setup gate policy cut) now))
-    hopeful faces.Old = record {
-      sessions = by;
-      numbers = numbers;
-    }
-      where
-        by : (o : End) (n : ℕ) → IsHopeful
-            (limit_at (link_parties (path_setup gate policy cut) faces.Old) o)
-            (limit_at (link_parties (path_setup gate policy cut) faces.Old) (other o))
-            (view (link_parties (path_setup gate policy cut) faces.Old)
-            (link_at faces.Old (starts_path (path_setup gate policy cut) now)) o n)
-        by first_end n = record { sender = tt; receiver = tt }
-        by second_end n = record { sender = tt; receiver = tt }
-
-        numbers : (o : End) → (at_end (link_at faces.Old
-            (starts_path (path_setup gate policy cut) now)).engines o).next < 2 ^ 32 - 2 ^ 22
-        numbers first_end = omega arith
-        numbers second_end = omega arith
-    hopeful faces.New = record {
-      sessions = by;
-      numbers = numbers;
-    }
-      where
-        by : (o : End) (n : ℕ) → IsHopeful
-            (limit_at (link_parties (path_setup gate policy cut) faces.New) o)
-            (limit_at (link_parties (path_setup gate policy cut) faces.New) (other o))
-            (view (link_parties (path_setup gate policy cut) faces.New)
-            (link_at faces.New (starts_path (path_setup gate policy cut) now)) o n)
-        by first_end n = record { sender = tt; receiver = tt }
-        by second_end n = record { sender = tt; receiver = tt }
-
-        numbers : (o : End) → (at_end (link_at faces.New
-            (starts_path (path_setup gate policy cut) now)).engines o).next < 2 ^ 32 - 2 ^ 22
-        numbers first_end = omega arith
-        numbers second_end = omega arith
+pub sent-ready : (gate : Endpoint) (cut now x y : ℕ)
+    → piece_count faces.Old cut (x ∷ y ∷ []) ≤ 64
+    → IsPathReady (path_setup gate policy cut) (path_that_sent gate cut now (x ∷ y ∷ []))
+sent-ready gate cut now x y few = record {
+  linked = record { each = peers gate cut };
+  alike = record { each = alike gate cut };
+  reached = record { start = now; events = sends ends.Old (x ∷ y ∷ []) ∷ []; leads = refl };
+  hopeful = record { each = sent-hopeful gate cut now x y };
+  room = sent-room gate cut now x y few;
+}

@@ -5,3 +5,5 @@ pub mod Effects
 pub mod Hopeful
 -- what it promises
 pub mod Completion
+-- for examples
+pub mod Examples

@@ -9,4 +9,5 @@ pub mod PathRuns
 pub mod WholeLemmas
 pub mod CompletionLemmas
 pub mod LawLemmas
+pub mod PolicyLemmas
 pub mod ExampleLemmas

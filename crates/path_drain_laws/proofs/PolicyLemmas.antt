@@ -1,11 +1,10 @@
 -- Whatever policy its engines were given, each link of a path has two that name each other, and are
 -- alike.
 
-use Rattle.std.proofs.Common.{◌≡◌, ℕ, ◌≤◌, Bool, true, false, not, Result, Ok, Err, refl, arith, subst}
+use Rattle.std.proofs.Common.{◌≡◌, ℕ, ◌≤◌, Bool, true, false, not, Ok, Err, refl, arith, subst}
 use Rattle.std.proofs.Common.{if◌then◌else◌}
 use Rattle.std.proofs.lemmas.Bool.{and_parts, leb-true}
 use Rattle.endpoint.specs.declared.name.Endpoint.{Endpoint}
-use Rattle.ltp_segment.specs.declared.policy.PolicyFault.{PolicyFault}
 use Rattle.ltp_segment.specs.declared.policy.PolicyFault.TheVariants as faults
 use Rattle.ltp_segment.specs.Policy.{PolicyValue, is_between, policy_of}
 use Rattle.ltp_session.specs.World.{ArePeers}

@@ -5,6 +5,7 @@ ghost use Rattle.path_laws.specs.Path.{PathSetup, Path, PathEvent, path_run};
 ghost use Rattle.path_drain_laws.specs.Clean.{AreCleanOnPath, AreCleanOnPathFrom, IsPathDrained};
 ghost use Rattle.path_drain_laws.specs.Clean.{path_clean_event, path_passed};
 ghost use Rattle.path_drain_laws.specs.Completion.{PathEventsAreFew, PathRunsComplete};
+ghost use Rattle.path_drain_laws.specs.Completion.{PathRunsEnd};
 ghost use Rattle.path_drain_laws.specs.Hopeful.{PathsAreFit};
 
 /// One clean event more, where the events before it are clean.
@@ -35,6 +36,11 @@ pub fn paths_are_fit()
 /// segment of its block.
 pub fn path_events_are_few()
     ensures { PathEventsAreFew }
+{}
+
+/// From such a path clean events lead to one on which nothing is left to do.
+pub fn path_runs_end()
+    ensures { PathRunsEnd }
 {}
 
 /// Where nothing is left to do, after no more events than the sessions cost, every session that was

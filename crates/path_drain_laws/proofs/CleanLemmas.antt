@@ -72,7 +72,7 @@ run-within s (event ∷ events) w c within clean =
     run-within s events (path_step s w event).path (path_passed_after c event)
     (step-within s w c event within clean.0) clean.1
 
-over-drained : (w : Path) (c : ℕ) → c ≤ length w.sent → path_clean_event w c ≡ None
+pub over-drained : (w : Path) (c : ℕ) → c ≤ length w.sent → path_clean_event w c ≡ None
     → IsPathDrained w c
 over-drained w c within none = by_test (nat_lt c (length w.sent)) refl none
   where

@@ -1,7 +1,7 @@
 -- A drain from a path that is ready has no more events than its sessions cost, and completes them.
 
 use Rattle.std.proofs.Common.{◌≡◌, ℕ, ◌+◌, ◌^◌, ◌≤◌, List, [], ◌∷◌, ◌++◌, length, None, ◌⊎◌, inl, inr}
-use Rattle.std.proofs.Common.{sym, ◌∙◌, ap, arith, subst}
+use Rattle.std.proofs.Common.{refl, sym, ◌∙◌, ap, arith, subst}
 use Rattle.link_laws.specs.View.{IsIn}
 use Rattle.link_laws.proofs.RunLemmas.{in-left, in-right}
 use Rattle.ltp_session.specs.Engine.{Engine}
@@ -21,13 +21,15 @@ use Rattle.path_room.specs.PathRoom.{HasRoomFor, PathRoom}
 use Rattle.path_room.specs.Pieces.{PathNotesCases}
 use Rattle.path_room.specs.RoomKept.{IsRoomyPath, NodesSendRed, RoomIsKept, SendsRed}
 use Rattle.path_drain_laws.specs.Clean.{AreCleanOnPathFrom, PathCleanRun, path_deadline}
-use Rattle.path_drain_laws.specs.Completion.{Completes, IsCaseNotedIn, IsPathComplete, IsPathReady}
+use Rattle.path_drain_laws.specs.Completion.{Completes, HasPathRun, IsCaseNotedIn, IsPathComplete, IsPathReady}
 use Rattle.path_drain_laws.specs.Effects.{IsNotedSent, IsUpAt, IsUpWhole, notes_in}
 use Rattle.path_drain_laws.specs.Hopeful.{path_cost, session_at}
 use Rattle.path_drain_laws.proofs.AdvanceLemmas.{in-either}
 use Rattle.path_drain_laws.proofs.PathRuns.{PathRunsOn, SessionEnds, StartsWell, all-few, all-run}
 use Rattle.path_drain_laws.proofs.PathRuns.{done-ends, first_ranks, none-cancels, none-kept}
 use Rattle.path_drain_laws.proofs.PathRuns.{session-ends}
+use Rattle.path_drain_laws.proofs.PathRuns.{path-starts}
+use Rattle.path_drain_laws.proofs.RunsEnd.{DrainsOut, numbers-end}
 use Rattle.path_drain_laws.proofs.WholeLemmas.{handed-whole}
 
 -- ---- notes
@@ -122,6 +124,31 @@ pub path-few : RoomLaws → (s : PathSetup) (w : Path) (events : List PathEvent)
     → length events ≤ path_cost s w (path_run s w events)
 path-few laws s w events ready clean =
     all-few laws.kept s w events (starts-well laws s w ready) clean
+
+-- there is a clean run
+run-of : RoomLaws → (s : PathSetup) (w : Path) → IsPathReady s w → DrainsOut s w (length w.sent)
+    → HasPathRun s w
+run-of laws s w ready all = record {
+  n = length all.events;
+  v = path_run s w all.events;
+  run = record {
+    events = all.events;
+    count = refl;
+    clean = all.clean;
+    leads = refl;
+    drained = all.drained;
+  };
+  bound = path-few laws s w all.events ready all.clean;
+}
+
+pub path-ends : RoomLaws → (s : PathSetup) (w : Path) → IsPathReady s w → HasPathRun s w
+path-ends laws s w ready = run-of laws s w ready (numbers-end laws.kept s w
+    (starts-well laws s w ready).fit (2 ^ 32 + 2 ^ 32 + 2 ^ 32 + 2 ^ 32) (omega arith)
+    (2 ^ 32 + 2 ^ 32 + 2 ^ 32 + 2 ^ 32) w (length w.sent) (first_ranks s w) (record {
+      goes = path-starts s w (starts-well laws s w ready);
+      room = roomy-starts laws s w ready;
+      low = λ face o. omega (arith, ((ready.hopeful).each face).numbers o);
+    }) (omega arith))
 
 pub path-completes : RoomLaws → (s : PathSetup) (w : Path) (n : ℕ) (v : Path)
     → IsPathReady s w → (drain : PathCleanRun s w n v) → Completes s w n v drain.events

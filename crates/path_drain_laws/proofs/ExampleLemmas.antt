@@ -8,11 +8,11 @@ use Rattle.ltp_session.specs.Engine.{closed_runs, submits}
 use Rattle.ltp_session.specs.Examples.{policy}
 use Rattle.ltp_session.specs.Sender.{begin, green_pieces, last_segment, red_pieces, segments_from}
 use Rattle.ltp_session.specs.Table.{find, put}
-use Rattle.ltp_session.specs.World.{ArePeers, End, at_end, first_end, other, second_end}
+use Rattle.ltp_session.specs.World.{End, at_end, first_end, other, second_end}
 use Rattle.link_laws.specs.Kept.{IfKept}
 use Rattle.link_laws.specs.View.{view}
 use Rattle.link_laws.proofs.ListLemmas.{both_arms}
-use Rattle.drain_laws.specs.Hopeful.{AreAlike, Hopeful, IsHopeful, limit_at}
+use Rattle.drain_laws.specs.Hopeful.{Hopeful, IsHopeful, limit_at}
 use Rattle.path_laws.specs.declared.places.PathEnd.TheVariants as ends
 use Rattle.path_laws.specs.Path.{path_run, path_setup, path_step, sends, starts_path}
 use Rattle.path_laws.specs.Links.{link_at, link_parties}
@@ -21,44 +21,13 @@ use Rattle.path_room.specs.PathRoom.{HasRoomFor, PathRoom}
 use Rattle.path_room.proofs.ExampleLemmas.{starts-room}
 use Rattle.path_drain_laws.specs.Completion.{IsPathReady}
 use Rattle.path_drain_laws.specs.Examples.{path_that_sent}
+use Rattle.path_drain_laws.specs.Hopeful.{IsFitPath}
+use Rattle.path_drain_laws.proofs.PolicyLemmas.{short-fits}
 
 -- ---- the engines
 
-peers : (gate : Endpoint) (cut : ℕ) (face : Face)
-    → ArePeers (link_parties (path_setup gate policy cut) face)
-peers gate cut faces.Old = record {
-  differ = λ h. absurd (cc);
-  first_knows = refl;
-  second_knows = refl;
-  first_cuts = omega arith;
-  second_cuts = omega arith;
-}
-peers gate cut faces.New = record {
-  differ = λ h. absurd (cc);
-  first_knows = refl;
-  second_knows = refl;
-  first_cuts = omega arith;
-  second_cuts = omega arith;
-}
-
-alike : (gate : Endpoint) (cut : ℕ) (face : Face)
-    → AreAlike (link_parties (path_setup gate policy cut) face)
-alike gate cut faces.Old = record {
-  same_most = refl;
-  most = omega arith;
-  first_cuts = omega arith;
-  second_cuts = omega arith;
-  first_waits = (omega arith, omega arith);
-  second_waits = (omega arith, omega arith);
-}
-alike gate cut faces.New = record {
-  same_most = refl;
-  most = omega arith;
-  first_cuts = omega arith;
-  second_cuts = omega arith;
-  first_waits = (omega arith, omega arith);
-  second_waits = (omega arith, omega arith);
-}
+fit : (gate : Endpoint) (cut : ℕ) → IsFitPath (path_setup gate policy cut)
+fit gate cut = short-fits gate cut policy (omega arith) (omega arith, omega arith)
 
 -- ---- nothing was sent
 
@@ -89,8 +58,8 @@ pub silent-ready : (gate : Endpoint) (cut now : ℕ)
     → IsPathReady (path_setup gate policy cut) (starts_path (path_setup gate policy cut) now)
 unfolding path_run
 silent-ready gate cut now = record {
-  linked = record { each = peers gate cut };
-  alike = record { each = alike gate cut };
+  linked = (fit gate cut).linked;
+  alike = (fit gate cut).alike;
   reached = record { start = now; events = []; leads = refl };
   hopeful = record { each = silent-hopeful gate cut now };
   room = starts-room (path_setup gate policy cut) now;
@@ -160,8 +129,8 @@ pub sent-ready : (gate : Endpoint) (cut now x y : ℕ)
     → piece_count faces.Old cut (x ∷ y ∷ []) ≤ 64
     → IsPathReady (path_setup gate policy cut) (path_that_sent gate cut now (x ∷ y ∷ []))
 sent-ready gate cut now x y few = record {
-  linked = record { each = peers gate cut };
-  alike = record { each = alike gate cut };
+  linked = (fit gate cut).linked;
+  alike = (fit gate cut).alike;
   reached = record { start = now; events = sends ends.Old (x ∷ y ∷ []) ∷ []; leads = refl };
   hopeful = record { each = sent-hopeful gate cut now x y };
   room = sent-room gate cut now x y few;

@@ -4,8 +4,8 @@ use Rattle.path_room.proofs.CaseNotes.{path-notes}
 use Rattle.path_room.proofs.RoomLaws.{room-kept}
 use Rattle.path_room.proofs.RoomOwed.{room-starts}
 use Rattle.path_room.proofs.RunFacts.{nodes-red}
-use Rattle.path_drain_laws.specs.Completion.{PathEventsAreFew, PathRunsComplete}
-use Rattle.path_drain_laws.proofs.CompletionLemmas.{RoomLaws, path-completes, path-few}
+use Rattle.path_drain_laws.specs.Completion.{PathEventsAreFew, PathRunsComplete, PathRunsEnd}
+use Rattle.path_drain_laws.proofs.CompletionLemmas.{RoomLaws, path-completes, path-ends, path-few}
 
 room-laws : RoomLaws
 room-laws =
@@ -16,3 +16,6 @@ events-few = path-few room-laws
 
 pub runs-complete : PathRunsComplete
 runs-complete = path-completes room-laws
+
+pub runs-end : PathRunsEnd
+runs-end = path-ends room-laws

@@ -7,6 +7,8 @@ pub mod ShownLemmas
 pub mod PathSteps
 pub mod PathRuns
 pub mod WholeLemmas
+pub mod RunsEnd
 pub mod CompletionLemmas
 pub mod LawLemmas
+pub mod PolicyLemmas
 pub mod ExampleLemmas

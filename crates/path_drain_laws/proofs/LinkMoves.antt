@@ -1,7 +1,7 @@
 -- What happens on a link of a path that drains: the ranks there fall, and whatever is begun costs
 -- what it takes.
 
-use Rattle.std.proofs.Common.{◌≡◌, ℕ, suc, ◌+◌, ◌<◌, ◌≤◌, Bool, true, false, List}
+use Rattle.std.proofs.Common.{◌^◌, ◌≡◌, ℕ, suc, ◌+◌, ◌<◌, ◌≤◌, Bool, true, false, List}
 use Rattle.std.proofs.Common.{[], ◌∷◌, ◌++◌, length, drop, Option, None, Some, refl}
 use Rattle.std.proofs.Common.{sym, ◌∙◌, ap, arith, subst, nat_lt, if◌then◌else◌}
 use Rattle.std.proofs.lemmas.Bool.{lt-ltb}
@@ -36,11 +36,22 @@ pub record Moves (parties : Party × Party) (w0 w : World) (rank : End → ℕ �
   pub going : IsGoing parties w' c' rank'
   pub next : (o : End) → (at_end w.engines o).next ≤ (at_end w'.engines o).next
   pub bound : k + sum_of w' rank' + cost parties w0 w ≤ sum_of w rank + cost parties w0 w'
+  -- where nothing is begun
+  pub falls : ((o : End) → (at_end w'.engines o).next ≡ (at_end w.engines o).next)
+      → k + sum_of w' rank' ≤ sum_of w rank
+  pub numbers : ((o : End) → (at_end w.engines o).next ≤ 2 ^ 32) → (o : End)
+      → (at_end w'.engines o).next ≤ 2 ^ 32
 
 pub moves-none : (parties : Party × Party) (w0 w : World) (c : ℕ) (rank : End → ℕ → ℕ)
     → IsGoing parties w c rank → Moves parties w0 w rank 0 w c
-moves-none parties w0 w c rank going =
-    record { rank' = rank; going = going; next = λ o. omega arith; bound = omega arith }
+moves-none parties w0 w c rank going = record {
+  rank' = rank;
+  going = going;
+  next = λ o. omega arith;
+  bound = omega arith;
+  falls = λ same. omega arith;
+  numbers = λ low. low;
+}
 
 pub moves-then : (parties : Party × Party) (w0 w v x : World) (rank : End → ℕ → ℕ)
     (k c m e : ℕ) → (first : Moves parties w0 w rank k v c)
@@ -50,6 +61,12 @@ moves-then parties w0 w v x rank k c m e first later = record {
   going = later.going;
   next = λ o. omega (arith, first.next o, later.next o);
   bound = omega (arith, first.bound, later.bound);
+  falls = λ same. omega (
+    arith,
+    first.falls (λ o. omega (arith, first.next o, later.next o, same o)),
+    later.falls (λ o. omega (arith, first.next o, later.next o, same o)),
+  );
+  numbers = λ low. later.numbers (first.numbers low);
 }
 
 -- ---- sums at an end
@@ -185,6 +202,8 @@ clean-moves parties w0 w c rank event peers alike going clean grows =
         on.falls,
         costs-both parties w0 w (happens parties w event) grows on.next,
       );
+      falls = λ same. omega (arith, on.falls);
+      numbers = λ low o. omega (arith, low o, on.next o);
     }
 
 delivers-next : (w : World) (c : ℕ) → c < length w.sent → clean_event w c ≡ Some (deliver c)
@@ -248,6 +267,8 @@ ticked-moves parties w0 w c rank now peers going over reached = record {
     both-move parties w0 w (ticked-world parties w now) rank t.rank' first_end (at first_end)
         (at second_end),
   );
+  falls = λ same. omega (arith, lower);
+  numbers = λ low o. omega (arith, low o, ticked-next parties w now o);
 }
   where
     holds : DrainHolds SessionFacts parties (record { world = w; new = [] }) rank
@@ -272,6 +293,15 @@ ticked-moves parties w0 w c rank now peers going over reached = record {
 
     grows : Grows w (ticked-world parties w now)
     grows = subst (Grows w) (ticks-are parties w now) (ticked-grows parties w now)
+
+    ranks : (o : End) → ranks_at (ticked-world parties w now) t.rank' o ≤ ranks_at w rank o
+    ranks o = subst (λ (k : ℕ). sum_below k (t.rank' o) ≤ ranks_at w rank o)
+        (sym (ticked-next parties w now o))
+        (sum-below (at_end w.engines o).next (t.rank' o) (rank o)
+        (λ n low. omega (arith, t.less o n)))
+
+    lower : sum_of (ticked-world parties w now) t.rank' ≤ sum_of w rank
+    lower = omega (arith, ranks first_end, ranks second_end)
 
     at : (o : End) → EndMoves parties w0 w rank (ticked-world parties w now) t.rank' o
     at o = end-same parties w0 w (ticked-world parties w now) rank t.rank' o grows

@@ -64,7 +64,7 @@ stands-at (x ∷ xs) zero low = record { x = x; is = refl }
 stands-at (x ∷ xs) (suc k) low =
     let rest = stands-at xs k (omega (arith, low)) in record { x = rest.x; is = rest.is }
 
-clean-on : (s : PathSetup) (w0 w : Path) (c : ℕ) (rank : Face → End → ℕ → ℕ) (event : PathEvent)
+pub clean-on : (s : PathSetup) (w0 w : Path) (c : ℕ) (rank : Face → End → ℕ → ℕ) (event : PathEvent)
     → AreFit s → PathGoes s w0 w c rank → path_clean_event w c ≡ Some event
     → LeavesRoom s w event → PathOn s w0 w c rank event
 clean-on s w0 w c rank event fit goes clean room =
@@ -98,10 +98,10 @@ clean-on s w0 w c rank event fit goes clean room =
 -- ---- room
 
 -- what is new on each link
-abbrev new_on : Path → ℕ → Face → List Sent
+abbrev pub new_on : Path → ℕ → Face → List Sent
 new_on w c face = drop (counted_on face c w.sent) (sent_on face w.sent)
 
-path-stands : (s : PathSetup) (w0 w : Path) (c : ℕ) (rank : Face → End → ℕ → ℕ) → AreFit s
+pub path-stands : (s : PathSetup) (w0 w : Path) (c : ℕ) (rank : Face → End → ℕ → ℕ) → AreFit s
     → PathGoes s w0 w c rank → PathStands s w (new_on w c) rank
 path-stands s w0 w c rank fit goes = record {
   peers = fit.peers;
@@ -138,7 +138,7 @@ delivery-follows w c d is = (
   refl,
 )
 
-clean-follows : (w : Path) (c : ℕ) (event : PathEvent) → path_clean_event w c ≡ Some event
+pub clean-follows : (w : Path) (c : ℕ) (event : PathEvent) → path_clean_event w c ≡ Some event
     → MayFollow w (new_on w c) event
 clean-follows w c event clean = by_test (nat_lt c (length w.sent)) refl clean
   where
@@ -430,7 +430,7 @@ link-ready s w face well = record {
 abbrev pub first_ranks : PathSetup → Path → Face → End → ℕ → ℕ
 first_ranks s w face = first_rank (link_parties s face) (link_at face w)
 
-path-starts : (s : PathSetup) (w : Path) → StartsWell s w
+pub path-starts : (s : PathSetup) (w : Path) → StartsWell s w
     → PathGoes s w w (length w.sent) (first_ranks s w)
 path-starts s w well = record {
   going = λ face. subst (λ (c : ℕ). IsGoing (link_parties s face) (link_at face w) c

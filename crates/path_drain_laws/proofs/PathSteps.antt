@@ -2,7 +2,7 @@
 -- delivery of the oldest there, and then come the blocks that the gate submits; on the other link
 -- only these. A clock is one on both links.
 
-use Rattle.std.proofs.Common.{◌≡◌, ℕ, ◌+◌, ◌<◌, ◌≤◌, List, [], ◌∷◌}
+use Rattle.std.proofs.Common.{◌^◌, ◌≡◌, ℕ, ◌+◌, ◌<◌, ◌≤◌, List, [], ◌∷◌}
 use Rattle.std.proofs.Common.{◌++◌, length, Option, None, Some, ◌⊎◌, inl, inr, refl}
 use Rattle.std.proofs.Common.{sym, ◌∙◌, ap, arith, subst, ⊎_elim}
 use Rattle.std.proofs.lemmas.Bool.{cases_lt}
@@ -288,6 +288,15 @@ pub record PathOn (s : PathSetup) (w0 w : Path) (c : ℕ) (rank : Face → End �
   pub goes : PathGoes s w0 (path_step s w event).path (path_passed_after c event) rank'
   pub bound : 1 + path_sum (path_step s w event).path rank' + path_cost s w0 w ≤ path_sum w rank
       + path_cost s w0 (path_step s w event).path
+  pub more : (face : Face) (o : End) → (at_end (link_engines w face) o).next ≤ (at_end
+      (link_engines (path_step s w event).path face) o).next
+  -- where nothing is begun
+  pub falls : ((face : Face) (o : End) → (at_end (link_engines (path_step s w event).path face)
+      o).next ≡ (at_end (link_engines w face) o).next)
+      → 1 + path_sum (path_step s w event).path rank' ≤ path_sum w rank
+  pub numbers : ((face : Face) (o : End) → (at_end (link_engines w face) o).next ≤ 2 ^ 32)
+      → (face : Face) (o : End)
+      → (at_end (link_engines (path_step s w event).path face) o).next ≤ 2 ^ 32
   pub advances : (face : Face) → FaceAdvance s face w (path_step s w event).path
       (path_step s w event).effects.notes (path_step s w event).effects.ups
   pub begun : (face : Face) → AreBegun (link_parties s face) (link_at face w)
@@ -312,6 +321,14 @@ both-go s w0 w c rank event goes within each some = record {
     (each faces.Old).goes.moves.bound,
     (each faces.New).goes.moves.bound,
   );
+  more = λ face. (each face).goes.moves.next;
+  falls = λ same. omega (
+    arith,
+    some,
+    (each faces.Old).goes.moves.falls (same faces.Old),
+    (each faces.New).goes.moves.falls (same faces.New),
+  );
+  numbers = λ low face. (each face).goes.moves.numbers (low face);
   advances = λ face. (each face).goes.advances;
   begun = λ face. (each face).goes.begun;
 }

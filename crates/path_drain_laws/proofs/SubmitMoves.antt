@@ -4,7 +4,7 @@
 use Rattle.std.proofs.Common.{◌≡◌, ◌≢◌, ℕ, suc, ◌+◌, ◌^◌, ◌<◌, ◌≤◌, Bool, true, false, ◌==◌, List, []}
 use Rattle.std.proofs.Common.{◌∷◌, ◌++◌, length, drop, Option, None, Some, ◌⊎◌, inl, inr}
 use Rattle.std.proofs.Common.{refl, sym, ◌∙◌, ap, arith, subst, nat_lt, nat_le, if◌then◌else◌}
-use Rattle.std.proofs.lemmas.Bool.{eqb-false, eqb-true}
+use Rattle.std.proofs.lemmas.Bool.{eqb-false, eqb-true, leb-false}
 use Rattle.std.proofs.lemmas.Bool.Decides.{nat_tests}
 use Rattle.std.proofs.lemmas.List.{drop-append-le}
 use Rattle.ltp_segment.specs.Policy.{PolicyValue}
@@ -63,7 +63,8 @@ begun_world parties w me t = record {
 pub data SubmitIs (parties : Party × Party) (w : World) (me : End) (block : List ℕ) (w' : World)
     (log : List Submission) : Type 0 where
   refused_so : w' ≡ w → log ≡ [] → SubmitIs parties w me block w' log
-  begins_so : 1 ≤ length block → w' ≡ begun_world parties w me (begins_with parties w me block)
+  begins_so : 1 ≤ length block → (at_end w.engines me).next < 2 ^ 32
+      → w' ≡ begun_world parties w me (begins_with parties w me block)
       → log ≡ record {
         from = me;
         session = (at_end w.engines me).next;
@@ -88,7 +89,8 @@ submit-is parties w me block = by_length (nat_le (length block) (length block)) 
     is_some_octet [] is = absurd (cc)
     is_some_octet (x ∷ block) is = omega arith
 
-    by_tests : (empty : Bool) → (length block == 0) ≡ empty → (large spent busy : Bool)
+    by_tests : (empty : Bool) → (length block == 0) ≡ empty → (large spent : Bool)
+        → nat_le (2 ^ 32) (at_end w.engines me).next ≡ spent → (busy : Bool)
         → SubmitIs parties w me block
         (replies w me (session_of (at_end parties me).own (at_end w.engines me).next)
         (unless_refused (submits_unless (if empty then Some block_empty else if large
@@ -100,11 +102,12 @@ submit-is parties w me block = by_length (nat_le (length block) (length block)) 
         then Some block_too_large else if spent then Some numbers_spent else if busy
         then Some senders_busy else None) (at_end parties me) (at_end w.engines me) block
         (length block) w.now)))
-    by_tests true is large spent busy = refused_so refl refl
-    by_tests false is true spent busy = refused_so refl refl
-    by_tests false is false true busy = refused_so refl refl
-    by_tests false is false false true = refused_so refl refl
-    by_tests false is false false false = begins_so (is_some_octet block is) refl refl
+    by_tests true is large spent is_spent busy = refused_so refl refl
+    by_tests false is true spent is_spent busy = refused_so refl refl
+    by_tests false is false true is_spent busy = refused_so refl refl
+    by_tests false is false false is_spent true = refused_so refl refl
+    by_tests false is false false is_spent false = begins_so (is_some_octet block is)
+        (leb-false (2 ^ 32) (at_end w.engines me).next is_spent) refl refl
 
     by_length : (fits : Bool) → fits ≡ true → SubmitIs parties w me block
         (if fits then replies w me
@@ -114,7 +117,8 @@ submit-is parties w me block = by_length (nat_le (length block) (length block)) 
         (submit_reply parties w me block (length block)) else [])
     by_length false is = absurd (cc)
     by_length true is = by_tests (length block == 0) refl
-        (nat_lt (at_end parties me).most (length block)) (nat_le (2 ^ 32) (at_end w.engines me).next)
+        (nat_lt (at_end parties me).most (length block))
+        (nat_le (2 ^ 32) (at_end w.engines me).next) refl
         (nat_le 64 (length (at_end w.engines me).senders))
 
 -- ---- numbers
@@ -286,6 +290,7 @@ refused-moves parties w0 w c rank going = record {
 begun-moves : (parties : Party × Party) (w0 w : World) (c : ℕ) (rank : End → ℕ → ℕ) (me : End)
     (block : List ℕ) → ArePeers parties → IsGoing parties w c rank
     → ((o : End) → (at_end w0.engines o).next ≤ (at_end w.engines o).next)
+    → (at_end w.engines me).next < 2 ^ 32
     → Grows w (begun_world parties w me (begins_with parties w me block))
     → Room (begun_world parties w me (begins_with parties w me block))
     → IsReached parties (begun_world parties w me (begins_with parties w me block))
@@ -300,7 +305,7 @@ begun-moves : (parties : Party × Party) (w0 w : World) (c : ℕ) (rank : End �
       new = drop c w.sent ++ since w (begun_world parties w me (begins_with parties w me block));
     })
     → Moves parties w0 w rank 0 (begun_world parties w me (begins_with parties w me block)) c
-begun-moves parties w0 w c rank me block peers going before grows room reached used said more =
+begun-moves parties w0 w c rank me block peers going before below grows room reached used said more =
     record {
       rank' = more.rank';
       going = record {
@@ -312,10 +317,34 @@ begun-moves parties w0 w c rank me block peers going before grows room reached u
       };
       next = grows.next;
       bound = omega (arith, both-move parties w0 w w' rank more.rank' me here there);
+      falls = λ same. absurd (omega (
+        arith,
+        same me,
+        begun-next-here parties w me (begins_with parties w me block),
+      ));
+      numbers = numbers;
     }
   where
     w' : World
     w' = begun_world parties w me (begins_with parties w me block)
+
+    numbers : ((o : End) → (at_end w.engines o).next ≤ 2 ^ 32) → (o : End)
+        → (at_end (begun_world parties w me (begins_with parties w me block)).engines o).next ≤ 2
+        ^ 32
+    numbers low o = by (ends-two me o)
+      where
+        by : (o ≡ me) ⊎ (o ≡ other me) → (at_end (begun_world parties w me
+            (begins_with parties w me block)).engines o).next ≤ 2 ^ 32
+        by (inl here) = subst (λ (o : End). (at_end (begun_world parties w me
+            (begins_with parties w me block)).engines o).next ≤ 2 ^ 32) (sym here)
+            (omega (arith, below, begun-next-here parties w me (begins_with parties w me block)))
+        by (inr there) = subst (λ (o : End). (at_end (begun_world parties w me
+            (begins_with parties w me block)).engines o).next ≤ 2 ^ 32) (sym there)
+            (omega (
+              arith,
+              low (other me),
+              begun-next-there parties w me (begins_with parties w me block),
+            ))
 
     length-more : (xs ys : List Sent) → length xs ≤ length (xs ++ ys)
     length-more [] ys = omega arith
@@ -447,17 +476,17 @@ submit-moves parties w0 w c rank me block peers alike going before room =
         (submit me block (length block)))) (sym same)
         (subst (λ (log : List Submission). To w log) (sym none)
         (refused-moves parties w0 w c rank going))
-    go (left_alone left) (begins_so some same log) = absurd (
+    go (left_alone left) (begins_so some below same log) = absurd (
         let one : suc (at_end w.engines me).next ≡ (at_end w.engines me).next =
         sym (begun-next-here parties w me (begins_with parties w me block))
         ∙ ap (λ (w : World). (at_end w.engines me).next) (sym same ∙ left) in
         omega (arith, one))
-    go (one_more fits used said more) (begins_so some same log) =
+    go (one_more fits used said more) (begins_so some below same log) =
         subst (λ (w' : World). To w' (submissions_at parties w
         (submit me block (length block)))) (sym same)
         (subst (λ (log : List Submission). To (begun_world parties w me
         (begins_with parties w me block)) log) (sym log) (begins_one some grows
-        (begun-moves parties w0 w c rank me block peers going before grows
+        (begun-moves parties w0 w c rank me block peers going before below grows
         (subst Room same room)
         (subst (IsReached parties) same
         (reached-more parties w (submit me block (length block)) going.reached))
@@ -577,4 +606,6 @@ event-moves parties w0 w v rank k c es blocks peers alike before first advances 
       going = m.going;
       next = m.next;
       bound = omega (arith, m.bound);
+      falls = λ same. omega (arith, m.falls same);
+      numbers = m.numbers;
     }

@@ -80,6 +80,17 @@ PathEventsAreFew =
     → AreCleanOnPathFrom s w events
     → length events ≤ path_cost s w (path_run s w events)
 
+-- a clean run from a path that has no more events than its sessions cost
+pub record HasPathRun (s : PathSetup) (w : Path) : Type 0 where
+  pub n : ℕ
+  pub v : Path
+  pub run : PathCleanRun s w n v
+  pub bound : n ≤ path_cost s w v
+
+-- there is a clean run
+abbrev pub PathRunsEnd : Type 0
+PathRunsEnd = (s : PathSetup) (w : Path) → IsPathReady s w → HasPathRun s w
+
 -- n clean events are no more than the cost, and complete the sessions
 pub record Completes (s : PathSetup) (w : Path) (n : ℕ) (v : Path) (events : List PathEvent)
     : Type 0 where

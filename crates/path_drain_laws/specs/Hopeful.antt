@@ -1,14 +1,17 @@
 -- When a path that stops losing completes its sessions, and what that costs: what holds of a link
 -- holds of both.
 
-use Rattle.std.specs.Prelude.{◌≡◌, ℕ, ◌+◌, List}
+use Rattle.std.specs.Prelude.{◌≡◌, ℕ, ◌+◌, List, Ok}
+use Rattle.endpoint.specs.declared.name.Endpoint.{Endpoint}
+use Rattle.ltp_segment.specs.Policy.{PolicyValue, policy_of}
 use Rattle.link_laws.specs.View.{View, view}
 use Rattle.drain_laws.specs.Hopeful.{AreAlike, Hopeful, cost}
 use Rattle.gate_cases.specs.declared.face.Face.{Face}
 use Rattle.gate_cases.specs.declared.face.Face.TheVariants as faces
 use Rattle.path_laws.specs.declared.places.Place.{Place}
 use Rattle.path_laws.specs.Places.{link_of, link_end_of}
-use Rattle.path_laws.specs.Path.{PathSetup, Path, PathEvent, starts_path, path_run}
+use Rattle.path_laws.specs.Path.{PathSetup, Path, PathEvent, path_setup, starts_path, path_run}
+use Rattle.path_laws.specs.Laws.{IsLinked}
 use Rattle.path_laws.specs.Links.{link_parties, link_at}
 
 -- session n that a place sends across its link
@@ -19,6 +22,17 @@ session_at s w place n =
 -- the engines of each link are alike
 pub record AreAlikeOnPath (s : PathSetup) : Type 0 where
   pub each : (face : Face) → AreAlike (link_parties s face)
+
+-- the engines of each link name each other, and are alike
+pub record IsFitPath (s : PathSetup) : Type 0 where
+  pub linked : IsLinked s
+  pub alike : AreAlikeOnPath s
+
+-- so they are on every path that can be set up: whatever policy all four engines were given
+abbrev pub PathsAreFit : Type 0
+PathsAreFit =
+    (gate : Endpoint) (segment timeout limit cap cut : ℕ) (policy : PolicyValue)
+    → policy_of segment timeout limit cap ≡ Ok policy → IsFitPath (path_setup gate policy cut)
 
 -- a run leads to a path
 pub record IsPathReached (s : PathSetup) (w : Path) : Type 0 where

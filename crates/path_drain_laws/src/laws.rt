@@ -5,6 +5,8 @@ ghost use Rattle.path_laws.specs.Path.{PathSetup, Path, PathEvent, path_run};
 ghost use Rattle.path_drain_laws.specs.Clean.{AreCleanOnPath, AreCleanOnPathFrom, IsPathDrained};
 ghost use Rattle.path_drain_laws.specs.Clean.{path_clean_event, path_passed};
 ghost use Rattle.path_drain_laws.specs.Completion.{PathEventsAreFew, PathRunsComplete};
+ghost use Rattle.path_drain_laws.specs.Completion.{PathRunsEnd};
+ghost use Rattle.path_drain_laws.specs.Hopeful.{PathsAreFit};
 
 /// One clean event more, where the events before it are clean.
 pub fn clean_events_go_on()
@@ -23,11 +25,22 @@ pub fn nothing_is_left_where_none_follows()
         → IsPathDrained (path_run s w events) (path_passed (length w.sent) events) }
 {}
 
+/// On each link of a path the engines name each other and are alike, whatever policy they were given:
+/// so the laws below ask only that a path that was set up is hopeful, and has room.
+pub fn paths_are_fit()
+    ensures { PathsAreFit }
+{}
+
 /// From a hopeful path with room no list of clean events is longer than the sessions cost: 16 events
 /// for each that is kept at either end of its link or that is begun meanwhile, and one for each
 /// segment of its block.
 pub fn path_events_are_few()
     ensures { PathEventsAreFew }
+{}
+
+/// From such a path clean events lead to one on which nothing is left to do.
+pub fn path_runs_end()
+    ensures { PathRunsEnd }
 {}
 
 /// Where nothing is left to do, after no more events than the sessions cost, every session that was

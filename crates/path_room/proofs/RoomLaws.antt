@@ -36,7 +36,7 @@ use Rattle.path_room.proofs.PathSteps.{heard-room, heard_path, node_end, node-fo
 use Rattle.path_room.proofs.PathSteps.{node-room}
 use Rattle.path_room.proofs.RoomBack.{AreSubmits, roomy-through}
 use Rattle.path_room.proofs.RoomNotes.{arrival-notes, tick-notes_room}
-use Rattle.path_room.proofs.RoomOwed.{room-on_link}
+use Rattle.path_room.proofs.RoomOwed.{room-ends, room-on_link}
 
 -- ---- room after each block
 
@@ -181,6 +181,7 @@ event-leaves s w new rank (clock_shows now) stands roomy none = by (nat_lt now w
 pub room-kept : RoomIsKept
 room-kept s w new rank event stands roomy may =
     let leaves = event-leaves s w new rank event stands roomy may in record {
+      room = room-ends s (path_step s w event).path (leaves.kept).room;
       kept = leaves.kept;
       through = through-event s w event (leaves.kept).room;
       noted = none-for_room s _ w.now _ _ leaves.noted;

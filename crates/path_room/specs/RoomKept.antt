@@ -24,6 +24,7 @@ use Rattle.path_laws.specs.Path.{note_from, path_run, path_step, sends, starts_p
 use Rattle.path_laws.specs.Places.{face_place, link_end_of, link_of}
 use Rattle.path_room.specs.OnTheWay.{node_at}
 use Rattle.path_room.specs.Owing.{RoomOwing, none_owed}
+use Rattle.path_room.specs.PathRoom.{PathRoom}
 use Rattle.path_room.specs.Pieces.{HasLongPiece}
 
 -- ---- what is kept from event to event
@@ -87,6 +88,7 @@ HasNoReports now made = (now < 1000) ⊎ (2 ^ 32 ≤ made)
 
 -- what an event of a drain leaves of the room, and what it notes of it
 pub record RoomAfter (s : PathSetup) (w : Path) (event : PathEvent) : Type 0 where
+  pub room : PathRoom s (path_step s w event).path
   pub kept : IsRoomyPath s (path_step s w event).path
   -- on each link, after each block that the gate submits there
   pub through :

@@ -18,7 +18,7 @@ sys.dont_write_bytecode = True
 HERE = os.path.dirname(os.path.abspath(__file__))
 ROOT = os.path.dirname(HERE)
 NEEDED = ("sdnv", "cbor_lite", "endpoint", "spans", "wire_fields", "ltp_segment", "ltp_session", "ltp_sender",
-          "ltp_receiver", "link_laws", "ltp_engine", "ltp_world")
+          "ltp_receiver", "link_laws", "drain_laws", "ltp_engine", "ltp_world")
 NAME = "worlds_bench"
 SESSIONS = (100, 1_000, 10_000, 100_000)
 AGAIN = 1_000_000

@@ -11,7 +11,7 @@ use Rattle.edge_traits.specs.Outcome.{SourceTells, SinkTells, EndsAs, Wrote, Wen
 use Rattle.edge_traits.proofs.ContentLemmas.{Gains-none, Gains-more, Consumes-none, Consumes-more}
 use Rattle.edge_traits.proofs.FaultsLemmas.{NoneFailed-same, NoneFailed-more, LastFailed-after}
 use Rattle.command_frame.specs.Stops.{IsStop}
-use Rattle.command_frame.specs.Task.{Settling, IsQuiet, over, GoesOnTo, Takes}
+use Rattle.command_frame.specs.Task.{Settling, IsQuiet, WritesOfNothing, over, GoesOnTo, Takes}
 use Rattle.command_frame.specs.Within.{within}
 use Rattle.command_frame.proofs.WithinLemmas.{within-low, within-text, within-now, within-past, within-over, GoesOnTo-more}
 
@@ -74,7 +74,7 @@ pub record Going (Stands : Settling → Type 0) (Began : Type 0) (settles : Sett
   pub stands : Stands later
   pub quiet : IsQuiet later
   pub goes : GoesOnTo settles came text later
-  pub began : Began → 0 < length came
+  pub began : Began → 0 < length came + length (later at_end []).text
   pub size : length came ≡ count
   pub read : Consumes source.left source_now.left came
   pub reads : NoneFailed source.calls source_now.calls
@@ -105,7 +105,7 @@ module _ (most : ℕ) (Stands : Settling → Type 0) (Began : Type 0) (settles :
       wrote (Some input) (Some rest) None read kept = absurd kept
       wrote (Some input) (Some rest) (Some left) read kept = (going.came, rw kept read, rw now refl, rw now going.wrote)
 
-  -- there was no memory for octets, or for the end of octets, that came
+  -- there was no memory for octets that came
   module _ (later : SourceTells) (piece : List ℕ) (some : 0 < length (going.came ++ piece))
       (read : Consumes source.left later.left (going.came ++ piece)) (reads : NoneFailed source_now.calls later.calls) where
     pub ran-memory : Ran (within most settles) statuses.Memory source later sink sink_now
@@ -116,7 +116,7 @@ module _ (most : ℕ) (Stands : Settling → Type 0) (Began : Type 0) (settles :
           let (more, is) = within-text settles going.later going.came going.text going.goes most inside at_end (piece ++ rest) in
           let long : 0 < length (going.came ++ (piece ++ rest)) =
           omega (arith, length-append going.came (piece ++ rest), length-append piece rest, length-append going.came piece, some) in
-          (long, gains-front sink.held sink_now.held going.text _ more going.wrote is));
+          (omega (arith, long), gains-front sink.held sink_now.held going.text _ more going.wrote is));
       reads = NoneFailed-more source.calls source_now.calls later.calls going.reads reads;
       writes = going.writes;
       to_end = λ done. absurd (cc);
@@ -291,11 +291,24 @@ module _ (most : ℕ) (Stands : Settling → Type 0) (Began : Type 0) (settles :
     }
 
   -- there was no memory for the end of the input
-  pub ran-end-memory : (later : SourceTells) → Consumes source.left later.left going.came → NoneFailed source_now.calls later.calls
+  pub ran-end-memory : (later : SourceTells) → Consumes source.left later.left going.came → IsAtEnd later.left → NoneFailed source_now.calls later.calls
       → Began → Ran (within most settles) statuses.Memory source later sink sink_now
-  ran-end-memory later read reads began =
-      let some : 0 < length (going.came ++ []) = rw (append-nil going.came) (going.began began) in
-      ran-memory later [] some (rw (append-nil going.came) read) reads
+  ran-end-memory later read end reads began = record {
+    wrote = on_end (λ input. Wrote (within most settles) statuses.Memory input later.left sink.held sink_now.held)
+        source.left later.left going.came read end
+        (wanted, gains-front sink.held sink_now.held going.text _ (going.later at_end []).text going.wrote text);
+    reads = NoneFailed-more source.calls source_now.calls later.calls going.reads reads;
+    writes = going.writes;
+    to_end = λ done. absurd (cc);
+  }
+    where
+      text : (within most settles at_end going.came).text ≡ going.text ++ (going.later at_end []).text
+      text =
+          let all = going.goes at_end [] in
+          ap (λ (s : Settled). s.text) (within-low most settles at_end going.came inside ∙ (rw (append-nil going.came) at all))
+
+      wanted : 0 < length going.came + length (within most settles at_end going.came).text
+      wanted = omega (arith, going.began began, ap length text, length-append going.text (going.later at_end []).text)
 
 -- ---- one read
 
@@ -335,7 +348,7 @@ read-end a b c came buffer n none first took =
     (rw (append-nil came) at read, last.ends refl)
 
 pub going-start : (Stands : Settling → Type 0) (Began : Type 0) (settles : Settling) (source : SourceTells) (sink : SinkTells)
-    → Stands settles → IsQuiet settles → (Began → ⊥) → Going Stands Began settles source source sink sink 0
+    → Stands settles → IsQuiet settles → (Began → WritesOfNothing settles) → Going Stands Began settles source source sink sink 0
 going-start Stands Began settles source sink stands quiet fresh = record {
   came = [];
   text = [];
@@ -343,7 +356,7 @@ going-start Stands Began settles source sink stands quiet fresh = record {
   stands = stands;
   quiet = quiet;
   goes = λ ends more. refl;
-  began = λ began. absurd (fresh began);
+  began = λ began. omega (arith, fresh began);
   size = refl;
   read = Consumes-none source.left;
   reads = NoneFailed-same source.calls;

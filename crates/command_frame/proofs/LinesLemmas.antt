@@ -7,7 +7,7 @@ use Rattle.edge_traits.specs.declared.status.Status.TheVariants as statuses
 use Rattle.edge_traits.specs.Settled.{Ends, at_end, goes_on, Settled, nothing_yet, put_before}
 use Rattle.command_frame.specs.InputLines.{lines_of, ended_part, open_part}
 use Rattle.command_frame.specs.Stops.{IsStop}
-use Rattle.command_frame.specs.Task.{Settling, IsQuiet, over, GoesOnTo, Takes, Feeds, Finishes}
+use Rattle.command_frame.specs.Task.{Settling, IsQuiet, over, GoesOnTo, Takes, Feeds, Finishes, WritesOfNothing}
 use Rattle.command_frame.specs.Lines.{Turn, passes, ends_run, LineRules, turn_at, after_turn, lines_settle, opens_past, open_ending, lines_from, by_lines, TurnsAs, EndsAs, InLine}
 use Rattle.command_frame.proofs.InputLinesLemmas.{Begins, open-begins, ended-open, plain-append, open-some, no-lines, ended-line, lines-line, open-line}
 
@@ -163,6 +163,11 @@ module _ {S : Type 0} (rules : LineRules S) where
           added = ends.added;
           ends = stands.is at_end [] ∙ (lines-done n stands.state rest none ∙ ends-so (rules.finish stands.state) status ends.ends);
         }
+
+    -- nothing came of the line, and something is to be written where the input ends here
+    pub finish-writes : rest ≡ [] → 0 < length (rules.finish stands.state).text → WritesOfNothing settles
+    finish-writes none some =
+        rw (stands.is at_end [] ∙ lines-done n stands.state rest (ap length none)) some
 
     last-settles : 0 < length rest → settles at_end [] ≡ after_turn (rules.step n stands.state rest) rules.finish
     last-settles some =

@@ -1,5 +1,5 @@
 -- A command that is answered as its input comes, by what the octets still to come settle.
-use Rattle.std.specs.Prelude.{◌≡◌, ℕ, List, [], ◌++◌, Option, None, Some}
+use Rattle.std.specs.Prelude.{◌≡◌, ℕ, ◌<◌, List, [], ◌++◌, length, Option, None, Some}
 use Rattle.edge_traits.specs.declared.status.Status.{Status}
 use Rattle.edge_traits.specs.Settled.{Ends, at_end, goes_on, Settled, nothing_yet, put_before}
 use Rattle.command_frame.specs.Stops.{IsStop}
@@ -11,6 +11,10 @@ Settling = Ends → List ℕ → Settled
 -- nothing is settled before octets come
 abbrev pub IsQuiet : Settling → Type 0
 IsQuiet settles = settles goes_on [] ≡ nothing_yet
+
+-- an input without octets has an answer that writes something
+abbrev pub WritesOfNothing : Settling → Type 0
+WritesOfNothing settles = 0 < length (settles at_end []).text
 
 -- how the run ends is settled, whatever follows
 abbrev pub over : Status → Settling

@@ -1,7 +1,7 @@
 //! The loop that every command which reads runs in.
 ghost use Rattle.edge_traits.specs.Content.{most_input};
 ghost use Rattle.edge_traits.specs.Outcome.{Ran, source_tells, sink_tells};
-ghost use Rattle.command_frame.specs.Task.{Settling, IsQuiet};
+ghost use Rattle.command_frame.specs.Task.{Settling, IsQuiet, WritesOfNothing};
 ghost use Rattle.command_frame.specs.Within.{within};
 
 use crate::task::Task;
@@ -19,7 +19,7 @@ pub fn drive<T: Task, S: Source, K: Sink>(
     source: &mut S,
     sink: &mut K,
 ) -> Status
-    requires fresh { T.Began task.old → ⊥ }
+    requires fresh { (settles : Settling) → T.Stands task.old settles → T.Began task.old → WritesOfNothing settles }
     ensures { (settles : Settling) → T.Stands task.old settles → IsQuiet settles → Ran (within most_input settles) result
         (source_tells S.left S.faults S.failing source.old) (source_tells S.left S.faults S.failing source.new)
         (sink_tells K.held K.faults K.failing sink.old) (sink_tells K.held K.faults K.failing sink.new) }

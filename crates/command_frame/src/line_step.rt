@@ -19,7 +19,8 @@ pub trait LineStep {
     // Its limits on lines, what a line brings about, and how the run ends after the last.
     ghost rules: { LineRules State };
 
-    // Its end may want memory, also where the last line has ended.
+    // Its end may want memory, also where the last line has ended. Before the first line that is so
+    // only where there is something to write.
     ghost Began: { Self → Type 0 };
 
     /// The most lines of an input.

@@ -3,7 +3,7 @@ ghost use Rattle.std.specs.Prelude.{◌≡◌, ◌^◌, false, ◌<◌, ◌++◌
 ghost use Rattle.std.specs.String.{string_bytes};
 ghost use Rattle.edge_traits.specs.Outcome.{IsAnswer};
 ghost use Rattle.command_frame.specs.InputLines.{ended_part};
-ghost use Rattle.command_frame.specs.Task.{Settling, Feeds, Finishes};
+ghost use Rattle.command_frame.specs.Task.{Settling, WritesOfNothing, Feeds, Finishes};
 ghost use Rattle.command_frame.specs.Lines.{InLine, by_lines};
 
 use crate::input_lines::cut_line;
@@ -39,7 +39,9 @@ impl<L: LineStep + Drop> LineReader<L> {
     pub fn new(alloc: Global, step: L) -> LineReader<L>
         ensures stands { (start : L.State) → L.Shows step start
             → ⟦<LineReader<L> as Task>⟧.Stands result (by_lines L.rules start) }
-        ensures fresh { (L.Began step → ⊥) → ⟦<LineReader<L> as Task>⟧.Began result → ⊥ }
+        ensures fresh { ((state : L.State) → L.Shows step state → L.Began step → 0 < length (L.rules.finish state).text)
+            → (settles : Settling) → ⟦<LineReader<L> as Task>⟧.Stands result settles → ⟦<LineReader<L> as Task>⟧.Began result
+            → WritesOfNothing settles }
     {
         LineReader {
             step,

@@ -13,7 +13,8 @@ pub trait Task {
     // The octets still to come settle this.
     ghost Stands: { Self → Settling → Type 0 };
 
-    // Octets came for which its end may want memory: of a task that was told none it isn't so.
+    // Its end may want memory: of a task that was told no octets that is so only where there is
+    // something to write.
     ghost Began: { Self → Type 0 };
 
     /// Takes the next octets and appends the text that they settle: the status, `Refused` or

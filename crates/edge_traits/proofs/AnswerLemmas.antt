@@ -46,7 +46,7 @@ ran_memory answer source source_now sink some reads = record {
     wrote : (left : Option (List ℕ)) → IfSome left (λ input. 0 < length input)
         → IfSome left (λ input. Wrote (gathered answer) statuses.Memory input source_now.left sink.held sink.held)
     wrote None some = tt
-    wrote (Some input) some = (some, GainsFront-none sink.held (answer input).text)
+    wrote (Some input) some = (omega (arith, some), GainsFront-none sink.held (answer input).text)
 
 -- what was read was answered: its answer is that to the input, and no answer to an input past the
 -- limit is Done

@@ -1,5 +1,5 @@
 -- How a run ends, and what that says of the octets written and of the calls made.
-use Rattle.std.specs.Prelude.{◌≡◌, ℕ, ◌<◌, List, ◌++◌, length, Bool, Option, None, Some, Result, Ok, Err, IfSome, IsSomeAnd}
+use Rattle.std.specs.Prelude.{◌≡◌, ℕ, ◌<◌, ◌+◌, List, ◌++◌, length, Bool, Option, None, Some, Result, Ok, Err, IfSome, IsSomeAnd}
 use Rattle.std.specs.Io.KnownBytes.{IsAtEnd}
 use Rattle.edge_traits.specs.declared.status.Status.{Status}
 use Rattle.edge_traits.specs.declared.status.Status.TheVariants.{Done, Refused, Usage, ReadFault, WriteFault, Limit, Memory}
@@ -65,8 +65,9 @@ Wrote settles ReadFault input left before now = IsSomeAnd left (λ rest. (taken 
     × (input ≡ taken ++ rest) × ((settles goes_on taken).ends ≡ None) × Gains before now (settles goes_on taken).text)
 -- after a failed write, or for want of memory, a front of what the input settles
 Wrote settles WriteFault input left before now = GainsFront before now (settles at_end input).text
--- memory is wanted only for octets that came
-Wrote settles Memory input left before now = (0 < length input) × GainsFront before now (settles at_end input).text
+-- memory is wanted only where octets came, or where text is due
+Wrote settles Memory input left before now =
+    (0 < length input + length (settles at_end input).text) × GainsFront before now (settles at_end input).text
 Wrote settles Usage input left before now = ⊥
 
 -- the reads of a run that ended so; no command's run ends as wrong usage

@@ -7,7 +7,7 @@ use Rattle.command_frame.proofs.driver.drive.Goals as goal
 
 pub reading-init : goal.reading-init
 reading-init g c = record {
-  going = λ settles stands quiet. going-start _ _ settles _ _ stands quiet c.requires.fresh;
+  going = λ settles stands quiet. going-start _ _ settles _ _ stands quiet (c.requires.fresh settles stands);
   low = omega arith;
 }
 
@@ -22,7 +22,7 @@ pub returns-in-Err-finish : goal.returns-in-Err-finish
 returns-in-Err-finish g c = λ settles stands quiet.
     let going = c.reading.invariant.going settles stands quiet in
     let ended = read-end _ _ _ going.came c.read_once.new.buffer c.in-Ok.n c.if-n-eq0.true going.read c.in-Ok.ensures.took in
-    ran-end-memory most_input _ _ settles _ _ _ _ c.reading.taken going c.reading.invariant.low _ ended.0 c.in-Ok.ensures.calls
+    ran-end-memory most_input _ _ settles _ _ _ _ c.reading.taken going c.reading.invariant.low _ ended.0 ended.1 c.in-Ok.ensures.calls
     c.in-Err-finish.ensures.memory
 
 pub returns-in-Err-write_all : goal.returns-in-Err-write_all

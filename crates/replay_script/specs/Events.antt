@@ -179,6 +179,15 @@ event_by (first ∷ words) =
 unfoldable pub event_of : List ℕ → Result Event LineFault
 event_of line = event_by (words_of line)
 
+-- the first of some words is this one
+abbrev pub begins_with : List ℕ → List (List ℕ) → Bool
+begins_with text [] = false
+begins_with text (first ∷ words) = is_word first text
+
+-- the first word of a line is `path`
+unfoldable pub is_path_line : List ℕ → Bool
+is_path_line line = begins_with (codes "path") (words_of line)
+
 -- ---- the lines of `node`
 
 -- hex, which may be left out after `send`

@@ -1,7 +1,8 @@
 //! The lines of scripts and transcripts: what a script makes happen, and what happened.
 //!
 //! [`read_line`] reads a line of a script for two engines and a gate between them, and
-//! [`read_node_line`] one for a single engine. A line is words separated by single spaces: numbers
+//! [`read_node_line`] one for a single engine; [`is_path_line`] says which line of a script is to be
+//! the first. A line is words separated by single spaces: numbers
 //! are decimal without leading zeros and below 2^64, octets are hex of either case. A line is
 //! judged before memory is taken for it, so that a refusal costs none.
 //!
@@ -30,5 +31,5 @@ pub use fault::LineFault;
 pub use line::{Line, Route, Site};
 pub use numeral::number_in;
 pub use path::is_gate;
-pub use reading::{gate_in, read_line, read_node_line};
+pub use reading::{gate_in, is_path_line, read_line, read_node_line};
 pub use writing::{push_line, write_line};

@@ -1,13 +1,14 @@
 //! Reading a line.
 
 ghost use Rattle.std.specs.Prelude.{◌≡◌, true, is_some, Some, IsOk, IfOk};
-ghost use Rattle.replay_script.specs.Events.{event_of, node_event_of, gate_of, Reads};
+ghost use Rattle.replay_script.specs.Events.{event_of, node_event_of, is_path_line, gate_of, Reads};
 ghost use Rattle.replay_script.specs.Ties.{event_in, node_event_in};
 
 use crate::event::{Event, NodeEvent};
 use crate::fault::LineFault;
 use crate::hexadecimal::octets_in;
 use crate::judging::{NodeSaid, Said, judge, judge_node};
+use crate::words::Words;
 use endpoint::Endpoint;
 use std::alloc::{AllocError, Global};
 
@@ -18,6 +19,18 @@ pub fn read_line(alloc: Global, line: &[u8]) -> Result<Event, LineFault>
     ensures exact { Reads (event_of line.now) result }
 {
     owned(alloc, judge(line)?)
+}
+
+/// Whether the first word of a line is `path`, whatever else it has.
+#[tactic(auto, unfolding(crate::specs::Events::is_path_line))]
+pub fn is_path_line(line: &[u8]) -> bool
+    ensures { result ≡ is_path_line line.now }
+{
+    let mut words = Words::of(line);
+    match words.next() {
+        Some(first) => first == b"path".as_slice(),
+        None => false,
+    }
 }
 
 /// The event that a line of a script for one engine says. The line is given without its LF.

@@ -1,16 +1,18 @@
 //! The lines that `node` writes.
 
-ghost use Rattle.std.specs.Prelude.{◌≡◌, ◌++◌, None, Some, OnOk};
+ghost use Rattle.std.specs.Prelude.{◌≡◌, ◌++◌, None, OnOk};
 ghost use Rattle.std.specs.List.{flat_map};
 ghost use Rattle.std.specs.String.{string_bytes};
 ghost use Rattle.ltp_session.specs.Engine.{SubmitFault};
 ghost use Rattle.ltp_engine.specs.Refused.{refusal_of};
-ghost use Rattle.replay_script.specs.Lines.{line_text, numbers, if_word};
-ghost use Rattle.node_run.specs.WrittenLines.{out_line, up_line, green_line, note_line, note_details, effects_text, block_line, refusal_line};
+ghost use Rattle.replay_script.specs.Lines.{line_text};
+ghost use Rattle.note_lines.specs.NoteLines.{note_line};
+ghost use Rattle.node_run.specs.WrittenLines.{out_line, up_line, green_line, effects_text, block_line, refusal_line};
 
 use endpoint::Octets;
 use ltp_engine::{Effects, Greens, Notes, SubmitRefused, Up, Ups};
 use ltp_segment::{Green, Note, Outs};
+use note_lines::{details_of, push_note};
 use replay_script::{Line, LineFault, push_line};
 use std::alloc::{AllocError, Global};
 
@@ -105,7 +107,7 @@ fn write_green(alloc: Global, text: &mut String, green: Green) -> Result<(), All
 
 /// Writes notes.
 fn write_notes(alloc: Global, text: &mut String, notes: Notes) -> Result<(), AllocError>
-    ensures { OnOk result (string_bytes text.new ≡ string_bytes text.old ++ flat_map note_line notes) }
+    ensures { OnOk result (string_bytes text.new ≡ string_bytes text.old ++ flat_map (note_line None) notes) }
 {
     'each: for note in notes.into_vec() {
         write_note(alloc, text, note)?;
@@ -114,78 +116,10 @@ fn write_notes(alloc: Global, text: &mut String, notes: Notes) -> Result<(), All
 }
 
 /// Writes a note.
-#[tactic(auto, unfolding(replay_script::specs::Lines::line_text))]
 fn write_note(alloc: Global, text: &mut String, note: Note) -> Result<(), AllocError>
-    ensures { OnOk result (string_bytes text.new ≡ string_bytes text.old ++ note_line note) }
+    ensures { OnOk result (string_bytes text.new ≡ string_bytes text.old ++ note_line None note) }
 {
-    let details = details_of(note);
-    let line = Line::Note {
-        site: None,
-        name: note.name(),
-        first: details.first,
-        second: details.second,
-        word: details.word,
-    };
-    push_line(alloc, &line, text)
-}
-
-/// What a note says after its name: numbers, the second only with the first, and a word.
-#[derive(Clone, Copy, Debug)]
-pub struct Details {
-    first: Option<u64>,
-    second: Option<u64>,
-    word: Option<&'static str>,
-}
-
-impl Details {
-    /// A session's number.
-    fn session(session: u64) -> Details
-        ensures { result ≡ record { first = Some session; second = None; word = None } }
-    {
-        Details {
-            first: Some(session),
-            second: None,
-            word: None,
-        }
-    }
-
-    /// A session's number, and another.
-    fn numbers(session: u64, second: u64) -> Details
-        ensures { result ≡ record { first = Some session; second = Some second; word = None } }
-    {
-        Details {
-            first: Some(session),
-            second: Some(second),
-            word: None,
-        }
-    }
-}
-
-/// What a note says after its name.
-fn details_of(note: Note) -> Details
-    ensures { numbers result.first result.second ++ if_word result.word ≡ note_details note }
-{
-    match note {
-        Note::Sent { session }
-        | Note::Evicted { session }
-        | Note::BadBounds { session }
-        | Note::Closed { session }
-        | Note::HistoryFull { session } => Details::session(session),
-        Note::Failed { session, reason } | Note::Cancelled { session, reason } => {
-            Details::numbers(session, u64::from(reason))
-        }
-        Note::Refused { session, service } => Details::numbers(session, service),
-        Note::Stranger => Details {
-            first: None,
-            second: None,
-            word: None,
-        },
-        Note::BadSegment { at, cause } => Details {
-            first: Some(at as u64),
-            second: None,
-            word: Some(cause.word()),
-        },
-    }
+    push_note(alloc, text, None, note.name(), details_of(note))
 }
 
 /// Writes that a block isn't sent.

@@ -1,0 +1,4 @@
+mod PlainLemmas
+mod UpLemmas
+mod StartLemmas
+pub mod ScriptLemmas

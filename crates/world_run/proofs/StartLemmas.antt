@@ -1,0 +1,100 @@
+-- What the first line of a script says, where it sets up a path.
+use Rattle.std.proofs.Common.{◌≡◌, ℕ, ◌≤◌, Bool, true, false, List, Result, Ok, Err, inl, inr, refl, sym, ap, arith, if◌then◌else◌}
+use Rattle.endpoint.specs.declared.name.Endpoint.{Endpoint}
+use Rattle.ltp_segment.specs.Policy.{PolicyValue}
+use Rattle.ltp_session.specs.World.{ArePeers}
+use Rattle.gate_cases.specs.declared.face.Face.{Face}
+use Rattle.gate_cases.specs.declared.face.Face.TheVariants as faces
+use Rattle.replay_script.specs.declared.event.Event.{Event}
+use Rattle.replay_script.specs.declared.event.Event.TheVariants as events
+use Rattle.replay_script.specs.declared.fault.LineFault.{LineFault}
+use Rattle.replay_script.specs.declared.fault.LineFault.TheVariants as faults
+use Rattle.replay_script.specs.Events.{event_of, is_path_line, Reads}
+use Rattle.replay_script.specs.Laws.{IsSoundPath}
+use Rattle.replay_script.proofs.PathLemmas.{path_sound}
+use Rattle.path_laws.specs.Path.{path_setup}
+use Rattle.path_laws.specs.Links.{link_parties}
+use Rattle.path_laws.specs.Laws.{IsLinked}
+use Rattle.world_run.specs.World.{PathStart, first_said, start_said, start_in}
+
+-- what was read as a path is one, and the first line says it
+module _ (line : List ℕ) (gate : Endpoint) (segment timeout limit cut moment longest : ℕ) where
+  abbrev path : Event
+  path = events.Path gate segment timeout limit cut moment longest
+
+  first_event : first_said line ≡ Ok path → event_of line ≡ Ok path
+  first_event is = by_test (is_path_line line) is
+    where
+      by_test : (t : Bool) → (if t then event_of line else Err faults.Word) ≡ Ok path → event_of line ≡ Ok path
+      by_test true is = is
+      by_test false is = absurd (cc)
+
+  pub was_said : Reads (first_said line) (Ok path) → first_said line ≡ Ok path
+  was_said (inl is) = sym is
+  was_said (inr (memory, some)) = absurd (cc)
+
+  pub read_sound : Reads (first_said line) (Ok path) → IsSoundPath gate segment timeout limit cut longest
+  read_sound reads = path_sound line gate segment timeout limit cut moment longest (first_event (was_said reads))
+
+-- the name and the numbers that a line says
+pub record StartSays (line : List ℕ) (start : PathStart) : Type 0 where
+  pub gate : Endpoint
+  pub policy : PolicyValue
+  pub cut : ℕ
+  pub sound : IsSoundPath gate policy.segment policy.timeout policy.limit cut policy.cap
+  pub start_is : start ≡ record { setup = path_setup gate policy cut; now = start.now }
+
+module _ (line : List ℕ) (start : PathStart) where
+  by_event : (said : Result Event LineFault) → event_of line ≡ said → start_said said ≡ Ok start → StartSays line start
+  by_event (Ok (events.Path gate segment timeout limit cut moment longest)) said is =
+      let sound = path_sound line gate segment timeout limit cut moment longest said in
+      let same : record {
+        setup = path_setup gate (record { segment = segment; timeout = timeout; limit = limit; cap = longest }) cut;
+        now = moment;
+      } ≡ start = cc in
+      rw (sym same) (record {
+        gate = gate;
+        policy = record { segment = segment; timeout = timeout; limit = limit; cap = longest };
+        cut = cut;
+        sound = sound;
+        start_is = refl;
+      })
+  by_event (Ok (events.Send old body)) said is = absurd (cc)
+  by_event (Ok (events.Deliver k)) said is = absurd (cc)
+  by_event (Ok (events.Clock now)) said is = absurd (cc)
+  by_event (Ok events.Drain) said is = absurd (cc)
+  by_event (Err fault) said is = absurd (cc)
+
+  pub start_says : start_in line ≡ Ok start → StartSays line start
+  unfolding start_in
+  start_says is = by_test (is_path_line line) is
+    where
+      by_test : (t : Bool) → start_said (if t then event_of line else Err faults.Word) ≡ Ok start → StartSays line start
+      by_test true is = by_event (event_of line) refl is
+      by_test false is = absurd (cc)
+
+-- the engines of a path that is set up so name each other
+linked : (gate : Endpoint) (policy : PolicyValue) (cut : ℕ) → 1 ≤ policy.segment → IsLinked (path_setup gate policy cut)
+linked gate policy cut some = record { each = by_face }
+  where
+    by_face : (face : Face) → ArePeers (link_parties (path_setup gate policy cut) face)
+    by_face faces.Old = record {
+      differ = λ same. omega (arith, same);
+      first_knows = refl;
+      second_knows = refl;
+      first_cuts = some;
+      second_cuts = some;
+    }
+    by_face faces.New = record {
+      differ = λ same. omega (arith, same);
+      first_knows = refl;
+      second_knows = refl;
+      first_cuts = some;
+      second_cuts = some;
+    }
+
+pub starts_linked : (line : List ℕ) (start : PathStart) → start_in line ≡ Ok start → IsLinked start.setup
+starts_linked line start is =
+    let says = start_says line start is in
+    rw (ap (λ (s : PathStart). s.setup) says.start_is)
+    (linked says.gate says.policy says.cut (omega (arith, says.sound.segments.0)))

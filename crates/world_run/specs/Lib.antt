@@ -1,0 +1,5 @@
+-- what `world` writes
+pub mod WrittenLines
+pub mod World
+-- what its text says of a script
+pub mod Headline

@@ -1,0 +1,13 @@
+//! The command `world`: a script of sends, deliveries and clocks on a whole path, replayed exactly.
+//!
+//! The first line of the input sets up a path: an old node, the gate and a new node, with a link
+//! between each two. Each line after it is an event there: an end sends a bundle (`send`), one of all
+//! datagrams that were ever sent comes to where it was sent (`deliver`), or time passes (`clock`). What
+//! happens is written with the line.
+//!
+//! The definition is `specs/World.antt`: the steps of a path of `path_laws` over the events, as lines.
+//! [`laws::worlds_keep_headline`] says what the `up` lines of a text are: each block comes whole, once
+//! in its session, and as it was sent. What runs a script isn't here yet.
+#![tactic(auto)]
+
+pub mod laws;

@@ -10,3 +10,4 @@ pub mod Laws
 pub mod Legal
 pub mod Given
 pub mod Taking
+pub mod Checking

@@ -58,7 +58,7 @@ pub struct Standing {
 
 /// How the reading goes on.
 #[derive(Clone, Copy, Debug, PartialEq, Eq, Drop)]
-enum Next {
+pub(crate) enum Next {
     /// After so many octets of those that are left.
     After(usize),
     /// Not at all: the run ends with a refusal.

@@ -11,11 +11,14 @@
 //!
 //! What a command answers is one definition from octets to the text and the status
 //! (`specs/Answering.antt`). A [`BundleReader`] is told the octets as they come, and keeps those of at
-//! most one unfinished bundle, and of the fragments that aren't joined yet; `command_frame` drives it,
-//! and writes what is settled before it reads on.
+//! most one unfinished bundle, and of the fragments that aren't joined yet; for `check`, which wants no
+//! bundle, a `CheckReader` keeps of one of version 6 the primary block alone. `command_frame` drives
+//! both, and writes what is settled before it reads on.
 #![tactic(auto)]
 
+mod begun;
 mod bundle_reader;
+mod check_reader;
 mod commands;
 mod convert;
 mod fragmenting;

@@ -3,6 +3,7 @@ ghost use Rattle.edge_traits.specs.Outcome.{Ran, source_tells, sink_tells};
 ghost use Rattle.bundle_runs.specs.Answering.{settles};
 
 use crate::bundle_reader::BundleReader;
+use crate::check_reader::CheckReader;
 use crate::commands::command::Command;
 use command_frame::drive;
 use edge_traits::{Sink, Source, Status};
@@ -25,6 +26,14 @@ pub fn bundles<S: Source, K: Sink>(
         (source_tells S.left S.faults S.failing source.old) (source_tells S.left S.faults S.failing source.new)
         (sink_tells K.held K.faults K.failing sink.old) (sink_tells K.held K.faults K.failing sink.new) }
 {
-    let mut reader = BundleReader::new(alloc, command);
-    drive(alloc, &mut reader, source, sink)
+    match command {
+        Command::Check => {
+            let mut reader = CheckReader::new(alloc);
+            drive(alloc, &mut reader, source, sink)
+        }
+        _ => {
+            let mut reader = BundleReader::new(alloc, command);
+            drive(alloc, &mut reader, source, sink)
+        }
+    }
 }

@@ -1,10 +1,16 @@
 use Rattle.std.proofs.Common.{[]}
 use Rattle.edge_traits.specs.Settled.{goes_on}
+use Rattle.bundle_runs.specs.declared.commands.command.Command.TheVariants.{Check}
 use Rattle.bundle_runs.specs.Answering.{settles_from}
 use Rattle.bundle_runs.proofs.FrontsLemmas.{settles-none}
 use Rattle.bundle_runs.proofs.commands.bundles.bundles.Goals as goal
 
-pub returns : goal.returns
-returns g c = record {
-  ran = c.drive.ensures (settles_from c.args.command [] 1 0) c.new-reader.ensures.stands (settles-none c.args.command [] 1 0 goes_on);
+pub returns-in-Check : goal.returns-in-Check
+returns-in-Check g c = rw c.in-Check.is (record {
+  ran = c.drive.ensures (settles_from Check [] 1 0) c.new-reader.ensures.stands (settles-none Check [] 1 0 goes_on);
+})
+
+pub returns-in_default : goal.returns-in_default
+returns-in_default g c = record {
+  ran = c.drive-in_default.ensures (settles_from c.args.command [] 1 0) c.new-reader-in_default.ensures.stands (settles-none c.args.command [] 1 0 goes_on);
 }

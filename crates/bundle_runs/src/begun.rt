@@ -1,0 +1,105 @@
+//! The bundle that has begun, of which only the version is wanted.
+ghost use Rattle.std.specs.Prelude.{◌≡◌, ◌+◌, ◌<◌, ◌≤◌, length, false, IfOk, IsSomeAnd};
+ghost use Rattle.bundle6.specs.Streaming.{Reading};
+ghost use Rattle.bundle_runs.specs.declared.unfinished.Unfinished.{Unfinished};
+ghost use Rattle.bundle_runs.specs.declared.unfinished.Unfinished.TheVariants as bundles;
+ghost use Rattle.bundle_runs.specs.Front.{front_of};
+ghost use Rattle.bundle_runs.specs.Taking.{HasBegunWith, IsReady, IsCut, IsCutAt};
+ghost use Rattle.bundle_runs.specs.Checking.{StandsFor, MayTake, JudgesMore};
+
+use crate::front::Cause;
+use crate::given::{Given, SEVEN, SIX};
+use crate::unfinished::judge7;
+use bundle_judges::Judge6;
+use bundle6::{Fail6, Judged6};
+use bundle7::{Fail7, Reader7};
+use std::alloc::{AllocError, Global};
+
+/// The judge of the bundle that has begun.
+#[derive(Drop)]
+pub enum Begun {
+    /// Of version 6.
+    Six(Judge6),
+    /// Of version 7.
+    Seven(Reader7),
+}
+
+impl Begun {
+    /// The judge of the bundle that some octets begin and don't end.
+    #[tactic(auto, unfolding(crate::specs::Front::front_of))]
+    pub fn with(alloc: Global, octets: &[u8]) -> Result<Option<Begun>, AllocError>
+        requires some { 0 < length octets.now }
+        requires few { length octets.now ≤ 67108864 }
+        requires cut { IsCut (front_of octets.now) }
+        ensures { IfOk result (λ begun. IsSomeAnd begun (λ judge. (bundle : Unfinished)
+            × StandsFor judge bundle × HasBegunWith octets.now bundle)) }
+    {
+        match octets[0] {
+            SIX => {
+                let mut judge = Judge6::new(alloc);
+                match judge.feed(octets) {
+                    Ok(_) => Ok(Some(Begun::Six(judge))),
+                    Err(_) => Err(AllocError),
+                }
+            }
+            SEVEN => {
+                let mut reader = Reader7::new(alloc);
+                match reader.judge(octets) {
+                    Ok(_) => Ok(Some(Begun::Seven(reader))),
+                    Err(_) => Err(AllocError),
+                }
+            }
+            _ => Ok(None),
+        }
+    }
+
+    /// Takes a piece, up to the end of the bundle where it has that.
+    pub fn judge(&mut self, piece: &[u8]) -> Result<Given<u8>, AllocError>
+        requires { (bundle : Unfinished) × MayTake self.old piece.now bundle }
+        ensures { (bundle : Unfinished) → MayTake self.old piece.now bundle
+            → IfOk result (JudgesMore bundle piece.now self.new) }
+    {
+        match self {
+            Begun::Six(judge) => judge6(judge, piece),
+            Begun::Seven(reader) => judge7(reader, piece),
+        }
+    }
+
+    /// The place of the field in which the octets end, where there are any.
+    pub fn finish(&mut self) -> Option<usize>
+        requires { (bundle : Unfinished) × StandsFor self.old bundle × IsReady bundle }
+        ensures { (bundle : Unfinished) → StandsFor self.old bundle → IsReady bundle
+            → IsCutAt bundle result }
+    {
+        match self {
+            Begun::Six(judge) => match judge.finish() {
+                Ok(()) => None,
+                Err(Fail6::Refused { at, .. }) => Some(at),
+                Err(Fail6::Memory) => None,
+            },
+            Begun::Seven(reader) => match reader.finish() {
+                Ok(()) => None,
+                Err(Fail7::Refused { at, .. }) => Some(at),
+                Err(Fail7::Memory) => None,
+            },
+        }
+    }
+}
+
+fn judge6(judge: &mut Judge6, piece: &[u8]) -> Result<Given<u8>, AllocError>
+    requires { (reader : Reading) × MayTake (Begun.Six judge.old) piece.now (bundles.Six reader) }
+    ensures { (reader : Reading) → MayTake (Begun.Six judge.old) piece.now (bundles.Six reader)
+        → IfOk result (JudgesMore (bundles.Six reader) piece.now (Begun.Six judge.new)) }
+{
+    match judge.feed(piece) {
+        Ok(
+            Judged6 {
+                used,
+                whole: Some(_size),
+            },
+        ) => Ok(Given::Whole(6, used)),
+        Ok(Judged6 { whole: None, .. }) => Ok(Given::Part),
+        Err(Fail6::Refused { at, cause }) => Ok(Given::Refused(at, Cause::Six(cause))),
+        Err(Fail6::Memory) => Err(AllocError),
+    }
+}

@@ -1,0 +1,200 @@
+//! `check`, which wants no bundle and keeps none, as the octets of its input come.
+ghost use Rattle.std.specs.Prelude.{◌≡◌, ◌+◌, ◌<◌, ◌≤◌, ◌++◌, None, [], length, IfOk, OnErr};
+ghost use Rattle.std.specs.String.{string_bytes};
+ghost use Rattle.edge_traits.specs.Outcome.{IsAnswer};
+ghost use Rattle.command_frame.specs.Task.{Feeds, Finishes};
+ghost use Rattle.bundle_runs.specs.declared.commands.command.Command.TheVariants.{Check};
+ghost use Rattle.bundle_runs.specs.declared.bundle_reader.Standing.{Standing};
+ghost use Rattle.bundle_runs.specs.Answering.{settles_from};
+ghost use Rattle.bundle_runs.specs.Taking.{settling_of};
+ghost use Rattle.bundle_runs.specs.Checking.{Shadows, IsShadowed, StandsChecking, with_begun, JudgedOn, ChecksOn};
+
+use crate::begun::Begun;
+use crate::bundle_reader::Next;
+use crate::given::{Given, judged};
+use crate::written_lines::{write_check, write_refused};
+use command_frame::Task;
+use edge_traits::{MOST_INPUT, Status};
+use std::alloc::{AllocError, Global};
+use std::marker::Model;
+
+/// The command `check` on the octets of its input as they come. Of a version 6 bundle that has begun it
+/// keeps the primary block alone.
+#[derive(Drop)]
+pub struct CheckReader {
+    standing: Checking,
+    alloc: Global,
+}
+
+impl Model for CheckReader {
+    ghost use Rattle.bundle_runs.specs.declared.check_reader.Checking.{Checking};
+    ghost use Rattle.bundle_runs.specs.Checking.{IsShadowed};
+
+    ghost Value = { Checking };
+
+    ghost view = { λ r. r.standing };
+
+    ghost invariant = { λ r. IsShadowed r.standing };
+}
+
+/// Where the reading stands.
+#[derive(Drop)]
+pub struct Checking {
+    /// Which bundle of the input is the next to end, from 1.
+    number: u64,
+    /// The place of its first octet in the input.
+    at: usize,
+    /// How many octets of it came.
+    taken: usize,
+    /// Its judge, where it has begun.
+    begun: Option<Begun>,
+}
+
+impl CheckReader {
+    /// Nothing came yet. It takes no memory.
+    pub fn new(alloc: Global) -> CheckReader
+        ensures stands { ⟦<CheckReader as Task>⟧.Stands result (settles_from Check [] 1 0) }
+        ensures fresh { ⟦<CheckReader as Task>⟧.Began result → ⊥ }
+    {
+        CheckReader {
+            standing: Checking::new(),
+            alloc,
+        }
+    }
+}
+
+impl Task for CheckReader {
+    ghost Stands = { StandsChecking };
+
+    ghost Began = { λ s. s.begun ≡ None → ⊥ };
+
+    fn feed(&mut self, piece: &[u8], text: &mut String) -> Result<Option<Status>, AllocError> {
+        // No place past this has a number: the driver feeds no more.
+        if piece.len() > MOST_INPUT - (self.standing.at + self.standing.taken) {
+            return Err(AllocError);
+        }
+        let ends = self.standing.feed(self.alloc, piece, text);
+        match ends {
+            Ok(None) => {}
+            // The run has ended: nothing is kept any more.
+            _ => self.standing = Checking::new(),
+        }
+        ends
+    }
+
+    fn finish(&mut self, text: &mut String) -> Result<Status, AllocError> {
+        self.standing.finish(text)
+    }
+}
+
+impl Checking {
+    /// No octet came.
+    fn new() -> Checking
+        ensures { result ≡ record { number = 1; at = 0; taken = 0; begun = None } }
+    {
+        Checking {
+            number: 1,
+            at: 0,
+            taken: 0,
+            begun: None,
+        }
+    }
+
+    /// Takes the next octets: `Refused` where they settle the run's end.
+    fn feed(
+        &mut self,
+        alloc: Global,
+        piece: &[u8],
+        text: &mut String,
+    ) -> Result<Option<Status>, AllocError>
+        requires shadowed { IsShadowed self.old }
+        requires room { self.old.at + self.old.taken + length piece.now ≤ 67108864 }
+        ensures shadowed { IfOk result (λ ends. ends ≡ None → IsShadowed self.new) }
+        ensures fed { (old : Standing) → Shadows self.old old
+            → IfOk result (Feeds (StandsChecking self.new) (settling_of old)
+            piece.now (string_bytes text.old) (string_bytes text.new)) }
+    {
+        let mut left = piece;
+        'bundles: while !left.is_empty() {
+            match self.check(alloc, left, text)? {
+                Next::After(used) => left = &left[used..],
+                Next::End => return Ok(Some(Status::Refused)),
+            }
+        }
+        Ok(None)
+    }
+
+    /// Takes octets of one bundle, and writes its line where they end it.
+    fn check(&mut self, alloc: Global, left: &[u8], text: &mut String) -> Result<Next, AllocError>
+        requires shadowed { IsShadowed self.old }
+        requires some { 0 < length left.now }
+        requires room { self.old.at + self.old.taken + length left.now ≤ 67108864 }
+        ensures { (old : Standing) → Shadows self.old old → IfOk result
+            (ChecksOn old left.now (string_bytes text.old) self.new (string_bytes text.new)) }
+    {
+        match self.judged(alloc, left)? {
+            Given::Whole(version, used) => {
+                write_check(text, version, self.taken + used)?;
+                self.number += 1;
+                self.at += self.taken + used;
+                self.taken = 0;
+                // To write none is to clear the room for a judge, so it isn't done for each bundle.
+                if self.begun.is_some() {
+                    self.begun = None;
+                }
+                Ok(Next::After(used))
+            }
+            Given::Part => {
+                self.taken += left.len();
+                Ok(Next::After(left.len()))
+            }
+            Given::Refused(at, cause) => {
+                write_refused(text, self.number, self.at + at, cause.word())?;
+                Ok(Next::End)
+            }
+        }
+    }
+
+    /// Takes octets of one bundle. Where none has begun, and they have it whole, nothing is kept.
+    fn judged(&mut self, alloc: Global, left: &[u8]) -> Result<Given<u8>, AllocError>
+        requires shadowed { IsShadowed self.old }
+        requires some { 0 < length left.now }
+        requires room { self.old.at + self.old.taken + length left.now ≤ 67108864 }
+        ensures same { IfOk result (λ given. self.new ≡ with_begun self.old self.new.begun) }
+        ensures judged { (old : Standing) → Shadows self.old old
+            → IfOk result (JudgedOn old left.now self.new) }
+    {
+        match &mut self.begun {
+            Some(begun) => begun.judge(left),
+            None => match judged(left) {
+                Given::Part => {
+                    self.begun = Begun::with(alloc, left)?;
+                    Ok(Given::Part)
+                }
+                given => Ok(given),
+            },
+        }
+    }
+
+    /// The input ended.
+    fn finish(&mut self, text: &mut String) -> Result<Status, AllocError>
+        requires shadowed { IsShadowed self.old }
+        ensures shadowed { IsShadowed self.new }
+        ensures finished { (old : Standing) → Shadows self.old old
+            → IfOk result (Finishes (settling_of old) (string_bytes text.old) (string_bytes text.new)) }
+        ensures status { IfOk result IsAnswer }
+        ensures memory { OnErr result (self.old.begun ≡ None → ⊥) }
+    {
+        self.taken = 0;
+        match self.begun.take() {
+            None => Ok(Status::Done),
+            Some(mut begun) => match begun.finish() {
+                None => Ok(Status::Done),
+                Some(at) => {
+                    write_refused(text, self.number, self.at + at, "Truncated")?;
+                    Ok(Status::Refused)
+                }
+            },
+        }
+    }
+}

@@ -1,3 +1,5 @@
 pub mod ListLemmas
 pub mod StringLemmas
 pub mod ObjectLemmas
+pub mod WalkLemmas
+pub mod TellingLemmas

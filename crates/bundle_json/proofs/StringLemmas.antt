@@ -66,6 +66,14 @@ quoted-ipn node service node-fits service-fits =
     ap (λ s. codes "\"ipn:" ++ (s ++ codes "\"")) (dotted node service node-fits service-fits)
     ∙ ap (λ s. codes "\"ipn:" ++ s) (append_assoc (decimal node) (codes "." ++ decimal service) (codes "\""))
 
+-- a name by its two parts
+pub quoted-two : (scheme ssp : List ℕ)
+    → quoted (scheme ++ (codes ":" ++ ssp)) ≡ codes "\"" ++ (escape scheme ++ (codes ":" ++ (escape ssp ++ codes "\"")))
+unfolding escape_byte
+quoted-two scheme ssp =
+    ap (λ s. codes "\"" ++ (s ++ codes "\"")) (flat_map-append escape_byte scheme (codes ":" ++ ssp))
+    ∙ ap (λ s. codes "\"" ++ s) (append_assoc (escape scheme) (codes ":" ++ escape ssp) (codes "\""))
+
 -- ---- names that are legal
 
 ssp-visible : (ssp : List ℕ) → is_ssp ssp ≡ true → list_all is_visible ssp ≡ true

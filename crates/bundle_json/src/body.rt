@@ -23,7 +23,7 @@ pub(crate) fn write_body(text: &mut String, octets: &[u8]) -> Result<(), AllocEr
 }
 
 /// Writes octets in hex of lower case.
-fn write_hex(text: &mut String, octets: &[u8]) -> Result<(), AllocError>
+pub(crate) fn write_hex(text: &mut String, octets: &[u8]) -> Result<(), AllocError>
     ensures { OnOk result (string_bytes text.new ≡ string_bytes text.old ++ encode_lower octets.now) }
 {
     let mut rest = octets;

@@ -8,11 +8,14 @@
 mod body;
 mod list;
 mod name;
+mod telling6;
 #[cfg(test)]
 mod tests;
 mod value;
 mod version6;
 mod version7;
+mod walk;
 
+pub use telling6::Telling6;
 pub use version6::write6;
 pub use version7::write7;

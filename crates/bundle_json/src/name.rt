@@ -1,13 +1,17 @@
 //! Endpoints by their texts.
-ghost use Rattle.std.specs.Prelude.{◌≡◌, ◌++◌, true, OnOk};
-ghost use Rattle.std.specs.List.{list_all};
+ghost use Rattle.std.specs.Prelude.{◌≡◌, ◌++◌, codes, OnOk};
+ghost use Rattle.std.specs.List.{position};
+ghost use Rattle.std.specs.Option.{option_map};
 ghost use Rattle.std.specs.String.{string_bytes};
-ghost use Rattle.json.specs.Print.{escape, escape_byte};
+ghost use Rattle.json.specs.Print.{escape, escape_byte, quoted};
+ghost use Rattle.bundle6.specs.Names.{is_nul, text_at, numbered};
 ghost use Rattle.endpoint.specs.Endpoints.{IsEndpoint, is_visible};
 ghost use Rattle.serde_json.specs.Written.{compact_text};
 ghost use Rattle.bundle_json.specs.Json.{name};
+ghost use Rattle.bundle_json.specs.Laid.{Names, pair_of};
 
 use crate::list::Shown;
+use crate::walk::Pair;
 use endpoint::Endpoint;
 use std::alloc::AllocError;
 
@@ -37,9 +41,74 @@ pub(crate) fn write_name(text: &mut String, endpoint: &Endpoint) -> Result<(), A
     }
 }
 
+/// Writes the endpoint that two numbers name, in quotes.
+pub(crate) fn write_named(
+    text: &mut String,
+    dictionary: &[u8],
+    pair: Pair,
+) -> Result<(), AllocError>
+    ensures { (endpoint : Endpoint) → Names dictionary.now pair endpoint
+        → OnOk result (string_bytes text.new ≡ string_bytes text.old ++ compact_text (name endpoint)) }
+{
+    if dictionary.is_empty() {
+        return write_name(text, &numbered(pair));
+    }
+    let Some(scheme) = text_in(dictionary, pair.scheme) else {
+        return Err(AllocError);
+    };
+    let Some(ssp) = text_in(dictionary, pair.ssp) else {
+        return Err(AllocError);
+    };
+    write_texts(text, scheme, ssp)
+}
+
+/// The endpoint of two numbers, without a dictionary.
+fn numbered(pair: Pair) -> Endpoint
+    ensures is { result ≡ numbered (pair_of pair) }
+    ensures legal { IsEndpoint result }
+{
+    match (pair.scheme, pair.ssp) {
+        (0, 0) => Endpoint::Null,
+        (node, service) => Endpoint::Ipn { node, service },
+    }
+}
+
+/// Writes an endpoint by its scheme and its scheme-specific part, in quotes.
+fn write_texts(text: &mut String, scheme: &[u8], ssp: &[u8]) -> Result<(), AllocError>
+    ensures { OnOk result (string_bytes text.new
+        ≡ string_bytes text.old ++ quoted (scheme.now ++ (codes ":" ++ ssp.now))) }
+{
+    text.push_str("\"")?;
+    write_visible(text, scheme)?;
+    text.push_str(":")?;
+    write_visible(text, ssp)?;
+    text.push_str("\"")
+}
+
+#[tactic(auto, unfolding(bundle6::specs::Names::text_at, bundle6::specs::Names::up_to_nul))]
+/// The text of the dictionary at an offset, up to the next NUL.
+fn text_in(dictionary: &[u8], offset: u64) -> Option<&[u8]>
+    ensures { option_map (λ lent. lent.now) result ≡ text_at dictionary.now offset }
+{
+    if dictionary.len() as u64 <= offset {
+        return None;
+    }
+    let (_, rest) = dictionary.split_at(offset as usize);
+    match nul_in(rest) {
+        Some(end) => Some(&rest[..end]),
+        None => None,
+    }
+}
+
+/// The place of the first NUL.
+fn nul_in(text: &[u8]) -> Option<usize>
+    ensures { result ≡ position is_nul text.now }
+{
+    text.iter().position(|octet| *octet == 0)
+}
+
 /// Writes visible octets as they stand in a JSON string.
 fn write_visible(text: &mut String, octets: &[u8]) -> Result<(), AllocError>
-    requires { list_all is_visible octets.now ≡ true }
     ensures { OnOk result (string_bytes text.new ≡ string_bytes text.old ++ escape octets.now) }
 {
     'octets: for octet in octets {
@@ -49,14 +118,23 @@ fn write_visible(text: &mut String, octets: &[u8]) -> Result<(), AllocError>
 }
 
 /// Writes a visible octet as it stands in a JSON string: a quote and a backslash have a backslash
-/// before them.
+/// before them. Another octet has no text here; no name has one.
 fn write_one(text: &mut String, octet: u8) -> Result<(), AllocError>
-    requires { is_visible octet ≡ true }
     ensures { OnOk result (string_bytes text.new ≡ string_bytes text.old ++ escape_byte octet) }
 {
+    if !is_visible(octet) {
+        return Err(AllocError);
+    }
     match octet {
         b'"' => text.push_str("\\\""),
         b'\\' => text.push_str("\\\\"),
         _ => text.push(char::from(octet)),
     }
+}
+
+/// Whether an octet may stand in a name.
+fn is_visible(octet: u8) -> bool
+    ensures { result ≡ is_visible octet }
+{
+    b'!' <= octet && octet <= b'~'
 }

@@ -5,7 +5,7 @@ ghost use Rattle.std.specs.Prelude.{IfOk};
 ghost use Rattle.bundle6.specs.Legal.{IsLegal};
 ghost use Rattle.bundle7.specs.Legal.{IsLegal7};
 
-use crate::{write6, write7};
+use crate::{Telling6, write6, write7};
 use bundle6::{Bundle6, decode6};
 use bundle7::{Bundle7, decode7};
 use std::alloc::Global;
@@ -81,5 +81,22 @@ fn bundles_have_their_texts(rt: HostRuntime) -> Result<(), Fail> {
     text.clear();
     write7(&mut text, &seven(alloc, SEVEN)?)?;
     assert_eq!(rt; text.as_str(), SEVEN_TEXT);
+    Ok(())
+}
+
+/// The same text as of the values, out of the octets.
+#[test]
+fn a_telling_is_the_text(rt: HostRuntime) -> Result<(), Fail> {
+    let alloc = rt.alloc();
+    let octets = octets(alloc, SIX)?;
+    let mut text = String::new(alloc);
+    let mut telling = Telling6::new(&octets)?;
+    for _ in 0..100 {
+        if telling.is_over() {
+            break;
+        }
+        telling.tell(&octets, &mut text)?;
+    }
+    assert_eq!(rt; text.as_str(), SIX_TEXT);
     Ok(())
 }

@@ -3,12 +3,9 @@ use Rattle.std.specs.Prelude.{OnOk}
 use Rattle.std.specs.String.{string_bytes}
 use Rattle.json.specs.Print.{quoted}
 use Rattle.endpoint.specs.Endpoints.{IsEndpoint, text_of}
-use Rattle.bundle_json.proofs.StringLemmas.{quoted-null, quoted-ipn, quoted-dtn, dtn-visible}
+use Rattle.bundle_json.proofs.StringLemmas.{quoted-null, quoted-ipn, quoted-dtn}
 use Rattle.bundle_json.proofs.ObjectLemmas.{ends}
 use Rattle.bundle_json.proofs.name.write_name.Goals as goal
-
-pub write_visible-requires : goal.write_visible-requires
-write_visible-requires c = rw c.as_slice.ensures (dtn-visible c.args.endpoint.now c.in-Dtn.ssp c.in-Dtn.is c.requires)
 
 pub returns-in-Null : goal.returns-in-Null
 returns-in-Null c =

@@ -1,4 +1,5 @@
-use Rattle.std.proofs.Common.{◌≢◌, ◌<◌, rules}
+use Rattle.std.proofs.Common.{◌≡◌, ◌≢◌, ◌<◌, true, rules}
+use Rattle.endpoint.specs.Endpoints.{is_visible}
 use Rattle.bundle_json.proofs.StringLemmas.{escape_byte-quote, escape_byte-backslash, visible-plain, visible-low}
 use Rattle.bundle_json.proofs.name.write_one.Goals as goal
 
@@ -12,5 +13,6 @@ pub returns-in_default : goal.returns-in_default
 returns-in_default c =
     let quote : c.args.octet ≢ 34 = search rules in
     let backslash : c.args.octet ≢ 92 = search rules in
-    let low : c.args.octet < 128 = visible-low c.args.octet c.requires in
-    rw (visible-plain c.args.octet c.requires quote backslash) (search rules)
+    let visible : is_visible c.args.octet ≡ true = search rules in
+    let low : c.args.octet < 128 = visible-low c.args.octet visible in
+    rw (visible-plain c.args.octet visible quote backslash) (search rules)

@@ -1,0 +1,14 @@
+use Rattle.std.proofs.Common.{◌≡◌, ◌==◌, length, true, false, rules}
+use Rattle.bundle_json.proofs.WalkLemmas.{named-numbers, named-texts}
+use Rattle.bundle_json.proofs.name.write_named.Goals as goal
+
+pub returns-then-is_empty : goal.returns-then-is_empty
+returns-then-is_empty c = λ endpoint named.
+    let none : (length c.args.dictionary.now == 0) ≡ true = search rules in
+    rw (← (named-numbers c.args.dictionary.now c.args.pair endpoint none named), ← c.numbered.ensures.is) c.write_name.ensures
+
+pub returns : goal.returns
+returns c = λ endpoint named.
+    let some : (length c.args.dictionary.now == 0) ≡ false = search rules in
+    rw (← (named-texts c.args.dictionary.now c.args.pair endpoint c.in-Some.scheme.now c.in-Some-text_in.ssp.now some c.in-Some.ensures c.in-Some-text_in.ensures named))
+    c.write_texts.ensures

@@ -1,0 +1,13 @@
+use Rattle.std.proofs.Common.{arith}
+use Rattle.bundle_json.proofs.TellingLemmas.{tells-ref, tells-end}
+use Rattle.bundle_json.proofs.telling6.Telling6.refs.Goals as goal
+
+pub returns-then-left-eq0 : goal.returns-then-left-eq0
+returns-then-left-eq0 c = λ rest left.
+    tells-end c.args.octets.now c.args.self.now c.args.left c.args.after c.args.later _ _ rest c.requires left c.if-left-eq0.true c.in_ok-push_str.ensures.bytes
+
+pub returns : goal.returns
+returns c = λ rest left.
+    tells-ref c.args.octets.now c.args.self.now c.args.left _ c.args.after c.args.later (c.in_ok-named.named, c.in_ok-named.at) _ _ _ rest c.requires left
+    (omega (arith, c.if-left-eq0.false)) c.in_ok-named.ensures (rw c.comma.ensures at c.in_ok-push_str-2.ensures.bytes)
+    (λ endpoint named. c.in_ok-write_named.ensures endpoint (rw (c.lent.ensures left.shows.order left.shows.inside) named))

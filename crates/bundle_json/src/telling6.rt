@@ -1,0 +1,235 @@
+//! Telling a bundle of version 6 part by part, out of its octets.
+ghost use Rattle.std.specs.Prelude.{◌≡◌, ◌++◌, ◌<◌, ℕ, List, [], codes, if◌then◌else◌, IfOk, OnOk, true, false};
+ghost use Rattle.std.specs.String.{string_bytes};
+ghost use Rattle.serde_json.specs.Written.{compact_text};
+ghost use Rattle.bundle6.specs.declared.bundle.Bundle6.{Bundle6};
+ghost use Rattle.bundle6.specs.declared.primary.Primary6.{Primary6};
+ghost use Rattle.bundle6.specs.Legal.{Spells6};
+ghost use Rattle.bundle_json.specs.Json.{bundle6};
+ghost use Rattle.bundle_json.specs.Telling.{Left, Tells, steps_left, primary_text};
+ghost use Rattle.bundle_json.specs.Laid.{ShowsPrimary};
+
+use crate::body::write_hex;
+use crate::name::write_named;
+use crate::value::{write_part, write_two};
+use crate::walk::{BlockView, PrimaryView, block, pair_at, part_of, primary};
+use std::alloc::AllocError;
+
+/// How many octets of a block are told at a time.
+const BODY: usize = 4096;
+
+/// After how many octets of text a part ends, or after how many steps.
+const PART: usize = 32_768;
+
+/// What is told next.
+#[derive(Clone, Copy)]
+pub(crate) enum Stage {
+    /// The beginning.
+    Open,
+    /// A block, and whether one stands before it; or after the last the primary block.
+    Block {
+        later: bool,
+    },
+    /// Octets of a block.
+    Body {
+        view: BlockView,
+    },
+    /// So many references of a block, whether one stands before them, and the place after the block.
+    Refs {
+        left: u64,
+        later: bool,
+        after: usize,
+    },
+    /// Nothing.
+    Over,
+}
+
+/// Where the telling of a bundle stands. Its octets are handed in at each call, and are the same.
+#[derive(Clone, Copy)]
+pub struct Telling6 {
+    pub(crate) primary: PrimaryView,
+    pub(crate) at: usize,
+    pub(crate) stage: Stage,
+}
+
+impl Telling6 {
+    /// The telling of the bundle that these octets spell: its JSON text is left.
+    pub fn new(octets: &[u8]) -> Result<Telling6, AllocError>
+        ensures { (bundle : Bundle6) → Spells6 bundle octets.now
+            → IfOk result (λ telling. Left octets.now telling (compact_text (bundle6 bundle))) }
+    {
+        let (primary, at) = primary(octets)?;
+        Ok(Telling6 {
+            primary,
+            at,
+            stage: Stage::Open,
+        })
+    }
+
+    /// Whether all was told.
+    pub fn is_over(&self) -> bool
+        ensures over { (octets rest : List ℕ) → Left octets self.now rest → result ≡ true → rest ≡ [] }
+        ensures some { (octets : List ℕ) → result ≡ false → 0 < steps_left octets self.now }
+    {
+        match self.stage {
+            Stage::Over => true,
+            _ => false,
+        }
+    }
+
+    /// Appends the next part of the text.
+    pub fn tell(&mut self, octets: &[u8], text: &mut String) -> Result<(), AllocError>
+        requires { 0 < steps_left octets.now self.old }
+        ensures { (rest : List ℕ) → Left octets.now self.old rest → OnOk result
+            (Tells octets.now self.old self.new (string_bytes text.old) (string_bytes text.new) rest) }
+    {
+        self.step(octets, text)?;
+        'steps: for _ in 0..PART {
+            if text.len() >= PART || self.is_over() {
+                return Ok(());
+            }
+            self.step(octets, text)?;
+        }
+        Ok(())
+    }
+
+    /// A few octets of text more.
+    fn step(&mut self, octets: &[u8], text: &mut String) -> Result<(), AllocError>
+        requires { 0 < steps_left octets.now self.old }
+        ensures { (rest : List ℕ) → Left octets.now self.old rest → OnOk result
+            (Tells octets.now self.old self.new (string_bytes text.old) (string_bytes text.new) rest) }
+    {
+        match self.stage {
+            Stage::Open => self.open(text),
+            Stage::Block { later } => self.block(octets, later, text),
+            Stage::Body { view } => self.body(octets, view, text),
+            Stage::Refs { left, later, after } => self.refs(octets, left, later, after, text),
+            Stage::Over => Ok(()),
+        }
+    }
+
+    /// The beginning.
+    fn open(&mut self, text: &mut String) -> Result<(), AllocError>
+        requires { self.old.stage ≡ Stage.Open }
+        ensures { (octets rest : List ℕ) → Left octets self.old rest → OnOk result
+            (Tells octets self.old self.new (string_bytes text.old) (string_bytes text.new) rest) }
+    {
+        text.push_str(r#"{"blocks":["#)?;
+        self.stage = Stage::Block { later: false };
+        Ok(())
+    }
+
+    /// The beginning of a block, or after the last the primary block.
+    fn block(&mut self, octets: &[u8], later: bool, text: &mut String) -> Result<(), AllocError>
+        requires { self.old.stage ≡ Stage.Block later }
+        ensures { (rest : List ℕ) → Left octets.now self.old rest → OnOk result
+            (Tells octets.now self.old self.new (string_bytes text.old) (string_bytes text.new) rest) }
+    {
+        if self.at >= octets.len() {
+            write_primary(octets, &self.primary, text)?;
+            self.stage = Stage::Over;
+            return Ok(());
+        }
+        let view = block(octets, self.at)?;
+        text.push_str(opening(later))?;
+        self.at = view.body;
+        self.stage = Stage::Body { view };
+        Ok(())
+    }
+
+    /// Octets of a block in hex, or after them what stands before its references.
+    fn body(&mut self, octets: &[u8], view: BlockView, text: &mut String) -> Result<(), AllocError>
+        requires { self.old.stage ≡ Stage.Body view }
+        ensures { (rest : List ℕ) → Left octets.now self.old rest → OnOk result
+            (Tells octets.now self.old self.new (string_bytes text.old) (string_bytes text.new) rest) }
+    {
+        if self.at < view.after {
+            let size = BODY.min(view.after - self.at);
+            write_hex(text, part_of(octets, self.at, size)?)?;
+            self.at += size;
+            return Ok(());
+        }
+        write!(
+            text,
+            r#"","flags":{},"kind":{},"refs":["#,
+            view.flags, view.kind
+        )?;
+        self.at = view.refs;
+        self.stage = Stage::Refs {
+            left: view.count,
+            later: false,
+            after: view.after,
+        };
+        Ok(())
+    }
+
+    /// A reference of a block, or after the last the end of the block.
+    fn refs(
+        &mut self,
+        octets: &[u8],
+        left: u64,
+        later: bool,
+        after: usize,
+        text: &mut String,
+    ) -> Result<(), AllocError>
+        requires { self.old.stage ≡ Stage.Refs left later after }
+        ensures { (rest : List ℕ) → Left octets.now self.old rest → OnOk result
+            (Tells octets.now self.old self.new (string_bytes text.old) (string_bytes text.new) rest) }
+    {
+        if left == 0 {
+            text.push_str("]}")?;
+            self.at = after;
+            self.stage = Stage::Block { later: true };
+            return Ok(());
+        }
+        let (named, at) = pair_at(octets, self.at)?;
+        text.push_str(comma(later))?;
+        write_named(text, self.primary.texts.lent(octets), named)?;
+        self.at = at;
+        self.stage = Stage::Refs {
+            left: left - 1,
+            later: true,
+            after,
+        };
+        Ok(())
+    }
+}
+
+/// What a block begins with.
+fn opening(later: bool) -> &'static str
+    ensures { result.now ≡ if later then codes ",{\"body\":\"" else codes "{\"body\":\"" }
+{
+    if later {
+        r#",{"body":""#
+    } else {
+        r#"{"body":""#
+    }
+}
+
+/// What stands before a reference.
+fn comma(later: bool) -> &'static str
+    ensures { result.now ≡ if later then codes "," else [] }
+{
+    if later { "," } else { "" }
+}
+
+/// What stands after the blocks.
+fn write_primary(octets: &[u8], view: &PrimaryView, text: &mut String) -> Result<(), AllocError>
+    ensures { (primary : Primary6) → ShowsPrimary octets.now view.now primary
+        → OnOk result (string_bytes text.new ≡ string_bytes text.old ++ primary_text primary) }
+{
+    let dictionary = view.texts.lent(octets);
+    text.push_str(r#"],"creation":"#)?;
+    write_two(text, view.seconds, view.sequence)?;
+    text.push_str(r#","custodian":"#)?;
+    write_named(text, dictionary, view.names.custodian)?;
+    text.push_str(r#","destination":"#)?;
+    write_named(text, dictionary, view.names.destination)?;
+    write!(text, r#","flags":{},"fragment":"#, view.flags)?;
+    write_part(text, view.fragment)?;
+    write!(text, r#","lifetime":{},"report_to":"#, view.lifetime)?;
+    write_named(text, dictionary, view.names.report_to)?;
+    text.push_str(r#","source":"#)?;
+    write_named(text, dictionary, view.names.source)?;
+    text.push_str(r#","version":6}"#)
+}

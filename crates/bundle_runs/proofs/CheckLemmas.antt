@@ -1,20 +1,17 @@
 -- What a judge of the bundle under way gives, beside a reading that keeps all octets.
-use Rattle.std.proofs.Common.{false, ◌≡◌, ℕ, ◌+◌, ◌*◌, ◌<◌, ◌≤◌, List, [], ◌∷◌, ◌++◌, length, drop, codes, slice_index, Option, None, Some, Result, Ok, Err, IfOk, OnErr, IsSomeAnd, refl, sym, ◌∙◌, ap, arith}
+use Rattle.std.proofs.Common.{false, ◌≡◌, ℕ, ◌+◌, ◌*◌, ◌<◌, ◌≤◌, List, [], ◌∷◌, ◌++◌, length, drop, codes, slice_index, Option, None, Some, Result, Ok, Err, IfOk, IsSomeAnd, refl, sym, ◌∙◌, ap, arith}
 use Rattle.std.proofs.lemmas.List.{length-drop}
 use Rattle.std.specs.declared.alloc.AllocError.{AllocError}
 use Rattle.edge_traits.specs.declared.status.Status.TheVariants as statuses
-use Rattle.edge_traits.specs.Settled.{put_before}
 use Rattle.command_frame.specs.Task.{Settling, Feeds, Finishes}
 use Rattle.wire_fields.specs.Reading.{IsOctets}
 use Rattle.bundle6.specs.declared.fault.Cause6.{Cause6}
-use Rattle.bundle6.specs.declared.fault.Fail6.{Fail6}
 use Rattle.bundle6.specs.declared.fault.Fail6.TheVariants as fails6
 use Rattle.bundle6.specs.declared.reader.Judged6.{Judged6}
 use Rattle.bundle6.specs.Streaming as streaming6
 use Rattle.bundle7.specs.Streaming as streaming7
-use Rattle.bundle_judges.specs.Judging6.{Judging, HasTaken, JudgesOn}
+use Rattle.bundle_judges.specs.Judging6.{Judging, JudgesOn}
 use Rattle.bundle_runs.specs.declared.commands.command.Command.TheVariants.{Check}
-use Rattle.bundle_runs.specs.declared.front.Bundle.{Bundle}
 use Rattle.bundle_runs.specs.declared.front.Cause.{Cause}
 use Rattle.bundle_runs.specs.declared.front.Cause.TheVariants as causes
 use Rattle.bundle_runs.specs.declared.given.Given.{Given}
@@ -30,7 +27,7 @@ use Rattle.bundle_runs.specs.Front.{cut_short, front_of, word_of}
 use Rattle.bundle_runs.specs.Answering.{settles_from}
 use Rattle.bundle_runs.specs.WrittenLines.{check_line, refused_line}
 use Rattle.bundle_runs.specs.Given.{Finds, IsVersion}
-use Rattle.bundle_runs.specs.Taking.{kept_of, mark_of, kept_by, settling_of, with_unfinished, passed, waiting, IsReady, IsCut, HasBegun, HasBegunWith, Takes, IsSound, Took, GoesAfter, EndsWith, SoFar, IsCutAt}
+use Rattle.bundle_runs.specs.Taking.{kept_of, kept_by, settling_of, with_unfinished, passed, waiting, IsReady, IsCut, HasBegun, HasBegunWith, SoFar, IsCutAt}
 use Rattle.bundle_runs.specs.Checking.{StandsFor, StandsForAny, MayTake, IfPart, JudgesMore, Shadows, IsShadowed, StandsChecking, with_begun, JudgedOn, ChecksOn}
 use Rattle.bundle_runs.proofs.GivenLemmas.{judge-whole6, part6, refuses6, begun6, cut6}
 use Rattle.bundle_runs.proofs.TakingLemmas.{took-more, whole-room, refused-room, step-checked, step-part, step-refused, quiet, so_far-start, so_far-more, so_far-stop, finish-none, finish-cut, cut-inside}

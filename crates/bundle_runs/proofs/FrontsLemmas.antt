@@ -1,6 +1,6 @@
 -- Fronts one after another, and what they settle.
 use Rattle.std.proofs.Common.{◌≡◌, ℕ, zero, suc, ◌+◌, ◌-◌, ◌<◌, ◌≤◌, eqb, Bool, true, false, List, [], ◌∷◌, ◌++◌, length, drop, if◌then◌else◌, Result, Ok, Err, refl, ◌∙◌, ap, arith, length-drop}
-use Rattle.edge_traits.specs.Settled.{Ends, Settled, put_before}
+use Rattle.edge_traits.specs.Settled.{Ends, put_before}
 use Rattle.wire_fields.specs.Format.{Format}
 use Rattle.wire_fields.specs.Refusal.{Stop, truncated, because}
 use Rattle.wire_fields.specs.Reading.{read, IsSettled, IsOctets}

@@ -1,38 +1,32 @@
 -- What a reader gives of a piece, and what calls on the octets alone give.
-use Rattle.std.proofs.Common.{false, ◌≡◌, ℕ, ◌+◌, ◌-◌, ◌≤◌, ◌<◌, List, [], ◌++◌, length, slice_index, Option, None, Some, Result, Ok, Err, IfOk, refl, sym, ◌∙◌, ap, arith, inl, inr}
+use Rattle.std.proofs.Common.{false, ◌≡◌, ℕ, ◌+◌, ◌-◌, ◌≤◌, ◌<◌, List, [], ◌++◌, length, slice_index, Option, None, Some, Result, Ok, Err, refl, sym, ◌∙◌, ap, arith, inl, inr}
 use Rattle.std.proofs.lemmas.List.{take_all}
 use Rattle.wire_fields.specs.Refusal.{Stop, truncated, because}
 use Rattle.wire_fields.specs.Reading.{read, IsOctets}
-use Rattle.wire_fields.specs.Gives.{Judges, Gives}
+use Rattle.wire_fields.specs.Gives.{Judges}
 use Rattle.bundle6.specs.declared.fault.Cause6.{Cause6}
-use Rattle.bundle6.specs.declared.fault.Refused6.{Refused6}
 use Rattle.bundle6.specs.declared.fault.Cause6.TheVariants as causes6
 use Rattle.bundle6.specs.declared.bundle.Bundle6.{Bundle6}
 use Rattle.bundle6.specs.Cause as cause6
 use Rattle.bundle6.specs.Table as table6
-use Rattle.bundle6.specs.Legal as legal6
 use Rattle.bundle6.specs.Streaming as streaming6
 use Rattle.bundle6.proofs.ReaderLemmas as lemmas6
 use Rattle.bundle7.specs.declared.fault.Cause7.{Cause7}
-use Rattle.bundle7.specs.declared.fault.Refused7.{Refused7}
 use Rattle.bundle7.specs.declared.fault.Cause7.TheVariants as causes7
 use Rattle.bundle7.specs.declared.bundle.Bundle7.{Bundle7}
 use Rattle.bundle7.specs.Cause as cause7
 use Rattle.bundle7.specs.Table as table7
-use Rattle.bundle7.specs.Legal as legal7
 use Rattle.bundle7.specs.Streaming as streaming7
 use Rattle.bundle7.proofs.ReaderLemmas as lemmas7
 use Rattle.bundle_runs.specs.declared.front.Bundle.{Bundle}
 use Rattle.bundle_runs.specs.declared.front.Bundle.TheVariants as bundles
-use Rattle.bundle_runs.specs.declared.front.Cause.{Cause}
 use Rattle.bundle_runs.specs.declared.front.Cause.TheVariants as causes
-use Rattle.bundle_runs.specs.declared.unfinished.Unfinished.{Unfinished}
 use Rattle.bundle_runs.specs.declared.unfinished.Unfinished.TheVariants.{Six, Seven}
 use Rattle.bundle_runs.specs.declared.given.Given.TheVariants.{Whole, Part, Refused}
-use Rattle.bundle_runs.specs.Front.{whole, cut_short, refused, front_of, front6, front7, front_read, stopped}
+use Rattle.bundle_runs.specs.Front.{whole, cut_short, refused, front_of, front6, front7, front_read}
 use Rattle.bundle_runs.specs.Given.{Finds, IsVersion, IsRead}
 use Rattle.bundle_runs.specs.Legal.{IsLegal}
-use Rattle.bundle_runs.specs.Taking.{kept_of, mark_of, IsReady, IsCut, HasBegun, HasBegunWith, Takes}
+use Rattle.bundle_runs.specs.Taking.{mark_of, IsCut, HasBegunWith, Takes}
 
 -- ---- one reader
 

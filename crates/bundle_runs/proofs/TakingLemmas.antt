@@ -1,5 +1,5 @@
 -- What a piece makes of the reading.
-use Rattle.std.proofs.Common.{false, ◌≡◌, ℕ, zero, suc, ◌+◌, ◌<◌, ◌≤◌, ◌*◌, List, [], ◌∷◌, ◌++◌, length, drop, codes, slice_index, Option, None, Some, Result, Ok, Err, OnErr, IfOk, OnOk, IfSome, IsSomeAnd, refl, sym, ◌∙◌, ap, arith, append_assoc, length-append}
+use Rattle.std.proofs.Common.{false, ◌≡◌, ℕ, zero, suc, ◌+◌, ◌<◌, ◌≤◌, List, [], ◌∷◌, ◌++◌, length, drop, codes, slice_index, Option, None, Some, Result, Ok, Err, OnErr, IfOk, OnOk, IfSome, IsSomeAnd, refl, sym, ◌∙◌, ap, arith, append_assoc, length-append}
 use Rattle.std.proofs.lemmas.List.{append-nil}
 use Rattle.std.specs.declared.alloc.AllocError.{AllocError}
 use Rattle.edge_traits.specs.declared.status.Status.TheVariants as statuses
@@ -8,14 +8,11 @@ use Rattle.edge_traits.specs.Settled.{Ends, at_end, goes_on, put_before}
 use Rattle.edge_traits.proofs.AnswerLemmas.{put_before-put_before}
 use Rattle.command_frame.specs.Task.{Settling, IsQuiet, over, Feeds, Finishes}
 use Rattle.wire_fields.specs.Reading.{read, IsOctets}
-use Rattle.bundle6.specs.Table as table6
-use Rattle.bundle7.specs.Table as table7
 use Rattle.fragments.specs.declared.join.Join.{Join}
 use Rattle.fragments.specs.Joining.{Joining}
 use Rattle.bundle_runs.specs.declared.commands.command.Command.TheVariants.{Check}
 use Rattle.bundle_runs.specs.declared.front.Bundle.{Bundle}
 use Rattle.bundle_runs.specs.declared.front.Cause.{Cause}
-use Rattle.bundle_runs.specs.declared.front.Cause.TheVariants as causes
 use Rattle.bundle_runs.specs.declared.given.Given.{Given}
 use Rattle.bundle_runs.specs.declared.given.Given.TheVariants.{Whole, Part, Refused}
 use Rattle.bundle_runs.specs.declared.unfinished.Unfinished.{Unfinished}
@@ -23,7 +20,7 @@ use Rattle.bundle_runs.specs.declared.unfinished.Unfinished.TheVariants.{Six, Se
 use Rattle.bundle_runs.specs.declared.bundle_reader.Standing.{Standing}
 use Rattle.bundle_runs.specs.declared.bundle_reader.Next.{Next}
 use Rattle.bundle_runs.specs.declared.bundle_reader.Next.TheVariants.{End}
-use Rattle.bundle_runs.specs.Front.{Front, whole, cut_short, refused, front_of, front6, front7, word_of, version_of, IsWithin}
+use Rattle.bundle_runs.specs.Front.{Front, whole, cut_short, refused, front_of, word_of, version_of, IsWithin}
 use Rattle.bundle_runs.specs.Answering.{settles_from, step_of}
 use Rattle.bundle_runs.specs.WrittenLines.{check_line, refused_line, turned_down_line}
 use Rattle.fragment_lines.specs.Said.{says, refuses}
@@ -31,7 +28,7 @@ use Rattle.fragment_lines.specs.declared.turned_down.TurnedDown.{TurnedDown}
 use Rattle.fragment_lines.specs.Lines.{turned_down_word, Writes}
 use Rattle.bundle_runs.specs.Given.{Finds, IsVersion, IsRead}
 use Rattle.bundle_runs.specs.Taking.{kept_of, mark_of, front_in, kept_by, settling_of, settling_after, with_unfinished, with_joiner, passed, waiting, IsReady, IsCut, HasBegun, HasBegunWith, GoesOn, Takes, IsSound, KeepsBegun, Took, GoesAfter, EndsWith, Steps, SoFar, Stands}
-use Rattle.bundle_runs.proofs.FrontsLemmas.{settles-none, settles-cut, within6, within7, front-within}
+use Rattle.bundle_runs.proofs.FrontsLemmas.{settles-none, settles-cut, front-within}
 use Rattle.bundle_runs.proofs.LawLemmas.{goes-says, goes-turned-down, goes-cut, goes-refused}
 
 -- ---- octets

@@ -1,4 +1,4 @@
-use Rattle.std.proofs.Common.{◌≤◌, ◌+◌, arith}
+use Rattle.std.proofs.Common.{arith}
 use Rattle.bundle_runs.specs.Given.{IsVersion}
 use Rattle.bundle_runs.proofs.TakingLemmas.{whole-room, refused-room, step-checked, step-refused, refuse-ends}
 use Rattle.bundle_runs.proofs.bundle_reader.Standing.check.Goals as goal

@@ -1,5 +1,5 @@
 use Rattle.std.proofs.Common.{◌≡◌, Some, sym, ◌∙◌, ap, arith}
-use Rattle.bundle_runs.specs.Taking.{kept_of, kept_by, HasBegun}
+use Rattle.bundle_runs.specs.Taking.{kept_by}
 use Rattle.bundle_runs.proofs.TakingLemmas.{finish-none, finish-cut, cut-inside}
 use Rattle.bundle_runs.proofs.bundle_reader.Standing.finish.Goals as goal
 

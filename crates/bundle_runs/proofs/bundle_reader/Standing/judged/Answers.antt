@@ -1,4 +1,4 @@
-use Rattle.std.proofs.Common.{◌≡◌, Some, Ok, Err, sym, arith}
+use Rattle.std.proofs.Common.{arith}
 use Rattle.bundle_runs.specs.Given.{IsVersion}
 use Rattle.bundle_runs.proofs.TakingLemmas.{took-more-of}
 use Rattle.bundle_runs.proofs.bundle_reader.Standing.judged.Goals as goal

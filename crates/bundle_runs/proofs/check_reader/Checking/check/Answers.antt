@@ -1,5 +1,4 @@
-use Rattle.std.proofs.Common.{◌≡◌, None, refl, ap, sym, arith, rules}
-use Rattle.bundle_runs.specs.declared.check_reader.Checking.{Checking}
+use Rattle.std.proofs.Common.{◌≡◌, None, refl, arith, rules}
 use Rattle.bundle_runs.proofs.CheckLemmas.{check-room-of, check-refused-room-of, check-whole-of, check-part-of, check-refused-of}
 use Rattle.bundle_runs.proofs.check_reader.Checking.check.Goals as goal
 

@@ -1,4 +1,4 @@
-use Rattle.std.proofs.Common.{◌≡◌, None, Some, sym, ◌∙◌, ap, arith}
+use Rattle.std.proofs.Common.{sym, ◌∙◌, arith}
 use Rattle.bundle_runs.proofs.CheckLemmas.{shadowed-after, check-finish-none, check-finish-room, check-finish-cut}
 use Rattle.bundle_runs.proofs.check_reader.Checking.finish.Goals as goal
 

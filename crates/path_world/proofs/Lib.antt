@@ -1,0 +1,11 @@
+mod SentLemmas
+mod FragmentLemmas
+mod WholeLemmas
+mod RoomLemmas
+mod JoinLemmas
+mod StepLemmas
+mod RunLemmas
+mod CallLemmas
+mod NewLemmas
+mod PartLemmas
+mod WorldLemmas

@@ -1,0 +1,13 @@
+use Rattle.std.proofs.Common.{[], ◌∷◌, refl, sym, subst}
+use Rattle.std.proofs.lemmas.List.{map-append}
+use Rattle.path_world.specs.Ties.{sent_of}
+use Rattle.path_world.proofs.SentLemmas.{KeptSo, kept-none, kept-more}
+use Rattle.path_world.proofs.sent.SentLog.keep_all.Goals as goal
+
+pub keeping-init : goal.keeping-init
+keeping-init c = subst (KeptSo c.args.self.now c.args.self.now []) (sym c.new-told.ensures.items) (kept-none c.args.self.now)
+
+pub keeping-preserved : goal.keeping-preserved
+keeping-preserved c =
+    kept-more c.args.self.now c.keeping.self c.keep.new.self _ _ (sent_of c.args.from c.in-Some.datagram) c.keeping.told.items c.push.new.self.items c.in_ok-keep.field-0
+    c.keeping.invariant c.in_ok-keep.ensures.kept c.in_ok-keep.ensures.told c.in_ok-push.ensures.items (map-append (sent_of c.args.from) c.keeping.yielded (c.in-Some.datagram ∷ []))

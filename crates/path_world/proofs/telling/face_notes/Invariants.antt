@@ -1,0 +1,6 @@
+use Rattle.std.proofs.Common.{◌≡◌, map}
+use Rattle.path_laws.specs.Path.{gate_note}
+use Rattle.path_world.proofs.telling.face_notes.Given as goal
+
+abbrev pub invariant-each : goal.invariant-each
+invariant-each l = l.items.items ≡ map gate_note l.yielded

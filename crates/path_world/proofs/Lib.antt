@@ -9,3 +9,5 @@ mod CallLemmas
 mod NewLemmas
 mod PartLemmas
 mod WorldLemmas
+mod DrainLemmas
+mod DrainWearLemmas

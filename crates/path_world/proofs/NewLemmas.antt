@@ -1,6 +1,6 @@
 -- A path at its beginning.
 
-use Rattle.std.proofs.Common.{◌≡◌, ℕ, ◌<◌, ◌≤◌, ◌^◌, false, List, [], ◌∷◌, map, refl, sym, ap, ◌∙◌, subst, arith}
+use Rattle.std.proofs.Common.{◌≡◌, ℕ, ◌<◌, ◌≤◌, ◌^◌, false, List, [], refl, sym, ap, subst, arith}
 use Rattle.std.specs.List.{All}
 use Rattle.std.proofs.lemmas.List.Elements.{All-nil}
 use Rattle.endpoint.specs.declared.name.Endpoint.{Endpoint}
@@ -13,6 +13,7 @@ use Rattle.gateway_core.specs.Gate.{starts_gate}
 use Rattle.gateway_core.specs.Shows.{ShowsGate, IsGateBounded}
 use Rattle.gateway_core.specs.Values.{GatewayValue, new_gateway}
 use Rattle.gateway_core.specs.Values.{setup_of as gate_setup_of}
+use Rattle.link_laws.specs.Deadlines.{Waits}
 use Rattle.link_laws.specs.Writable.{HasSmallNumbers}
 use Rattle.ltp_engine.specs.Bounds.{IsBounded}
 use Rattle.ltp_engine.specs.Shows.{Shows}
@@ -20,26 +21,25 @@ use Rattle.ltp_engine.specs.Steps.{new_engine}
 use Rattle.ltp_engine.specs.Values.{EngineValue}
 use Rattle.ltp_segment.specs.Policy.{PolicyValue}
 use Rattle.ltp_session.specs.Engine.{starts}
-use Rattle.ltp_session.specs.World.{ArePeers}
 use Rattle.path_laws.specs.Links.{link_parties}
 use Rattle.path_laws.specs.Path.{path_setup, path_run}
+use Rattle.path_drain_laws.specs.Hopeful.{IsFitPath}
+use Rattle.path_drain_laws.proofs.PolicyLemmas.{short-fits}
 use Rattle.path_world.specs.declared.node.Node.{Node}
 use Rattle.path_world.specs.declared.parts.Parts.{Parts}
-use Rattle.path_world.specs.declared.sent.Sent.{Sent}
-use Rattle.path_world.specs.Shows.{IsSmallSetup, ShowsRun, Stands}
+use Rattle.path_world.specs.Shows.{IsSmallSetup, ShowsRun}
 use Rattle.path_world.specs.Ties.{BeginsWithRoom, IsNode, live, setup_in, IsKept, IsWhole}
-use Rattle.path_world.specs.Values.{spelled}
 
--- its engines name each other, and their numbers are small
-pub small-setup : (gate : Endpoint) (policy : PolicyValue) (cut : ℕ) → 1 ≤ policy.segment → IsSmallSetup (path_setup gate policy cut)
-small-setup gate policy cut cuts = record {
-  linked = record { each = peers };
+-- its engines name each other and are alike, and their numbers are small
+pub small-setup : (gate : Endpoint) (policy : PolicyValue) (cut : ℕ) → 2 ≤ policy.segment → Waits policy → IsSmallSetup (path_setup gate policy cut)
+small-setup gate policy cut cuts waits = record {
+  linked = fit.linked;
+  alike = fit.alike;
   first_small = first;
   second_small = second;
 } where
-  peers : (face : Face) → ArePeers (link_parties (path_setup gate policy cut) face)
-  peers faces.Old = record { differ = λ same. absurd (omega (arith, same)); first_knows = refl; second_knows = refl; first_cuts = cuts; second_cuts = cuts }
-  peers faces.New = record { differ = λ same. absurd (omega (arith, same)); first_knows = refl; second_knows = refl; first_cuts = cuts; second_cuts = cuts }
+  fit : IsFitPath (path_setup gate policy cut)
+  fit = short-fits gate cut policy cuts waits
 
   first : (face : Face) → HasSmallNumbers (link_parties (path_setup gate policy cut) face).0
   first faces.Old = record { own = omega arith; first = omega arith; most = omega arith }
@@ -93,7 +93,8 @@ pub record Begins (p : Parts) (gate : Endpoint) (policy : PolicyValue) (cut now 
   pub sent : p.sent ≡ []
   pub moment : p.moment ≡ now
   pub early : now < 2 ^ 62
-  pub cuts : 1 ≤ policy.segment
+  pub cuts : 2 ≤ policy.segment
+  pub waits : Waits policy
   pub old_shows : Shows p.old_node.engine (starts p.old_node.engine.party)
   pub new_shows : Shows p.new_node.engine (starts p.new_node.engine.party)
   pub gate_shows : ShowsGate p.gate (starts_gate (gate_setup_of p.gate))
@@ -106,7 +107,7 @@ begins-setup p gate policy cut now b = rw (b.old_node, b.new_node, b.gate_is) re
 
 pub begins-shows : (p : Parts) (gate : Endpoint) (policy : PolicyValue) (cut now : ℕ) → Begins p gate policy cut now → ShowsRun (live p) now []
 begins-shows p gate policy cut now b =
-    new-run p now (subst IsSmallSetup (sym (begins-setup p gate policy cut now b)) (small-setup gate policy cut b.cuts)) b.old_shows b.new_shows b.gate_shows
+    new-run p now (subst IsSmallSetup (sym (begins-setup p gate policy cut now b)) (small-setup gate policy cut b.cuts b.waits)) b.old_shows b.new_shows b.gate_shows
     (ap (λ (j : Joining). j.joins) b.old_joiner) (ap (λ (j : Joining). j.joins) b.new_joiner) b.sent b.moment
 
 pub begins-whole : (p : Parts) (gate : Endpoint) (policy : PolicyValue) (cut now : ℕ) → Begins p gate policy cut now → IsWhole p

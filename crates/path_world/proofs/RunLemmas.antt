@@ -139,7 +139,7 @@ got-spelled [] k item is = absurd (cc)
 got-spelled (d ∷ sent) zero item is = (d, refl, cc)
 got-spelled (d ∷ sent) (suc k) item is = got-spelled sent k item is
 
-read-back : (v : PathValue) (start : ℕ) (events : List PathEvent) (k : ℕ) (d : SentFrom) → ShowsRun v start events → slice_get (path_after v start events).sent k ≡ Some d
+pub read-back : (v : PathValue) (start : ℕ) (events : List PathEvent) (k : ℕ) (d : SentFrom) → ShowsRun v start events → slice_get (path_after v start events).sent k ≡ Some d
     → segment_of (segment_octets d.segment) ≡ Ok d.segment
 read-back v start events k d shows is =
     let face : Face = link_of d.from in

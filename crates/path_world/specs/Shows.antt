@@ -8,6 +8,7 @@ use Rattle.gateway_core.specs.Shows.{ShowsGate, IsGateBounded}
 use Rattle.link_laws.specs.Writable.{HasSmallNumbers}
 use Rattle.ltp_engine.specs.Bounds.{IsBounded}
 use Rattle.ltp_engine.specs.Shows.{Shows}
+use Rattle.path_drain_laws.specs.Hopeful.{AreAlikeOnPath}
 use Rattle.path_laws.specs.Laws.{IsLinked}
 use Rattle.path_laws.specs.Links.{link_parties}
 use Rattle.path_laws.specs.Path.{Path, PathEvent, PathSetup, path_run, starts_path}
@@ -22,9 +23,10 @@ pub record ShowsPath (v : PathValue) (w : Path) : Type 0 where
   pub sent : v.sent ≡ map spelled w.sent
   pub now : w.now ≡ v.moment
 
--- two engines name each other on each link, and their numbers are of 64 bits
+-- two engines name each other on each link, and are alike; and their numbers are of 64 bits
 pub record IsSmallSetup (s : PathSetup) : Type 0 where
   pub linked : IsLinked s
+  pub alike : AreAlikeOnPath s
   pub first_small : (face : Face) → HasSmallNumbers (link_parties s face).0
   pub second_small : (face : Face) → HasSmallNumbers (link_parties s face).1
 

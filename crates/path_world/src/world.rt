@@ -25,8 +25,8 @@ use std::marker::Model;
 /// After want of memory the value may only be dropped.
 #[derive(Debug, Drop)]
 pub struct PathWorld {
-    parts: Parts,
-    spent: bool,
+    pub(crate) parts: Parts,
+    pub(crate) spent: bool,
 }
 
 impl Model for PathWorld {

@@ -16,6 +16,10 @@ returns-clause-whole c = begins-whole _ c.args.config.gate (policy_value c.args.
   moment = refl;
   early = c.requires.moment;
   cuts = omega (arith, c.args.config.policy.segment_least);
+  waits = (
+    omega (arith, c.args.config.policy.timeout_least),
+    omega (arith, c.args.config.policy.timeout_least, c.args.config.policy.cap_least),
+  );
   old_shows = c.new.ensures.shows;
   new_shows = c.new-4.ensures.shows;
   gate_shows = c.new-3.ensures.shows;
@@ -37,6 +41,10 @@ returns-clause-shows c = begins-shows _ c.args.config.gate (policy_value c.args.
   moment = refl;
   early = c.requires.moment;
   cuts = omega (arith, c.args.config.policy.segment_least);
+  waits = (
+    omega (arith, c.args.config.policy.timeout_least),
+    omega (arith, c.args.config.policy.timeout_least, c.args.config.policy.cap_least),
+  );
   old_shows = c.new.ensures.shows;
   new_shows = c.new-4.ensures.shows;
   gate_shows = c.new-3.ensures.shows;

@@ -2,7 +2,7 @@
 use Rattle.std.specs.Prelude.{Bool, true, false, not, ℕ, List, ◌++◌, codes}
 use Rattle.std.specs.Fmt.{decimal}
 use Rattle.gateway_run.specs.declared.commands.passed.Passed.{Passed}
-use Rattle.gateway_run.specs.declared.commands.passed.Passed.TheVariants.{Size, Lines, LineLength, Sessions, Clock}
+use Rattle.gateway_run.specs.declared.commands.passed.Passed.TheVariants.{Size, Lines, LineLength, Sessions, Clock, World}
 use Rattle.edge_traits.specs.declared.status.Status.{Status}
 use Rattle.edge_traits.specs.declared.status.Status.TheVariants.{Done, Refused, Usage, ReadFault, WriteFault, Limit, Memory}
 
@@ -23,3 +23,6 @@ limit_text Lines = codes "fimdahol: the input has more than 1000000 lines\n"
 limit_text (LineLength line) = codes "fimdahol: line " ++ (decimal line ++ codes " has more than 9000000 octets\n")
 limit_text (Sessions line) = codes "fimdahol: line " ++ (decimal line ++ codes " leaves more than 64 sessions unfinished\n")
 limit_text (Clock line) = codes "fimdahol: line " ++ (decimal line ++ codes " sets the clock past 4611686018427387903\n")
+limit_text (World line) =
+    codes "fimdahol: line "
+    ++ (decimal line ++ codes " sets the clock past 4611686018427387903, or leaves more than 268435456 octets of datagrams\n")

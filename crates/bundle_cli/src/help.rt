@@ -13,6 +13,7 @@ usage: fimdahol receive < DATAGRAMS      hands up the red parts of recorded LTP 
        fimdahol cut SIZE < BUNDLES       cuts each recorded bundle into pieces
        fimdahol join < BUNDLES           puts recorded pieces together
        fimdahol node OWN PEER < EVENTS   is one end of an LTP link, by the numbers of two engines
+       fimdahol world < SCRIPT           replays a script on an old node, the gateway and a new node
        fimdahol serve GATE OLD_BIND OLD_PEER NEW_BIND NEW_PEER TURNS
                                          is a gateway between two UDP sockets
        fimdahol --help | --version
@@ -48,11 +49,22 @@ clock MS (time passes), and writes what the engine does
   refused CAUSE                  a block isn't sent
   refused line LINE CAUSE        last, where a line is no event
 
+world reads a script of a path between an old node and a new one, and writes what happens there,
+at o, g.o, g.n and n: the old node, the gateway's two sides, and the new node. Its first line is
+path GATE SEGMENT TIMEOUT LIMIT CUT START [CAP]; then send old HEX or send new HEX (a node sends a
+bundle), deliver K (datagram K comes to where it was sent, again or at last) or clock MS
+  sent K ROUTE HEX               datagram K was sent: o>g, g>o, g>n or n>g
+  up PLACE SESSION HEX           a block came whole, in this session
+  join PLACE WORD, join PLACE Whole HEX        a node has a piece more, or the whole
+  note PLACE NAME ..             as of serve and node
+  refused PLACE CAUSE, refused deliver         nothing is sent, or there is no such datagram
+  refused line LINE CAUSE        last, where a line is no event
+
 serve stands between a node of BPv6, at the old link, and one of BPv7, at the new link; GATE is its
-own endpoint, as ipn:9.0. Each link is a UDP socket at an address of its own (BIND) with one peer;
-an address is an IP address or a host's name, and a port: 127.0.0.1:1113, [::1]:1113. TURNS says
-how often both links are polled, up to 1000000000. It writes, at g.o of the old link and at g.n
-of the new
+own endpoint, for example ipn:9.0. Each link is a UDP socket at an address of its own (BIND) with
+one peer; an address is an IP address or a host's name, and a port: 127.0.0.1:1113, [::1]:1113.
+TURNS says how often both links are polled, up to 1000000000. It writes, at g.o of the old link and
+at g.n of the new
   up PLACE SESSION HEX           a block came whole: a bundle
   note PLACE Passed SESSION PIECES             it went on
   note PLACE BadBundle SESSION AT CAUSE        it is no bundle, and where
@@ -63,8 +75,9 @@ of the new
   note old Poll, note new Poll   a datagram couldn't be taken from a link
   note old Send, note new Send   a datagram couldn't be sent on a link, and is lost
 
-limits: 67108864 octets of input; of receive and node 1000000 lines and 9000000 octets a line;
-        of receive 64 unfinished sessions; of node a clock of 4611686018427387903 ms
+limits: 67108864 octets of input; of receive, node and world 1000000 lines and 9000000 octets a
+        line; of receive 64 unfinished sessions; of node and world a clock of 4611686018427387903
+        ms; of world 268435456 octets of datagrams
 
 status: 0 done, 1 the input was refused, 2 wrong usage, 3 a read failed, 4 a write failed,
         5 an address can't be used, 6 the input passes a limit, 7 memory ran out; standard error

@@ -49,6 +49,9 @@ fn usage(words: &[Word]) -> &'static str {
         [word, _file] if word.octets() == b"join".as_slice() => {
             "fimdahol: join reads standard input: fimdahol join < FILE\n"
         }
+        [word, _file] if word.octets() == b"world".as_slice() => {
+            "fimdahol: world reads standard input: fimdahol world < FILE\n"
+        }
         [word, _file] if word.octets() == b"receive".as_slice() => {
             "fimdahol: receive reads standard input: fimdahol receive < FILE\n"
         }

@@ -14,6 +14,9 @@ use Rattle.node_run.specs.Node.{node_rules, begins, node_party}
 use Rattle.node_run.specs.Node as node
 use Rattle.node_run.specs.RedParts.{AnswersLines}
 use Rattle.node_run.proofs.RunLemmas.{answers_lines}
+use Rattle.world_run.specs.World.{world_rules, no_path}
+use Rattle.world_run.specs.World as world
+use Rattle.world_run.specs.Headline.{KeepsHeadline, WorldsKeepHeadline}
 use Rattle.command_frame.specs.Task.{Settling}
 use Rattle.gateway_run.specs.ReceiverLaw.{KeepsReceiverLaw}
 use Rattle.gateway_run.specs.Words.{settles, CompletesCommand, KeepsLaw, WritesLawfully, IsLawful}
@@ -34,6 +37,9 @@ receive-front limits most = within-front most (receive.settles limits) (lines_fr
 node-front : (own peer : ℕ) → EarliestDecides (within most_input (node.settles own peer))
 node-front own peer =
     within-front most_input (node.settles own peer) (lines_from-front node_rules 1 (begins (node_party own peer)))
+
+world-front : EarliestDecides (within most_input world.settles)
+world-front = within-front most_input world.settles (lines_from-front world_rules 1 no_path)
 
 -- ---- the laws
 
@@ -103,14 +109,22 @@ node-keeps own peer input =
     keeps (settles (commands.Node own peer)) (node-front own peer) input (λ text ending. AnswersLines (node_party own peer) most_input input text)
     lawful.status lawful.is lawful.law
 
-pub keeps_law : (input : Option (List ℕ)) (named : Option Command) (command : Command) (status : Status) (left before now : Option (List ℕ))
+world-keeps : WorldsKeepHeadline → (input : List ℕ) (status : Status) (left before now : Option (List ℕ))
+    → Wrote (settles commands.World) status input left before now → IsLawful (KeepsHeadline most_input input) status before now
+world-keeps headline input =
+    let lawful = headline most_input input in
+    keeps (settles commands.World) world-front input (KeepsHeadline most_input input) lawful.ending lawful.ends lawful.law
+
+pub keeps_law : WorldsKeepHeadline → (input : Option (List ℕ)) (named : Option Command) (command : Command) (status : Status) (left before now : Option (List ℕ))
     → named ≡ Some command → IfSome input (λ all. Wrote (settles command) status all left before now)
     → IfSome input (λ all. KeepsLaw named all status before now)
-keeps_law None named command status left before now is wrote = tt
-keeps_law (Some input) named (commands.Bundles command) status left before now is wrote = rw is tt
-keeps_law (Some input) named (commands.Node own peer) status left before now is wrote =
+keeps_law headline None named command status left before now is wrote = tt
+keeps_law headline (Some input) named (commands.Bundles command) status left before now is wrote = rw is tt
+keeps_law headline (Some input) named (commands.Node own peer) status left before now is wrote =
     rw is (node-keeps own peer input status left before now wrote)
-keeps_law (Some input) named commands.Receive status left before now is wrote =
+keeps_law headline (Some input) named commands.World status left before now is wrote =
+    rw is (world-keeps headline input status left before now wrote)
+keeps_law headline (Some input) named commands.Receive status left before now is wrote =
     rw is (receive-keeps input status left before now wrote)
 
 -- ---- fronts
@@ -119,19 +133,20 @@ pub command-front : (command : Command) → EarliestOctetDecides (settles comman
 command-front commands.Receive = λ ends taken more octets. receive-front the_limits most_input ends taken more
 command-front (commands.Bundles command) = earliest_decides command
 command-front (commands.Node own peer) = λ ends taken more octets. node-front own peer ends taken more
+command-front commands.World = λ ends taken more octets. world-front ends taken more
 
 -- ---- by how a run went
 
-pub keeps_ran : (named : Option Command) (status : Status) (source source_now : SourceTells) (sink sink_now : SinkTells)
+pub keeps_ran : WorldsKeepHeadline → (named : Option Command) (status : Status) (source source_now : SourceTells) (sink sink_now : SinkTells)
     → IfSome named (λ command. Ran (settles command) status source source_now sink sink_now)
     → IfSome source.left (λ input. KeepsLaw named input status sink.held sink_now.held)
-keeps_ran None status source source_now sink sink_now ran = nothing source.left
+keeps_ran headline None status source source_now sink sink_now ran = nothing source.left
   where
     nothing : (left : Option (List ℕ)) → IfSome left (λ input. KeepsLaw None input status sink.held sink_now.held)
     nothing None = tt
     nothing (Some input) = tt
-keeps_ran (Some command) status source source_now sink sink_now ran =
-    keeps_law source.left (Some command) command status source_now.left sink.held sink_now.held refl ran.wrote
+keeps_ran headline (Some command) status source source_now sink sink_now ran =
+    keeps_law headline source.left (Some command) command status source_now.left sink.held sink_now.held refl ran.wrote
 
 -- a count that rose isn't what it was
 rises : (n most : ℕ) → n < most → n ≡ min (n + 1) most → ⊥

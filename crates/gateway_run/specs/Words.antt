@@ -13,6 +13,8 @@ use Rattle.replay_script.specs.Events.{number_in}
 use Rattle.node_run.specs.Node.{node_party}
 use Rattle.node_run.specs.Node as node
 use Rattle.node_run.specs.RedParts.{AnswersLines}
+use Rattle.world_run.specs.World as world
+use Rattle.world_run.specs.Headline.{KeepsHeadline}
 use Rattle.gateway_run.specs.declared.commands.command.Command.{Command}
 use Rattle.gateway_run.specs.declared.commands.command.Command.TheVariants as commands
 use Rattle.gateway_run.specs.Receive as receive
@@ -30,6 +32,7 @@ one_word word =
     else if is_word word (codes "show") then Some (commands.Bundles Show)
     else if is_word word (codes "convert") then Some (commands.Bundles Convert)
     else if is_word word (codes "join") then Some (commands.Bundles Join)
+    else if is_word word (codes "world") then Some commands.World
     else None
 
 -- pieces of a size
@@ -72,6 +75,7 @@ abbrev pub IsSound : Command → Type 0
 IsSound commands.Receive = Unit {0}
 IsSound (commands.Bundles command) = Unit {0}
 IsSound (commands.Node own peer) = own ≢ peer
+IsSound commands.World = Unit {0}
 
 -- ---- what a command answers
 
@@ -80,6 +84,7 @@ abbrev pub settles : Command → Ends → List ℕ → Settled
 settles commands.Receive = within most_input (receive.settles the_limits)
 settles (commands.Bundles command) = bundles.settles command
 settles (commands.Node own peer) = within most_input (node.settles own peer)
+settles commands.World = within most_input world.settles
 
 -- the run ended with a limit
 abbrev pub is_limit : Status → Bool
@@ -117,11 +122,15 @@ IsLawful Law status before now =
     IfSome now (λ after. IsSomeAnd before (λ held. WritesLawfully Law status held after))
 
 -- the law of a command: of `receive` the receiver's, and of `node` that the events which its first
--- lines say are answered; that their red parts keep the receiver's law is a law of `node_run`
+-- lines say are answered; that their red parts keep the receiver's law is a law of `node_run`. Of
+-- `world` that the events of its script are answered, and that its `up` lines are blocks that came
+-- whole, as they were sent, and once
 abbrev pub KeepsLaw : Option Command → List ℕ → Status → Option (List ℕ) → Option (List ℕ) → Type 0
 KeepsLaw None input status before now = Unit {0}
 KeepsLaw (Some (commands.Bundles command)) input status before now = Unit {0}
 KeepsLaw (Some (commands.Node own peer)) input status before now =
     IsLawful (λ text ending. AnswersLines (node_party own peer) most_input input text) status before now
+KeepsLaw (Some commands.World) input status before now =
+    IsLawful (KeepsHeadline most_input input) status before now
 KeepsLaw (Some commands.Receive) input status before now =
     IsLawful (KeepsReceiverLaw the_limits most_input input) status before now

@@ -19,3 +19,5 @@ mod receive;
 mod recorded;
 #[cfg(test)]
 mod runs;
+#[cfg(test)]
+mod world;

@@ -2,3 +2,4 @@ mod PlainLemmas
 mod UpLemmas
 mod StartLemmas
 pub mod ScriptLemmas
+mod StepLemmas

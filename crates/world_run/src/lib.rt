@@ -6,8 +6,14 @@
 //! happens is written with the line.
 //!
 //! The definition is `specs/World.antt`: the steps of a path of `path_laws` over the events, as lines.
-//! [`laws::worlds_keep_headline`] says what the `up` lines of a text are: each block comes whole, once
-//! in its session, and as it was sent. What runs a script isn't here yet.
+//! [`World`] is a `LineStep` of `command_frame` over the path of `path_world`, which is answered line
+//! by line. [`laws::worlds_keep_headline`] says what the `up` lines of a text are: each block comes whole, once
+//! in its session, and as it was sent.
 #![tactic(auto)]
 
 pub mod laws;
+mod script;
+mod world;
+mod written_lines;
+
+pub use world::World;

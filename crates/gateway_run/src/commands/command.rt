@@ -14,6 +14,8 @@ pub enum Command {
     Bundles(bundle_runs::Command),
     /// `node OWN PEER`: one end of a link, by the numbers of its engine and of its peer's.
     Node { own: u64, peer: u64 },
+    /// `world`: a script on a whole path, from an old node over the gate to a new one.
+    World,
 }
 
 /// The most octets of a piece that words name.
@@ -41,6 +43,7 @@ pub fn command_named(words: &[Word]) -> Option<Command>
         [word] if word.octets() == b"join".as_slice() => {
             Some(Command::Bundles(bundle_runs::Command::Join))
         }
+        [word] if word.octets() == b"world".as_slice() => Some(Command::World),
         [word, size] if word.octets() == b"cut".as_slice() => cut_named(size.octets()),
         [word, own, peer] if word.octets() == b"node".as_slice() => {
             node_named(own.octets(), peer.octets())

@@ -18,6 +18,9 @@ pub enum Passed {
     Sessions { line: u64 },
     /// This line sets the clock past 2^62 - 1 ms.
     Clock { line: u64 },
+    /// This line sets the clock of `world` past 2^62 - 1 ms, or with it the datagrams have more than
+    /// 268,435,456 octets.
+    World { line: u64 },
 }
 
 /// How a run ended, and which limit it passed. That one is named if and only if the status is
@@ -60,5 +63,15 @@ pub fn passed_by_node(passed: Option<LinePassed>) -> Passed {
         Some(LinePassed::Lines) => Passed::Lines,
         Some(LinePassed::Length { line }) => Passed::LineLength { line },
         Some(LinePassed::Own { line }) => Passed::Clock { line },
+    }
+}
+
+/// The same of `world`.
+pub fn passed_by_world(passed: Option<LinePassed>) -> Passed {
+    match passed {
+        None => Passed::Size,
+        Some(LinePassed::Lines) => Passed::Lines,
+        Some(LinePassed::Length { line }) => Passed::LineLength { line },
+        Some(LinePassed::Own { line }) => Passed::World { line },
     }
 }

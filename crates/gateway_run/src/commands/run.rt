@@ -7,7 +7,9 @@ ghost use Rattle.serve_run.specs.Tells.{RanTurns, links_tell};
 ghost use Rattle.gateway_run.specs.Words.{command_of, is_limit, settles, CompletesCommand, KeepsLaw, IsSound};
 
 use crate::commands::command::{Command, command_named};
-use crate::commands::passed::{Ended, Passed, ended_with, passed_by_node, passed_by_receive};
+use crate::commands::passed::{
+    Ended, Passed, ended_with, passed_by_node, passed_by_receive, passed_by_world,
+};
 use crate::commands::receive::Receive;
 use crate::commands::serving::serve_named;
 use crate::commands::word::Word;
@@ -18,6 +20,8 @@ use node_run::Node;
 use replay_script::gate_in;
 use serve_run::serve;
 use std::alloc::{AllocError, Global};
+use world_run::World;
+use world_run::laws::worlds_keep_headline;
 
 /// Answers the command that the words name, from the source to the sink, and writes what the
 /// octets read settle before it reads on. The links and the clock are for `serve`, which reads nothing.
@@ -49,7 +53,9 @@ pub fn run<S: Source, K: Sink, L: Link, C: Clock>(
 
     // `receive` hands up exactly the red parts that become whole, and ends where a line is refused
     // or a limit is passed. `node` answers the events that its lines say, whose red parts keep the
-    // same law (`node_run::laws`).
+    // same law (`node_run::laws`). `world` answers the events of its script, and each of its `up` lines
+    // is a block that came whole, as it was sent, and once: at either end a piece of what becomes of one
+    // bundle that the other end sent, or a report on one that it sent itself.
     ensures red_parts { IfSome (S.left source.old) (λ input.
         KeepsLaw (command_of words.now) input result (K.held sink.old) (K.held sink.new)) }
 
@@ -64,6 +70,7 @@ pub fn run<S: Source, K: Sink, L: Link, C: Clock>(
     ensures new_link { serve_of words.now ≡ None → new_link.new ≡ new_link.old }
     ensures clock { serve_of words.now ≡ None → clock.new ≡ clock.old }
 {
+    worlds_keep_headline();
     run_told(alloc, words, source, sink, old_link, new_link, clock).status
 }
 
@@ -158,6 +165,11 @@ fn run_command<S: Source, K: Sink>(
             let mut task = LineReader::new(alloc, Node::new(alloc, own, peer));
             let status = drive(alloc, &mut task, source, sink);
             ended_with(status, passed_by_node(task.passed()))
+        }
+        Command::World => {
+            let mut task = LineReader::new(alloc, World::new(alloc));
+            let status = drive(alloc, &mut task, source, sink);
+            ended_with(status, passed_by_world(task.passed()))
         }
     }
 }

@@ -1,0 +1,8 @@
+use Rattle.std.proofs.Common.{◌≡◌, ◌++◌}
+use Rattle.std.specs.List.{flat_map}
+use Rattle.std.specs.String.{string_bytes}
+use Rattle.world_run.specs.Shows.{sent_at_line}
+use Rattle.world_run.proofs.written_lines.write_all_sent.Given as goal
+
+abbrev pub invariant-each : goal.invariant-each
+invariant-each l = string_bytes l.text ≡ string_bytes l.initial.text ++ flat_map sent_at_line l.yielded

@@ -1,6 +1,6 @@
 -- A piece of a stream: what the octets that came are, and what a part of a piece makes of them.
 
-use Rattle.std.proofs.Common.{◌≡◌, ◌≢◌, ℕ, zero, suc, ◌+◌, ◌-◌, ◌≤◌, ltb, min, Bool, true, false, List, [], ◌∷◌, ◌++◌, length, take, drop, Option, Some, None, Result, Ok, Err, IfOk, inl, inr, refl, sym, ap, ◌∙◌, subst, arith, append_assoc, length-append}
+use Rattle.std.proofs.Common.{◌≡◌, ◌≢◌, ℕ, zero, suc, ◌+◌, ◌-◌, ◌<◌, ◌≤◌, lit≤, ltb, min, Bool, true, false, List, [], ◌∷◌, ◌++◌, length, take, drop, Option, Some, None, Result, Ok, Err, IfOk, inl, inr, refl, sym, ap, ◌∙◌, subst, arith, append_assoc, length-append}
 use Rattle.std.proofs.lemmas.List.{length-drop, take-append-le, drop-append-le, take_all}
 use Rattle.std.proofs.Math.Seq.{drop-append_seam}
 use Rattle.wire_fields.specs.Refusal.{Stop, truncated, because}
@@ -31,10 +31,10 @@ use Rattle.bundle_judges.specs.declared.stand6.Stage.TheVariants.{Primary, Field
 use Rattle.bundle_judges.specs.declared.stand6.Stand.{Stand}
 use Rattle.bundle_judges.specs.Field6.{small_field, left_for, IsCut}
 use Rattle.bundle_judges.specs.Stand6.{dictionary_of, Keeps, IsAt, HasCome, HasEnded, Fails6, Ends, TakesPart, IsTurned, WantsRoom, JudgesPart}
-use Rattle.bundle_judges.specs.Judging6.{HasTaken, IsTaking, taken_by, JudgesOn}
+use Rattle.bundle_judges.specs.Judging6.{KeepsLittle, HasTaken, IsTaking, taken_by, JudgesOn}
 use Rattle.bundle_judges.proofs.MovedLemmas.{cut-from}
 use Rattle.bundle_judges.proofs.FieldLemmas6.{small-free, small-fails, octets-cut}
-use Rattle.bundle_judges.proofs.StandLemmas6.{fails-here}
+use Rattle.bundle_judges.proofs.StandLemmas6.{fails-here, small-room}
 
 -- ---- octets
 
@@ -67,6 +67,7 @@ come-nothing s came at stage others from to main head =
         order = omega (arith, from);
         inside = omega (arith, to);
         goes_on = rw (stage, at) (λ more. refl);
+        main = inl (rw main primary-begun);
         keeps = rw stage keeps;
       };
       all = came;
@@ -102,6 +103,7 @@ come-before text s before come =
         order = stands.order;
         inside = stands.inside;
         goes_on = stands.goes_on;
+        main = stands.main;
         keeps = keeps-before text s before s.stage stands.keeps;
       };
       all = come.all;
@@ -127,6 +129,7 @@ at-longer text more s fits stands = record {
   few = stands.few;
   order = stands.order;
   inside = stands.inside;
+  main = stands.main;
   goes_on = λ rest.
       let joined = append_assoc text more rest in
       ap (λ t. read (judged_bundle 64) t 0) joined ∙ stands.goes_on (more ++ rest)
@@ -136,6 +139,22 @@ at-longer text more s fits stands = record {
 
 pub rest-there : (text more : List ℕ) (s : Stand) → HasCome text s → more ≡ drop s.came (text ++ more)
 rest-there text more s come = sym (ap (λ n. drop n (text ++ more)) come.all ∙ drop-append_seam text more)
+
+-- ---- what is kept
+
+pub come-little : (text : List ℕ) (s : Stand) → HasCome text s → KeepsLittle s
+come-little text s come = record { main = come.stands.main; head = by s.stage refl come.stands.keeps }
+  where
+    none : (xs : List ℕ) → xs ≡ [] → length xs < 21
+    none xs is = rw is (omega arith)
+
+    by : (stage : Stage) → s.stage ≡ stage → Keeps text s stage → length s.head < 21
+    by Primary stage keeps = none s.head keeps.3
+    by (Field small) stage keeps = small-room text s small come.stands stage
+    by (Body size last) stage keeps = none s.head keeps.1
+
+pub taken-start : (s : Stand) → HasCome [] s → s.before ≡ 0 → HasTaken 67108864 (record { before = 0; kept = [] }) s
+taken-start s come before = record { took = record { come = come; before = before }; small = lit≤ tt; keeps = come-little [] s come }
 
 -- ---- the table with its values
 
@@ -285,14 +304,14 @@ module _ (longest : ℕ) (old : Stream) (piece part : List ℕ) (cut : Bool) (sm
   judges-taken used (Some end) new (b, ends, late, took, come, before) = (
     record { before = old.before + end; kept = [] },
     rw took (takes-size longest old piece part cut small is cuts b end (record { before = old.before + end; kept = [] }) ends late refl),
-    record { took = record { come = come; before = before }; small = omega arith },
+    record { took = record { come = come; before = before }; small = omega arith; keeps = come-little [] new come },
   )
   judges-taken used None new (last, took, come, before) =
       let sizes = part-of (longest - length old.kept) piece part is in (
         record { before = old.before; kept = old.kept ++ part },
         rw took (takes-open longest old piece part cut small is cuts (record { before = old.before; kept = old.kept ++ part }) last
             (come-open (old.kept ++ part) new come) refl),
-        record { took = record { come = come; before = before }; small = omega (arith, length-append old.kept part, sizes.within, small) },
+        record { took = record { come = come; before = before }; small = omega (arith, length-append old.kept part, sizes.within, small); keeps = come-little (old.kept ++ part) new come },
       )
 
   pub part-judges : (result : Result Judged6 Fail6) (new : Stand) → JudgesPart old part cut result new → JudgesOn longest old piece result new

@@ -1,13 +1,14 @@
 -- Where a judge stands: what a step into octets that are there makes of it.
 
-use Rattle.std.proofs.Common.{◌≡◌, ◌≢◌, ℕ, ◌+◌, ◌-◌, ◌<◌, ◌≤◌, min, Bool, true, false, List, [], ◌∷◌, ◌++◌, length, take, drop, slice_index, Option, Result, Ok, Err, refl, sym, ap, ◌∙◌, subst, arith, append-nil, append_assoc, length-append, take-append-drop}
-use Rattle.std.proofs.lemmas.List.{length-take-le, length-drop, take-append-le, drop-drop, take_all}
+use Rattle.std.proofs.Common.{◌≡◌, ◌≢◌, ℕ, ◌+◌, ◌-◌, ◌<◌, ◌≤◌, min, Bool, true, false, List, [], ◌∷◌, ◌++◌, length, take, drop, slice_index, Option, Vec, Global, Result, Ok, Err, inl, inr, refl, sym, ap, ◌∙◌, subst, arith, append-nil, append_assoc, length-append, take-append-drop}
+use Rattle.std.proofs.lemmas.List.{length-take-le, length-drop, take-append-le, take-take, drop-drop, take_all}
 use Rattle.endpoint.specs.declared.extent.Fragment.{Fragment}
+use Rattle.wire_fields.specs.Format.{Format}
 use Rattle.wire_fields.specs.Refusal.{Stop, truncated, because}
 use Rattle.wire_fields.specs.Reading.{read, IsOctets}
-use Rattle.wire_fields.proofs.ResultLemmas.{found, stopped}
+use Rattle.wire_fields.proofs.ResultLemmas.{found, stopped, found_is}
 use Rattle.wire_fields.proofs.ReadLemmas.{read-found, read-refused}
-use Rattle.wire_fields.proofs.StayLemmas.{refusal-within, octets-front, read-stays}
+use Rattle.wire_fields.proofs.StayLemmas.{refusal-within, octets-front, read-stays, read-begins, begins-read}
 use Rattle.wire_fields.proofs.ContinueLemmas.{found-longer}
 use Rattle.wire_fields.proofs.TextLemmas.{front_seam, octets-drop}
 use Rattle.bundle6.specs.declared.fault.Cause6.{Cause6}
@@ -16,6 +17,7 @@ use Rattle.bundle6.specs.declared.fault.Refused6.{Refused6}
 use Rattle.bundle6.specs.declared.fault.Fail6.{Fail6}
 use Rattle.bundle6.specs.declared.fault.Fail6.TheVariants.{Refused, Memory}
 use Rattle.bundle6.specs.declared.block.Seen.{Seen}
+use Rattle.bundle6.specs.declared.pass.Texts.{Texts}
 use Rattle.bundle6.specs.Cause.{why}
 use Rattle.bundle6.specs.Judging.{judged_primary, judged_bundle, none_seen}
 use Rattle.bundle6.specs.Passing.{left_at, next_stage}
@@ -29,7 +31,7 @@ use Rattle.bundle_judges.specs.declared.stand6.Step.{Step}
 use Rattle.bundle_judges.specs.declared.stand6.Step.TheVariants.{After, Ended}
 use Rattle.bundle_judges.specs.declared.stand6.Stand.{Stand}
 use Rattle.bundle_judges.specs.Field6.{small_field, left_for, IsCut, Counts}
-use Rattle.bundle_judges.specs.Stand6.{dictionary_of, Steps, Keeps, IsAt, Fails6, Moves, Ends, entered, IsLater, Enters, Leaves}
+use Rattle.bundle_judges.specs.Stand6.{dictionary_of, Steps, Keeps, IsAt, Fails6, Moves, Ends, entered, IsLater, Enters, Leaves, Fills}
 use Rattle.bundle_judges.proofs.MovedLemmas.{found-from, refused-from, ends-late}
 use Rattle.bundle_judges.proofs.FieldLemmas6.{small-free, small-short, small-begun, small-continues, small-fails, octets-continue}
 
@@ -83,6 +85,7 @@ moves-entered text old s seen stage more enters fuller came before = record {
     order = enters.order;
     inside = enters.inside;
     goes_on = enters.goes_on;
+    main = enters.main;
     keeps = keeps-entered text s seen stage (s.came + more) enters.head fuller;
   };
   some = enters.some;
@@ -209,6 +212,7 @@ small-enters text w more s small x n taken stands stage parts is counts later en
       few = counts-few small s.seen x.0 stands.few counts;
       order = stands.order;
       inside = stands.inside;
+      main = stands.main;
       head = refl;
       later = later;
       goes_on = λ rest.
@@ -300,6 +304,7 @@ small-waits text head octet s small p stands stage is more cut =
         order = stands.order;
         inside = stands.inside;
         goes_on = stands.goes_on;
+        main = stands.main;
         keeps = rw stage now;
       };
       some = omega arith;
@@ -321,6 +326,32 @@ came_more s more new = record {
   part = s.part;
   main = new.main;
   texts = s.texts;
+  head = s.head;
+}
+
+abbrev pub with_main : Stand → Vec ℕ Global → Stand
+with_main s main = record {
+  before = s.before;
+  came = s.came;
+  at = s.at;
+  stage = s.stage;
+  seen = s.seen;
+  part = s.part;
+  main = main;
+  texts = s.texts;
+  head = s.head;
+}
+
+abbrev pub read_again : Stand → Option Fragment → Texts → Stand
+read_again s part texts = record {
+  before = s.before;
+  came = s.came;
+  at = s.at;
+  stage = s.stage;
+  seen = s.seen;
+  part = part;
+  main = s.main;
+  texts = texts;
   head = s.head;
 }
 
@@ -350,6 +381,7 @@ body-leaves text s size last left stands stage is there =
       few = stands.few;
       order = stands.order;
       inside = stands.inside;
+      main = stands.main;
       head = keeps.1;
       goes_on = λ more.
           stands.goes_on more
@@ -372,6 +404,7 @@ body-waits text s size last more stands stage is some few =
         order = stands.order;
         inside = stands.inside;
         goes_on = stands.goes_on;
+        main = stands.main;
         keeps = rw stage now;
       };
       some = some;
@@ -403,6 +436,7 @@ leaves-on text s more leaves =
       few = leaves.few;
       order = leaves.order;
       inside = leaves.inside;
+      main = leaves.main;
       head = leaves.head;
       later = tt;
       goes_on = leaves.goes_on;
@@ -420,6 +454,7 @@ enters-leaves text s seen last more enters =
       few = enters.few;
       order = enters.order;
       inside = enters.inside;
+      main = enters.main;
       head = enters.head;
       goes_on = λ rest.
           enters.goes_on rest
@@ -487,31 +522,66 @@ primary-late text s main more end x chunk is =
     (ap (λ t. read judged_primary t 0) (sym chunk.both) ∙ is) in
     omega (arith, late, chunk.kept)
 
-pub primary-enters : (text : List ℕ) (old s : Stand) (more end : ℕ) → IsAt text old → Chunk text old s.main.items more → end ≤ length s.main.items
-    → s.texts.from ≤ s.texts.to → s.texts.to ≤ length s.main.items → s.head ≡ old.head → s.came ≡ old.came
-    → read judged_primary s.main.items 0 ≡ found (s.part, dictionary_of s) end → Enters text s none_seen (Field Block) (end - s.came)
-unfolding left_for
-primary-enters text old s more end stands chunk within order inside head came is =
-    let rest = drop (old.came + more) text in
-    let there : read judged_primary text 0 ≡ found (s.part, dictionary_of s) end =
-    ap (λ t. read judged_primary t 0) (sym chunk.joined)
-    ∙ found-longer judged_primary s.main.items 0 end (s.part, dictionary_of s) chunk.few (omega arith) is rest in
-    let late = primary-late text old s.main.items more end (s.part, dictionary_of s) chunk is in
-    let long : length s.main.items + length rest ≡ length text =
-    sym (length-append s.main.items rest) ∙ ap length chunk.joined in
-    let ends : s.came + (end - s.came) ≡ end = omega (arith, late, came) in
+-- what is found of a front of octets is found of that front alone
+found-front : {C A : Type 0} (f : Format C A) (text : List ℕ) (end : ℕ) (x : A) → IsOctets text → read f text 0 ≡ found x end
+    → read f (take end text) 0 ≡ found x (length (take end text))
+found-front f text end x fits is =
+    let begins = read-begins f text end x fits is in
+    let long : length (take end text) ≡ end = length-take-le end text begins.within in
+    let same : take end (take end text) ≡ take end text = take_all end (take end text) (omega (arith, long)) in
+    begins-read f (take end text) end x (record { within = omega (arith, long); spells = rw same begins.spells })
+    ∙ ap (λ n. found x n) (sym long)
+
+-- it ended, and what came after it isn't kept
+pub primary-fills : (text : List ℕ) (old s : Stand) (main : List ℕ) (more end : ℕ) (x : Option Fragment × List ℕ) → IsAt text old → Chunk text old main more
+    → old.stage ≡ Primary → s.came ≡ old.came → s.stage ≡ old.stage → s.head ≡ old.head → s.main.items ≡ take end main
+    → end ≤ length main → read judged_primary main 0 ≡ found x end → Fills text s (end - s.came)
+primary-fills text old s main more end x stands chunk stage came same head part within is =
+    let late = primary-late text old main more end x chunk is in
+    let long : length main ≡ old.came + more = ap length chunk.front ∙ length-take-le (old.came + more) text chunk.within in
+    let ends : end ≡ s.came + (end - s.came) = omega (arith, late, came) in
+    let front : take end main ≡ take end text =
+    ap (take end) chunk.front ∙ take-take end (old.came + more) text (omega (arith, within, long)) in
     record {
       octets = stands.octets;
-      within = omega (arith, ends, within, long);
+      within = omega (arith, ends, within, long, chunk.within);
       some = omega (arith, late, came);
+      stage = same ∙ stage;
+      head = head ∙ chunk.head;
+      front = part ∙ front ∙ ap (λ n. take n text) ends;
+      whole = (x, rw part (found-front judged_primary main end x chunk.few is));
+    }
+
+-- it is read again
+pub primary-enters : (text : List ℕ) (old s : Stand) (more end : ℕ) → Fills text old more → s.texts.from ≤ s.texts.to
+    → s.texts.to ≤ length s.main.items → s.head ≡ old.head → s.came ≡ old.came → s.main.items ≡ old.main.items
+    → read judged_primary s.main.items 0 ≡ found (s.part, dictionary_of s) end → Enters text s none_seen (Field Block) more
+unfolding left_for
+primary-enters text old s more end fills order inside head came same is =
+    let rest = drop (old.came + more) text in
+    let joined : s.main.items ++ rest ≡ text = ap (λ t. t ++ rest) (same ∙ fills.front) ∙ take-append-drop (old.came + more) text in
+    let few : IsOctets s.main.items = octets-front s.main.items rest (subst IsOctets (sym joined) fills.octets) in
+    let long : length s.main.items ≡ old.came + more = ap length (same ∙ fills.front) ∙ length-take-le (old.came + more) text fills.within in
+    let whole : read judged_primary s.main.items 0 ≡ found fills.whole.0 (length s.main.items) =
+    ap (λ t. read judged_primary t 0) same ∙ fills.whole.1 ∙ ap (λ t. found fills.whole.0 (length t)) (sym same) in
+    let spot : end ≡ s.came + more =
+    (found_is {E = ℕ × Stop Cause6} (s.part, dictionary_of s) fills.whole.0 end (length s.main.items) (sym is ∙ whole)).1 ∙ long ∙ ap (λ n. n + more) (sym came) in
+    let there : read judged_primary text 0 ≡ found (s.part, dictionary_of s) end =
+    ap (λ t. read judged_primary t 0) (sym joined)
+    ∙ found-longer judged_primary s.main.items 0 end (s.part, dictionary_of s) few (omega arith) is rest in
+    record {
+      octets = fills.octets;
+      within = omega (arith, fills.within, came);
+      some = fills.some;
       few = omega arith;
       order = order;
       inside = inside;
-      head = head ∙ chunk.head;
+      main = inr ((s.part, dictionary_of s), is ∙ ap (λ n. found (s.part, dictionary_of s) n) (spot ∙ ap (λ n. n + more) came ∙ sym long));
+      head = head ∙ fills.head;
       later = tt;
       goes_on = λ more.
-          primary-continues 64 text 0 end s.part (dictionary_of s) stands.octets (omega arith) there more
-          ∙ ap (λ to. read (left_for s.part (dictionary_of s) none_seen (Field Block)) (text ++ more) to) (sym ends);
+          primary-continues 64 text 0 end s.part (dictionary_of s) fills.octets (omega arith) there more
+          ∙ ap (λ to. read (left_for s.part (dictionary_of s) none_seen (Field Block)) (text ++ more) to) spot;
     }
 
 -- it doesn't end
@@ -529,6 +599,7 @@ primary-waits text s new more p stands stage chunk some is cut =
         order = stands.order;
         inside = omega (arith, stands.inside, chunk.longer);
         goes_on = rw (stage, chunk.at) (λ rest. refl);
+        main = inl (p, cut);
         keeps = rw stage now;
       };
       some = some;

@@ -1,6 +1,6 @@
 -- A judge of a stream of bundles of version 6: what it is told, and what it answers.
 
-use Rattle.std.specs.Prelude.{◌≡◌, ℕ, ◌+◌, ◌≤◌, Bool, true, false, List, length, Option, Some, None, Result, Ok, Err}
+use Rattle.std.specs.Prelude.{◌≡◌, ℕ, ◌+◌, ◌<◌, ◌≤◌, Bool, true, false, List, length, Option, Some, None, Result, Ok, Err}
 use Rattle.bundle6.specs.declared.fault.Refused6.{Refused6}
 use Rattle.bundle6.specs.declared.fault.Fail6.{Fail6}
 use Rattle.bundle6.specs.declared.fault.Fail6.TheVariants.{Refused, Memory}
@@ -9,7 +9,7 @@ use Rattle.bundle6.specs.Judging.{judged_primary}
 use Rattle.bundle6.specs.Streaming.{Stream, JudgesPiece}
 use Rattle.bundle_judges.specs.declared.stand6.Stand.{Stand}
 use Rattle.bundle_judges.specs.Field6.{IsCut}
-use Rattle.bundle_judges.specs.Stand6.{TookSo}
+use Rattle.bundle_judges.specs.Stand6.{TookSo, IsOfPrimary}
 
 -- a judge of a stream: where it stands, the refusal that it met, and whether memory ran out
 pub record Judging : Type 0 where
@@ -17,10 +17,17 @@ pub record Judging : Type 0 where
   pub refused : Option Refused6
   pub spent : Bool
 
--- A judge took a stream so far. It keeps the octets of the stream nowhere.
+-- What a judge keeps of the octets that came: those of the primary block and no others, and fewer
+-- than 21 of another field.
+pub record KeepsLittle (s : Stand) : Type 0 where
+  pub main : IsOfPrimary s.main.items
+  pub head : length s.head < 21
+
+-- A judge took a stream so far. It keeps the octets of the stream nowhere else.
 pub record HasTaken (longest : ℕ) (stream : Stream) (s : Stand) : Type 0 where
   pub took : TookSo stream s
   pub small : length stream.kept ≤ longest
+  pub keeps : KeepsLittle s
 
 -- it took some stream
 abbrev pub IsTaking : Stand → Type 0

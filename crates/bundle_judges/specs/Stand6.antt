@@ -1,6 +1,7 @@
 -- Where a judge of version 6 stands in the octets of the bundle that is under way.
 
-use Rattle.std.specs.Prelude.{◌≡◌, ℕ, ◌+◌, ◌-◌, ◌<◌, ◌≤◌, Bool, false, List, [], ◌++◌, length, take, drop, Option, Some, None, Result, Ok, Err}
+use Rattle.std.specs.Prelude.{◌≡◌, ℕ, ◌+◌, ◌-◌, ◌<◌, ◌≤◌, Bool, false, List, [], ◌++◌, length, take, drop, Option, Some, None, Result, Ok, Err, ◌⊎◌}
+use Rattle.endpoint.specs.declared.extent.Fragment.{Fragment}
 use Rattle.wire_fields.specs.Refusal.{because}
 use Rattle.wire_fields.specs.Reading.{read, IsOctets}
 use Rattle.wire_fields.specs.Gives.{Continues}
@@ -26,6 +27,14 @@ use Rattle.bundle_judges.specs.Field6.{small_field, left_for, IsCut}
 abbrev pub dictionary_of : Stand → List ℕ
 dictionary_of s = texts_in s.texts s.main.items
 
+-- all of a primary block
+abbrev pub IsPrimary : List ℕ → Type 0
+IsPrimary main = (x : Option Fragment × List ℕ) × (read judged_primary main 0 ≡ Ok (x, length main))
+
+-- octets of a primary block and no others: they end inside it, or with it
+abbrev pub IsOfPrimary : List ℕ → Type 0
+IsOfPrimary main = IsCut judged_primary main ⊎ IsPrimary main
+
 -- What is kept of the octets that came: the primary block that is under way, or the first octets of a
 -- field of few, or nothing of the octets of a block. They don't end it.
 abbrev pub Keeps : List ℕ → Stand → Stage → Type 0
@@ -46,6 +55,7 @@ pub record IsAt (text : List ℕ) (s : Stand) : Type 0 where
   pub order : s.texts.from ≤ s.texts.to
   pub inside : s.texts.to ≤ length s.main.items
   pub goes_on : Continues (judged_bundle 64) 0 (left_for s.part (dictionary_of s) s.seen s.stage) s.at text
+  pub main : IsOfPrimary s.main.items
   pub keeps : Keeps text s s.stage
 
 -- all of them came
@@ -136,6 +146,7 @@ pub record Enters (text : List ℕ) (s : Stand) (seen : Seen) (stage : Stage) (m
   pub few : seen.others ≤ 64
   pub order : s.texts.from ≤ s.texts.to
   pub inside : s.texts.to ≤ length s.main.items
+  pub main : IsOfPrimary s.main.items
   pub head : s.head ≡ []
   pub later : IsLater stage
   pub goes_on : Continues (judged_bundle 64) 0 (left_for s.part (dictionary_of s) seen stage) (s.came + more) text
@@ -148,8 +159,19 @@ pub record Leaves (text : List ℕ) (s : Stand) (last : Bool) (more : ℕ) : Typ
   pub few : s.seen.others ≤ 64
   pub order : s.texts.from ≤ s.texts.to
   pub inside : s.texts.to ≤ length s.main.items
+  pub main : IsOfPrimary s.main.items
   pub head : s.head ≡ []
   pub goes_on : Continues (judged_bundle 64) 0 (left_at 64 s.part (dictionary_of s) s.seen (next_stage last)) (s.came + more) text
+
+-- all of the primary block comes with so many octets more, and is kept
+pub record Fills (text : List ℕ) (s : Stand) (more : ℕ) : Type 0 where
+  pub octets : IsOctets text
+  pub within : s.came + more ≤ length text
+  pub some : 0 < more
+  pub stage : s.stage ≡ Primary
+  pub head : s.head ≡ []
+  pub front : s.main.items ≡ take (s.came + more) text
+  pub whole : IsPrimary s.main.items
 
 -- ---- a part of a piece, after which no more may follow where it is cut
 

@@ -9,8 +9,8 @@ use bundle6::{Fail6, Judged6, LONGEST, Refused6};
 use std::alloc::Global;
 use std::marker::Model;
 
-/// A judge of a stream of bundles, which keeps of the bundle that is under way its primary block, what
-/// came with the end of that, and the first octets of a field.
+/// A judge of a stream of bundles, which keeps of the bundle that is under way no more than its primary
+/// block and the first octets of another field.
 ///
 /// It tells what [`bundle6::Reader6::judge`] tells: how the stream is cut into pieces makes no
 /// difference, and a piece costs what its octets cost. Places count from the first octet that was taken.

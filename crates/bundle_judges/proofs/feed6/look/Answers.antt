@@ -1,7 +1,7 @@
 -- What a judge of whole bundles says.
 use Rattle.std.proofs.Common.{arith}
 use Rattle.bundle_judges.proofs.FeedLemmas6.{judged-whole, looked-refused}
-use Rattle.bundle_judges.proofs.stand6.look.Goals as goal
+use Rattle.bundle_judges.proofs.feed6.look.Goals as goal
 
 pub returns-in-Ok : goal.returns-in-Ok
 returns-in-Ok c = judged-whole c.args.part.now c.in-Ok.end (λ i. omega (arith, c.type_inv.part i)) c.in-Ok.ensures.exact

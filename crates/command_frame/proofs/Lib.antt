@@ -1,5 +1,6 @@
 pub mod InputLinesLemmas
 pub mod WithinLemmas
+pub mod HandingLemmas
 pub mod DriveLemmas
 pub mod LinesLemmas
 pub mod FrontLemmas

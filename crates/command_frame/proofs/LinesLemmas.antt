@@ -7,8 +7,9 @@ use Rattle.edge_traits.specs.declared.status.Status.TheVariants as statuses
 use Rattle.edge_traits.specs.Settled.{Ends, at_end, goes_on, Settled, nothing_yet, put_before}
 use Rattle.command_frame.specs.InputLines.{lines_of, ended_part, open_part}
 use Rattle.command_frame.specs.Stops.{IsStop}
-use Rattle.command_frame.specs.Task.{Settling, IsQuiet, over, GoesOnTo, Takes, Feeds, Finishes, WritesOfNothing}
+use Rattle.command_frame.specs.Task.{Settling, IsQuiet, Feeds, Finishes, WritesOfNothing}
 use Rattle.command_frame.specs.Lines.{Turn, passes, ends_run, LineRules, turn_at, after_turn, lines_settle, opens_past, open_ending, lines_from, by_lines, TurnsAs, EndsAs, InLine}
+use Rattle.command_frame.proofs.WithinLemmas.{Takes-more}
 use Rattle.command_frame.proofs.InputLinesLemmas.{Begins, open-begins, ended-open, plain-append, open-some, no-lines, ended-line, lines-line, open-line}
 
 -- ---- feeding on
@@ -20,13 +21,6 @@ Feeds-over Stands settles a b before now status fed = record {
   added = fed.added;
   takes = (fed.takes.0, λ ends more. rw (append_assoc a b more) (fed.takes.1 ends (b ++ more)));
 }
-
-Takes-more : (Stands : Settling → Type 0) (settles mid : Settling) (a b first second : List ℕ) (ends : Option Status)
-    → GoesOnTo settles a first mid → Takes Stands mid b second ends → Takes Stands settles (a ++ b) (first ++ second) ends
-Takes-more Stands settles mid a b first second None goes (later, stands, quiet, on) =
-    (later, stands, quiet, λ e more. rw (append_assoc a b more, goes e (b ++ more), on e more, append_assoc first second (later e more).text) refl)
-Takes-more Stands settles mid a b first second (Some status) goes (stop, on) =
-    (stop, λ e more. rw (append_assoc a b more, goes e (b ++ more), on e more, append_assoc first second (over status e more).text) refl)
 
 pub Feeds-more : (Mid Stands : Settling → Type 0) (settles : Settling) (a b before between now : List ℕ) (ends : Option Status)
     → Feeds Mid settles a before between None → ((later : Settling) → Mid later → Feeds Stands later b between now ends)

@@ -6,7 +6,7 @@ use Rattle.std.proofs.Math.Seq.{take-append_seam, take-append-add}
 use Rattle.edge_traits.specs.declared.status.Status.{Status}
 use Rattle.edge_traits.specs.declared.status.Status.TheVariants as statuses
 use Rattle.edge_traits.specs.Settled.{Ends, goes_on, Settled, GoesOnAs, IsFrontOf, EarliestDecides}
-use Rattle.command_frame.specs.Task.{Settling, IsQuiet, over, GoesOnTo}
+use Rattle.command_frame.specs.Task.{Settling, IsQuiet, over, GoesOnTo, Takes}
 use Rattle.command_frame.specs.Within.{end_or_limit, or_limit, within}
 
 pub within-low : (most : ℕ) (settles : Settling) (ends : Ends) (octets : List ℕ) → length octets ≤ most
@@ -73,6 +73,13 @@ pub GoesOnTo-more : (settles later last : Settling) (came text piece added : Lis
     → GoesOnTo later piece added last → GoesOnTo settles (came ++ piece) (text ++ added) last
 GoesOnTo-more settles later last came text piece added first second ends more =
     rw (append_assoc came piece more, first ends (piece ++ more), second ends more, append_assoc text added (last ends more).text) refl
+
+pub Takes-more : (Stands : Settling → Type 0) (settles mid : Settling) (a b first second : List ℕ) (ends : Option Status)
+    → GoesOnTo settles a first mid → Takes Stands mid b second ends → Takes Stands settles (a ++ b) (first ++ second) ends
+Takes-more Stands settles mid a b first second None goes (later, stands, quiet, on) =
+    (later, stands, quiet, λ e more. rw (append_assoc a b more, goes e (b ++ more), on e more, append_assoc first second (later e more).text) refl)
+Takes-more Stands settles mid a b first second (Some status) goes (stop, on) =
+    (stop, λ e more. rw (append_assoc a b more, goes e (b ++ more), on e more, append_assoc first second (over status e more).text) refl)
 
 -- ---- the earliest place decides
 

@@ -7,6 +7,10 @@
 //! and reads again. It holds the limit on the size of an input for all commands, and how a run
 //! went (`Ran`) is proved here once.
 //!
+//! Octets may settle a text that is much longer than they are. A `PartTask` hands such a text on part
+//! by part, and `drive_parts` writes each before the next: it is the one loop, and every `Task` is a
+//! `PartTask` that has never text due.
+//!
 //! A command that answers line by line gives a `LineStep`, which answers one line. `LineReader` is
 //! the task over it: it holds the numbers of lines, the limits on them, and the last line's end.
 #![tactic(auto)]
@@ -16,10 +20,12 @@ mod input_lines;
 mod laws;
 mod line_step;
 mod lines;
+mod part_task;
 mod task;
 
-pub use driver::drive;
+pub use driver::{drive, drive_parts};
 pub use laws::{earliest_place_decides_by_lines, earliest_place_decides_within};
 pub use line_step::LineStep;
 pub use lines::{LinePassed, LineReader};
+pub use part_task::{PartTask, Taken};
 pub use task::Task;

@@ -1,0 +1,82 @@
+//! A command that hands on in parts the text that its octets settle.
+ghost use Rattle.std.specs.Prelude.{◌≡◌, ℕ, ◌<◌, List, [], IfOk, OnErr};
+ghost use Rattle.std.specs.String.{string_bytes};
+ghost use Rattle.edge_traits.specs.Outcome.{IsAnswer};
+ghost use Rattle.command_frame.specs.Task.{Settling, Finishes};
+ghost use Rattle.command_frame.specs.PartTask.{FeedsPart, IsInside, TellsPart, IsFewer};
+
+use crate::task::Task;
+use edge_traits::Status;
+use std::alloc::AllocError;
+
+/// What was taken of a piece.
+#[derive(Clone, Copy, Debug, PartialEq, Eq, Drop)]
+pub enum Taken {
+    /// All of it, and no text is due.
+    All,
+    /// So many octets, and text is due that they settle.
+    Due(usize),
+    /// As many as settle how the run ends: with `Refused` or `Limit`.
+    Ends(Status),
+}
+
+/// A command whose octets may settle a text that is too long to be kept whole. It takes octets up to
+/// where such a text is due, and hands that on part by part before it takes more. After want of memory,
+/// and once it answered how the run ends, it is told nothing more.
+///
+/// Every [`Task`] is one that has never text due.
+pub trait PartTask {
+    // This text is due, and after it the octets still to come settle that.
+    ghost Stands: { Self → List ℕ → Settling → Type 0 };
+
+    // Its end may want memory: of a task that was told no octets that is so only where there is
+    // something to write.
+    ghost Began: { Self → Type 0 };
+
+    // How many parts there can be of the text that is due.
+    ghost parts: { Self → ℕ };
+
+    /// Takes the next octets, where no text is due, and appends text that they settle.
+    fn take(&mut self, piece: &[u8], text: &mut String) -> Result<Taken, AllocError>
+        ensures fed { (settles : Settling) → Stands self.old [] settles → IfOk result
+            (FeedsPart (Stands self.new) settles piece.now (string_bytes text.old) (string_bytes text.new)) }
+        ensures inside { IfOk result (IsInside piece.now (parts self.new)) };
+
+    /// Appends the next part of the text that is due, and answers whether more of it is.
+    fn tell(&mut self, text: &mut String) -> Result<bool, AllocError>
+        requires { 0 < parts self.old }
+        ensures told { (due : List ℕ) (settles : Settling) → Stands self.old due settles → IfOk result
+            (TellsPart (Stands self.new) settles due (string_bytes text.old) (string_bytes text.new)) }
+        ensures fewer { IfOk result (IsFewer (parts self.old) (parts self.new)) };
+
+    /// The input ended, and no text is due: appends the text that this settles, and answers how the run
+    /// ends.
+    fn end(&mut self, text: &mut String) -> Result<Status, AllocError>
+        ensures finished { (settles : Settling) → Stands self.old [] settles → IfOk result
+            (Finishes settles (string_bytes text.old) (string_bytes text.new)) }
+        ensures status { IfOk result IsAnswer }
+        ensures memory { OnErr result (Began self.old) };
+}
+
+impl<T: Task> PartTask for T {
+    ghost Stands = { λ t due settles. (due ≡ []) × T.Task.Stands t settles };
+
+    ghost Began = { λ t. T.Task.Began t };
+
+    ghost parts = { λ t. 0 };
+
+    fn take(&mut self, piece: &[u8], text: &mut String) -> Result<Taken, AllocError> {
+        match self.feed(piece, text)? {
+            None => Ok(Taken::All),
+            Some(status) => Ok(Taken::Ends(status)),
+        }
+    }
+
+    fn tell(&mut self, _text: &mut String) -> Result<bool, AllocError> {
+        Ok(false)
+    }
+
+    fn end(&mut self, text: &mut String) -> Result<Status, AllocError> {
+        self.finish(text)
+    }
+}

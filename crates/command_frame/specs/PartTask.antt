@@ -22,11 +22,12 @@ pub record FeedsPart (Stands : Owing) (settles : Settling) (piece before now : L
   pub added : now ≡ before ++ text
   pub takes : TakesPart Stands settles piece text taken
 
--- where text is due, an octet at least was taken, and there can be so many parts of it
-abbrev pub IsInside : List ℕ → ℕ → Taken → Type 0
-IsInside piece parts All = Unit {0}
-IsInside piece parts (Due used) = (0 < used) × (used ≤ length piece) × (0 < parts)
-IsInside piece parts (Ends status) = Unit {0}
+-- After all octets of a piece no part is due. Where text is due, an octet at least was taken, and there
+-- is a part at least.
+abbrev pub LeavesDue : List ℕ → ℕ → Taken → Type 0
+LeavesDue piece parts All = parts ≡ 0
+LeavesDue piece parts (Due used) = (0 < used) × (used ≤ length piece) × (0 < parts)
+LeavesDue piece parts (Ends status) = Unit {0}
 
 -- a part of the text that is due was added to the text before, and the rest of it is due, if any
 pub record TellsPart (Stands : Owing) (settles : Settling) (due before now : List ℕ) (more : Bool) : Type 0 where
@@ -37,6 +38,11 @@ pub record TellsPart (Stands : Owing) (settles : Settling) (due before now : Lis
   pub stands : Stands rest settles
   pub last : more ≡ false → rest ≡ []
 
--- there can be fewer parts more than before, and where there is one more, one at least
-abbrev pub IsFewer : ℕ → ℕ → Bool → Type 0
-IsFewer before now more = (now < before) × (more ≡ true → 0 < now)
+-- a part is due at least, or none
+abbrev pub IsDue : Bool → ℕ → Type 0
+IsDue true parts = 0 < parts
+IsDue false parts = parts ≡ 0
+
+-- there can be fewer parts than before, and whether there is one more was answered
+abbrev pub LeavesFewer : ℕ → ℕ → Bool → Type 0
+LeavesFewer before now more = (now < before) × IsDue more now

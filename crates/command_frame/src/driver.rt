@@ -1,5 +1,5 @@
 //! The loop that every command which reads runs in.
-ghost use Rattle.std.specs.Prelude.{◌≡◌, ◌<◌, ℕ, List, []};
+ghost use Rattle.std.specs.Prelude.{◌≡◌, ◌<◌, ℕ, List, [], None};
 ghost use Rattle.edge_traits.specs.Content.{most_input};
 ghost use Rattle.edge_traits.specs.Outcome.{Ran, source_tells, sink_tells};
 ghost use Rattle.command_frame.specs.Task.{Settling, IsQuiet, WritesOfNothing};
@@ -38,6 +38,7 @@ pub fn drive_parts<T: PartTask, S: Source, K: Sink>(
     source: &mut S,
     sink: &mut K,
 ) -> Status
+    requires none_due { T.parts task.old ≡ 0 }
     requires fresh { (settles : Settling) → T.Stands task.old [] settles → T.Began task.old → WritesOfNothing settles }
     ensures { (settles : Settling) → T.Stands task.old [] settles → IsQuiet settles → Ran (within most_input settles) result
         (source_tells S.left S.faults S.failing source.old) (source_tells S.left S.faults S.failing source.new)
@@ -79,7 +80,9 @@ fn hand_on<T: PartTask, K: Sink>(
     text: &mut String,
     sink: &mut K,
 ) -> Option<Status>
-    ensures { (settles : Settling) → T.Stands task.old [] settles → IsQuiet settles
+    requires { T.parts task.old ≡ 0 }
+    ensures none_due { result ≡ None → T.parts task.new ≡ 0 }
+    ensures handed { (settles : Settling) → T.Stands task.old [] settles → IsQuiet settles
         → Handed (T.Stands task.new []) settles piece.now
         (sink_tells K.held K.faults K.failing sink.old) (sink_tells K.held K.faults K.failing sink.new) result }
 {
@@ -107,7 +110,8 @@ fn hand_on<T: PartTask, K: Sink>(
 /// Writes all parts of the text that is due: how the run ends, where something failed.
 fn tell_all<T: PartTask, K: Sink>(task: &mut T, text: &mut String, sink: &mut K) -> Option<Status>
     requires { 0 < T.parts task.old }
-    ensures { (due : List ℕ) (settles : Settling) → T.Stands task.old due settles
+    ensures none_due { result ≡ None → T.parts task.new ≡ 0 }
+    ensures told { (due : List ℕ) (settles : Settling) → T.Stands task.old due settles
         → Told (T.Stands task.new [] settles) due
         (sink_tells K.held K.faults K.failing sink.old) (sink_tells K.held K.faults K.failing sink.new) result }
 {

@@ -3,7 +3,7 @@ ghost use Rattle.std.specs.Prelude.{◌≡◌, ℕ, ◌<◌, List, [], IfOk, OnE
 ghost use Rattle.std.specs.String.{string_bytes};
 ghost use Rattle.edge_traits.specs.Outcome.{IsAnswer};
 ghost use Rattle.command_frame.specs.Task.{Settling, Finishes};
-ghost use Rattle.command_frame.specs.PartTask.{FeedsPart, IsInside, TellsPart, IsFewer};
+ghost use Rattle.command_frame.specs.PartTask.{FeedsPart, LeavesDue, TellsPart, LeavesFewer};
 
 use crate::task::Task;
 use edge_traits::Status;
@@ -38,20 +38,22 @@ pub trait PartTask {
 
     /// Takes the next octets, where no text is due, and appends text that they settle.
     fn take(&mut self, piece: &[u8], text: &mut String) -> Result<Taken, AllocError>
+        requires { parts self.old ≡ 0 }
         ensures fed { (settles : Settling) → Stands self.old [] settles → IfOk result
             (FeedsPart (Stands self.new) settles piece.now (string_bytes text.old) (string_bytes text.new)) }
-        ensures inside { IfOk result (IsInside piece.now (parts self.new)) };
+        ensures leaves { IfOk result (LeavesDue piece.now (parts self.new)) };
 
     /// Appends the next part of the text that is due, and answers whether more of it is.
     fn tell(&mut self, text: &mut String) -> Result<bool, AllocError>
         requires { 0 < parts self.old }
         ensures told { (due : List ℕ) (settles : Settling) → Stands self.old due settles → IfOk result
             (TellsPart (Stands self.new) settles due (string_bytes text.old) (string_bytes text.new)) }
-        ensures fewer { IfOk result (IsFewer (parts self.old) (parts self.new)) };
+        ensures leaves { IfOk result (LeavesFewer (parts self.old) (parts self.new)) };
 
     /// The input ended, and no text is due: appends the text that this settles, and answers how the run
     /// ends.
     fn end(&mut self, text: &mut String) -> Result<Status, AllocError>
+        requires { parts self.old ≡ 0 }
         ensures finished { (settles : Settling) → Stands self.old [] settles → IfOk result
             (Finishes settles (string_bytes text.old) (string_bytes text.new)) }
         ensures status { IfOk result IsAnswer }

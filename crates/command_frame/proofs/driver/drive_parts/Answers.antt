@@ -6,6 +6,7 @@ use Rattle.command_frame.proofs.driver.drive_parts.Goals as goal
 pub reading-init : goal.reading-init
 reading-init g c = record {
   going = λ settles stands quiet. going-start _ _ settles _ _ stands quiet (c.requires.fresh settles stands);
+  none_due = c.requires.none_due;
   low = omega arith;
 }
 
@@ -52,14 +53,14 @@ returns-in-Some g c = λ settles stands quiet.
     ran-handed most_input _ _ settles _ _ _ _ c.reading.taken going c.reading.invariant.low _
     (take c.min-size.result c.read_once.new.buffer) (drop c.min-size.result (take c.in-Ok.n c.read_once.new.buffer))
     more.fits more.read c.in-Ok.ensures.calls (g.T.PartTask.Stands c.hand_on.new.task []) _ c.in-Some.status (more.some (omega (arith, c.if-n-eq0.false)))
-    (rw c.in-Some.is at (c.hand_on.ensures going.later going.stands going.quiet))
+    (rw c.in-Some.is at (c.hand_on.ensures.handed going.later going.stands going.quiet))
 
 pub returns-in-None : goal.returns-in-None
 returns-in-None g c = λ settles stands quiet.
     let going = c.reading.invariant.going settles stands quiet in
     let more = came-more most_input _ _ _ going.came c.read_once.new.buffer c.in-Ok.n c.min-size.result c.reading.taken c.reading.invariant.low
     going.size c.min-size.ensures c.in-Ok.ensures.bound.0 going.read c.in-Ok.ensures.took.read in
-    let handed = rw c.in-None.is at (c.hand_on.ensures going.later going.stands going.quiet) in
+    let handed = rw c.in-None.is at (c.hand_on.ensures.handed going.later going.stands going.quiet) in
     ran-limit most_input _ _ settles _ _ _ _ c.reading.taken going c.reading.invariant.low _
     (take c.min-size.result c.read_once.new.buffer) (drop c.min-size.result (take c.in-Ok.n c.read_once.new.buffer))
     more.fits more.read c.in-Ok.ensures.calls handed.0 _ handed.2 handed.3 _ handed.1 (more.full c.if-size-n.true) (more.cut c.if-size-n.true)
@@ -70,10 +71,11 @@ reading-preserved g c = record {
       let going = c.reading.invariant.going settles stands quiet in
       let more = came-more most_input _ _ _ going.came c.read_once.new.buffer c.in-Ok.n c.min-size.result c.reading.taken c.reading.invariant.low
       going.size c.min-size.ensures c.in-Ok.ensures.bound.0 going.read c.in-Ok.ensures.took.read in
-      let handed = rw c.in-None-2.is at (c.hand_on.ensures going.later going.stands going.quiet) in
+      let handed = rw c.in-None-2.is at (c.hand_on.ensures.handed going.later going.stands going.quiet) in
       goes-on most_input _ _ settles _ _ _ _ c.reading.taken going c.reading.invariant.low _
       (take c.min-size.result c.read_once.new.buffer) (drop c.min-size.result (take c.in-Ok.n c.read_once.new.buffer))
       more.fits more.read c.in-Ok.ensures.calls handed.0 _ handed.2 handed.3 _ handed.1 (more.none (omega (arith, c.if-size-n.false))) _ more.counted _
       (omega (arith, c.min-size.ensures, c.if-size-n.false, c.if-n-eq0.false));
+  none_due = c.hand_on.ensures.none_due c.in-None-2.is;
   low = omega (arith, c.min-size.ensures, c.reading.invariant.low);
 }

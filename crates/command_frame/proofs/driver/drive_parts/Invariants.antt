@@ -1,4 +1,4 @@
-use Rattle.std.proofs.Common.{◌-◌, ◌≤◌, []}
+use Rattle.std.proofs.Common.{◌≡◌, ◌-◌, ◌≤◌, []}
 use Rattle.edge_traits.specs.Outcome.{source_tells, sink_tells}
 use Rattle.command_frame.specs.Task.{Settling, IsQuiet}
 use Rattle.command_frame.proofs.DriveLemmas.{Going}
@@ -12,6 +12,7 @@ invariant-reading g l = record {
       (source_tells g.S.Source.left g.S.Source.faults g.S.Source.failing l.source)
       (sink_tells g.K.Sink.held g.K.Sink.faults g.K.Sink.failing l.initial.sink)
       (sink_tells g.K.Sink.held g.K.Sink.faults g.K.Sink.failing l.sink) l.taken;
+  none_due : g.T.PartTask.parts l.task ≡ 0;
   low : l.taken ≤ 67108864;
 }
 

@@ -4,40 +4,46 @@ use Rattle.command_frame.proofs.HandingLemmas.{handing-start, handing-more, hand
 use Rattle.command_frame.proofs.driver.hand_on.Goals as goal
 
 pub pieces-init : goal.pieces-init
-pieces-init g c = λ settles stands quiet. handing-start _ settles c.args.piece.now _ stands quiet
+pieces-init g c = record {
+  none_due = c.requires;
+  so_far = λ settles stands quiet. handing-start _ settles c.args.piece.now _ stands quiet;
+}
 
-pub returns-in_default-write_all : goal.returns-in_default-write_all
-returns-in_default-write_all g c = λ settles stands quiet.
-    let so_far = c.pieces.invariant settles stands quiet in
+pub returns-in_default-write_all-clause-handed : goal.returns-in_default-write_all-clause-handed
+returns-in_default-write_all-clause-handed g c = λ settles stands quiet.
+    let so_far = c.pieces.invariant.so_far settles stands quiet in
     let fed = rw (c.clear.ensures.bytes, ← c.as_bytes.ensures.value) at (c.in-Ok.ensures.fed so_far.later so_far.stands) in
     handed-write _ _ settles c.args.piece.now c.pieces.left.now _ _ so_far c.as_bytes.result.now c.in-Ok.taken fed _
     (λ (s : Settling). Unit {0}) c.in_default-write_all.ensures.err c.in_default-write_all.ensures.calls
 
-pub returns-in-All : goal.returns-in-All
-returns-in-All g c = λ settles stands quiet.
-    let so_far = c.pieces.invariant settles stands quiet in
+pub returns-in-All-clause-handed : goal.returns-in-All-clause-handed
+returns-in-All-clause-handed g c = λ settles stands quiet.
+    let so_far = c.pieces.invariant.so_far settles stands quiet in
     let fed = rw (c.clear.ensures.bytes, ← c.as_bytes.ensures.value) at (c.in-Ok.ensures.fed so_far.later so_far.stands) in
     handed-all _ _ settles c.args.piece.now c.pieces.left.now _ _ so_far c.as_bytes.result.now c.in-Ok.taken fed _
     c.in-Ok-write_all.ensures.ok c.in-Ok-write_all.ensures.calls c.in-All.is
 
-pub returns-in-Ends : goal.returns-in-Ends
-returns-in-Ends g c = λ settles stands quiet.
-    let so_far = c.pieces.invariant settles stands quiet in
+pub returns-in-Ends-clause-handed : goal.returns-in-Ends-clause-handed
+returns-in-Ends-clause-handed g c = λ settles stands quiet.
+    let so_far = c.pieces.invariant.so_far settles stands quiet in
     let fed = rw (c.clear.ensures.bytes, ← c.as_bytes.ensures.value) at (c.in-Ok.ensures.fed so_far.later so_far.stands) in
     handed-ends _ _ settles c.args.piece.now c.pieces.left.now _ _ so_far c.as_bytes.result.now c.in-Ok.taken fed _
     c.in-Ok-write_all.ensures.ok c.in-Ok-write_all.ensures.calls c.in-Ends.status c.in-Ends.is
 
-pub returns-in-Some : goal.returns-in-Some
-returns-in-Some g c = λ settles stands quiet.
-    let so_far = c.pieces.invariant settles stands quiet in
+pub returns-in-Some-clause-handed : goal.returns-in-Some-clause-handed
+returns-in-Some-clause-handed g c = λ settles stands quiet.
+    let so_far = c.pieces.invariant.so_far settles stands quiet in
     let fed = rw (c.clear.ensures.bytes, ← c.as_bytes.ensures.value) at (c.in-Ok.ensures.fed so_far.later so_far.stands) in
     handed-told _ _ settles c.args.piece.now c.pieces.left.now _ _ so_far c.as_bytes.result.now c.in-Ok.taken fed _
-    c.in-Ok-write_all.ensures.ok c.in-Ok-write_all.ensures.calls _ c.in-Due.used c.in-Due.is _ (λ (s : Settling). Unit {0}) c.tell_all.result c.in-Some.status c.tell_all.ensures c.in-Some.is
+    c.in-Ok-write_all.ensures.ok c.in-Ok-write_all.ensures.calls _ c.in-Due.used c.in-Due.is _ (λ (s : Settling). Unit {0}) c.tell_all.result c.in-Some.status c.tell_all.ensures.told c.in-Some.is
 
 pub pieces-preserved : goal.pieces-preserved
-pieces-preserved g c = λ settles stands quiet.
-    let so_far = c.pieces.invariant settles stands quiet in
-    let fed = rw (c.clear.ensures.bytes, ← c.as_bytes.ensures.value) at (c.in-Ok.ensures.fed so_far.later so_far.stands) in
-    rw (take_rest c.pieces.left.now c.in-Due.used)
-    (handing-more _ _ settles c.args.piece.now c.pieces.left.now _ _ so_far c.as_bytes.result.now c.in-Ok.taken fed _
-    c.in-Ok-write_all.ensures.ok c.in-Ok-write_all.ensures.calls _ c.in-Due.used c.in-Due.is _ c.tell_all.result c.tell_all.ensures c.in-None.is)
+pieces-preserved g c = record {
+  none_due = c.tell_all.ensures.none_due c.in-None.is;
+  so_far = λ settles stands quiet.
+      let so_far = c.pieces.invariant.so_far settles stands quiet in
+      let fed = rw (c.clear.ensures.bytes, ← c.as_bytes.ensures.value) at (c.in-Ok.ensures.fed so_far.later so_far.stands) in
+      rw (take_rest c.pieces.left.now c.in-Due.used)
+      (handing-more _ _ settles c.args.piece.now c.pieces.left.now _ _ so_far c.as_bytes.result.now c.in-Ok.taken fed _
+      c.in-Ok-write_all.ensures.ok c.in-Ok-write_all.ensures.calls _ c.in-Due.used c.in-Due.is _ c.tell_all.result c.tell_all.ensures.told c.in-None.is);
+}

@@ -4,21 +4,21 @@ use Rattle.command_frame.proofs.driver.tell_all.Goals as goal
 
 pub telling-init : goal.telling-init
 telling-init g c = record {
-  some = λ more. c.requires;
+  due = c.requires;
   so_far = λ due settles stands. telling-start _ settles due _ true stands (λ none. absurd (cc));
 }
 
 pub telling-preserved : goal.telling-preserved
 telling-preserved g c = record {
-  some = c.in-Ok.ensures.fewer.1;
+  due = c.in-Ok.ensures.leaves.1;
   so_far = λ due settles stands.
       let so_far = c.telling.invariant.so_far due settles stands in
       let tells = rw (c.clear.ensures.bytes, ← c.as_bytes.ensures.value) at (c.in-Ok.ensures.told so_far.rest settles so_far.stands) in
       telling-more _ _ settles due _ _ _ so_far c.as_bytes.result.now c.in-Ok.more tells _ c.in-Ok-write_all.ensures.ok c.in-Ok-write_all.ensures.calls;
 }
 
-pub returns-in_default : goal.returns-in_default
-returns-in_default g c = λ due settles stands.
+pub returns-in_default-clause-told : goal.returns-in_default-clause-told
+returns-in_default-clause-told g c = λ due settles stands.
     let so_far = c.telling.invariant.so_far due settles stands in
     let tells = rw (c.clear.ensures.bytes, ← c.as_bytes.ensures.value) at (c.in-Ok.ensures.told so_far.rest settles so_far.stands) in
     told-write _ _ settles due _ _ _ so_far c.as_bytes.result.now c.in-Ok.more tells _ (Unit {0}) c.in_default.ensures.err c.in_default.ensures.calls

@@ -1,12 +1,13 @@
-use Rattle.std.proofs.Common.{◌≡◌, ◌<◌, ℕ, true, List}
+use Rattle.std.proofs.Common.{ℕ, List}
 use Rattle.edge_traits.specs.Outcome.{sink_tells}
 use Rattle.command_frame.specs.Task.{Settling}
+use Rattle.command_frame.specs.PartTask.{IsDue}
 use Rattle.command_frame.proofs.HandingLemmas.{TellingSoFar}
 use Rattle.command_frame.proofs.driver.tell_all.Given as goal
 
 abbrev pub invariant-telling : goal.invariant-telling
 invariant-telling g l = record {
-  some : l.more ≡ true → 0 < g.T.PartTask.parts l.task;
+  due : IsDue l.more (g.T.PartTask.parts l.task);
   so_far : (due : List ℕ) (settles : Settling) → g.T.PartTask.Stands l.initial.task due settles
       → TellingSoFar (g.T.PartTask.Stands l.task) settles due
       (sink_tells g.K.Sink.held g.K.Sink.faults g.K.Sink.failing l.initial.sink)

@@ -3,3 +3,5 @@ pub mod LinkLeft
 pub mod PathLeft
 pub mod PathWears
 pub mod PathEnds
+pub mod OneDrain
+pub mod TimedLemmas

@@ -5,12 +5,11 @@
 
 use Rattle.std.specs.Prelude.{◌≡◌, ℕ, ◌+◌, ◌-◌, ◌*◌, ◌^◌, ◌<◌, ◌≤◌, List, [], ◌∷◌, drop, Option}
 use Rattle.std.specs.Prelude.{None, Some}
-use Rattle.std.specs.List.{AllByRecursion}
 use Rattle.gate_cases.specs.declared.face.Face.{Face}
 use Rattle.ltp_session.specs.Engine.{Engine}
 use Rattle.ltp_session.specs.World.{End, World, at_end}
 use Rattle.drain_laws.specs.Left.{AreTimed, burden, round_burden, senders_left, sent_burden}
-use Rattle.path_drain_laws.specs.Clean.{AreCleanOnPath, path_clean_event, path_passed}
+use Rattle.path_drain_laws.specs.Clean.{path_clean_event}
 use Rattle.path_laws.specs.Links.{link_parties}
 use Rattle.path_laws.specs.Path.{Path, PathEvent, PathSetup, SentFrom, clock_shows, delivers}
 use Rattle.path_laws.specs.Path.{path_run, path_step, sends, starts_path}
@@ -80,16 +79,3 @@ IsOverBy top None = Unit {0}
 IsOverBy top (Some (sends end block)) = ⊥
 IsOverBy top (Some (delivers k)) = ⊥
 IsOverBy top (Some (clock_shows now)) = top ≤ now
-
--- clean events lead from a path, of whose segments c are delivered or lost, to where it is over
-pub record EndsBy (top : ℕ) (s : PathSetup) (w : Path) (c : ℕ) : Type 0 where
-  pub made : List PathEvent
-  pub clean : AreCleanOnPath s w c made
-  pub early : AllByRecursion (IsBefore top) made
-  pub over : IsOverBy top (path_clean_event (path_run s w made) (path_passed c made))
-
--- from every path that a run leads to, hopeful or not
-abbrev pub PathDrainsEnd : Type 0
-PathDrainsEnd =
-    (s : PathSetup) (start most c top : ℕ) (events : List PathEvent) → IsTimed s most
-    → EndsBy top s (path_run s (starts_path s start) events) c

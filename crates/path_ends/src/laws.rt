@@ -1,6 +1,8 @@
 //! What ends every drain of a path.
 
-ghost use Rattle.path_ends.specs.Left.{PathDrainsEnd, PathDrainsWearOut};
+ghost use Rattle.path_ends.specs.Drained.{CleanRunsAreOne, DrainsAreMade, DrainsAreOne};
+ghost use Rattle.path_ends.specs.Drained.{PathsAreTimed};
+ghost use Rattle.path_ends.specs.Left.{PathDrainsWearOut};
 
 /// In each path that a run leads to, hopeful or not, a clean delivery leaves less than there was, and a
 /// clean clock is set to a later moment.
@@ -8,8 +10,24 @@ pub fn path_drains_wear_out()
     ensures { PathDrainsWearOut }
 {}
 
-/// So from each such path a list of clean events leads to where no other can follow, or where the
-/// clock would be set to any moment that one likes, or to a later one.
-pub fn path_drains_end()
-    ensures { PathDrainsEnd }
+/// So from each such path clean events lead to where no other can follow, or where the clock would be
+/// set to any moment that one likes, or to a later one. `drain_events` computes them: its counts are
+/// enough.
+pub fn drains_are_made()
+    ensures { DrainsAreMade }
+{}
+
+/// Whoever makes clean events until it is over makes these.
+pub fn drains_are_one()
+    // Until none can follow, or the clock would be set to that moment or a later one.
+    ensures over { DrainsAreOne }
+
+    // Until nothing is left to do.
+    ensures drained { CleanRunsAreOne }
+{}
+
+/// These laws hold of each path that can be set up, whatever policy its engines were given: they name
+/// each other, wait for answers, and take no block longer than `BLOCK_MAX`.
+pub fn paths_are_timed()
+    ensures { PathsAreTimed }
 {}

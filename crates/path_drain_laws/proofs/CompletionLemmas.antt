@@ -1,9 +1,8 @@
 -- A drain from a path that is ready has no more events than its sessions cost, and completes them.
 
-use Rattle.std.proofs.Common.{◌≡◌, ℕ, ◌+◌, ◌^◌, ◌≤◌, List, [], ◌∷◌, ◌++◌, length, None, ◌⊎◌, inl, inr}
+use Rattle.std.proofs.Common.{◌≡◌, ℕ, ◌+◌, ◌^◌, ◌≤◌, List, [], ◌∷◌, length, None, ◌⊎◌, inl, inr}
 use Rattle.std.proofs.Common.{refl, sym, ◌∙◌, ap, arith, subst}
 use Rattle.link_laws.specs.View.{IsIn}
-use Rattle.link_laws.proofs.RunLemmas.{in-left, in-right}
 use Rattle.ltp_session.specs.Engine.{Engine}
 use Rattle.ltp_session.specs.World.{first_end, second_end}
 use Rattle.drain_laws.specs.Hopeful.{HasRoom, IsOpen, Room}
@@ -35,40 +34,37 @@ use Rattle.path_drain_laws.proofs.WholeLemmas.{handed-whole}
 -- ---- notes
 
 -- the case of each block that is handed up at the gate
-cases-noted : PathNotesCases → (s : PathSetup) (w : Path) (events : List PathEvent) (face : Face)
-    (up : UpAt) → IsIn up (ups_in s w events) → up.place ≡ face_place face
-    → IsCaseNotedIn s (notes_in s w events) face up
-unfolding ups_in notes_in
+pub cases-noted : PathNotesCases → (s : PathSetup) (w : Path) (events : List PathEvent)
+    (face : Face) (up : UpAt) → IsIn up (ups_in s w events) → up.place ≡ face_place face
+    → IsCaseNotedIn s w events face up
+unfolding ups_in path_run
 cases-noted law s w [] face up is at = absurd is
 cases-noted law s w (event ∷ events) face up is at =
     by (cases-noted law s (path_step s w event).path events face up) (in-either up
     (path_step s w event).effects.ups (ups_in s (path_step s w event).path events) is)
   where
     by : (IsIn up (ups_in s (path_step s w event).path events) → up.place ≡ face_place face
-        → IsCaseNotedIn s (notes_in s (path_step s w event).path events) face up)
+        → IsCaseNotedIn s (path_step s w event).path events face up)
         → IsIn up (path_step s w event).effects.ups
         ⊎ IsIn up (ups_in s (path_step s w event).path events)
-        → IsCaseNotedIn s ((path_step s w event).effects.notes
-        ++ notes_in s (path_step s w event).path events) face up
-    by rest (inl here) =
-        let one = law s w event face up here at in
-        record {
-          moment = w.now;
-          is = record {
-            room = one.room;
-            among = in-left _ (path_step s w event).effects.notes
-                (notes_in s (path_step s w event).path events) one.among;
-          };
-        }
+        → IsCaseNotedIn s w (event ∷ events) face up
+    by rest (inl here) = record {
+      earlier = [];
+      event = event;
+      later = events;
+      among = refl;
+      hands_up = here;
+      noted = law s w event face up here at;
+    }
     by rest (inr there) =
         let one = rest there at in
         record {
-          moment = one.moment;
-          is = record {
-            room = (one.is).room;
-            among = in-right _ (path_step s w event).effects.notes
-                (notes_in s (path_step s w event).path events) (one.is).among;
-          };
+          earlier = event ∷ one.earlier;
+          event = one.event;
+          later = one.later;
+          among = ap (λ (es : List PathEvent). event ∷ es) one.among;
+          hands_up = one.hands_up;
+          noted = one.noted;
         }
 
 -- ---- where it starts

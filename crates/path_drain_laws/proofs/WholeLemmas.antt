@@ -17,7 +17,7 @@ use Rattle.path_laws.proofs.LogLemmas.{all-in}
 
 -- ---- a run, and then another
 
-ups-append : (s : PathSetup) (w : Path) (xs ys : List PathEvent)
+pub ups-append : (s : PathSetup) (w : Path) (xs ys : List PathEvent)
     → ups_in s w (xs ++ ys) ≡ ups_in s w xs ++ ups_in s (path_run s w xs) ys
 unfolding ups_in path_run
 ups-append s w [] ys = refl

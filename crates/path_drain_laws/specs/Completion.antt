@@ -1,15 +1,14 @@
 -- What a drain of a path promises.
 
-use Rattle.std.specs.Prelude.{◌≡◌, ℕ, ◌≤◌, false, List, length, None, Some, ◌⊎◌}
+use Rattle.std.specs.Prelude.{◌≡◌, ℕ, ◌≤◌, false, List, ◌∷◌, ◌++◌, length, None, Some, ◌⊎◌}
 use Rattle.ltp_session.specs.Receiver.{Receiving, is_cancelling}
 use Rattle.link_laws.specs.View.{IsIn}
 use Rattle.drain_laws.specs.Hopeful.{IsHanded, IsOpen}
 use Rattle.gate_cases.specs.declared.face.Face.{Face}
-use Rattle.path_laws.specs.declared.effects.NoteAt.{NoteAt}
 use Rattle.path_laws.specs.declared.effects.UpAt.{UpAt}
 use Rattle.path_laws.specs.declared.places.Place.{Place}
 use Rattle.path_laws.specs.Places.{across, face_place}
-use Rattle.path_laws.specs.Path.{PathSetup, Path, PathEvent, path_run}
+use Rattle.path_laws.specs.Path.{PathSetup, Path, PathEvent, path_run, path_step}
 use Rattle.path_laws.specs.Log.{Begun, begun_in, ups_in}
 use Rattle.path_laws.specs.Laws.{IsLinked}
 use Rattle.path_room.specs.PathRoom.{PathRoom}
@@ -30,11 +29,18 @@ pub record IsPathReady (s : PathSetup) (w : Path) : Type 0 where
   pub hopeful : PathHopeful s w
   pub room : PathRoom s w
 
--- the case of a block that was handed up at a face is noted there, as it was decided at some moment
-pub record IsCaseNotedIn (s : PathSetup) (noted : List NoteAt) (face : Face) (up : UpAt) : Type 0
-  where
-    pub moment : ℕ
-    pub is : IsCaseNotedAt s moment noted face up
+-- Events hand up a block at a face, and the event that does so notes its case there: what the gate
+-- decides by the clock and by the room that it has at the other face as that event comes.
+pub record IsCaseNotedIn
+    (s : PathSetup) (w : Path) (events : List PathEvent) (face : Face) (up : UpAt) : Type 0 where
+  pub earlier : List PathEvent
+  pub event : PathEvent
+  pub later : List PathEvent
+  pub among : events ≡ earlier ++ event ∷ later
+  pub hands_up : IsIn up (path_step s (path_run s w earlier) event).effects.ups
+  pub noted :
+      IsCaseNotedAt s (path_run s w earlier)
+      (path_step s (path_run s w earlier) event).effects.notes face up
 
 -- What became of the sessions of a path once events led from w to v.
 pub record IsPathComplete (s : PathSetup) (w : Path) (events : List PathEvent) (v : Path)
@@ -54,10 +60,10 @@ pub record IsPathComplete (s : PathSetup) (w : Path) (events : List PathEvent) (
       → IsNotedSent (notes_in s w events) b.place b.session
   pub begun_handed :
       (b : Begun) → IsIn b (begun_in s w events) → IsUpWhole (ups_in s w events) b
-  -- each block that was handed up at the gate has its case noted
+  -- each block that was handed up at the gate has its case noted with it
   pub cases :
       (face : Face) (up : UpAt) → IsIn up (ups_in s w events) → up.place ≡ face_place face
-      → IsCaseNotedIn s (notes_in s w events) face up
+      → IsCaseNotedIn s w events face up
   -- no session was closed to make room, and none was refused for want of it
   pub noted : NoneForRoom (notes_in s w events)
   -- a bundle was stopped for want of storage only since a piece of it is longer than a session

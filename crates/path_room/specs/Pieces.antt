@@ -13,7 +13,8 @@ use Rattle.gate_cases.specs.Faces.{other_of, octets_at}
 use Rattle.gate_cases.specs.Passage.{passage, pieces_on}
 use Rattle.gateway_core.specs.declared.effects.FaceNote.{FaceNote}
 use Rattle.gateway_core.specs.declared.effects.FaceUp.{FaceUp}
-use Rattle.gateway_core.specs.Gate.{Gate, GateSetup, arrives_at, case_note, note_at}
+use Rattle.gateway_core.specs.declared.note.GateNote.{GateNote}
+use Rattle.gateway_core.specs.Gate.{Gate, GateSetup, arrives_at, case_note, judged_at, note_at}
 use Rattle.link_laws.specs.View.{IsIn}
 use Rattle.ltp_segment.specs.declared.fault.SegmentCause.{SegmentCause}
 use Rattle.ltp_segment.specs.Values.{SegmentValue}
@@ -64,39 +65,41 @@ StorageIsOfLength =
 
 -- ---- notes
 
--- among these notes is the case of a block that was handed up at a face, as it was decided at this
--- moment by what room there was at the other face
-pub record IsCaseNoted (s : GateSetup) (now : ℕ) (noted : List FaceNote) (up : FaceUp) : Type 0
-  where
-    pub room : Room
-    pub among :
-        IsIn
-        (note_at up.face
-        (case_note up.session (length (judged up.face up.body now s.cut room).pieces)
-        (judged up.face up.body now s.cut room).case)) noted
+-- what a face notes about a block that came whole there in a session: the case that a gate decides at
+-- this moment, by its room at the other face
+abbrev pub case_at : GateSetup → Face → ℕ → ℕ → List ℕ → Gate → GateNote
+case_at s face now session block g =
+    case_note session (length (judged_at s face now block g).pieces)
+    (judged_at s face now block g).case
 
--- whatever comes to a face, each block that is handed up has its case noted with it
+-- among these notes is the case of a block that was handed up at a face, as this gate decides it at
+-- this moment
+abbrev pub IsCaseNoted : GateSetup → ℕ → Gate → List FaceNote → FaceUp → Type 0
+IsCaseNoted s now g noted up =
+    IsIn (note_at up.face (case_at s up.face now up.session up.body g)) noted
+
+-- whatever comes to a face, each block that is handed up has its case noted with it; the room that
+-- decides it is that of the gate before, since what comes to a face changes nothing at the other one
+-- until a block is passed on
 abbrev pub CasesAreNoted : Type 0
 CasesAreNoted =
     (s : GateSetup) (face : Face) (read : Result SegmentValue (ℕ × SegmentCause)) (now : ℕ)
     (g : Gate) (up : FaceUp) → IsIn up (arrives_at s face read now g).effects.ups
-    → IsCaseNoted s now (arrives_at s face read now g).effects.notes up
+    → IsCaseNoted s now g (arrives_at s face read now g).effects.notes up
 
--- the same at a face's place on a path
-pub record IsCaseNotedAt (s : PathSetup) (now : ℕ) (noted : List NoteAt) (face : Face) (up : UpAt)
-    : Type 0
-  where
-    pub room : Room
-    pub among :
-        IsIn
-        (record {
-          place = up.place;
-          note = case_note up.session (length (judged face up.body now s.gate.cut room).pieces)
-              (judged face up.body now s.gate.cut room).case;
-        }) noted
+-- the same at a face's place on a path, as the path's gate decides it by the path's clock
+abbrev pub IsCaseNotedAt : PathSetup → Path → List NoteAt → Face → UpAt → Type 0
+IsCaseNotedAt s w noted face up =
+    IsIn
+    (record {
+      place = face_place face;
+      note = case_at s.gate face w.now up.session up.body w.gate;
+    }) noted
 
+-- each block that an event hands up at a face has its case noted by that event, as the gate before
+-- it decides
 abbrev pub PathNotesCases : Type 0
 PathNotesCases =
     (s : PathSetup) (w : Path) (event : PathEvent) (face : Face) (up : UpAt)
     → IsIn up (path_step s w event).effects.ups → up.place ≡ face_place face
-    → IsCaseNotedAt s w.now (path_step s w event).effects.notes face up
+    → IsCaseNotedAt s w (path_step s w event).effects.notes face up

@@ -1,0 +1,3 @@
+pub mod HandedUps
+pub mod WholeRuns
+pub mod ExampleLemmas

@@ -1,0 +1,14 @@
+-- A short run of a path, and the drain after it.
+
+use Rattle.std.specs.Prelude.{List, [], ◌∷◌}
+use Rattle.path_laws.specs.declared.places.PathEnd.TheVariants as ends
+use Rattle.path_laws.specs.Path.{PathEvent, clock_shows, delivers, sends}
+
+-- the old node sends two octets, which are no bundle, in one segment
+abbrev pub sends_no_bundle : List PathEvent
+sends_no_bundle = sends ends.Old (7 ∷ 8 ∷ []) ∷ []
+
+-- the segment was lost: it is sent again as its time is over, and comes; and so do the report on it
+-- and the acknowledgement of that
+abbrev pub drains_one_block : List PathEvent
+drains_one_block = clock_shows 10 ∷ delivers 1 ∷ delivers 2 ∷ delivers 3 ∷ []

@@ -1,0 +1,43 @@
+//! Whole runs of a path, computed.
+
+ghost use Rattle.std.specs.Prelude.{◌≡◌, ◌∷◌, [], ℕ, None, length};
+ghost use Rattle.endpoint.specs.declared.name.Endpoint.{Endpoint};
+ghost use Rattle.bundle6.specs.declared.fault.Cause6.TheVariants as six;
+ghost use Rattle.ltp_segment.specs.declared.session.Note.TheVariants as notes;
+ghost use Rattle.ltp_session.specs.Examples.{policy};
+ghost use Rattle.gate_cases.specs.declared.cause.BadCause.TheVariants.{Six};
+ghost use Rattle.gateway_core.specs.declared.note.GateNote.TheVariants as gate_notes;
+ghost use Rattle.path_laws.specs.declared.places.Place.TheVariants as places;
+ghost use Rattle.path_laws.specs.Path.{note_from, path_run, path_setup};
+ghost use Rattle.path_drain_laws.specs.Clean.{AreCleanOnPathFrom, path_clean_event, path_passed};
+ghost use Rattle.path_drain_laws.specs.Effects.{notes_in};
+ghost use Rattle.path_completion.specs.Examples.{drains_one_block, sends_no_bundle};
+ghost use Rattle.path_completion.specs.WholeRun.{IsRunComplete, run_path};
+
+/// On a path on which nothing was sent a drain has no event, and completes all that there is.
+pub fn a_silent_run_is_complete()
+    ensures { (gate : Endpoint) (cut now : ℕ)
+        → IsRunComplete (path_setup gate policy cut) now [] [] }
+{}
+
+/// The old node sent two octets, which are no bundle, and they are lost. Four events drain the path.
+/// What comes at the gate's old face is the whole block; the face notes that it is none of its
+/// bundles, and the node that the block was sent.
+pub fn a_lost_block_is_drained()
+    ensures clean { (gate : Endpoint) (cut : ℕ)
+        → AreCleanOnPathFrom (path_setup gate policy cut)
+        (run_path (path_setup gate policy cut) 0 sends_no_bundle) drains_one_block }
+    ensures over { (gate : Endpoint) (cut : ℕ)
+        → path_clean_event (path_run (path_setup gate policy cut)
+        (run_path (path_setup gate policy cut) 0 sends_no_bundle) drains_one_block)
+        (path_passed
+        (length (run_path (path_setup gate policy cut) 0 sends_no_bundle).sent) drains_one_block)
+        ≡ None }
+    ensures noted { (gate : Endpoint) (cut : ℕ)
+        → notes_in (path_setup gate policy cut)
+        (run_path (path_setup gate policy cut) 0 sends_no_bundle) drains_one_block
+        ≡ record { place = places.OldFace; note = gate_notes.BadBundle 1 0 (Six six.Version) }
+        ∷ note_from places.OldNode (notes.Sent 1) ∷ [] }
+    ensures complete { (gate : Endpoint) (cut : ℕ)
+        → IsRunComplete (path_setup gate policy cut) 0 sends_no_bundle drains_one_block }
+{}

@@ -1,3 +1,4 @@
 pub mod HandedUps
 pub mod WholeRuns
 pub mod ExampleLemmas
+pub mod CameLemmas

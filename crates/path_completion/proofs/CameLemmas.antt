@@ -35,7 +35,8 @@ use Rattle.path_drain_laws.specs.Clean.{AreCleanOnPathFrom, path_clean_event, pa
 use Rattle.path_drain_laws.specs.Effects.{notes_in}
 use Rattle.path_drain_laws.proofs.ExampleLemmas.{silent-ready}
 use Rattle.path_completion.specs.Examples.{drains_one_report, hands_up_no_bundle}
-use Rattle.path_completion.specs.WholeRun.{IsRunComplete, run_path, run_ups}
+use Rattle.path_completion.specs.Runs.{run_path, run_ups}
+use Rattle.path_completion.specs.WholeRun.{IsRunComplete}
 use Rattle.path_completion.proofs.ExampleLemmas.{setup}
 use Rattle.path_completion.proofs.WholeRuns.{whole-runs}
 

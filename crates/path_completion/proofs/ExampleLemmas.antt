@@ -31,7 +31,8 @@ use Rattle.path_drain_laws.specs.Completion.{IsPathReady}
 use Rattle.path_drain_laws.specs.Effects.{notes_in}
 use Rattle.path_drain_laws.proofs.ExampleLemmas.{sent-ready, silent-ready}
 use Rattle.path_completion.specs.Examples.{drains_one_block, sends_no_bundle}
-use Rattle.path_completion.specs.WholeRun.{IsRunComplete, run_path}
+use Rattle.path_completion.specs.Runs.{run_path}
+use Rattle.path_completion.specs.WholeRun.{IsRunComplete}
 use Rattle.path_completion.proofs.WholeRuns.{whole-runs}
 
 -- ---- nothing was sent

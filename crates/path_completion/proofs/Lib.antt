@@ -1,4 +1,5 @@
 pub mod HandedUps
+pub mod RunLemmas
 pub mod WholeRuns
 pub mod ExampleLemmas
 pub mod CameLemmas

@@ -18,18 +18,17 @@ use Rattle.path_laws.proofs.ChunkLemmas.{hand_up_from, place_at, same_up}
 use Rattle.path_laws.proofs.LawLemmas.{OneLink, as-sent, one-link}
 use Rattle.path_laws.proofs.LogLemmas.{OnLink, all-in, in-left, in-right, link-in}
 use Rattle.path_laws.proofs.RunLemmas.{whole-chunk}
-use Rattle.path_room.proofs.CaseNotes.{path-notes}
 use Rattle.path_room.proofs.CaseNotes.{make-in}
 use Rattle.path_drain_laws.specs.Completion.{Completes}
 use Rattle.path_drain_laws.specs.Effects.{IsUpAt}
 use Rattle.path_drain_laws.specs.Hopeful.{session_at}
 use Rattle.path_drain_laws.proofs.CleanLemmas.{none-left}
-use Rattle.path_drain_laws.proofs.CompletionLemmas.{cases-noted}
 use Rattle.path_drain_laws.proofs.LawLemmas.{runs-complete}
 use Rattle.path_drain_laws.proofs.WholeLemmas.{ups-append}
 use Rattle.path_completion.specs.WholeRun.{IsHandedWhole, WholeRunsComplete}
-use Rattle.path_completion.specs.WholeRun.{run_begun, run_path, run_ups}
+use Rattle.path_completion.specs.Runs.{HandedUpInRuns, run_begun, run_path, run_ups}
 use Rattle.path_completion.proofs.HandedUps.{WasHandedUp, start-hands}
+use Rattle.path_completion.proofs.RunLemmas.{noted-in-runs}
 
 -- ---- a receiver that has handed up
 
@@ -66,10 +65,7 @@ up-on-path s start events place n was =
     }
 
 -- where a run has led to, a red part that has been handed up was so in the run
-handed-in-run : (s : PathSetup) (start : ℕ) (events : List PathEvent) → IsLinked s
-    → (place : Place) (n : ℕ)
-    → IsHanded (session_at s (run_path s start events) place n).receiver
-    → IsUpAt (run_ups s start events) (across place) n
+pub handed-in-run : HandedUpInRuns
 handed-in-run s start events linked place n handed =
     up-on-path s start events place n
     (start-hands (link_parties s (link_of place))
@@ -164,7 +160,7 @@ whole-runs s start events made linked alike hopeful room clean none = record {
       (up-in-both s start events made linked place n ((all.complete).handed place n is_open));
   begun_sent = (all.complete).begun_sent;
   begun_handed = (all.complete).begun_handed;
-  cases = cases-noted path-notes s (starts_path s start) (events ++ made);
+  cases = noted-in-runs s (starts_path s start) (events ++ made);
   noted = (all.complete).noted;
   storage = (all.complete).storage;
   no_sender = (all.complete).no_sender;

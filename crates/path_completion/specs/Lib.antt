@@ -1,4 +1,6 @@
--- what a run of a path promises, and a drain after it
+-- what holds of every run of a path
+pub mod Runs
+-- what a run promises together with a drain after it
 pub mod WholeRun
 -- for examples
 pub mod Examples

@@ -19,18 +19,7 @@ use Rattle.path_drain_laws.specs.Clean.{path_passed}
 use Rattle.path_drain_laws.specs.Completion.{IsCaseNotedIn}
 use Rattle.path_drain_laws.specs.Effects.{IsNotedSent, IsShort, IsUpWhole, notes_in}
 use Rattle.path_drain_laws.specs.Hopeful.{AreAlikeOnPath, PathHopeful, path_cost, session_at}
-
--- ---- a run from the start
-
--- where a run leads to, and what it begins and hands up
-abbrev pub run_path : PathSetup → ℕ → List PathEvent → Path
-run_path s start events = path_run s (starts_path s start) events
-
-abbrev pub run_begun : PathSetup → ℕ → List PathEvent → List Begun
-run_begun s start events = begun_in s (starts_path s start) events
-
-abbrev pub run_ups : PathSetup → ℕ → List PathEvent → List UpAt
-run_ups s start events = ups_in s (starts_path s start) events
+pub use Rattle.path_completion.specs.Runs.{run_begun, run_path, run_ups}
 
 -- session n of a place was begun there, and its whole block was handed up across its link
 pub record IsHandedWhole (begun : List Begun) (ups : List UpAt) (from : Place) (n : ℕ) : Type 0
@@ -40,8 +29,6 @@ pub record IsHandedWhole (begun : List Begun) (ups : List UpAt) (from : Place) (
     pub place : session.place ≡ from
     pub number : session.session ≡ n
     pub up : IsUpWhole ups session
-
--- ---- a run, and the clean events of a drain after it
 
 -- What a run and then the events of a drain, which lead from w to v, have done to the sessions.
 pub record IsRunCompleteFrom

@@ -14,7 +14,8 @@ ghost use Rattle.path_drain_laws.specs.Clean.{AreCleanOnPathFrom, path_clean_eve
 ghost use Rattle.path_drain_laws.specs.Effects.{notes_in};
 ghost use Rattle.path_completion.specs.Examples.{drains_one_block, drains_one_report};
 ghost use Rattle.path_completion.specs.Examples.{hands_up_no_bundle, sends_no_bundle};
-ghost use Rattle.path_completion.specs.WholeRun.{IsRunComplete, run_path, run_ups};
+ghost use Rattle.path_completion.specs.Runs.{run_path, run_ups};
+ghost use Rattle.path_completion.specs.WholeRun.{IsRunComplete};
 
 /// On a path on which nothing was sent a drain has no event, and completes all that there is.
 pub fn a_silent_run_is_complete()

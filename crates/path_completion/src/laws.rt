@@ -1,6 +1,24 @@
 //! What a run of a path and a drain after it have done.
 
+ghost use Rattle.path_completion.specs.Runs.{CasesAreNotedInRuns, HandedUpInRuns, RunsGoOn};
 ghost use Rattle.path_completion.specs.WholeRun.{WholeRunsComplete};
+
+/// Where a run goes on, what it begins, hands up and notes is added to what it did before.
+pub fn runs_go_on()
+    ensures { RunsGoOn }
+{}
+
+/// A receiver that is kept where a run led to, and has handed its block up, did so in an event of the
+/// run.
+pub fn handed_up_in_runs()
+    ensures { HandedUpInRuns }
+{}
+
+/// Each block that a run hands up at the gate has its case noted by the same event, as the gate
+/// decided then: by the clock, and by the room at its other face.
+pub fn cases_are_noted_in_runs()
+    ensures { CasesAreNotedInRuns }
+{}
 
 /// Whatever happened on a path, sent, delivered, lost, repeated or late: where it is hopeful and has
 /// room, and the clean events of a drain follow until none is left, these are no more than the

@@ -1,0 +1,48 @@
+-- A run, and then another.
+
+use Rattle.std.proofs.Common.{◌≡◌, List, [], ◌∷◌, ◌++◌, refl, sym, ◌∙◌, ap}
+use Rattle.std.proofs.lemmas.List.{append_assoc}
+use Rattle.path_laws.specs.declared.effects.NoteAt.{NoteAt}
+use Rattle.path_laws.specs.Path.{PathSetup, Path, PathEvent, path_run, path_step}
+use Rattle.path_laws.specs.Log.{Begun, begun_at, begun_in}
+use Rattle.path_room.proofs.CaseNotes.{path-notes}
+use Rattle.path_drain_laws.specs.Effects.{notes_in}
+use Rattle.path_drain_laws.proofs.CompletionLemmas.{cases-noted}
+use Rattle.path_drain_laws.proofs.WholeLemmas.{ups-append}
+use Rattle.path_completion.specs.Runs.{CasesAreNotedInRuns, RunsGoOn}
+
+run-append : (s : PathSetup) (w : Path) (xs ys : List PathEvent)
+    → path_run s w (xs ++ ys) ≡ path_run s (path_run s w xs) ys
+unfolding path_run
+run-append s w [] ys = refl
+run-append s w (x ∷ xs) ys = run-append s (path_step s w x).path xs ys
+
+begun-append : (s : PathSetup) (w : Path) (xs ys : List PathEvent)
+    → begun_in s w (xs ++ ys) ≡ begun_in s w xs ++ begun_in s (path_run s w xs) ys
+unfolding begun_in path_run
+begun-append s w [] ys = refl
+begun-append s w (x ∷ xs) ys =
+    ap (λ (bs : List Begun). begun_at s w x ++ bs) (begun-append s (path_step s w x).path xs ys)
+    ∙ sym (append_assoc (begun_at s w x) (begun_in s (path_step s w x).path xs)
+    (begun_in s (path_run s (path_step s w x).path xs) ys))
+
+notes-append : (s : PathSetup) (w : Path) (xs ys : List PathEvent)
+    → notes_in s w (xs ++ ys) ≡ notes_in s w xs ++ notes_in s (path_run s w xs) ys
+unfolding notes_in path_run
+notes-append s w [] ys = refl
+notes-append s w (x ∷ xs) ys =
+    ap (λ (ns : List NoteAt). (path_step s w x).effects.notes ++ ns)
+    (notes-append s (path_step s w x).path xs ys)
+    ∙ sym (append_assoc (path_step s w x).effects.notes (notes_in s (path_step s w x).path xs)
+    (notes_in s (path_run s (path_step s w x).path xs) ys))
+
+pub go-on : RunsGoOn
+go-on s w events made = record {
+  leads = run-append s w events made;
+  begun = begun-append s w events made;
+  ups = ups-append s w events made;
+  notes = notes-append s w events made;
+}
+
+pub noted-in-runs : CasesAreNotedInRuns
+noted-in-runs = cases-noted path-notes

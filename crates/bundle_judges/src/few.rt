@@ -1,13 +1,16 @@
 //! The first octets of a field that is under way.
 
-ghost use Rattle.std.specs.Prelude.{◌≡◌, ◌<◌, ◌++◌, ◌∷◌, [], length};
+ghost use Rattle.std.specs.Prelude.{◌≡◌, ◌+◌, ◌<◌, ◌≤◌, ◌++◌, ◌∷◌, [], length};
 
 use std::marker::Model;
+
+/// How many: as many as a body that is an endpoint has at most.
+pub(crate) const MOST: usize = 1_050;
 
 /// At most so many octets. They ask for no memory.
 #[derive(Drop)]
 pub(crate) struct Few {
-    items: [u8; 32],
+    items: [u8; MOST],
     count: usize,
 }
 
@@ -18,7 +21,7 @@ impl Model for Few {
 
     ghost view = { λ few. take few.count few.items };
 
-    ghost invariant = { λ few. few.count ≤ 32 };
+    ghost invariant = { λ few. few.count ≤ 1050 };
 }
 
 impl Few {
@@ -27,7 +30,7 @@ impl Few {
         ensures { result ≡ [] }
     {
         Few {
-            items: [0; 32],
+            items: [0; MOST],
             count: 0,
         }
     }
@@ -55,10 +58,20 @@ impl Few {
 
     /// One more.
     pub(crate) fn push(&mut self, octet: u8)
-        requires { length self.old < 32 }
+        requires { length self.old < 1050 }
         ensures { self.new ≡ self.old ++ octet ∷ [] }
     {
         self.items[self.count] = octet;
         self.count += 1;
+    }
+
+    /// These too.
+    pub(crate) fn fill(&mut self, more: &[u8])
+        requires { length self.old + length more.now ≤ 1050 }
+        ensures { self.new ≡ self.old ++ more.now }
+    {
+        let end = self.count + more.len();
+        self.items[self.count..end].copy_from_slice(more);
+        self.count = end;
     }
 }

@@ -1,5 +1,6 @@
 //! What a run of a path and a drain after it have done.
 
+ghost use Rattle.path_completion.specs.Decided.{BegunAreDecided};
 ghost use Rattle.path_completion.specs.Runs.{CasesAreNotedInRuns, HandedUpInRuns, RunsGoOn};
 ghost use Rattle.path_completion.specs.WholeRun.{WholeRunsComplete};
 
@@ -18,6 +19,13 @@ pub fn handed_up_in_runs()
 /// decided then: by the clock, and by the room at its other face.
 pub fn cases_are_noted_in_runs()
     ensures { CasesAreNotedInRuns }
+{}
+
+/// Each piece and each report that a run begins at the gate is begun by the event that handed its
+/// bundle up: a piece as the gate decided then, and a report as it was asked for then, with the
+/// clock's moment and the counter's number.
+pub fn begun_are_decided()
+    ensures { BegunAreDecided }
 {}
 
 /// Whatever happened on a path, sent, delivered, lost, repeated or late: where it is hopeful and has

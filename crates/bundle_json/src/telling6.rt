@@ -55,8 +55,9 @@ pub struct Telling6 {
 impl Telling6 {
     /// The telling of the bundle that these octets spell: its JSON text is left.
     pub fn new(octets: &[u8]) -> Result<Telling6, AllocError>
-        ensures { (bundle : Bundle6) → Spells6 bundle octets.now
+        ensures left { (bundle : Bundle6) → Spells6 bundle octets.now
             → IfOk result (λ telling. Left octets.now telling (compact_text (bundle6 bundle))) }
+        ensures some { IfOk result (λ telling. 0 < steps_left octets.now telling) }
     {
         let (primary, at) = primary(octets)?;
         Ok(Telling6 {

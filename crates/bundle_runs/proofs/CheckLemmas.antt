@@ -98,12 +98,12 @@ six-is judge (Seven reader) stands = absurd stands
 
 -- ---- octets of one bundle
 
-unfinished-some : (begun : Begun) (unfinished : Option Unfinished) → StandsForAny (Some begun) unfinished
+pub unfinished-some : (begun : Begun) (unfinished : Option Unfinished) → StandsForAny (Some begun) unfinished
     → (bundle : Unfinished) × (unfinished ≡ Some bundle) × StandsFor begun bundle
 unfinished-some begun None stands = absurd stands
 unfinished-some begun (Some bundle) stands = (bundle, refl, stands)
 
-unfinished-none : (unfinished : Option Unfinished) → StandsForAny None unfinished → unfinished ≡ None
+pub unfinished-none : (unfinished : Option Unfinished) → StandsForAny None unfinished → unfinished ≡ None
 unfinished-none None stands = refl
 unfinished-none (Some bundle) stands = absurd stands
 

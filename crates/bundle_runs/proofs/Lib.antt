@@ -3,5 +3,8 @@ pub mod FrontsLemmas
 pub mod GivenLemmas
 pub mod TakingLemmas
 pub mod CheckLemmas
+pub mod ShowLemmas
+pub mod ShowJudgeLemmas
+pub mod ShowStepLemmas
 pub mod LawLemmas
 pub mod ConvertLemmas

@@ -44,11 +44,11 @@ drop-past (x ∷ xs) ys n =
     let same : length (x ∷ xs) + n ≡ suc (length xs + n) = omega arith in
     ap (λ (k : ℕ). drop k (x ∷ (xs ++ ys))) same ∙ drop-past xs ys n
 
-drop-all : (xs : List ℕ) → drop (length xs) xs ≡ []
+pub drop-all : (xs : List ℕ) → drop (length xs) xs ≡ []
 drop-all [] = refl
 drop-all (x ∷ xs) = drop-all xs
 
-first-more : (xs ys : List ℕ) → 0 < length xs → slice_index (xs ++ ys) 0 ≡ slice_index xs 0
+pub first-more : (xs ys : List ℕ) → 0 < length xs → slice_index (xs ++ ys) 0 ≡ slice_index xs 0
 first-more [] ys none = absurd (omega (arith, none))
 first-more (x ∷ xs) ys none = refl
 
@@ -69,7 +69,7 @@ pub front-begun : (bundle : Unfinished) (more : List ℕ) → HasBegun bundle �
 front-begun bundle more begun =
     front-marked bundle (kept_of bundle ++ more) (first-more (kept_of bundle) more begun.some ∙ begun.mark)
 
-front-kept : (bundle : Unfinished) → HasBegun bundle → front_of (kept_of bundle) ≡ front_in bundle (kept_of bundle)
+pub front-kept : (bundle : Unfinished) → HasBegun bundle → front_of (kept_of bundle) ≡ front_in bundle (kept_of bundle)
 front-kept bundle begun = front-marked bundle (kept_of bundle) begun.mark
 
 begun-more : (old new : Unfinished) (piece : List ℕ) (at : ℕ) → HasBegun old → IsOctets piece

@@ -11,3 +11,4 @@ pub mod Legal
 pub mod Given
 pub mod Taking
 pub mod Checking
+pub mod Showing

@@ -12,8 +12,9 @@
 //! What a command answers is one definition from octets to the text and the status
 //! (`specs/Answering.antt`). A [`BundleReader`] is told the octets as they come, and keeps those of at
 //! most one unfinished bundle, and of the fragments that aren't joined yet; for `check`, which wants no
-//! bundle, a `CheckReader` keeps of one of version 6 the primary block alone. `command_frame` drives
-//! both, and writes what is settled before it reads on.
+//! bundle, a `CheckReader` keeps of one of version 6 the primary block alone. A [`ShowReader`] keeps the
+//! octets of at most one bundle, and tells one of version 6 out of them part by part. `command_frame`
+//! drives all three, and writes what is settled before it reads on.
 #![tactic(auto)]
 
 mod begun;
@@ -26,6 +27,7 @@ mod front;
 mod given;
 mod laws;
 mod saying;
+mod show_reader;
 mod unfinished;
 mod written_lines;
 
@@ -34,3 +36,4 @@ pub use commands::bundles::bundles;
 pub use commands::command::Command;
 pub use front::{Bundle, Cause};
 pub use laws::{answers_bundle_by_bundle, earliest_place_decides};
+pub use show_reader::ShowReader;

@@ -5,7 +5,8 @@ ghost use Rattle.bundle_runs.specs.Answering.{settles};
 use crate::bundle_reader::BundleReader;
 use crate::check_reader::CheckReader;
 use crate::commands::command::Command;
-use command_frame::drive;
+use crate::show_reader::ShowReader;
+use command_frame::{drive, drive_parts};
 use edge_traits::{Sink, Source, Status};
 use std::alloc::Global;
 
@@ -30,6 +31,10 @@ pub fn bundles<S: Source, K: Sink>(
         Command::Check => {
             let mut reader = CheckReader::new(alloc);
             drive(alloc, &mut reader, source, sink)
+        }
+        Command::Show => {
+            let mut reader = ShowReader::new(alloc);
+            drive_parts(alloc, &mut reader, source, sink)
         }
         _ => {
             let mut reader = BundleReader::new(alloc, command);

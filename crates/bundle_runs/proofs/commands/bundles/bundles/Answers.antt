@@ -1,6 +1,6 @@
 use Rattle.std.proofs.Common.{[]}
 use Rattle.edge_traits.specs.Settled.{goes_on}
-use Rattle.bundle_runs.specs.declared.commands.command.Command.TheVariants.{Check}
+use Rattle.bundle_runs.specs.declared.commands.command.Command.TheVariants.{Check, Show}
 use Rattle.bundle_runs.specs.Answering.{settles_from}
 use Rattle.bundle_runs.proofs.FrontsLemmas.{settles-none}
 use Rattle.bundle_runs.proofs.commands.bundles.bundles.Goals as goal
@@ -8,6 +8,11 @@ use Rattle.bundle_runs.proofs.commands.bundles.bundles.Goals as goal
 pub returns-in-Check : goal.returns-in-Check
 returns-in-Check g c = rw c.in-Check.is (record {
   ran = c.drive.ensures (settles_from Check [] 1 0) c.new-reader.ensures.stands (settles-none Check [] 1 0 goes_on);
+})
+
+pub returns-in-Show : goal.returns-in-Show
+returns-in-Show g c = rw c.in-Show.is (record {
+  ran = c.drive_parts.ensures (settles_from Show [] 1 0) c.new-reader-in-Show.ensures.stands (settles-none Show [] 1 0 goes_on);
 })
 
 pub returns-in_default : goal.returns-in_default

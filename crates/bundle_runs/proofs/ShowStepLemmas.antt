@@ -1,0 +1,307 @@
+-- What a piece makes of the reading of `show`.
+use Rattle.std.proofs.Common.{false, ◌≡◌, ℕ, ◌+◌, ◌-◌, ◌<◌, ◌≤◌, Bool, List, [], ◌++◌, length, take, drop, codes, Option, None, Some, Result, Ok, Err, is_err, IfOk, refl, sym, ◌∙◌, ap, arith, append_assoc, length-append}
+use Rattle.std.proofs.lemmas.List.{append-nil, take-append-drop, length-take-le, length-drop, nil_from_length}
+use Rattle.std.proofs.Math.Seq.{take-append_seam}
+use Rattle.std.specs.declared.alloc.AllocError.{AllocError}
+use Rattle.edge_traits.specs.declared.status.Status.TheVariants as statuses
+use Rattle.command_frame.specs.declared.part_task.Taken.TheVariants as takens
+use Rattle.command_frame.specs.Task.{Settling, Finishes}
+use Rattle.command_frame.specs.PartTask.{FeedsPart, LeavesFewer, TellsPart, IsDue}
+use Rattle.command_frame.proofs.WithinLemmas.{GoesOnTo-more}
+use Rattle.wire_fields.specs.Reading.{IsOctets}
+use Rattle.bundle_json.specs.declared.telling6.Telling6.{Telling6}
+use Rattle.bundle_runs.specs.declared.commands.command.Command.TheVariants.{Show}
+use Rattle.bundle_runs.specs.declared.front.Bundle.{Bundle}
+use Rattle.bundle_runs.specs.declared.front.Cause.{Cause}
+use Rattle.bundle_runs.specs.declared.given.Given.{Given}
+use Rattle.bundle_runs.specs.declared.given.Given.TheVariants.{Whole, Refused}
+use Rattle.bundle_runs.specs.declared.unfinished.Unfinished.{Unfinished}
+use Rattle.bundle_runs.specs.declared.begun.Begun.{Begun}
+use Rattle.bundle_runs.specs.declared.bundle_reader.Standing.{Standing}
+use Rattle.bundle_runs.specs.declared.bundle_reader.Next.TheVariants.{After}
+use Rattle.bundle_runs.specs.declared.show_reader.Showing.{Showing}
+use Rattle.bundle_runs.specs.Front.{front_of}
+use Rattle.bundle_runs.specs.Answering.{settles_from}
+use Rattle.bundle_runs.specs.WrittenLines.{refused_line}
+use Rattle.bundle_runs.specs.Taking.{kept_of, kept_by, settling_of, IsReady, IsCut, HasBegun, IsSound, IsCutAt}
+use Rattle.bundle_runs.specs.Checking.{StandsFor, StandsForAny}
+use Rattle.bundle_runs.specs.Showing.{Owes, OwesLine, steps_due, ShowsAs, IsShowing, StandsShowing, KeepsOctets, KeepsOneBundle, parts_due, JudgedSo, IsBundle, BeginsLine, ShowsStep, ShowsSoFar}
+use Rattle.bundle_runs.proofs.TakingLemmas.{front-kept, quiet, finish-none, finish-cut, cut-inside}
+use Rattle.bundle_runs.proofs.CheckLemmas.{unfinished-some, unfinished-none}
+use Rattle.bundle_runs.proofs.ShowJudgeLemmas.{kept-is, no-due, old-room, inside-whole, bundle-whole, room-refused}
+
+-- ---- the steps so far
+
+pub some-old : (s : Showing) → s.telling ≡ None → IsShowing s → (old : Standing) × ShowsAs s [] old
+some-old s none (due, old, shows) = (old, no-due s due old none shows)
+
+-- octets of one bundle were judged, whatever reading it stands for
+abbrev Judges : Showing → List ℕ → Option Begun → Given ℕ → Type 0
+Judges s left begun given = (old : Standing) → StandsForAny s.begun old.unfinished → IsSound old → old.at + old.taken + length left ≤ 67108864
+    → JudgedSo old left begun given
+
+module _ (s : Showing) (left : List ℕ) (fits : IsOctets left) (some : 0 < length left) (none : s.telling ≡ None)
+    (room : s.at + length s.octets.items + length left ≤ 67108864) where
+  pub judged-for : (begun : Option Begun) (given : Given ℕ) → Judges s left begun given → (old : Standing) → ShowsAs s [] old → JudgedSo old left begun given
+  judged-for begun given judges old shows = judges old shows.bundle shows.sound (old-room s left fits some none room old shows)
+
+  module _ (showing : IsShowing s) (begun : Option Begun) where
+    pub whole-inside-of : (version used : ℕ) → Judges s left begun (Whole version used) → used ≤ length left
+    whole-inside-of version used judges =
+        let (old, shows) = some-old s none showing in
+        (inside-whole s left fits some none room old shows begun version used (judged-for begun (Whole version used) judges old shows)).1
+
+    pub whole-bundle-of : (version used : ℕ) → Judges s left begun (Whole version used) → (octets : List ℕ) → octets ≡ s.octets.items ++ take used left
+        → (b : Bundle) × IsBundle octets version b
+    whole-bundle-of version used judges octets is =
+        let (old, shows) = some-old s none showing in
+        let judged = judged-for begun (Whole version used) judges old shows in
+        (judged.took.finds.0, bundle-whole s left fits some none room old shows begun version used judged octets is)
+
+    pub refused-room-of : (at : ℕ) (cause : Cause) → Judges s left begun (Refused at cause) → s.at + at ≤ 67108864
+    refused-room-of at cause judges =
+        let (old, shows) = some-old s none showing in
+        room-refused s left fits some none room old shows begun at cause (judged-for begun (Refused at cause) judges old shows)
+
+pub shows-kept : (s new : Showing) (left : List ℕ) (used : ℕ) (before now : List ℕ) → s.telling ≡ None → IsShowing s
+    → s.at + length s.octets.items + length left ≤ 67108864
+    → ((old : Standing) → ShowsAs s [] old → ShowsStep old left before new now (After used))
+    → IsShowing new × (new.telling ≡ None → new.at + length new.octets.items + length (drop used left) ≤ 67108864) × (0 < used) × (used ≤ length left)
+shows-kept s new left used before now none showing room step =
+    let (old, shows) = some-old s none showing in
+    let (some, inside, on) = step old shows in (
+      (on.due, on.later, on.shows),
+      λ now_none. omega (
+        arith,
+        room,
+        on.passed,
+        length-take-le used left inside,
+        inside,
+        on.shows.place,
+        (kept-is new on.due on.later now_none on.shows).2,
+        shows.place,
+        (kept-is s [] old none shows).2,
+        length-drop used left,
+      ),
+      some,
+      inside,
+    )
+
+pub so-far-more : (old : Standing) (s new : Showing) (piece left : List ℕ) (used : ℕ) (before text after : List ℕ) → s.telling ≡ None
+    → ShowsSoFar old piece left before s text
+    → ((now : Standing) → ShowsAs s [] now → ShowsStep now left text new after (After used)) → ShowsSoFar old piece (drop used left) before new after
+so-far-more old s new piece left used before text after none so_far step =
+    let on = so_far.on in
+    let nothing : on.due ≡ [] = (kept-is s on.due on.later none on.shows).1 in
+    let (some, inside, more) = step on.later (no-due s on.due on.later none on.shows) in
+    record {
+      taken = so_far.taken ++ take used left;
+      parts =
+          so_far.parts ∙ ap (λ (v : List ℕ). so_far.taken ++ v) (sym (take-append-drop used left))
+          ∙ sym (append_assoc so_far.taken (take used left) (drop used left));
+      on = record {
+        later = more.later;
+        due = more.due;
+        shows = more.shows;
+        text = on.text ++ more.text;
+        added =
+            more.added ∙ ap (λ (v : List ℕ). v ++ more.text) on.added
+            ∙ append_assoc before on.text more.text;
+        goes =
+            let all : (on.text ++ on.due) ++ (more.text ++ more.due) ≡ (on.text ++ more.text) ++ more.due =
+            ap (λ (v : List ℕ). (on.text ++ v) ++ (more.text ++ more.due)) nothing
+            ∙ ap (λ (v : List ℕ). v ++ (more.text ++ more.due)) (append-nil on.text)
+            ∙ sym (append_assoc on.text more.text more.due) in
+            rw (← all) (GoesOnTo-more (settling_of old) (settling_of on.later) (settling_of more.later) so_far.taken (on.text ++ on.due)
+            (take used left) (more.text ++ more.due) on.goes more.goes);
+        passed = omega (arith, on.passed, more.passed, length-append so_far.taken (take used left));
+      };
+    }
+
+pub so-far-all : (old : Standing) (s : Showing) (piece left before text : List ℕ) → s.telling ≡ None → length left ≡ 0 → ShowsSoFar old piece left before s text
+    → FeedsPart (StandsShowing s) (settling_of old) piece before text takens.All
+so-far-all old s piece left before text none empty so_far =
+    let on = so_far.on in
+    let nothing : on.due ≡ [] = (kept-is s on.due on.later none on.shows).1 in
+    let plain : on.text ++ on.due ≡ on.text = ap (λ (v : List ℕ). on.text ++ v) nothing ∙ append-nil on.text in
+    let all : piece ≡ so_far.taken = so_far.parts ∙ ap (λ (v : List ℕ). so_far.taken ++ v) (nil_from_length left empty) ∙ append-nil so_far.taken in
+    record {
+      text = on.text;
+      added = on.added;
+      takes = (
+        settling_of on.later,
+        (on.later, no-due s on.due on.later none on.shows, refl),
+        quiet on.later on.shows.sound,
+        rw all (rw plain at on.goes),
+      );
+    }
+
+pub so-far-due : (old : Standing) (s : Showing) (piece left before text : List ℕ) (used : ℕ) → used ≡ length piece - length left
+    → ShowsSoFar old piece left before s text
+    → FeedsPart (StandsShowing s) (settling_of old) piece before text (takens.Due used)
+so-far-due old s piece left before text used is so_far =
+    let on = so_far.on in
+    let size : used ≡ length so_far.taken = omega (arith, is, ap length so_far.parts, length-append so_far.taken left) in
+    let front : take used piece ≡ so_far.taken =
+    ap (λ (n : ℕ). take n piece) size ∙ ap (take (length so_far.taken)) so_far.parts ∙ take-append_seam so_far.taken left in
+    record {
+      text = on.text;
+      added = on.added;
+      takes = (on.due, (settling_of on.later, (on.later, on.shows, refl), quiet on.later on.shows.sound, rw front on.goes));
+    }
+
+-- ---- the start and the end
+
+pub shows-fresh : (s : Showing) → s.begun ≡ None → s.telling ≡ None → s.octets.items ≡ [] → s.at ≤ 67108864 → s.number ≤ s.at + 1
+    → ShowsAs s [] (record { command = Show; joiner = record { joins = []; spent = false }; number = s.number; at = s.at; taken = 0; unfinished = None })
+shows-fresh s none_begun none_told none_kept low counted = record {
+  command = refl;
+  number = refl;
+  place = refl;
+  bundle = rw none_begun tt;
+  kept = rw none_told none_kept;
+  owes = rw none_told refl;
+  sound = record { begun = tt; held = refl; within = omega (arith, low); counted = counted; memory = refl };
+}
+
+pub stands-start : (s : Showing) → s.number ≡ 1 → s.at ≡ 0 → s.begun ≡ None → s.telling ≡ None → s.octets.items ≡ []
+    → StandsShowing s [] (settles_from Show [] 1 0)
+stands-start s number place none_begun none_told none_kept = (
+  record { command = Show; joiner = record { joins = []; spent = false }; number = s.number; at = s.at; taken = 0; unfinished = None },
+  shows-fresh s none_begun none_told none_kept (omega (arith, place)) (omega (arith, place, number)),
+  rw (number, place) refl,
+)
+
+pub showing-counts : (s : Showing) → IsShowing s → (s.at ≤ 67108864) × (s.number ≤ s.at + 1)
+showing-counts s (due, old, shows) = (
+  omega (arith, shows.place, shows.sound.within),
+  omega (arith, shows.place, shows.number, shows.sound.counted),
+)
+
+-- places and counts stay, and nothing is kept any more
+pub showing-after : (s new : Showing) → IsShowing s → new.number ≡ s.number → new.at ≡ s.at → new.begun ≡ None → new.telling ≡ None → new.octets.items ≡ []
+    → IsShowing new
+showing-after s new showing number place none_begun none_told none_kept =
+    let counts = showing-counts s showing in (
+      [],
+      record { command = Show; joiner = record { joins = []; spent = false }; number = new.number; at = new.at; taken = 0; unfinished = None },
+      shows-fresh new none_begun none_told none_kept (omega (arith, place, counts.0)) (omega (arith, place, number, counts.1)),
+    )
+
+-- a part was told, and the reading stands where it did
+showing-told : (s new : Showing) → new.number ≡ s.number → new.at ≡ s.at → new.begun ≡ s.begun → 0 < parts_due s
+    → (before now : List ℕ) → {due : List ℕ} → (line : BeginsLine due before new.telling new.octets.items now)
+    → (old : Standing) → ShowsAs s due old → ShowsAs new line.due old
+showing-told s new number place same_begun some before now line old shows = record {
+  command = shows.command;
+  number = number ∙ shows.number;
+  place = place ∙ shows.place;
+  bundle = rw same_begun shows.bundle;
+  kept = line.none_begun ∙ nothing s.telling refl;
+  owes = line.owes;
+  sound = shows.sound;
+}
+  where
+    nothing : (telling : Option Telling6) → s.telling ≡ telling → [] ≡ kept_by old.unfinished
+    nothing None none =
+        let zero : 0 < 0 = rw none at some in
+        absurd (omega (arith, zero))
+    nothing (Some telling) is = rw is at shows.kept
+
+-- ---- telling
+
+-- no part is due, so no text is
+nothing-due : (telling : Option Telling6) (octets due : List ℕ) → steps_due telling octets ≡ 0 → Owes telling octets due → due ≡ []
+nothing-due None octets due none owes = owes
+nothing-due (Some telling) octets due none owes = absurd (omega (arith, none, owes.some))
+
+module _ (s new : Showing) (before now : List ℕ) (some : 0 < parts_due s) where
+  pub tells-part : (result : Result Bool AllocError)
+      → IfOk result (λ more. new ≡ record { number = s.number; at = s.at; begun = s.begun; telling = new.telling; octets = new.octets })
+      → ((due : List ℕ) → Owes s.telling s.octets.items due → IfOk result (λ more. BeginsLine due before new.telling new.octets.items now))
+      → IfOk result (LeavesFewer (parts_due s) (parts_due new))
+      → (due : List ℕ) (settles : Settling) → StandsShowing s due settles → IfOk result (TellsPart (StandsShowing new) settles due before now)
+  tells-part (Err e) same told leaves due settles stands = tt
+  tells-part (Ok more) same told leaves due settles (old, shows, is) =
+      let line = told due shows.owes in
+      record {
+        part = line.text;
+        rest = line.due;
+        added = line.added;
+        parts = line.parts;
+        stands = (
+          old,
+          (showing-told s new (ap (λ (t : Showing). t.number) same) (ap (λ (t : Showing). t.at) same) (ap (λ (t : Showing). t.begun) same) some
+              before now line old shows),
+          is,
+        );
+        last = λ none.
+            let zero : IsDue false (parts_due new) = rw none at leaves.1 in
+            nothing-due new.telling new.octets.items line.due zero line.owes;
+      }
+
+  pub showing-tell : (result : Result Bool AllocError) → is_err result ≡ false → IsShowing s
+      → IfOk result (λ more. new ≡ record { number = s.number; at = s.at; begun = s.begun; telling = new.telling; octets = new.octets })
+      → ((due : List ℕ) → Owes s.telling s.octets.items due → IfOk result (λ more. BeginsLine due before new.telling new.octets.items now))
+      → IsShowing new
+  showing-tell (Err e) ok showing same told = absurd (cc)
+  showing-tell (Ok more) ok (due, old, shows) same told =
+      let line = told due shows.owes in (
+        line.due,
+        old,
+        showing-told s new (ap (λ (t : Showing). t.number) same) (ap (λ (t : Showing). t.at) same) (ap (λ (t : Showing). t.begun) same) some
+            before now line old shows,
+      )
+
+pub show-finish-none : (s : Showing) (old : Standing) (text : List ℕ) → s.begun ≡ None → ShowsAs s [] old → Finishes (settling_of old) text text statuses.Done
+show-finish-none s old text is shows = finish-none old text (ap kept_by (unfinished-none old.unfinished (rw is at shows.bundle)))
+
+begun-bundle : (s : Showing) (old : Standing) (begun : Begun) → s.begun ≡ Some begun → ShowsAs s [] old
+    → (bundle : Unfinished) × (old.unfinished ≡ Some bundle) × StandsFor begun bundle × IsReady bundle
+begun-bundle s old begun is shows =
+    let (bundle, some, stands) = unfinished-some begun old.unfinished (rw is at shows.bundle) in
+    let has : HasBegun bundle = rw some at shows.sound.begun in
+    (bundle, some, stands, has.ready)
+
+pub show-finish-room : (s : Showing) (begun : Begun) (at : ℕ) → s.telling ≡ None → IsShowing s → s.begun ≡ Some begun
+    → ((bundle : Unfinished) → StandsFor begun bundle → IsReady bundle → IsCutAt bundle (Some at)) → s.at + at ≤ 67108864
+show-finish-room s begun at none showing is cut =
+    let (old, shows) = some-old s none showing in
+    let (bundle, some, stands, ready) = begun-bundle s old begun is shows in
+    let has : HasBegun bundle = rw some at shows.sound.begun in
+    let held : old.taken ≡ length (kept_of bundle) = rw some at shows.sound.held in
+    let inside = cut-inside bundle at has (cut bundle stands ready).0 in
+    omega (arith, inside, held, shows.sound.within, shows.place)
+
+pub show-finish-cut : (s : Showing) (old : Standing) (begun : Begun) (at : ℕ) (before now : List ℕ) → s.begun ≡ Some begun → ShowsAs s [] old
+    → ((bundle : Unfinished) → StandsFor begun bundle → IsReady bundle → IsCutAt bundle (Some at))
+    → now ≡ before ++ refused_line s.number (s.at + at) (codes "Truncated") → Finishes (settling_of old) before now statuses.Refused
+show-finish-cut s old begun at before now is shows cut added =
+    let (bundle, some, stands, ready) = begun-bundle s old begun is shows in
+    let has : HasBegun bundle = rw some at shows.sound.begun in
+    finish-cut old bundle at before now some has (cut bundle stands ready).0
+    (added ∙ ap (λ (n : ℕ). before ++ refused_line n (s.at + at) (codes "Truncated")) shows.number
+    ∙ ap (λ (n : ℕ). before ++ refused_line old.number (n + at) (codes "Truncated")) shows.place)
+
+-- ---- what is kept
+
+pub keeps-one : (s : Showing) → IsShowing s → KeepsOneBundle s
+keeps-one s (due, old, shows) = by_telling s.telling s.begun refl refl
+  where
+    by_bundle : (begun : Begun) (bundle : Unfinished) → old.unfinished ≡ Some bundle → s.octets.items ≡ kept_by old.unfinished → IsCut (front_of s.octets.items)
+    by_bundle begun bundle is kept =
+        let has : HasBegun bundle = rw is at shows.sound.begun in
+        let same : s.octets.items ≡ kept_of bundle = kept ∙ ap kept_by is in
+        rw same (rw (front-kept bundle has) has.cut)
+
+    by_telling : (telling : Option Telling6) (begun : Option Begun) → s.telling ≡ telling → s.begun ≡ begun → KeepsOctets telling begun s.octets.items
+    by_telling (Some telling) begun told began =
+        let owes : OwesLine s.octets.items telling due = rw told at shows.owes in
+        (owes.bundle, owes.spells)
+    by_telling None None told began =
+        let kept : s.octets.items ≡ kept_by old.unfinished = rw told at shows.kept in
+        kept ∙ ap kept_by (unfinished-none old.unfinished (rw began at shows.bundle))
+    by_telling None (Some begun) told began =
+        let kept : s.octets.items ≡ kept_by old.unfinished = rw told at shows.kept in
+        let (bundle, is, stands) = unfinished-some begun old.unfinished (rw began at shows.bundle) in
+        by_bundle begun bundle is kept

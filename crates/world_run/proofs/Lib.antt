@@ -1,5 +1,7 @@
 mod PlainLemmas
-mod UpLemmas
-mod StartLemmas
+mod LineLemmas
+pub mod StartLemmas
+pub mod StepLemmas
+pub mod DrainLemmas
+mod PlayLemmas
 pub mod ScriptLemmas
-mod StepLemmas

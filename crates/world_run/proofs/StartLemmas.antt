@@ -1,10 +1,9 @@
 -- What the first line of a script says, where it sets up a path.
-use Rattle.std.proofs.Common.{◌≡◌, ℕ, ◌≤◌, Bool, true, false, List, Result, Ok, Err, inl, inr, refl, sym, ap, arith, if◌then◌else◌}
+use Rattle.std.proofs.Common.{◌≡◌, ℕ, ◌≤◌, Bool, true, false, List, Result, Ok, Err, inl, inr, refl, sym, ap, if◌then◌else◌}
+use Rattle.std.proofs.lemmas.Bool.{le-leb}
 use Rattle.endpoint.specs.declared.name.Endpoint.{Endpoint}
-use Rattle.ltp_segment.specs.Policy.{PolicyValue}
-use Rattle.ltp_session.specs.World.{ArePeers}
-use Rattle.gate_cases.specs.declared.face.Face.{Face}
-use Rattle.gate_cases.specs.declared.face.Face.TheVariants as faces
+use Rattle.ltp_segment.specs.declared.session.TheConstants.{BLOCK_MAX}
+use Rattle.ltp_segment.specs.Policy.{PolicyValue, is_between, policy_of}
 use Rattle.replay_script.specs.declared.event.Event.{Event}
 use Rattle.replay_script.specs.declared.event.Event.TheVariants as events
 use Rattle.replay_script.specs.declared.fault.LineFault.{LineFault}
@@ -13,8 +12,9 @@ use Rattle.replay_script.specs.Events.{event_of, is_path_line, Reads}
 use Rattle.replay_script.specs.Laws.{IsSoundPath}
 use Rattle.replay_script.proofs.PathLemmas.{path_sound}
 use Rattle.path_laws.specs.Path.{path_setup}
-use Rattle.path_laws.specs.Links.{link_parties}
-use Rattle.path_laws.specs.Laws.{IsLinked}
+use Rattle.path_drain_laws.specs.Hopeful.{IsFitPath, PathsAreFit}
+use Rattle.path_ends.specs.Drained.{PathsAreTimed}
+use Rattle.path_ends.specs.Left.{IsTimed}
 use Rattle.world_run.specs.World.{PathStart, first_said, start_said, start_in}
 
 -- what was read as a path is one, and the first line says it
@@ -73,28 +73,40 @@ module _ (line : List ℕ) (start : PathStart) where
       by_test true is = by_event (event_of line) refl is
       by_test false is = absurd (cc)
 
--- the engines of a path that is set up so name each other
-linked : (gate : Endpoint) (policy : PolicyValue) (cut : ℕ) → 1 ≤ policy.segment → IsLinked (path_setup gate policy cut)
-linked gate policy cut some = record { each = by_face }
-  where
-    by_face : (face : Face) → ArePeers (link_parties (path_setup gate policy cut) face)
-    by_face faces.Old = record {
-      differ = λ same. omega (arith, same);
-      first_knows = refl;
-      second_knows = refl;
-      first_cuts = some;
-      second_cuts = some;
-    }
-    by_face faces.New = record {
-      differ = λ same. omega (arith, same);
-      first_knows = refl;
-      second_knows = refl;
-      first_cuts = some;
-      second_cuts = some;
-    }
+-- ---- a policy
 
-pub starts_linked : (line : List ℕ) (start : PathStart) → start_in line ≡ Ok start → IsLinked start.setup
-starts_linked line start is =
-    let says = start_says line start is in
-    rw (ap (λ (s : PathStart). s.setup) says.start_is)
-    (linked says.gate says.policy says.cut (omega (arith, says.sound.segments.0)))
+between : (least most n : ℕ) → (least ≤ n) × (n ≤ most) → is_between least most n ≡ true
+between least most n inside = rw (le-leb least n inside.0, le-leb n most inside.1) refl
+
+-- numbers in their ranges are those of a policy
+policy-is : (line : List ℕ) (start : PathStart) → (says : StartSays line start)
+    → policy_of says.policy.segment says.policy.timeout says.policy.limit says.policy.cap ≡ Ok says.policy
+policy-is line start says =
+    rw (
+      between 512 8192 says.policy.segment says.sound.segments,
+      between 1 3600000 says.policy.timeout says.sound.timeouts,
+      between 1 100 says.policy.limit says.sound.limits,
+      between says.policy.timeout 3600000 says.policy.cap says.sound.caps,
+    )
+    refl
+
+module _ (line : List ℕ) (start : PathStart) (said : start_in line ≡ Ok start) where
+  says : StartSays line start
+  says = start_says line start said
+
+  setup-is : start.setup ≡ path_setup says.gate says.policy says.cut
+  setup-is = ap (λ (s : PathStart). s.setup) says.start_is
+
+  -- the engines of each link name each other, and are alike
+  pub starts_fit : PathsAreFit → IsFitPath start.setup
+  starts_fit fit =
+      rw setup-is
+      (fit says.gate says.policy.segment says.policy.timeout says.policy.limit says.policy.cap says.cut says.policy
+      (policy-is line start says))
+
+  -- and every drain of the path ends
+  pub starts_timed : PathsAreTimed → IsTimed start.setup BLOCK_MAX
+  starts_timed timed =
+      rw setup-is
+      (timed says.gate says.policy.segment says.policy.timeout says.policy.limit says.policy.cap says.cut says.policy
+      (policy-is line start says))

@@ -19,6 +19,8 @@ use Rattle.path_laws.specs.declared.effects.PathEffects.{PathEffects}
 use Rattle.path_laws.specs.declared.places.PathEnd.{PathEnd}
 use Rattle.path_laws.specs.Places.{node_place}
 use Rattle.path_laws.specs.Path.{PathSetup, Path, PathEffectsValue, SentFrom, PathEvent, sends, delivers, clock_shows, sends_block, path_step, path_run, starts_path}
+use Rattle.ltp_segment.specs.declared.session.TheConstants.{BLOCK_MAX}
+use Rattle.path_ends.specs.Left.{IsTimed}
 use Rattle.path_world.specs.Values.{PathValue, setup_of, octets_in, spelled, sent_at, numbered, effects_told, nothing_told}
 use Rattle.path_world.specs.Shows.{ShowsRun, path_after}
 use Rattle.path_world.specs.Steps.{Happens, Stays, Sends, OfSend}
@@ -37,11 +39,11 @@ numbered-lines k (d ∷ sent) =
     flat_map-cons sent_at_line (sent_at k (spelled d)) (numbered (k + 1) (map spelled sent))
     ∙ ap (λ t. sent_line k d ++ t) (numbered-lines (k + 1) sent)
 
-told-text : (k : ℕ) (e : PathEffectsValue) → told_text (effects_told k e) ≡ effects_text k e
+pub told-text : (k : ℕ) (e : PathEffectsValue) → told_text (effects_told k e) ≡ effects_text k e
 unfolding told_text effects_text
 told-text k e = rw (numbered-lines k e.sent) refl
 
-spelled-octets : (sent : List SentFrom) → octets_in (map spelled sent) ≡ octets_sent sent
+pub spelled-octets : (sent : List SentFrom) → octets_in (map spelled sent) ≡ octets_sent sent
 unfolding octets_in octets_sent
 spelled-octets [] = refl
 spelled-octets (d ∷ sent) = rw (spelled-octets sent) refl
@@ -52,11 +54,16 @@ nothing-told = refl
 
 -- ---- runs
 
+pub run-append : (s : PathSetup) (w : Path) (xs ys : List PathEvent)
+    → path_run s w (xs ++ ys) ≡ path_run s (path_run s w xs) ys
+unfolding path_run
+run-append s w [] ys = refl
+run-append s w (x ∷ xs) ys = run-append s (path_step s w x).path xs ys
+
 run-more : (s : PathSetup) (w : Path) (events : List PathEvent) (event : PathEvent)
     → path_run s w (events ++ event ∷ []) ≡ (path_step s (path_run s w events) event).path
 unfolding path_run
-run-more s w [] event = refl
-run-more s w (first ∷ events) event = run-more s (path_step s w first).path events event
+run-more s w events event = run-append s w events (event ∷ [])
 
 -- ---- an event
 
@@ -94,6 +101,7 @@ module _ (old new : PathValue) (event : PathEvent) (effects : PathEffects) (s : 
   stands_after few = record {
     whole = does.whole;
     setup = stands.setup ∙ sym does.setup;
+    timed = stands.timed;
     start = stands.start;
     events = stands.events ++ event ∷ [];
     run = does.run stands.start stands.events stands.run;
@@ -131,7 +139,8 @@ module _ (old new : PathValue) (event : PathEvent) (effects : PathEffects) (s : 
         by_test : (t : Bool) → nat_lt most_sent (octets_in new.sent) ≡ t
             → TurnsAs (λ x. x ≡ on_path s (path_step s w event).path)
             (if t then ends_run [] statuses.Limit else passes (told_text effects) (on_path s (path_step s w event).path)) before now ends
-            → TurnsAs (StandsFor (Some new)) (if_kept s (event_text s w event) (path_step s w event).path) before now ends
+            → TurnsAs (StandsFor (Some new))
+            (if_kept (event_text s w event) (path_step s w event).path (on_path s (path_step s w event).path)) before now ends
         by_test true is turns = rw (← octets, is) (stopped ends turns)
         by_test false is turns = rw (← octets, is) (passed ends is turns)
 
@@ -194,7 +203,7 @@ module _ (old new : PathValue) (end : PathEnd) (bundle : List ℕ) (s : PathSetu
 -- ---- a datagram is delivered
 
 -- a place of a list has something
-there : {X : Type 0} (xs : List X) (k : ℕ) → k < length xs → (x : X) × (slice_get xs k ≡ Some x)
+pub there : {X : Type 0} (xs : List X) (k : ℕ) → k < length xs → (x : X) × (slice_get xs k ≡ Some x)
 there xs k inside = elim (slice_get_cases xs k).1 [
   | inl found ↦ (found.0, found.2)
   | inr past ↦ absurd (omega (arith, inside, past.0))
@@ -220,12 +229,13 @@ on_time now early = grind (arith, nat_tests, early)
 -- ---- the first line
 
 module _ (v : PathValue) (set_up : SetUp) (whole : v.spent ≡ false) (setup : setup_of v ≡ (start_of set_up).setup)
-    (run : ShowsRun v set_up.now []) where
+    (run : ShowsRun v set_up.now []) (timed : IsTimed (start_of set_up).setup BLOCK_MAX) where
   begins_on : StandsOn v (start_of set_up).setup (starts_path (start_of set_up).setup set_up.now)
   unfolding path_run octets_sent
   begins_on = record {
     whole = whole;
     setup = sym setup;
+    timed = timed;
     start = set_up.now;
     events = [];
     run = run;

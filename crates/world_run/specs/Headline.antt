@@ -1,6 +1,10 @@
--- What the text of `world` says of its script: the answers to the events that its lines say; and each
--- `up` line is a block that came whole and as it was sent, once.
-use Rattle.std.specs.Prelude.{◌≡◌, ℕ, ◌+◌, ◌⊎◌, Bool, length, take, map, List, [], ◌∷◌, ◌++◌, codes, Some, Ok, if◌then◌else◌}
+-- What the text of `world` says of its script: the answers to the events that its lines say, and to
+-- those of a drain after them. Each `up` line is a block that came whole and as it was sent, once; and
+-- where a path is hopeful and has room, a drain from there completes the sessions, in no more events
+-- than they cost.
+use Rattle.std.specs.Prelude.{◌≡◌, ℕ, ◌+◌, ◌⊎◌, Bool, true, false, length, map, List, [], ◌∷◌, ◌++◌}
+use Rattle.std.specs.Prelude.{codes, None, Some, Ok, Err, if◌then◌else◌}
+use Rattle.std.specs.List.{AllByRecursion}
 use Rattle.edge_traits.specs.declared.status.Status.{Status}
 use Rattle.edge_traits.specs.declared.status.Status.TheVariants as statuses
 use Rattle.edge_traits.specs.Settled.{at_end}
@@ -8,78 +12,174 @@ use Rattle.command_frame.specs.InputLines.{lines_of, lines_within}
 use Rattle.command_frame.specs.Within.{within}
 use Rattle.endpoint.specs.Endpoints.{begins}
 use Rattle.replay_script.specs.declared.fault.LineFault.{LineFault}
+use Rattle.replay_script.specs.declared.fault.LineFault.TheVariants as faults
 use Rattle.replay_script.specs.Words.{spaced}
+use Rattle.path_laws.specs.declared.effects.NoteAt.{NoteAt}
 use Rattle.path_laws.specs.declared.effects.UpAt.{UpAt}
-use Rattle.path_laws.specs.Path.{PathSetup, Path, PathEvent, starts_path, path_step}
-use Rattle.path_laws.specs.Log.{begun_in, ups_in}
+use Rattle.path_laws.specs.Path.{PathSetup, Path, PathEvent, starts_path}
 use Rattle.path_laws.specs.Laws.{HandsOn}
-use Rattle.world_run.specs.WrittenLines.{up_words, refusal_line}
-use Rattle.world_run.specs.World.{PathStart, start_in, event_in, event_text, settles}
+use Rattle.path_room.specs.PathRoom.{PathRoom}
+use Rattle.path_drain_laws.specs.Clean.{AreCleanOnPathFrom}
+use Rattle.path_drain_laws.specs.Effects.{notes_in}
+use Rattle.path_drain_laws.specs.Hopeful.{PathHopeful}
+use Rattle.path_ends.specs.Left.{IsBefore}
+use Rattle.path_completion.specs.WholeRun.{IsRunComplete, run_begun, run_path, run_ups}
+use Rattle.world_run.specs.WrittenLines.{up_words, note_words, end_words, refusal_line}
+use Rattle.world_run.specs.WrittenLines.{after_drain_line}
+use Rattle.world_run.specs.World.{PathStart, LaterLine, says_event, says_drain, start_in, line_in}
+use Rattle.world_run.specs.World.{no_moment, clean_after, events_text, drain_text, settles}
 
--- ---- what is written
+-- ---- what the lines of a script say
 
--- all that is written for some events, in their order
-unfoldable pub events_text : PathSetup → Path → List PathEvent → List ℕ
-events_text s w [] = []
-events_text s w (event ∷ events) =
-    event_text s w event ++ events_text s (path_step s w event).path events
+-- the line `drain`, or none
+abbrev pub if_drain : Bool → List LaterLine
+if_drain true = says_drain ∷ []
+if_drain false = []
 
--- the first of these lines say this: how a path is set up, and then the events on it
-abbrev pub SaysScript : List (List ℕ) → PathStart → List PathEvent → Type 0
-SaysScript [] start events = ⊥
-SaysScript (first ∷ lines) start events =
-    (start_in first ≡ Ok start) × (map event_in (take (length events) lines) ≡ map Ok events)
+-- what the lines after the first say: events, and after them that the path is drained, or not
+abbrev pub lines_said : List PathEvent → Bool → List LaterLine
+lines_said events drains = map says_event events ++ if_drain drains
 
--- nothing, or that a line is refused
-abbrev pub IsClosing : List ℕ → Type 0
-IsClosing closing = (closing ≡ []) ⊎ ((n : ℕ) × (fault : LineFault) × (closing ≡ refusal_line n fault))
+-- the first of these lines say how a path is set up, the events on it, and whether it is drained
+-- then; these lines are left
+pub record SaysScript
+    (lines : List (List ℕ)) (start : PathStart) (events : List PathEvent) (drains : Bool)
+    (left : List (List ℕ)) : Type 0 where
+  pub first : List ℕ
+  pub later : List (List ℕ)
+  pub lines_are : lines ≡ first ∷ (later ++ left)
+  pub sets_up : start_in first ≡ Ok start
+  pub says : map line_in later ≡ map Ok (lines_said events drains)
 
--- ---- the `up` lines of a text
+-- ---- what a drain makes, and what is written of it
 
-abbrev pub is_up : List ℕ → Bool
-is_up line = begins (codes "up ") line
+-- A drain makes clean events, each before the last moment, until none can follow. Without one
+-- nothing is made.
+abbrev pub DrainMakes : Bool → PathSetup → Path → List PathEvent → Type 0
+DrainMakes true s w made =
+    AreCleanOnPathFrom s w made × AllByRecursion (IsBefore no_moment) made
+    × (clean_after s w made ≡ None)
+DrainMakes false s w made = made ≡ []
 
--- the lines that say that a block came whole
-unfoldable pub up_lines : List (List ℕ) → List (List ℕ)
-up_lines [] = []
-up_lines (line ∷ lines) = if is_up line then line ∷ up_lines lines else up_lines lines
+-- the lines of its events and `end`, with how many they are
+abbrev pub if_drained_text : Bool → PathSetup → Path → List PathEvent → List ℕ
+if_drained_text true s w made = drain_text s w made
+if_drained_text false s w made = []
+
+-- ---- how the text ends
+
+-- line n is refused: after a drain whatever it says, and else for what it says
+abbrev pub RefusesLine : Bool → ℕ → List ℕ → List ℕ → Type 0
+RefusesLine true n line closing = closing ≡ after_drain_line n
+RefusesLine false n line closing =
+    (fault : LineFault) × (line_in line ≡ Err fault) × (closing ≡ refusal_line n fault)
+
+abbrev pub RefusesNext : Bool → ℕ → List (List ℕ) → List ℕ → Type 0
+RefusesNext drained n [] closing = ⊥
+RefusesNext drained n (line ∷ left) closing = RefusesLine drained n line closing
+
+-- How the text ends after what happens, by how the run ends: where it is done, all lines were
+-- answered, and nothing more is written; at a limit neither; and else the next line, line n, is
+-- refused.
+abbrev pub ClosesAs : Status → Bool → ℕ → List (List ℕ) → List ℕ → Type 0
+ClosesAs statuses.Done drained n left closing = (left ≡ []) × (closing ≡ [])
+ClosesAs statuses.Limit drained n left closing = closing ≡ []
+ClosesAs statuses.Refused drained n left closing = RefusesNext drained n left closing
+ClosesAs statuses.Usage drained n left closing = ⊥
+ClosesAs statuses.ReadFault drained n left closing = ⊥
+ClosesAs statuses.WriteFault drained n left closing = ⊥
+ClosesAs statuses.Memory drained n left closing = ⊥
+
+-- ---- the lines of a text, by how they begin
+
+-- those that begin so
+unfoldable pub lines_with : List ℕ → List (List ℕ) → List (List ℕ)
+lines_with front [] = []
+lines_with front (line ∷ lines) =
+    if begins front line then line ∷ lines_with front lines else lines_with front lines
+
+-- the lines that say that a block came whole, the notes, and the lines that say that a drain ended
+abbrev pub up_lines : List ℕ → List (List ℕ)
+up_lines text = lines_with (codes "up ") (lines_of text)
+
+abbrev pub note_lines : List ℕ → List (List ℕ)
+note_lines text = lines_with (codes "note ") (lines_of text)
+
+abbrev pub end_lines : List ℕ → List (List ℕ)
+end_lines text = lines_with (codes "end ") (lines_of text)
 
 abbrev pub up_text : UpAt → List ℕ
 up_text up = spaced (up_words up)
 
+abbrev pub note_text : NoteAt → List ℕ
+note_text n = spaced (note_words n)
+
+-- the line that says that a drain ended after so many events, where there was one
+abbrev pub end_texts : Bool → ℕ → List (List ℕ)
+end_texts true n = spaced (end_words n) ∷ []
+end_texts false n = []
+
 -- ---- the law
 
--- The text of a script that sets up a path. It is what happens in these events, and after it at most
--- the line of a refusal; where the run is done, these are all the events of the script. Its `up`
--- lines are exactly the blocks that came whole. Of these holds all that `HandsOn` says, by the
--- sessions that were begun in the same events: each is the whole block of the session of that number
--- that was begun across the link; no two came at one place in one session; and at either end each is
--- a piece of what becomes of one bundle that the other end sent, or a report on one that it sent
--- itself, different ones from different origins.
+-- where a path is drained that is hopeful and has room, the drain completes its sessions: each that
+-- was open at its sender, and each that was begun meanwhile, in no more events than they cost
+abbrev pub DrainCompletes : Bool → PathSetup → ℕ → List PathEvent → List PathEvent → Type 0
+DrainCompletes true s start events made =
+    PathHopeful s (run_path s start events) → PathRoom s (run_path s start events)
+    → IsRunComplete s start events made
+DrainCompletes false s start events made = Unit {0}
+
+-- The text of a script that sets up a path. It is what happens in these events, and in those of a
+-- drain after them, where there is one, with their number; after it at most the line of a refusal
+-- follows. Its `up` lines are exactly the blocks that came whole, and its notes those that were made.
+-- Of the blocks holds all that `HandsOn` says, by the sessions that were begun in the same events:
+-- each is the whole block of the session of that number that was begun across the link; no two came
+-- at one place in one session; and at either end each is a piece of what becomes of one bundle that
+-- the other end sent, or a report on one that it sent itself, different ones from different origins.
+-- And a drain completes the sessions.
 pub record PlaysScript (lines : List (List ℕ)) (text : List ℕ) (ending : Status) : Type 0 where
   pub start : PathStart
   pub events : List PathEvent
-  pub says : SaysScript lines start events
-  pub all : ending ≡ statuses.Done → length lines ≡ 1 + length events
+  pub drains : Bool
+  pub left : List (List ℕ)
+  pub says : SaysScript lines start events drains left
+  pub made : List PathEvent
+  pub drain : DrainMakes drains start.setup (run_path start.setup start.now events) made
   pub closing : List ℕ
-  pub closes : IsClosing closing
-  pub written : text ≡ events_text start.setup (starts_path start.setup start.now) events ++ closing
-  pub ups : up_lines (lines_of text)
-      ≡ map up_text (ups_in start.setup (starts_path start.setup start.now) events)
-  pub hands_on : HandsOn start.setup
-      (begun_in start.setup (starts_path start.setup start.now) events)
-      (ups_in start.setup (starts_path start.setup start.now) events)
+  pub closes : ClosesAs ending drains (2 + length (lines_said events drains)) left closing
+  pub written :
+      text
+      ≡ events_text start.setup (starts_path start.setup start.now) events
+      ++ (if_drained_text drains start.setup (run_path start.setup start.now events) made ++ closing)
+  pub ups : up_lines text ≡ map up_text (run_ups start.setup start.now (events ++ made))
+  pub notes :
+      note_lines text
+      ≡ map note_text (notes_in start.setup (starts_path start.setup start.now) (events ++ made))
+  pub end : end_lines text ≡ end_texts drains (length made)
+  pub hands_on :
+      HandsOn start.setup (run_begun start.setup start.now (events ++ made))
+      (run_ups start.setup start.now (events ++ made))
+  pub completes : DrainCompletes drains start.setup start.now events made
 
--- no path is set up: nothing is written, or that the first line is refused
-pub record PlaysNothing (text : List ℕ) (ending : Status) : Type 0 where
-  pub closes : IsClosing text
-  pub not_done : ending ≡ statuses.Done → ⊥
+-- No path is set up, and no line is answered: a limit ends the run, with nothing written; or the
+-- first line is refused for what it says, or for want of it.
+abbrev pub ClosesFirst : Status → List (List ℕ) → List ℕ → Type 0
+ClosesFirst statuses.Limit lines text = text ≡ []
+ClosesFirst statuses.Refused [] text = text ≡ refusal_line 1 faults.Word
+ClosesFirst statuses.Refused (first ∷ lines) text =
+    (fault : LineFault) × (start_in first ≡ Err fault) × (text ≡ refusal_line 1 fault)
+ClosesFirst statuses.Done lines text = ⊥
+ClosesFirst statuses.Usage lines text = ⊥
+ClosesFirst statuses.ReadFault lines text = ⊥
+ClosesFirst statuses.WriteFault lines text = ⊥
+ClosesFirst statuses.Memory lines text = ⊥
 
--- the first half of what is promised of a path, of the text that `world` writes of an input of which
--- at most so many octets are looked at
+-- what is promised of a path, of the text that `world` writes of an input of which at most so many
+-- octets are looked at
 abbrev pub KeepsHeadline : ℕ → List ℕ → List ℕ → Status → Type 0
 KeepsHeadline most input text ending =
-    PlaysScript (lines_within most input) text ending ⊎ PlaysNothing text ending
+    PlaysScript (lines_within most input) text ending
+    ⊎ ClosesFirst ending (lines_within most input) text
 
 -- what `world` answers to every input keeps it
 pub record EndsLawfully (most : ℕ) (input : List ℕ) : Type 0 where

@@ -1,42 +1,61 @@
 -- What ties the code to the definition.
-use Rattle.std.specs.Prelude.{◌≡◌, ℕ, ◌≤◌, Bool, false, List, ◌++◌, Option, None, Some, Result, Ok, Err}
+use Rattle.std.specs.Prelude.{◌≡◌, ℕ, ◌≤◌, Bool, true, false, List, ◌++◌, Option, None, Some, Result, Ok, Err}
 use Rattle.std.specs.List.{flat_map}
 use Rattle.gateway_core.specs.Config.{IsGateConfig}
+use Rattle.ltp_segment.specs.declared.session.TheConstants.{BLOCK_MAX}
 use Rattle.ltp_segment.specs.PolicyViews.{policy_value}
 use Rattle.note_lines.specs.NoteLines.{line_of}
 use Rattle.path_laws.specs.declared.effects.PathEffects.{PathEffects}
 use Rattle.path_laws.specs.declared.effects.SentAt.{SentAt}
 use Rattle.path_laws.specs.Path.{PathSetup, Path, PathEvent, path_setup}
+use Rattle.path_ends.specs.Left.{IsTimed}
 use Rattle.path_world.specs.Values.{PathValue, setup_of}
 use Rattle.path_world.specs.Shows.{ShowsRun, path_after}
 use Rattle.replay_script.specs.declared.fault.LineFault.{LineFault}
 use Rattle.replay_script.specs.declared.fault.LineFault.TheVariants as faults
 use Rattle.world_run.specs.declared.script.SetUp.{SetUp}
 use Rattle.world_run.specs.WrittenLines.{sent_words, up_line, join_line, note_line}
-use Rattle.world_run.specs.World.{PathStart, WorldState, no_path, on_path, octets_sent, most_sent}
+use Rattle.world_run.specs.World.{PathStart, WorldState, no_path, on_path, drained, octets_sent}
+use Rattle.world_run.specs.World.{most_sent}
 
 -- ---- what is kept
 
--- a path world of the code stands for this path, on which no more octets were sent than may be
+-- a path world of the code stands for this path, of which every drain ends, and on which no more
+-- octets were sent than may be
 pub record StandsOn (v : PathValue) (s : PathSetup) (w : Path) : Type 0 where
   pub whole : v.spent ≡ false
   pub setup : s ≡ setup_of v
+  pub timed : IsTimed s BLOCK_MAX
   pub start : ℕ
   pub events : List PathEvent
   pub run : ShowsRun v start events
   pub path : w ≡ path_after v start events
   pub few : octets_sent w.sent ≤ most_sent
 
+-- before a drain the code keeps nothing, or a path
 abbrev pub StandsFor : Option PathValue → WorldState → Type 0
 StandsFor None no_path = Unit {0}
 StandsFor None (on_path s w) = ⊥
+StandsFor None drained = ⊥
 StandsFor (Some v) no_path = ⊥
 StandsFor (Some v) (on_path s w) = StandsOn v s w
+StandsFor (Some v) drained = ⊥
+
+-- after one it keeps a path at which it no longer looks
+abbrev pub StandsAfter : Option PathValue → WorldState → Type 0
+StandsAfter None state = ⊥
+StandsAfter (Some v) state = state ≡ drained
+
+-- by whether there was one
+abbrev pub StandsAs : Bool → Option PathValue → WorldState → Type 0
+StandsAs true path state = StandsAfter path state
+StandsAs false path state = StandsFor path state
 
 -- what the code keeps stands for this, where memory hasn't run out
-pub record ShowsWorld (spent : Bool) (path : Option PathValue) (state : WorldState) : Type 0 where
-  pub whole : spent ≡ false
-  pub stands : StandsFor path state
+pub record ShowsWorld (spent over : Bool) (path : Option PathValue) (state : WorldState) : Type 0
+  where
+    pub whole : spent ≡ false
+    pub stands : StandsAs over path state
 
 -- ---- what is read
 
@@ -65,3 +84,7 @@ unfoldable pub told_text : PathEffects → List ℕ
 told_text e =
     flat_map sent_at_line e.sent
     ++ (flat_map up_line e.ups ++ (flat_map join_line e.joins ++ flat_map note_line e.notes))
+
+-- the lines of what was done at each event, in order
+abbrev pub steps_text : List PathEffects → List ℕ
+steps_text steps = flat_map told_text steps

@@ -1,11 +1,12 @@
 -- What `world` writes: the first line of the input sets up a path, and each line after it is an event
--- there.
+-- there; the last one may drain the path.
 use Rattle.std.specs.Prelude.{ℕ, ◌+◌, ◌^◌, Bool, true, false, nat_lt, nat_le, List, [], ◌∷◌, ◌++◌, length, slice_get}
 use Rattle.std.specs.Prelude.{Option, None, Some, Result, Ok, Err, if◌then◌else◌}
 use Rattle.edge_traits.specs.declared.status.Status.TheVariants as statuses
 use Rattle.edge_traits.specs.Settled.{Settled}
 use Rattle.command_frame.specs.Task.{Settling}
 use Rattle.command_frame.specs.Lines.{Turn, passes, ends_run, LineRules, by_lines}
+use Rattle.ltp_segment.specs.declared.session.TheConstants.{BLOCK_MAX}
 use Rattle.ltp_segment.specs.Spelling.{segment_octets}
 use Rattle.ltp_session.specs.Engine.{EngineStep, SubmitFault}
 use Rattle.replay_script.specs.declared.event.Event.{Event}
@@ -18,7 +19,11 @@ use Rattle.path_laws.specs.declared.places.PathEnd.TheVariants as ends
 use Rattle.path_laws.specs.Places.{node_place}
 use Rattle.path_laws.specs.Path.{PathSetup, Path, SentFrom, PathEvent, sends, delivers}
 use Rattle.path_laws.specs.Path.{clock_shows, path_setup, starts_path, sends_block, path_step}
+use Rattle.path_laws.specs.Path.{path_run}
+use Rattle.path_drain_laws.specs.Clean.{path_clean_event, path_passed}
+use Rattle.path_ends.specs.Drained.{drain_events}
 use Rattle.world_run.specs.WrittenLines.{effects_text, send_refusal, deliver_refusal, refusal_line}
+use Rattle.world_run.specs.WrittenLines.{after_drain_line, end_line}
 
 -- ---- what a line says, or why it is refused
 
@@ -53,17 +58,21 @@ abbrev pub end_of_side : Bool → PathEnd
 end_of_side true = ends.Old
 end_of_side false = ends.New
 
--- a drain isn't taken yet
-abbrev pub event_said : Result Event LineFault → Result PathEvent LineFault
-event_said (Ok (events.Path gate segment timeout limit cut start cap)) = Err faults.Word
-event_said (Ok (events.Send old body)) = Ok (sends (end_of_side old) body)
-event_said (Ok (events.Deliver k)) = Ok (delivers k)
-event_said (Ok (events.Clock now)) = Ok (clock_shows now)
-event_said (Ok events.Drain) = Err faults.Word
-event_said (Err fault) = Err fault
+-- a line after the first says an event, or that the path is drained
+pub data LaterLine : Type 0 where
+  says_event : PathEvent → LaterLine
+  says_drain : LaterLine
 
-unfoldable pub event_in : List ℕ → Result PathEvent LineFault
-event_in line = event_said (later_said line)
+abbrev pub line_said : Result Event LineFault → Result LaterLine LineFault
+line_said (Ok (events.Path gate segment timeout limit cut start cap)) = Err faults.Word
+line_said (Ok (events.Send old body)) = Ok (says_event (sends (end_of_side old) body))
+line_said (Ok (events.Deliver k)) = Ok (says_event (delivers k))
+line_said (Ok (events.Clock now)) = Ok (says_event (clock_shows now))
+line_said (Ok events.Drain) = Ok says_drain
+line_said (Err fault) = Err fault
+
+unfoldable pub line_in : List ℕ → Result LaterLine LineFault
+line_in line = line_said (later_said line)
 
 -- ---- one event
 
@@ -104,29 +113,63 @@ unfoldable pub event_text : PathSetup → Path → PathEvent → List ℕ
 event_text s w event =
     refused_text s w event ++ effects_text (length w.sent) (path_step s w event).effects
 
+-- all that is written for some events, in their order
+unfoldable pub events_text : PathSetup → Path → List PathEvent → List ℕ
+events_text s w [] = []
+events_text s w (event ∷ events) =
+    event_text s w event ++ events_text s (path_step s w event).path events
+
+-- ---- a drain
+
+-- the events that a drain makes from a path on: the clean ones, as long as the clock is set to no
+-- moment after the last one
+abbrev pub drain_made : PathSetup → Path → List PathEvent
+drain_made s w = drain_events BLOCK_MAX no_moment s w (length w.sent)
+
+-- the clean event that would follow them
+abbrev pub clean_after : PathSetup → Path → List PathEvent → Option PathEvent
+clean_after s w made = path_clean_event (path_run s w made) (path_passed (length w.sent) made)
+
+abbrev pub is_late_if_any : Option PathEvent → Bool
+is_late_if_any None = false
+is_late_if_any (Some event) = is_late event
+
+-- what is written of a drain that made these events: what happens in them, and that it ended
+abbrev pub drain_text : PathSetup → Path → List PathEvent → List ℕ
+drain_text s w made = events_text s w made ++ end_line (length made)
+
 -- ---- line by line
 
--- what is kept from line to line: before the first line nothing, and then how a path is set up, and
--- the path
+-- what is kept from line to line: before the first line nothing, then how a path is set up, and the
+-- path; and after a drain only that there was one
 pub data WorldState : Type 0 where
   no_path : WorldState
   on_path : PathSetup → Path → WorldState
+  drained : WorldState
 
--- the event's lines are written, unless too many octets were sent by then: the event that sends them
--- has no lines
-abbrev pub if_kept : PathSetup → List ℕ → Path → Turn WorldState
-if_kept s text after =
+-- a line's text is written, unless too many octets were sent by then: the line that sends them has
+-- no text
+abbrev pub if_kept : List ℕ → Path → WorldState → Turn WorldState
+if_kept text after state =
     if nat_lt most_sent (octets_sent after.sent) then ends_run [] statuses.Limit
-    else passes text (on_path s after)
+    else passes text state
 
 abbrev pub happens : PathSetup → Path → PathEvent → Turn WorldState
 happens s w event =
     if is_late event then ends_run [] statuses.Limit
-    else if_kept s (event_text s w event) (path_step s w event).path
+    else if_kept (event_text s w event) (path_step s w event).path
+    (on_path s (path_step s w event).path)
 
-abbrev pub event_turn : ℕ → PathSetup → Path → Result PathEvent LineFault → Turn WorldState
-event_turn n s w (Ok event) = happens s w event
-event_turn n s w (Err fault) = ends_run (refusal_line n fault) statuses.Refused
+-- a drain made these events; one that would set the clock past the last moment has no text either
+abbrev pub drains_by : PathSetup → Path → List PathEvent → Turn WorldState
+drains_by s w made =
+    if is_late_if_any (clean_after s w made) then ends_run [] statuses.Limit
+    else if_kept (drain_text s w made) (path_run s w made) drained
+
+abbrev pub line_turn : ℕ → PathSetup → Path → Result LaterLine LineFault → Turn WorldState
+line_turn n s w (Ok (says_event event)) = happens s w event
+line_turn n s w (Ok says_drain) = drains_by s w (drain_made s w)
+line_turn n s w (Err fault) = ends_run (refusal_line n fault) statuses.Refused
 
 abbrev pub start_turn : ℕ → Result PathStart LineFault → Turn WorldState
 start_turn n (Ok start) =
@@ -136,13 +179,15 @@ start_turn n (Err fault) = ends_run (refusal_line n fault) statuses.Refused
 
 abbrev pub world_turn : ℕ → WorldState → List ℕ → Turn WorldState
 world_turn n no_path line = start_turn n (start_in line)
-world_turn n (on_path s w) line = event_turn n s w (event_in line)
+world_turn n (on_path s w) line = line_turn n s w (line_in line)
+world_turn n drained line = ends_run (after_drain_line n) statuses.Refused
 
 -- an input without lines is refused, for want of a first line
 abbrev pub world_ending : WorldState → Settled
 world_ending no_path =
     record { text = refusal_line 1 faults.Word; ends = Some statuses.Refused }
 world_ending (on_path s w) = record { text = []; ends = Some statuses.Done }
+world_ending drained = record { text = []; ends = Some statuses.Done }
 
 -- a million lines, of 9,000,000 octets each
 abbrev pub world_rules : LineRules WorldState

@@ -14,7 +14,8 @@ use Rattle.replay_script.specs.declared.fault.LineFault.{LineFault}
 use Rattle.replay_script.specs.Fault.{word_of}
 use Rattle.replay_script.specs.Lines.{route_word, site_word}
 use Rattle.note_lines.specs.NoteLines.{line_of}
-use Rattle.gate_lines.specs.GateLines.{gate_note_line}
+use Rattle.gate_lines.specs.GateLines.{gate_details}
+use Rattle.gateway_core.specs.Notes.{gate_note_name}
 use Rattle.path_laws.specs.declared.effects.EndJoin.{EndJoin}
 use Rattle.path_laws.specs.declared.effects.EndJoin.TheVariants as told
 use Rattle.path_laws.specs.declared.effects.JoinAt.{JoinAt}
@@ -73,8 +74,12 @@ abbrev pub join_line : JoinAt → List ℕ
 join_line j =
     line_of (codes "join" ∷ place_word j.place ∷ join_word j.answer ∷ whole_word j.answer)
 
+-- the words of a note
+abbrev pub note_words : NoteAt → List (List ℕ)
+note_words n = codes "note" ∷ place_word n.place ∷ gate_note_name n.note ∷ gate_details n.note
+
 abbrev pub note_line : NoteAt → List ℕ
-note_line n = gate_note_line (site_of n.place) n.note
+note_line n = line_of (note_words n)
 
 -- datagrams, where so many were sent before them
 unfoldable pub sent_lines : ℕ → List SentFrom → List ℕ
@@ -99,6 +104,23 @@ send_refusal place fault =
 abbrev pub deliver_refusal : List ℕ
 deliver_refusal = line_of (codes "refused" ∷ codes "deliver" ∷ [])
 
--- line n is refused
+-- line n is refused, for this cause
+abbrev pub refused_line : ℕ → List ℕ → List ℕ
+refused_line n cause = line_of (codes "refused" ∷ codes "line" ∷ decimal n ∷ cause ∷ [])
+
+-- it is refused for what it says
 abbrev pub refusal_line : ℕ → LineFault → List ℕ
-refusal_line n fault = line_of (codes "refused" ∷ codes "line" ∷ decimal n ∷ word_of fault ∷ [])
+refusal_line n fault = refused_line n (word_of fault)
+
+-- it is refused since it stands after `drain`, whatever it says
+abbrev pub after_drain_line : ℕ → List ℕ
+after_drain_line n = refused_line n (codes "AfterDrain")
+
+-- ---- a drain
+
+-- the words of a line that says that a drain ended after so many events
+abbrev pub end_words : ℕ → List (List ℕ)
+end_words n = codes "end" ∷ decimal n ∷ []
+
+abbrev pub end_line : ℕ → List ℕ
+end_line n = line_of (end_words n)

@@ -1,14 +1,20 @@
 //! What `world` writes of every script. The law is the contract of a function that does nothing but
-//! cite that of a path.
+//! cite those of a path.
 
 ghost use Rattle.world_run.specs.Headline.{WorldsKeepHeadline};
 
 /// Whatever the input: what is written are the answers to the events that its first lines say, in
-/// their order, and after them at most the line of a refusal. The `up` lines of the text are blocks
-/// that came whole, as they were sent, and once; so what either end receives is a piece of what becomes
-/// of one bundle that the other end sent, or a report on one that it sent itself.
+/// their order, then those to the events of a drain, where a line says one, with their number; and
+/// after them at most the line of a refusal, which the next line has. The `up` lines of the text are
+/// blocks that came whole, as they were sent, and once; so what either end receives is a piece of what
+/// becomes of one bundle that the other end sent, or a report on one that it sent itself. From where
+/// the path is hopeful and has room a drain completes every session, in no more events than they cost.
 pub fn worlds_keep_headline()
     ensures { WorldsKeepHeadline }
 {
     path_laws::laws::received_as_sent();
+    path_drain_laws::laws::paths_are_fit();
+    path_ends::laws::paths_are_timed();
+    path_ends::laws::drains_are_made();
+    path_completion::laws::whole_runs_complete();
 }

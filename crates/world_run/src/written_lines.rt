@@ -6,8 +6,8 @@ ghost use Rattle.std.specs.String.{string_bytes};
 ghost use Rattle.ltp_session.specs.Engine.{SubmitFault};
 ghost use Rattle.ltp_engine.specs.Refused.{refusal_of};
 ghost use Rattle.path_laws.specs.Places.{node_place};
-ghost use Rattle.world_run.specs.WrittenLines.{site_of, route_of, up_line, join_line, note_line, send_refusal, deliver_refusal, refusal_line};
-ghost use Rattle.world_run.specs.Shows.{sent_at_line, told_text};
+ghost use Rattle.world_run.specs.WrittenLines.{site_of, route_of, up_line, join_line, note_line, send_refusal, deliver_refusal, refused_line, refusal_line, after_drain_line, end_line};
+ghost use Rattle.world_run.specs.Shows.{sent_at_line, told_text, steps_text};
 
 use gate_lines::push_gate_note;
 use ltp_engine::SubmitRefused;
@@ -15,12 +15,13 @@ use path_laws::{
     EndJoin, JoinAt, NoteAt, PathEffects, PathEnd, Place, PlaceJoins, PlaceNotes, PlaceUps, SentAt,
     SentList, UpAt,
 };
+use path_world::{PathDrained, PathSteps};
 use replay_script::{Line, LineFault, Route, Site, push_line};
 use std::alloc::{AllocError, Global};
 
 /// Writes what an event does: datagrams, blocks that came whole, answers of joiners, and notes.
 #[tactic(auto, unfolding(crate::specs::Shows::told_text))]
-pub(crate) fn write_effects(
+pub fn write_effects(
     alloc: Global,
     text: &mut String,
     effects: PathEffects,
@@ -37,6 +38,38 @@ pub(crate) fn write_effects(
     write_ups(alloc, text, ups)?;
     write_joins(alloc, text, joins)?;
     write_notes(alloc, text, notes)
+}
+
+/// Writes what a drain did, event by event, and that it ended.
+pub(crate) fn write_drained(
+    alloc: Global,
+    text: &mut String,
+    drained: PathDrained,
+) -> Result<(), AllocError>
+    ensures { OnOk result (string_bytes text.new
+        ≡ string_bytes text.old ++ (steps_text drained.effects ++ end_line drained.events)) }
+{
+    let PathDrained { events, effects } = drained;
+    write_steps(alloc, text, effects)?;
+    write_end(alloc, text, events)
+}
+
+/// Writes what was done at each event.
+fn write_steps(alloc: Global, text: &mut String, steps: PathSteps) -> Result<(), AllocError>
+    ensures { OnOk result (string_bytes text.new ≡ string_bytes text.old ++ steps_text steps) }
+{
+    'each: for effects in steps.into_vec() {
+        write_effects(alloc, text, effects)?;
+    }
+    Ok(())
+}
+
+/// Writes that a drain ended after so many events.
+#[tactic(auto, unfolding(replay_script::specs::Lines::line_text))]
+pub fn write_end(alloc: Global, text: &mut String, events: u64) -> Result<(), AllocError>
+    ensures { OnOk result (string_bytes text.new ≡ string_bytes text.old ++ end_line events) }
+{
+    push_line(alloc, &Line::End { events }, text)
 }
 
 /// Writes the datagrams that were sent.
@@ -134,7 +167,7 @@ fn write_note(alloc: Global, text: &mut String, noted: NoteAt) -> Result<(), All
 
 /// Writes that an end's node doesn't send a block.
 #[tactic(auto, unfolding(replay_script::specs::Lines::line_text))]
-pub(crate) fn write_unsent(
+pub fn write_unsent(
     alloc: Global,
     text: &mut String,
     end: PathEnd,
@@ -152,14 +185,13 @@ pub(crate) fn write_unsent(
 
 /// Writes that there is no datagram to deliver.
 #[tactic(auto, unfolding(replay_script::specs::Lines::line_text))]
-pub(crate) fn write_undelivered(alloc: Global, text: &mut String) -> Result<(), AllocError>
+pub fn write_undelivered(alloc: Global, text: &mut String) -> Result<(), AllocError>
     ensures { OnOk result (string_bytes text.new ≡ string_bytes text.old ++ deliver_refusal) }
 {
     push_line(alloc, &Line::RefusedDeliver, text)
 }
 
-/// Writes that line `number` is refused.
-#[tactic(auto, unfolding(replay_script::specs::Lines::line_text))]
+/// Writes that line `number` is refused, for what it says.
 pub(crate) fn write_refusal(
     alloc: Global,
     text: &mut String,
@@ -168,10 +200,34 @@ pub(crate) fn write_refusal(
 ) -> Result<(), AllocError>
     ensures { OnOk result (string_bytes text.new ≡ string_bytes text.old ++ refusal_line number fault) }
 {
+    write_refused_line(alloc, text, number, fault.word())
+}
+
+/// Writes that line `number` is refused, since it stands after `drain`.
+pub(crate) fn write_after_drain(
+    alloc: Global,
+    text: &mut String,
+    number: u64,
+) -> Result<(), AllocError>
+    ensures { OnOk result (string_bytes text.new ≡ string_bytes text.old ++ after_drain_line number) }
+{
+    write_refused_line(alloc, text, number, "AfterDrain")
+}
+
+/// Writes that line `number` is refused, for this cause.
+#[tactic(auto, unfolding(replay_script::specs::Lines::line_text))]
+fn write_refused_line(
+    alloc: Global,
+    text: &mut String,
+    number: u64,
+    cause: &'static str,
+) -> Result<(), AllocError>
+    ensures { OnOk result (string_bytes text.new ≡ string_bytes text.old ++ refused_line number cause.now) }
+{
     let line = Line::RefusedLine {
         line: number,
         at: None,
-        cause: fault.word(),
+        cause,
     };
     push_line(alloc, &line, text)
 }

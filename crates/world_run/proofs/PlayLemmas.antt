@@ -1,0 +1,221 @@
+-- What the lines after the first settle on a path, by what they say.
+use Rattle.std.proofs.Common.{◌≡◌, ℕ, ◌+◌, Bool, true, false, ◌||◌, nat_lt, nat_le, List, [], ◌∷◌, ◌++◌, length, map, Option, None, Some, Result, Ok, Err, refl, sym, ap, ◌∙◌, append_assoc, arith, subst, if◌then◌else◌}
+use Rattle.std.proofs.lemmas.Bool.Decides.{nat_tests}
+use Rattle.edge_traits.specs.declared.status.Status.{Status}
+use Rattle.edge_traits.specs.declared.status.Status.TheVariants as statuses
+use Rattle.edge_traits.specs.Settled.{Settled}
+use Rattle.command_frame.specs.Lines.{passes, ends_run, turn_at, after_turn, lines_settle}
+use Rattle.ltp_segment.specs.declared.session.TheConstants.{BLOCK_MAX}
+use Rattle.replay_script.specs.declared.fault.LineFault.{LineFault}
+use Rattle.path_laws.specs.Path.{PathSetup, Path, PathEvent, sends, delivers, clock_shows, path_step, path_run, starts_path}
+use Rattle.path_drain_laws.specs.Hopeful.{IsPathReached}
+use Rattle.path_ends.specs.Left.{IsOverBy, IsTimed}
+use Rattle.path_ends.specs.Drained.{EndsBy, DrainsAreMade}
+use Rattle.world_run.specs.WrittenLines.{refusal_line, after_drain_line}
+use Rattle.world_run.specs.World.{WorldState, on_path, drained, LaterLine, says_event, says_drain, line_in, event_text, events_text, is_late, is_late_if_any, no_moment, most_sent, octets_sent, clean_after, drain_made, drain_text, if_kept, happens, drains_by, line_turn, world_rules}
+use Rattle.world_run.specs.Headline.{lines_said, DrainMakes, if_drained_text, ClosesAs}
+use Rattle.world_run.proofs.StepLemmas.{run-append}
+
+-- what some lines settle on a path, of which the first has number n, by what the first of them say
+pub record Plays (s : PathSetup) (w : Path) (n : ℕ) (lines : List (List ℕ)) (settled : Settled) : Type 0 where
+  pub events : List PathEvent
+  pub drains : Bool
+  pub later : List (List ℕ)
+  pub left : List (List ℕ)
+  pub lines_are : lines ≡ later ++ left
+  pub said : map line_in later ≡ map Ok (lines_said events drains)
+  pub made : List PathEvent
+  pub drain : DrainMakes drains s (path_run s w events) made
+  pub ending : Status
+  pub ends : settled.ends ≡ Some ending
+  pub closing : List ℕ
+  pub closes : ClosesAs ending drains (n + length (lines_said events drains)) left closing
+  pub written : settled.text ≡ events_text s w events ++ (if_drained_text drains s (path_run s w events) made ++ closing)
+
+-- nothing more is played of some lines, of which the first has number n
+pub record Closes (over : Bool) (n : ℕ) (lines : List (List ℕ)) (settled : Settled) : Type 0 where
+  pub ending : Status
+  pub ends : settled.ends ≡ Some ending
+  pub closes : ClosesAs ending over n lines settled.text
+
+-- how the run ends after the last line, wherever that leaves the path
+pub record EndsLines (ending : WorldState → Settled) : Type 0 where
+  pub last : Status
+  pub none_left : (over : Bool) (n : ℕ) → ClosesAs last over n [] []
+  pub on : (s : PathSetup) (w : Path) → ending (on_path s w) ≡ record { text = []; ends = Some last }
+  pub after : ending drained ≡ record { text = []; ends = Some last }
+
+-- ---- the run ends
+
+stops : (s : PathSetup) (w : Path) (n : ℕ) (lines : List (List ℕ)) (closing : List ℕ) (status : Status)
+    → ClosesAs status false n lines closing → Plays s w n lines (record { text = closing; ends = Some status })
+unfolding events_text
+stops s w n lines closing status closes = record {
+  events = [];
+  drains = false;
+  later = [];
+  left = lines;
+  lines_are = refl;
+  said = refl;
+  made = [];
+  drain = refl;
+  ending = status;
+  ends = refl;
+  closing = closing;
+  closes = subst (λ k. ClosesAs status false k lines closing) (omega arith) closes;
+  written = refl;
+}
+
+-- ---- after a drain
+
+module _ (n : ℕ) (line : List ℕ) (lines : List (List ℕ)) (settle : WorldState → Settled) where
+  line_refused : Closes true n (line ∷ lines) (after_turn (turn_at world_rules n drained line) settle)
+  unfolding turn_at
+  line_refused = by_past (nat_lt world_rules.lines n || nat_lt world_rules.octets (length line))
+    where
+      by_past : (t : Bool) → Closes true n (line ∷ lines)
+          (after_turn (if t then ends_run [] statuses.Limit else ends_run (after_drain_line n) statuses.Refused) settle)
+      by_past true = record { ending = statuses.Limit; ends = refl; closes = refl }
+      by_past false = record { ending = statuses.Refused; ends = refl; closes = refl }
+
+module _ (ending : WorldState → Settled) (last : EndsLines ending) where
+  closes_from : (n : ℕ) (lines : List (List ℕ)) → Closes true n lines (lines_settle world_rules n drained lines ending)
+  unfolding lines_settle
+  closes_from n [] = rw last.after (record { ending = last.last; ends = refl; closes = last.none_left true n })
+  closes_from n (line ∷ lines) = line_refused n line lines (λ now. lines_settle world_rules (n + 1) now lines ending)
+
+-- ---- where a drain ends
+
+none-late : (next : Option PathEvent) → IsOverBy no_moment next → is_late_if_any next ≡ false → next ≡ None
+none-late None over early = refl
+none-late (Some (sends end block)) over early = absurd over
+none-late (Some (delivers k)) over early = absurd over
+none-late (Some (clock_shows now)) over early =
+    let late : nat_le no_moment now ≡ true = grind (arith, nat_tests, over) in
+    absurd (cc)
+
+-- the events of the definition lead there, from every path that a run leads to
+made-so : (s : PathSetup) (w : Path) → DrainsAreMade → IsTimed s BLOCK_MAX → IsPathReached s w
+    → EndsBy no_moment s w (length w.sent) (drain_made s w)
+made-so s w law timed reached =
+    subst (λ (x : Path). EndsBy no_moment s x (length x.sent) (drain_made s x)) reached.leads
+    (law s reached.start BLOCK_MAX (length (path_run s (starts_path s reached.start) reached.events).sent) no_moment reached.events timed)
+
+-- ---- one line more
+
+module _ (s : PathSetup) (w : Path) (n : ℕ) (line : List ℕ) (lines : List (List ℕ)) where
+  goes_on : (event : PathEvent) (later : Settled) → line_in line ≡ Ok (says_event event)
+      → Plays s (path_step s w event).path (n + 1) lines later
+      → Plays s w n (line ∷ lines) (record { text = event_text s w event ++ later.text; ends = later.ends })
+  unfolding events_text path_run
+  goes_on event later is rest = record {
+    events = event ∷ rest.events;
+    drains = rest.drains;
+    later = line ∷ rest.later;
+    left = rest.left;
+    lines_are = ap (λ ls. line ∷ ls) rest.lines_are;
+    said = rw (is, rest.said) refl;
+    made = rest.made;
+    drain = rest.drain;
+    ending = rest.ending;
+    ends = rest.ends;
+    closing = rest.closing;
+    closes = subst (λ k. ClosesAs rest.ending rest.drains k rest.left rest.closing) (omega arith) rest.closes;
+    written = ap (λ t. event_text s w event ++ t) rest.written
+        ∙ sym (append_assoc (event_text s w event) (events_text s (path_step s w event).path rest.events)
+        (if_drained_text rest.drains s (path_run s (path_step s w event).path rest.events) rest.made ++ rest.closing));
+  }
+
+  limit : Plays s w n (line ∷ lines) (record { text = []; ends = Some statuses.Limit })
+  limit = stops s w n (line ∷ lines) [] statuses.Limit refl
+
+  -- the path is drained, and these events were made
+  module _ (is : line_in line ≡ Ok says_drain) (made : List PathEvent) (ends : EndsBy no_moment s w (length w.sent) made)
+      (settle : WorldState → Settled) (rest : Closes true (n + 1) lines (settle drained)) where
+    drained_so : clean_after s w made ≡ None
+        → Plays s w n (line ∷ lines) (record { text = drain_text s w made ++ (settle drained).text; ends = (settle drained).ends })
+    unfolding events_text path_run
+    drained_so none = record {
+      events = [];
+      drains = true;
+      later = line ∷ [];
+      left = lines;
+      lines_are = refl;
+      said = rw is refl;
+      made = made;
+      drain = (ends.clean, ends.early, none);
+      ending = rest.ending;
+      ends = rest.ends;
+      closing = (settle drained).text;
+      closes = rest.closes;
+      written = refl;
+    }
+
+    pub drains : Plays s w n (line ∷ lines) (after_turn (drains_by s w made) settle)
+    drains = by_late (is_late_if_any (clean_after s w made)) refl
+      where
+        by_most : (t : Bool) → clean_after s w made ≡ None → Plays s w n (line ∷ lines)
+            (after_turn (if t then ends_run [] statuses.Limit else passes (drain_text s w made) drained) settle)
+        by_most true none = limit
+        by_most false none = drained_so none
+
+        by_late : (t : Bool) → is_late_if_any (clean_after s w made) ≡ t → Plays s w n (line ∷ lines)
+            (after_turn (if t then ends_run [] statuses.Limit else if_kept (drain_text s w made) (path_run s w made) drained) settle)
+        by_late true late = limit
+        by_late false early =
+            by_most (nat_lt most_sent (octets_sent (path_run s w made).sent)) (none-late (clean_after s w made) ends.over early)
+
+  module _ (settle : WorldState → Settled) (rest : (event : PathEvent) → line_in line ≡ Ok (says_event event)
+      → Plays s (path_step s w event).path (n + 1) lines (settle (on_path s (path_step s w event).path)))
+      (ends : EndsBy no_moment s w (length w.sent) (drain_made s w)) (over : Closes true (n + 1) lines (settle drained)) where
+    happened : (event : PathEvent) → line_in line ≡ Ok (says_event event)
+        → Plays s w n (line ∷ lines) (after_turn (happens s w event) settle)
+    happened event is = by_late (is_late event)
+      where
+        by_most : (t : Bool) → Plays s w n (line ∷ lines)
+            (after_turn (if t then ends_run [] statuses.Limit else passes (event_text s w event) (on_path s (path_step s w event).path)) settle)
+        by_most true = limit
+        by_most false = goes_on event _ is (rest event is)
+
+        by_late : (t : Bool) → Plays s w n (line ∷ lines)
+            (after_turn (if t then ends_run [] statuses.Limit
+            else if_kept (event_text s w event) (path_step s w event).path (on_path s (path_step s w event).path)) settle)
+        by_late true = limit
+        by_late false = by_most (nat_lt most_sent (octets_sent (path_step s w event).path.sent))
+
+    turned : (said : Result LaterLine LineFault) → line_in line ≡ said
+        → Plays s w n (line ∷ lines) (after_turn (line_turn n s w said) settle)
+    turned (Ok (says_event event)) is = happened event is
+    turned (Ok says_drain) is = drains is (drain_made s w) ends settle over
+    turned (Err fault) is = stops s w n (line ∷ lines) (refusal_line n fault) statuses.Refused (fault, is, refl)
+
+    pub line_turned : Plays s w n (line ∷ lines) (after_turn (turn_at world_rules n (on_path s w) line) settle)
+    unfolding turn_at
+    line_turned = by_past (nat_lt world_rules.lines n || nat_lt world_rules.octets (length line))
+      where
+        by_past : (t : Bool) → Plays s w n (line ∷ lines)
+            (after_turn (if t then ends_run [] statuses.Limit else line_turn n s w (line_in line)) settle)
+        by_past true = limit
+        by_past false = turned (line_in line) refl
+
+-- ---- all lines on a path
+
+-- one event more leads to another such path
+reached-more : (s : PathSetup) (w : Path) (event : PathEvent) → IsPathReached s w → IsPathReached s (path_step s w event).path
+unfolding path_run
+reached-more s w event reached = record {
+  start = reached.start;
+  events = reached.events ++ event ∷ [];
+  leads = run-append s (starts_path s reached.start) reached.events (event ∷ [])
+      ∙ ap (λ (x : Path). (path_step s x event).path) reached.leads;
+}
+
+module _ (law : DrainsAreMade) (ending : WorldState → Settled) (last : EndsLines ending) where
+  pub plays_from : (s : PathSetup) (w : Path) (n : ℕ) (lines : List (List ℕ)) → IsTimed s BLOCK_MAX → IsPathReached s w
+      → Plays s w n lines (lines_settle world_rules n (on_path s w) lines ending)
+  unfolding lines_settle
+  plays_from s w n [] timed reached = rw (last.on s w) (stops s w n [] [] last.last (last.none_left false n))
+  plays_from s w n (line ∷ lines) timed reached =
+      line_turned s w n line lines (λ now. lines_settle world_rules (n + 1) now lines ending)
+      (λ event said. plays_from s (path_step s w event).path (n + 1) lines timed (reached-more s w event reached))
+      (made-so s w law timed reached) (closes_from ending last (n + 1) lines)

@@ -16,6 +16,8 @@
 
 pub mod laws;
 mod script;
+#[cfg(test)]
+mod tests;
 mod world;
 mod written_lines;
 

@@ -10,6 +10,7 @@ use Rattle.path_laws.specs.Places.{across, face_place}
 use Rattle.path_laws.specs.Path.{PathSetup, Path, PathEvent, path_run, starts_path}
 use Rattle.path_laws.specs.Log.{Begun, begun_in, ups_in}
 use Rattle.path_laws.specs.Laws.{IsLinked}
+use Rattle.path_room.specs.Pieces.{case_at}
 use Rattle.path_drain_laws.specs.Completion.{IsCaseNotedIn}
 use Rattle.path_drain_laws.specs.Effects.{IsUpAt, notes_in}
 use Rattle.path_drain_laws.specs.Hopeful.{session_at}
@@ -40,6 +41,18 @@ abbrev pub CasesAreNotedInRuns : Type 0
 CasesAreNotedInRuns =
     (s : PathSetup) (w : Path) (events : List PathEvent) (face : Face) (up : UpAt)
     → IsIn up (ups_in s w events) → up.place ≡ face_place face → IsCaseNotedIn s w events face up
+
+-- and that note stands among those of the run
+abbrev pub CaseNotesStandInRuns : Type 0
+CaseNotesStandInRuns =
+    (s : PathSetup) (w : Path) (events : List PathEvent) (face : Face) (up : UpAt)
+    → (case : IsCaseNotedIn s w events face up)
+    → IsIn
+    (record {
+      place = face_place face;
+      note = case_at s.gate face (path_run s w case.earlier).now up.session up.body
+          (path_run s w case.earlier).gate;
+    }) (notes_in s w events)
 
 -- of some events and then others: where they lead to, and what they begin, hand up and note
 pub record GoesOn (s : PathSetup) (w : Path) (events made : List PathEvent) : Type 0 where

@@ -1,7 +1,8 @@
 //! What a run of a path and a drain after it have done.
 
 ghost use Rattle.path_completion.specs.Decided.{BegunAreDecided};
-ghost use Rattle.path_completion.specs.Runs.{CasesAreNotedInRuns, HandedUpInRuns, RunsGoOn};
+ghost use Rattle.path_completion.specs.Runs.{CaseNotesStandInRuns, CasesAreNotedInRuns};
+ghost use Rattle.path_completion.specs.Runs.{HandedUpInRuns, RunsGoOn};
 ghost use Rattle.path_completion.specs.WholeRun.{WholeRunsComplete};
 
 /// Where a run goes on, what it begins, hands up and notes is added to what it did before.
@@ -19,6 +20,11 @@ pub fn handed_up_in_runs()
 /// decided then: by the clock, and by the room at its other face.
 pub fn cases_are_noted_in_runs()
     ensures { CasesAreNotedInRuns }
+{}
+
+/// So that note stands among those of the run.
+pub fn case_notes_stand_in_runs()
+    ensures { CaseNotesStandInRuns }
 {}
 
 /// Each piece and each report that a run begins at the gate is begun by the event that handed its

@@ -9,8 +9,12 @@ use Rattle.bundle6.specs.declared.fault.Cause6.{Cause6}
 use Rattle.bundle6.specs.declared.fault.Fail6.TheVariants as fails6
 use Rattle.bundle6.specs.declared.reader.Judged6.{Judged6}
 use Rattle.bundle6.specs.Streaming as streaming6
+use Rattle.bundle7.specs.declared.fault.Cause7.{Cause7}
+use Rattle.bundle7.specs.declared.fault.Fail7.TheVariants as fails7
+use Rattle.bundle7.specs.declared.reader.Judged7.{Judged7}
 use Rattle.bundle7.specs.Streaming as streaming7
-use Rattle.bundle_judges.specs.Judging6.{Judging, JudgesOn}
+use Rattle.bundle_judges.specs.Judging6 as judging6
+use Rattle.bundle_judges.specs.Judging7 as judging7
 use Rattle.bundle_runs.specs.declared.commands.command.Command.TheVariants.{Check}
 use Rattle.bundle_runs.specs.declared.front.Cause.{Cause}
 use Rattle.bundle_runs.specs.declared.front.Cause.TheVariants as causes
@@ -29,37 +33,37 @@ use Rattle.bundle_runs.specs.WrittenLines.{check_line, refused_line}
 use Rattle.bundle_runs.specs.Given.{Finds, IsVersion}
 use Rattle.bundle_runs.specs.Taking.{kept_of, kept_by, settling_of, with_unfinished, passed, waiting, IsReady, IsCut, HasBegun, HasBegunWith, SoFar, IsCutAt}
 use Rattle.bundle_runs.specs.Checking.{StandsFor, StandsForAny, MayTake, IfPart, JudgesMore, Shadows, IsShadowed, StandsChecking, with_begun, JudgedOn, ChecksOn}
-use Rattle.bundle_runs.proofs.GivenLemmas.{judge-whole6, part6, refuses6, begun6, cut6}
+use Rattle.bundle_runs.proofs.GivenLemmas.{judge-whole6, part6, refuses6, begun6, cut6, judge-whole7, part7, refuses7, begun7, cut7}
 use Rattle.bundle_runs.proofs.TakingLemmas.{took-more, whole-room, refused-room, step-checked, step-part, step-refused, quiet, so_far-start, so_far-more, so_far-stop, finish-none, finish-cut, cut-inside}
 
 -- ---- a judge of version 6
 
-reading : streaming6.Stream → streaming6.Reading
-reading stream = record { stream = stream; refused = None; spent = false }
+reading6 : streaming6.Stream → streaming6.Reading
+reading6 stream = record { stream = stream; refused = None; spent = false }
 
-pub six-whole : (reader : streaming6.Reading) (piece : List ℕ) (new : Judging) (judged : Judged6) (size : ℕ) → IsReady (Six reader)
-    → judged.whole ≡ Some size → JudgesOn 67108864 reader.stream piece (Ok judged) new.stand
+pub six-whole : (reader : streaming6.Reading) (piece : List ℕ) (new : judging6.Judging) (judged : Judged6) (size : ℕ) → IsReady (Six reader)
+    → judged.whole ≡ Some size → judging6.JudgesOn 67108864 reader.stream piece (Ok judged) new.stand
     → JudgesMore (Six reader) piece (begins.Six new) (Whole 6 judged.used)
-unfolding reading
+unfolding reading6
 six-whole reader piece new judged size ready is (after, judges, taken) = record {
-  later = Six (reading after);
-  takes = judge-whole6 67108864 reader (reading after) piece ready.2 judged.used size (rw is at judges);
+  later = Six (reading6 after);
+  takes = judge-whole6 67108864 reader (reading6 after) piece ready.2 judged.used size (rw is at judges);
   part = tt;
 }
 
-pub six-part : (reader : streaming6.Reading) (piece : List ℕ) (new : Judging) (judged : Judged6) → IsReady (Six reader)
-    → judged.whole ≡ None → JudgesOn 67108864 reader.stream piece (Ok judged) new.stand → (new.refused ≡ None) × (new.spent ≡ false)
+pub six-part : (reader : streaming6.Reading) (piece : List ℕ) (new : judging6.Judging) (judged : Judged6) → IsReady (Six reader)
+    → judged.whole ≡ None → judging6.JudgesOn 67108864 reader.stream piece (Ok judged) new.stand → (new.refused ≡ None) × (new.spent ≡ false)
     → JudgesMore (Six reader) piece (begins.Six new) Part
-unfolding reading
+unfolding reading6
 six-part reader piece new judged ready is (after, judges, taken) fresh = record {
-  later = Six (reading after);
-  takes = part6 67108864 reader (reading after) piece ready.2 IsVersion judged.used (rw is at judges) (refl, refl);
+  later = Six (reading6 after);
+  takes = part6 67108864 reader (reading6 after) piece ready.2 IsVersion judged.used (rw is at judges) (refl, refl);
   part = (fresh.0, fresh.1, taken);
 }
 
-pub six-refused : (reader : streaming6.Reading) (piece : List ℕ) (new : Judging) (at : ℕ) (cause : Cause6) → IsReady (Six reader)
+pub six-refused : (reader : streaming6.Reading) (piece : List ℕ) (new : judging6.Judging) (at : ℕ) (cause : Cause6) → IsReady (Six reader)
     → length reader.stream.kept + length piece ≤ 67108864
-    → JudgesOn 67108864 reader.stream piece (Err (fails6.Refused at cause)) new.stand
+    → judging6.JudgesOn 67108864 reader.stream piece (Err (fails6.Refused at cause)) new.stand
     → JudgesMore (Six reader) piece (begins.Six new) (Refused at (causes.Six cause))
 six-refused reader piece new at cause ready fits judges = record {
   later = Six reader;
@@ -67,14 +71,14 @@ six-refused reader piece new at cause ready fits judges = record {
   part = tt;
 }
 
-pub six-begun : (octets : List ℕ) (new : Judging) (judged : Judged6) → JudgesOn 67108864 (record { before = 0; kept = [] }) octets (Ok judged) new.stand
+pub six-begun : (octets : List ℕ) (new : judging6.Judging) (judged : Judged6) → judging6.JudgesOn 67108864 (record { before = 0; kept = [] }) octets (Ok judged) new.stand
     → (new.refused ≡ None) × (new.spent ≡ false) → IsOctets octets → 0 < length octets → slice_index octets 0 ≡ 6 → IsCut (front_of octets)
     → (bundle : Unfinished) × StandsFor (begins.Six new) bundle × HasBegunWith octets bundle
-unfolding reading
+unfolding reading6
 six-begun octets new judged (after, judges, taken) fresh fits some first cut = (
-  Six (reading after),
+  Six (reading6 after),
   (fresh.0, fresh.1, taken),
-  begun6 67108864 (reading after) octets judged.used judged.whole judges (refl, refl) fits some first cut,
+  begun6 67108864 (reading6 after) octets judged.used judged.whole judges (refl, refl) fits some first cut,
 )
 
 pub six-finished : (reader : streaming6.Reading) → IsReady (Six reader) → streaming6.Finishes reader.stream (Ok tt) → IsCutAt (Six reader) None
@@ -86,15 +90,67 @@ six-cut reader at cause ready (some, named, (p, reads, spot)) =
     let place : p ≡ at = omega (arith, spot, ready.2) in
     (cut6 reader.stream.kept p reads ∙ ap cut_short place, some)
 
--- ---- a reader of version 7
-
-pub seven-same : (reader : streaming7.Reading) (bundle : Unfinished) → StandsFor (begins.Seven reader) bundle → bundle ≡ Seven reader
-seven-same reader (Six other) stands = absurd stands
-seven-same reader (Seven other) stands = ap Seven (sym stands)
-
-pub six-is : (judge : Judging) (bundle : Unfinished) → StandsFor (begins.Six judge) bundle → (reader : streaming6.Reading) × (bundle ≡ Six reader)
+pub six-is : (judge : judging6.Judging) (bundle : Unfinished) → StandsFor (begins.Six judge) bundle → (reader : streaming6.Reading) × (bundle ≡ Six reader)
 six-is judge (Six reader) stands = (reader, refl)
 six-is judge (Seven reader) stands = absurd stands
+
+-- ---- a judge of version 7
+
+reading7 : streaming7.Stream → streaming7.Reading
+reading7 stream = record { stream = stream; refused = None; spent = false }
+
+pub seven-whole : (reader : streaming7.Reading) (piece : List ℕ) (new : judging7.Judging) (judged : Judged7) (size : ℕ) → IsReady (Seven reader)
+    → judged.whole ≡ Some size → judging7.JudgesOn 67108864 reader.stream piece (Ok judged) new.stand
+    → JudgesMore (Seven reader) piece (begins.Seven new) (Whole 7 judged.used)
+unfolding reading7
+seven-whole reader piece new judged size ready is (after, judges, taken) = record {
+  later = Seven (reading7 after);
+  takes = judge-whole7 67108864 reader (reading7 after) piece ready.2 judged.used size (rw is at judges);
+  part = tt;
+}
+
+pub seven-part : (reader : streaming7.Reading) (piece : List ℕ) (new : judging7.Judging) (judged : Judged7) → IsReady (Seven reader)
+    → judged.whole ≡ None → judging7.JudgesOn 67108864 reader.stream piece (Ok judged) new.stand → (new.refused ≡ None) × (new.spent ≡ false)
+    → JudgesMore (Seven reader) piece (begins.Seven new) Part
+unfolding reading7
+seven-part reader piece new judged ready is (after, judges, taken) fresh = record {
+  later = Seven (reading7 after);
+  takes = part7 67108864 reader (reading7 after) piece ready.2 IsVersion judged.used (rw is at judges) (refl, refl);
+  part = (fresh.0, fresh.1, taken);
+}
+
+pub seven-refused : (reader : streaming7.Reading) (piece : List ℕ) (new : judging7.Judging) (at : ℕ) (cause : Cause7) → IsReady (Seven reader)
+    → length reader.stream.kept + length piece ≤ 67108864
+    → judging7.JudgesOn 67108864 reader.stream piece (Err (fails7.Refused at cause)) new.stand
+    → JudgesMore (Seven reader) piece (begins.Seven new) (Refused at (causes.Seven cause))
+seven-refused reader piece new at cause ready fits judges = record {
+  later = Seven reader;
+  takes = refuses7 67108864 reader reader piece ready.2 IsVersion at cause fits judges;
+  part = tt;
+}
+
+pub seven-begun : (octets : List ℕ) (new : judging7.Judging) (judged : Judged7) → judging7.JudgesOn 67108864 (record { before = 0; kept = [] }) octets (Ok judged) new.stand
+    → (new.refused ≡ None) × (new.spent ≡ false) → IsOctets octets → 0 < length octets → slice_index octets 0 ≡ 159 → IsCut (front_of octets)
+    → (bundle : Unfinished) × StandsFor (begins.Seven new) bundle × HasBegunWith octets bundle
+unfolding reading7
+seven-begun octets new judged (after, judges, taken) fresh fits some first cut = (
+  Seven (reading7 after),
+  (fresh.0, fresh.1, taken),
+  begun7 67108864 (reading7 after) octets judged.used judged.whole judges (refl, refl) fits some first cut,
+)
+
+pub seven-finished : (reader : streaming7.Reading) → IsReady (Seven reader) → streaming7.Finishes reader.stream (Ok tt) → IsCutAt (Seven reader) None
+seven-finished reader ready none = none
+
+pub seven-cut : (reader : streaming7.Reading) (at : ℕ) (cause : Cause7) → IsReady (Seven reader)
+    → streaming7.Finishes reader.stream (Err (fails7.Refused at cause)) → IsCutAt (Seven reader) (Some at)
+seven-cut reader at cause ready (some, named, (p, reads, spot)) =
+    let place : p ≡ at = omega (arith, spot, ready.2) in
+    (cut7 reader.stream.kept p reads ∙ ap cut_short place, some)
+
+pub seven-is : (judge : judging7.Judging) (bundle : Unfinished) → StandsFor (begins.Seven judge) bundle → (reader : streaming7.Reading) × (bundle ≡ Seven reader)
+seven-is judge (Six reader) stands = absurd stands
+seven-is judge (Seven reader) stands = (reader, refl)
 
 -- ---- octets of one bundle
 

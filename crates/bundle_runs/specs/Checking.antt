@@ -1,7 +1,8 @@
 -- Where the reading of `check` stands: for a reading that keeps all octets of the bundle that has begun.
 use Rattle.std.specs.Prelude.{◌≡◌, ℕ, ◌+◌, ◌≤◌, List, length, Option, None, Some, false}
 use Rattle.command_frame.specs.Task.{Settling}
-use Rattle.bundle_judges.specs.Judging6.{HasTaken}
+use Rattle.bundle_judges.specs.Judging6 as judging6
+use Rattle.bundle_judges.specs.Judging7 as judging7
 use Rattle.bundle_runs.specs.declared.commands.command.Command.TheVariants.{Check}
 use Rattle.bundle_runs.specs.declared.given.Given.{Given}
 use Rattle.bundle_runs.specs.declared.given.Given.TheVariants.{Whole, Part, Refused}
@@ -19,10 +20,11 @@ use Rattle.bundle_runs.specs.Taking.{kept_of, settling_of, IsReady, Takes, IsSou
 -- a judge took the octets that a reader of the same version keeps
 abbrev pub StandsFor : Begun → Unfinished → Type 0
 StandsFor (begins.Six judge) (Six reader) =
-    (judge.refused ≡ None) × (judge.spent ≡ false) × HasTaken 67108864 reader.stream judge.stand
+    (judge.refused ≡ None) × (judge.spent ≡ false) × judging6.HasTaken 67108864 reader.stream judge.stand
 StandsFor (begins.Six judge) (Seven reader) = ⊥
-StandsFor (begins.Seven reader) (Six other) = ⊥
-StandsFor (begins.Seven reader) (Seven other) = reader ≡ other
+StandsFor (begins.Seven judge) (Six reader) = ⊥
+StandsFor (begins.Seven judge) (Seven reader) =
+    (judge.refused ≡ None) × (judge.spent ≡ false) × judging7.HasTaken 67108864 reader.stream judge.stand
 
 abbrev pub StandsForAny : Option Begun → Option Unfinished → Type 0
 StandsForAny None None = Unit {0}

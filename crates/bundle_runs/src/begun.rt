@@ -1,6 +1,7 @@
 //! The bundle that has begun, of which only the version is wanted.
 ghost use Rattle.std.specs.Prelude.{◌≡◌, ◌+◌, ◌<◌, ◌≤◌, length, false, IfOk, IsSomeAnd};
-ghost use Rattle.bundle6.specs.Streaming.{Reading};
+ghost use Rattle.bundle6.specs.Streaming.{Reading as Reading6};
+ghost use Rattle.bundle7.specs.Streaming.{Reading as Reading7};
 ghost use Rattle.bundle_runs.specs.declared.unfinished.Unfinished.{Unfinished};
 ghost use Rattle.bundle_runs.specs.declared.unfinished.Unfinished.TheVariants as bundles;
 ghost use Rattle.bundle_runs.specs.Front.{front_of};
@@ -9,10 +10,9 @@ ghost use Rattle.bundle_runs.specs.Checking.{StandsFor, MayTake, JudgesMore};
 
 use crate::front::Cause;
 use crate::given::{Given, SEVEN, SIX};
-use crate::unfinished::judge7;
-use bundle_judges::Judge6;
+use bundle_judges::{Judge6, Judge7};
 use bundle6::{Fail6, Judged6};
-use bundle7::{Fail7, Reader7};
+use bundle7::{Fail7, Judged7};
 use std::alloc::{AllocError, Global};
 
 /// The judge of the bundle that has begun.
@@ -21,7 +21,7 @@ pub enum Begun {
     /// Of version 6.
     Six(Judge6),
     /// Of version 7.
-    Seven(Reader7),
+    Seven(Judge7),
 }
 
 impl Begun {
@@ -43,9 +43,9 @@ impl Begun {
                 }
             }
             SEVEN => {
-                let mut reader = Reader7::new(alloc);
-                match reader.judge(octets) {
-                    Ok(_) => Ok(Some(Begun::Seven(reader))),
+                let mut judge = Judge7::new(alloc);
+                match judge.feed(octets) {
+                    Ok(_) => Ok(Some(Begun::Seven(judge))),
                     Err(_) => Err(AllocError),
                 }
             }
@@ -61,7 +61,7 @@ impl Begun {
     {
         match self {
             Begun::Six(judge) => judge6(judge, piece),
-            Begun::Seven(reader) => judge7(reader, piece),
+            Begun::Seven(judge) => judge7(judge, piece),
         }
     }
 
@@ -77,7 +77,7 @@ impl Begun {
                 Err(Fail6::Refused { at, .. }) => Some(at),
                 Err(Fail6::Memory) => None,
             },
-            Begun::Seven(reader) => match reader.finish() {
+            Begun::Seven(judge) => match judge.finish() {
                 Ok(()) => None,
                 Err(Fail7::Refused { at, .. }) => Some(at),
                 Err(Fail7::Memory) => None,
@@ -87,8 +87,8 @@ impl Begun {
 }
 
 fn judge6(judge: &mut Judge6, piece: &[u8]) -> Result<Given<u8>, AllocError>
-    requires { (reader : Reading) × MayTake (Begun.Six judge.old) piece.now (bundles.Six reader) }
-    ensures { (reader : Reading) → MayTake (Begun.Six judge.old) piece.now (bundles.Six reader)
+    requires { (reader : Reading6) × MayTake (Begun.Six judge.old) piece.now (bundles.Six reader) }
+    ensures { (reader : Reading6) → MayTake (Begun.Six judge.old) piece.now (bundles.Six reader)
         → IfOk result (JudgesMore (bundles.Six reader) piece.now (Begun.Six judge.new)) }
 {
     match judge.feed(piece) {
@@ -101,5 +101,23 @@ fn judge6(judge: &mut Judge6, piece: &[u8]) -> Result<Given<u8>, AllocError>
         Ok(Judged6 { whole: None, .. }) => Ok(Given::Part),
         Err(Fail6::Refused { at, cause }) => Ok(Given::Refused(at, Cause::Six(cause))),
         Err(Fail6::Memory) => Err(AllocError),
+    }
+}
+
+fn judge7(judge: &mut Judge7, piece: &[u8]) -> Result<Given<u8>, AllocError>
+    requires { (reader : Reading7) × MayTake (Begun.Seven judge.old) piece.now (bundles.Seven reader) }
+    ensures { (reader : Reading7) → MayTake (Begun.Seven judge.old) piece.now (bundles.Seven reader)
+        → IfOk result (JudgesMore (bundles.Seven reader) piece.now (Begun.Seven judge.new)) }
+{
+    match judge.feed(piece) {
+        Ok(
+            Judged7 {
+                used,
+                whole: Some(_size),
+            },
+        ) => Ok(Given::Whole(7, used)),
+        Ok(Judged7 { whole: None, .. }) => Ok(Given::Part),
+        Err(Fail7::Refused { at, cause }) => Ok(Given::Refused(at, Cause::Seven(cause))),
+        Err(Fail7::Memory) => Err(AllocError),
     }
 }

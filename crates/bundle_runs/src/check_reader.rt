@@ -18,8 +18,8 @@ use edge_traits::{MOST_INPUT, Status};
 use std::alloc::{AllocError, Global};
 use std::marker::Model;
 
-/// The command `check` on the octets of its input as they come. Of a version 6 bundle that has begun it
-/// keeps the primary block alone.
+/// The command `check` on the octets of its input as they come. Of a bundle that has begun it keeps what
+/// a judge keeps: of the octets those of the primary block, and a few of another field.
 #[derive(Drop)]
 pub struct CheckReader {
     standing: Checking,

@@ -107,7 +107,7 @@ fn judge6(reader: &mut Reader6, piece: &[u8]) -> Result<Given<u8>, AllocError>
     }
 }
 
-pub(crate) fn judge7(reader: &mut Reader7, piece: &[u8]) -> Result<Given<u8>, AllocError>
+fn judge7(reader: &mut Reader7, piece: &[u8]) -> Result<Given<u8>, AllocError>
     requires ready { IsReady (Unfinished.Seven reader.old) }
     requires few { length (kept_of (Unfinished.Seven reader.old)) + length piece.now ≤ 67108864 }
     ensures { IfOk result (Takes IsVersion (Unfinished.Seven reader.old) piece.now (Unfinished.Seven reader.new)) }

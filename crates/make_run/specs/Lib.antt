@@ -1,0 +1,8 @@
+-- what `make` draws, sends and answers, in reading order
+pub mod Draws
+pub mod Bundles
+pub mod Script
+pub mod Making
+pub mod Runs
+-- what only ties code to these
+pub mod Ties

@@ -14,6 +14,8 @@ use Rattle.path_laws.specs.Log.{ups_in}
 use Rattle.path_laws.specs.Laws.{ReceivedAsSent}
 use Rattle.path_drain_laws.specs.Effects.{notes_in}
 use Rattle.path_drain_laws.specs.Hopeful.{IsFitPath, IsPathReached, PathsAreFit}
+use Rattle.path_completion.specs.Decided.{BegunAreDecided}
+use Rattle.path_completion.specs.Runs.{CasesAreNotedInRuns}
 use Rattle.path_completion.specs.WholeRun.{WholeRunsComplete, run_path}
 use Rattle.path_ends.specs.Drained.{DrainsAreMade, PathsAreTimed}
 use Rattle.world_run.specs.World.{PathStart, WorldState, no_path, on_path, start_in, no_moment, start_turn, world_rules, settles}
@@ -33,6 +35,8 @@ record Laws : Type 0 where
   fit : PathsAreFit
   timed : PathsAreTimed
   made : DrainsAreMade
+  cases : CasesAreNotedInRuns
+  decided : BegunAreDecided
   complete : WholeRunsComplete
 
 -- ---- a path is set up
@@ -97,6 +101,8 @@ module _ (laws : Laws) where
         notes = notes-are start.setup (starts_path start.setup start.now) 2 lines settled plays;
         end = end-is start.setup (starts_path start.setup start.now) 2 lines settled plays;
         hands_on = laws.received start.setup start.now (plays.events ++ plays.made) fit.linked;
+        cases = laws.cases start.setup (starts_path start.setup start.now) (plays.events ++ plays.made);
+        decided = laws.decided start.setup (starts_path start.setup start.now) (plays.events ++ plays.made);
         completes = completes plays.drains start.setup start.now plays.events plays.made fit plays.drain;
       })
 
@@ -161,12 +167,13 @@ kept : (most : ℕ) (input : List ℕ) → Settles (lines_within most input) (wi
 kept most input (on_a_path ending ends plays) = record { ending = ending; ends = ends; law = inl plays }
 kept most input (on_none ending ends closes) = record { ending = ending; ends = ends; law = inr closes }
 
-pub keep_headline : ReceivedAsSent → PathsAreFit → PathsAreTimed → DrainsAreMade → WholeRunsComplete → WorldsKeepHeadline
+pub keep_headline : ReceivedAsSent → PathsAreFit → PathsAreTimed → DrainsAreMade → CasesAreNotedInRuns → BegunAreDecided
+    → WholeRunsComplete → WorldsKeepHeadline
 unfolding within lines_within
-keep_headline received fit timed made complete most input = kept most input (by_test (nat_lt most (length input)))
+keep_headline received fit timed made cases decided complete most input = kept most input (by_test (nat_lt most (length input)))
   where
     laws : Laws
-    laws = record { received = received; fit = fit; timed = timed; made = made; complete = complete }
+    laws = record { received = received; fit = fit; timed = timed; made = made; cases = cases; decided = decided; complete = complete }
 
     by_test : (t : Bool) → Settles (if t then lines_of (ended_part (take most input)) else lines_of input)
         (if t then or_limit (lines_from world_rules 1 no_path going_on (take most input)) else lines_from world_rules 1 no_path at_end input)

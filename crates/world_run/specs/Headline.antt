@@ -14,15 +14,21 @@ use Rattle.endpoint.specs.Endpoints.{begins}
 use Rattle.replay_script.specs.declared.fault.LineFault.{LineFault}
 use Rattle.replay_script.specs.declared.fault.LineFault.TheVariants as faults
 use Rattle.replay_script.specs.Words.{spaced}
+use Rattle.link_laws.specs.View.{IsIn}
+use Rattle.gate_cases.specs.declared.face.Face.{Face}
 use Rattle.path_laws.specs.declared.effects.NoteAt.{NoteAt}
 use Rattle.path_laws.specs.declared.effects.UpAt.{UpAt}
 use Rattle.path_laws.specs.Path.{PathSetup, Path, PathEvent, starts_path}
 use Rattle.path_laws.specs.Laws.{HandsOn}
+use Rattle.path_laws.specs.Log.{Begun}
+use Rattle.path_laws.specs.Places.{face_place}
 use Rattle.path_room.specs.PathRoom.{PathRoom}
 use Rattle.path_drain_laws.specs.Clean.{AreCleanOnPathFrom}
+use Rattle.path_drain_laws.specs.Completion.{IsCaseNotedIn}
 use Rattle.path_drain_laws.specs.Effects.{notes_in}
 use Rattle.path_drain_laws.specs.Hopeful.{PathHopeful}
 use Rattle.path_ends.specs.Left.{IsBefore}
+use Rattle.path_completion.specs.Decided.{IsBegunIn}
 use Rattle.path_completion.specs.WholeRun.{IsRunComplete, run_begun, run_path, run_ups}
 use Rattle.world_run.specs.WrittenLines.{up_words, note_words, end_words, refusal_line}
 use Rattle.world_run.specs.WrittenLines.{after_drain_line}
@@ -136,7 +142,8 @@ DrainCompletes false s start events made = Unit {0}
 -- each is the whole block of the session of that number that was begun across the link; no two came
 -- at one place in one session; and at either end each is a piece of what becomes of one bundle that
 -- the other end sent, or a report on one that it sent itself, different ones from different origins.
--- And a drain completes the sessions.
+-- Each block that came whole to the gate has its case noted with it, as the gate decided then, and
+-- each session that the gate began is of such a block. And a drain completes the sessions.
 pub record PlaysScript (lines : List (List ℕ)) (text : List ℕ) (ending : Status) : Type 0 where
   pub start : PathStart
   pub events : List PathEvent
@@ -159,6 +166,13 @@ pub record PlaysScript (lines : List (List ℕ)) (text : List ℕ) (ending : Sta
   pub hands_on :
       HandsOn start.setup (run_begun start.setup start.now (events ++ made))
       (run_ups start.setup start.now (events ++ made))
+  pub cases :
+      (face : Face) (up : UpAt) → IsIn up (run_ups start.setup start.now (events ++ made))
+      → up.place ≡ face_place face
+      → IsCaseNotedIn start.setup (starts_path start.setup start.now) (events ++ made) face up
+  pub decided :
+      (b : Begun) → IsIn b (run_begun start.setup start.now (events ++ made))
+      → IsBegunIn start.setup (starts_path start.setup start.now) (events ++ made) b
   pub completes : DrainCompletes drains start.setup start.now events made
 
 -- No path is set up, and no line is answered: a limit ends the run, with nothing written; or the

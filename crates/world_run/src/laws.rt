@@ -16,5 +16,7 @@ pub fn worlds_keep_headline()
     path_drain_laws::laws::paths_are_fit();
     path_ends::laws::paths_are_timed();
     path_ends::laws::drains_are_made();
+    path_completion::laws::cases_are_noted_in_runs();
+    path_completion::laws::begun_are_decided();
     path_completion::laws::whole_runs_complete();
 }

@@ -5,7 +5,7 @@ use Rattle.edge_traits.specs.declared.status.Status.{Status}
 use Rattle.edge_traits.specs.declared.status.Status.TheVariants as statuses
 use Rattle.edge_traits.specs.Settled.{at_end, goes_on as going_on, Settled}
 use Rattle.command_frame.specs.InputLines.{lines_of, ended_part, lines_within}
-use Rattle.command_frame.specs.Lines.{passes, ends_run, turn_at, after_turn, lines_settle, lines_from}
+use Rattle.command_frame.specs.Lines.{Turn, passes, ends_run, turn_at, after_turn, lines_settle, lines_from}
 use Rattle.command_frame.specs.Within.{within, or_limit}
 use Rattle.command_frame.proofs.FrontLemmas.{from-end, from-limit}
 use Rattle.replay_script.specs.declared.fault.LineFault.{LineFault}
@@ -108,8 +108,9 @@ module _ (laws : Laws) where
 
 -- ---- from the first line on
 
-limited : (lines : List (List ℕ)) → Settles lines (record { text = []; ends = Some statuses.Limit })
-limited lines = on_none statuses.Limit refl refl
+limited : (first : List ℕ) (lines : List (List ℕ)) → turn_at world_rules 1 no_path first ≡ ends_run [] statuses.Limit
+    → Settles (first ∷ lines) (record { text = []; ends = Some statuses.Limit })
+limited first lines turns = on_none statuses.Limit refl (turns, refl)
 
 -- nothing happened yet
 reached-first : (s : PathSetup) (now : ℕ) → IsPathReached s (starts_path s now)
@@ -119,31 +120,38 @@ reached-first s now = record { start = now; events = []; leads = refl }
 module _ (laws : Laws) (ending : WorldState → Settled) (last : EndsLines ending) where
   module _ (first : List ℕ) (lines : List (List ℕ)) where
     started : (start : PathStart) → start_in first ≡ Ok start
+        → turn_at world_rules 1 no_path first ≡ start_turn 1 (Ok start)
         → Settles (first ∷ lines) (after_turn (start_turn 1 (Ok start)) (λ now. lines_settle world_rules 2 now lines ending))
-    started start said = by_late (nat_le no_moment start.now)
+    started start said turns = by_late (nat_le no_moment start.now) refl
       where
-        by_late : (t : Bool) → Settles (first ∷ lines)
-            (after_turn (if t then ends_run [] statuses.Limit else passes [] (on_path start.setup (starts_path start.setup start.now)))
-            (λ now. lines_settle world_rules 2 now lines ending))
-        by_late true = limited (first ∷ lines)
-        by_late false =
+        turn_by : Bool → Turn WorldState
+        turn_by t = if t then ends_run [] statuses.Limit else passes [] (on_path start.setup (starts_path start.setup start.now))
+
+        by_late : (t : Bool) → nat_le no_moment start.now ≡ t → Settles (first ∷ lines)
+            (after_turn (turn_by t) (λ now. lines_settle world_rules 2 now lines ending))
+        by_late true late = limited first lines (turns ∙ ap turn_by late)
+        by_late false late =
             played laws first lines start _ said
             (plays_from laws.made ending last start.setup (starts_path start.setup start.now) 2 lines
             (starts_timed first start said laws.timed) (reached-first start.setup start.now))
 
     first_turned : (said : Result PathStart LineFault) → start_in first ≡ said
+        → turn_at world_rules 1 no_path first ≡ start_turn 1 said
         → Settles (first ∷ lines) (after_turn (start_turn 1 said) (λ now. lines_settle world_rules 2 now lines ending))
-    first_turned (Ok start) said = started start said
-    first_turned (Err fault) said = on_none statuses.Refused refl (fault, said, refl)
+    first_turned (Ok start) said turns = started start said turns
+    first_turned (Err fault) said turns = on_none statuses.Refused refl (fault, said, refl)
 
     first_answered : Settles (first ∷ lines) (lines_settle world_rules 1 no_path (first ∷ lines) ending)
     unfolding lines_settle turn_at
-    first_answered = by_past (nat_lt world_rules.lines 1 || nat_lt world_rules.octets (length first))
+    first_answered = by_past (nat_lt world_rules.lines 1 || nat_lt world_rules.octets (length first)) refl
       where
-        by_past : (t : Bool) → Settles (first ∷ lines)
-            (after_turn (if t then ends_run [] statuses.Limit else start_turn 1 (start_in first)) (λ now. lines_settle world_rules 2 now lines ending))
-        by_past true = limited (first ∷ lines)
-        by_past false = first_turned (start_in first) refl
+        turn_by : Bool → Turn WorldState
+        turn_by t = if t then ends_run [] statuses.Limit else start_turn 1 (start_in first)
+
+        by_past : (t : Bool) → (nat_lt world_rules.lines 1 || nat_lt world_rules.octets (length first)) ≡ t
+            → Settles (first ∷ lines) (after_turn (turn_by t) (λ now. lines_settle world_rules 2 now lines ending))
+        by_past true past = limited first lines (ap turn_by past)
+        by_past false past = first_turned (start_in first) refl (ap turn_by past)
 
   all_settled : (lines : List (List ℕ)) → Settles [] (ending no_path) → Settles lines (lines_settle world_rules 1 no_path lines ending)
   unfolding lines_settle

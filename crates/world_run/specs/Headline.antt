@@ -9,6 +9,7 @@ use Rattle.edge_traits.specs.declared.status.Status.{Status}
 use Rattle.edge_traits.specs.declared.status.Status.TheVariants as statuses
 use Rattle.edge_traits.specs.Settled.{at_end}
 use Rattle.command_frame.specs.InputLines.{lines_of, lines_within}
+use Rattle.command_frame.specs.Lines.{ends_run, turn_at}
 use Rattle.command_frame.specs.Within.{within}
 use Rattle.endpoint.specs.Endpoints.{begins}
 use Rattle.replay_script.specs.declared.fault.LineFault.{LineFault}
@@ -33,7 +34,8 @@ use Rattle.path_completion.specs.WholeRun.{IsRunComplete, run_begun, run_path, r
 use Rattle.world_run.specs.WrittenLines.{up_words, note_words, end_words, refusal_line}
 use Rattle.world_run.specs.WrittenLines.{after_drain_line}
 use Rattle.world_run.specs.World.{PathStart, LaterLine, says_event, says_drain, start_in, line_in}
-use Rattle.world_run.specs.World.{no_moment, clean_after, events_text, drain_text, settles}
+use Rattle.world_run.specs.World.{no_moment, clean_after, events_text, drain_text, no_path}
+use Rattle.world_run.specs.World.{world_rules, settles}
 
 -- ---- what the lines of a script say
 
@@ -59,8 +61,8 @@ pub record SaysScript
 
 -- ---- what a drain makes, and what is written of it
 
--- A drain makes clean events, each before the last moment, until none can follow. Without one
--- nothing is made.
+-- A drain makes clean events, none past the last moment, until none can follow. Without one nothing
+-- is made.
 abbrev pub DrainMakes : Bool → PathSetup → Path → List PathEvent → Type 0
 DrainMakes true s w made =
     AreCleanOnPathFrom s w made × AllByRecursion (IsBefore no_moment) made
@@ -85,8 +87,8 @@ RefusesNext drained n [] closing = ⊥
 RefusesNext drained n (line ∷ left) closing = RefusesLine drained n line closing
 
 -- How the text ends after what happens, by how the run ends: where it is done, all lines were
--- answered, and nothing more is written; at a limit neither; and else the next line, line n, is
--- refused.
+-- answered, and nothing more is written; at a limit lines may be left, and nothing more is written
+-- either; and else the next line, line n, is refused.
 abbrev pub ClosesAs : Status → Bool → ℕ → List (List ℕ) → List ℕ → Type 0
 ClosesAs statuses.Done drained n left closing = (left ≡ []) × (closing ≡ [])
 ClosesAs statuses.Limit drained n left closing = closing ≡ []
@@ -142,8 +144,9 @@ DrainCompletes false s start events made = Unit {0}
 -- each is the whole block of the session of that number that was begun across the link; no two came
 -- at one place in one session; and at either end each is a piece of what becomes of one bundle that
 -- the other end sent, or a report on one that it sent itself, different ones from different origins.
--- Each block that came whole to the gate has its case noted with it, as the gate decided then, and
--- each session that the gate began is of such a block. And a drain completes the sessions.
+-- Each block that came whole to the gate has its case noted with it, as the gate decided then; and
+-- each session that the gate began is a piece of such a block, or a report on it, as it decided then.
+-- And from a path that is hopeful and has room a drain completes the sessions.
 pub record PlaysScript (lines : List (List ℕ)) (text : List ℕ) (ending : Status) : Type 0 where
   pub start : PathStart
   pub events : List PathEvent
@@ -175,10 +178,12 @@ pub record PlaysScript (lines : List (List ℕ)) (text : List ℕ) (ending : Sta
       → IsBegunIn start.setup (starts_path start.setup start.now) (events ++ made) b
   pub completes : DrainCompletes drains start.setup start.now events made
 
--- No path is set up, and no line is answered: a limit ends the run, with nothing written; or the
--- first line is refused for what it says, or for want of it.
+-- No path is set up, and no line is answered: the first line passes a limit, or the input does before
+-- it ends, with nothing written; or the first line is refused for what it says, or for want of it.
 abbrev pub ClosesFirst : Status → List (List ℕ) → List ℕ → Type 0
-ClosesFirst statuses.Limit lines text = text ≡ []
+ClosesFirst statuses.Limit [] text = text ≡ []
+ClosesFirst statuses.Limit (first ∷ lines) text =
+    (turn_at world_rules 1 no_path first ≡ ends_run [] statuses.Limit) × (text ≡ [])
 ClosesFirst statuses.Refused [] text = text ≡ refusal_line 1 faults.Word
 ClosesFirst statuses.Refused (first ∷ lines) text =
     (fault : LineFault) × (start_in first ≡ Err fault) × (text ≡ refusal_line 1 fault)

@@ -189,7 +189,7 @@ world_ending no_path =
 world_ending (on_path s w) = record { text = []; ends = Some statuses.Done }
 world_ending drained = record { text = []; ends = Some statuses.Done }
 
--- a million lines, of 9,000,000 octets each
+-- at most a million lines, of at most 9,000,000 octets
 abbrev pub world_rules : LineRules WorldState
 world_rules = record {
   lines = 1000000;

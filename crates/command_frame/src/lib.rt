@@ -8,8 +8,8 @@
 //! went (`Ran`) is proved here once.
 //!
 //! Octets may settle a text that is much longer than they are. A `PartTask` hands such a text on part
-//! by part, and `drive_parts` writes each before the next: it is the one loop, and every `Task` is a
-//! `PartTask` that has never text due.
+//! by part, and `drive_parts` writes each before the next. Its loop promises word for word what that of
+//! `drive` does.
 //!
 //! A command that answers line by line gives a `LineStep`, which answers one line. `LineReader` is
 //! the task over it: it holds the numbers of lines, the limits on them, and the last line's end.
@@ -20,12 +20,14 @@ mod input_lines;
 mod laws;
 mod line_step;
 mod lines;
+mod part_driver;
 mod part_task;
 mod task;
 
-pub use driver::{drive, drive_parts};
+pub use driver::drive;
 pub use laws::{earliest_place_decides_by_lines, earliest_place_decides_within};
 pub use line_step::LineStep;
 pub use lines::{LinePassed, LineReader};
+pub use part_driver::drive_parts;
 pub use part_task::{PartTask, Taken};
 pub use task::Task;

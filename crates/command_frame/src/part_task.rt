@@ -5,7 +5,6 @@ ghost use Rattle.edge_traits.specs.Outcome.{IsAnswer};
 ghost use Rattle.command_frame.specs.Task.{Settling, Finishes};
 ghost use Rattle.command_frame.specs.PartTask.{FeedsPart, LeavesDue, TellsPart, LeavesFewer};
 
-use crate::task::Task;
 use edge_traits::Status;
 use std::alloc::AllocError;
 
@@ -23,8 +22,6 @@ pub enum Taken {
 /// A command whose octets may settle a text that is too long to be kept whole. It takes octets up to
 /// where such a text is due, and hands that on part by part before it takes more. After want of memory,
 /// and once it answered how the run ends, it is told nothing more.
-///
-/// Every [`Task`] is one that has never text due.
 pub trait PartTask {
     // This text is due, and after it the octets still to come settle that.
     ghost Stands: { Self → List ℕ → Settling → Type 0 };
@@ -58,27 +55,4 @@ pub trait PartTask {
             (Finishes settles (string_bytes text.old) (string_bytes text.new)) }
         ensures status { IfOk result IsAnswer }
         ensures memory { OnErr result (Began self.old) };
-}
-
-impl<T: Task> PartTask for T {
-    ghost Stands = { λ t due settles. (due ≡ []) × T.Task.Stands t settles };
-
-    ghost Began = { λ t. T.Task.Began t };
-
-    ghost parts = { λ t. 0 };
-
-    fn take(&mut self, piece: &[u8], text: &mut String) -> Result<Taken, AllocError> {
-        match self.feed(piece, text)? {
-            None => Ok(Taken::All),
-            Some(status) => Ok(Taken::Ends(status)),
-        }
-    }
-
-    fn tell(&mut self, _text: &mut String) -> Result<bool, AllocError> {
-        Ok(false)
-    }
-
-    fn end(&mut self, text: &mut String) -> Result<Status, AllocError> {
-        self.finish(text)
-    }
 }

@@ -1,7 +1,7 @@
 use Rattle.std.proofs.lemmas.List.{take_rest}
 use Rattle.command_frame.specs.Task.{Settling}
 use Rattle.command_frame.proofs.HandingLemmas.{handing-start, handing-more, handed-write, handed-all, handed-ends, handed-told}
-use Rattle.command_frame.proofs.driver.hand_on.Goals as goal
+use Rattle.command_frame.proofs.part_driver.hand_on.Goals as goal
 
 pub pieces-init : goal.pieces-init
 pieces-init g c = record {

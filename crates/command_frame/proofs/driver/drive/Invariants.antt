@@ -1,18 +1,17 @@
-use Rattle.std.proofs.Common.{◌≡◌, ◌-◌, ◌≤◌, []}
+use Rattle.std.proofs.Common.{◌-◌, ◌≤◌}
 use Rattle.edge_traits.specs.Outcome.{source_tells, sink_tells}
 use Rattle.command_frame.specs.Task.{Settling, IsQuiet}
 use Rattle.command_frame.proofs.DriveLemmas.{Going}
-use Rattle.command_frame.proofs.driver.drive_parts.Given as goal
+use Rattle.command_frame.proofs.driver.drive.Given as goal
 
 abbrev pub invariant-reading : goal.invariant-reading
 invariant-reading g l = record {
-  going : (settles : Settling) → g.T.PartTask.Stands l.initial.task [] settles → IsQuiet settles
-      → Going (g.T.PartTask.Stands l.task []) (g.T.PartTask.Began l.task) settles
+  going : (settles : Settling) → g.T.Task.Stands l.initial.task settles → IsQuiet settles
+      → Going (g.T.Task.Stands l.task) (g.T.Task.Began l.task) settles
       (source_tells g.S.Source.left g.S.Source.faults g.S.Source.failing l.initial.source)
       (source_tells g.S.Source.left g.S.Source.faults g.S.Source.failing l.source)
       (sink_tells g.K.Sink.held g.K.Sink.faults g.K.Sink.failing l.initial.sink)
       (sink_tells g.K.Sink.held g.K.Sink.faults g.K.Sink.failing l.sink) l.taken;
-  none_due : g.T.PartTask.parts l.task ≡ 0;
   low : l.taken ≤ 67108864;
 }
 

@@ -1,7 +1,7 @@
 use Rattle.std.proofs.Common.{◌≡◌, arith, take, drop, ◌∙◌, []}
 use Rattle.edge_traits.specs.Content.{most_input}
-use Rattle.command_frame.proofs.DriveLemmas.{going-start, ran-fault, ran-handed, ran-limit, goes-on, ran-ended, ran-end-write, ran-end-memory, came-more, read-end}
-use Rattle.command_frame.proofs.driver.drive_parts.Goals as goal
+use Rattle.command_frame.proofs.PartDriveLemmas.{going-start, ran-fault, ran-handed, ran-limit, goes-on, ran-ended, ran-end-write, ran-end-memory, came-more, read-end}
+use Rattle.command_frame.proofs.part_driver.drive_parts.Goals as goal
 
 pub reading-init : goal.reading-init
 reading-init g c = record {

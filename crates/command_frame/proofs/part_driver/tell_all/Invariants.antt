@@ -3,7 +3,7 @@ use Rattle.edge_traits.specs.Outcome.{sink_tells}
 use Rattle.command_frame.specs.Task.{Settling}
 use Rattle.command_frame.specs.PartTask.{IsDue}
 use Rattle.command_frame.proofs.HandingLemmas.{TellingSoFar}
-use Rattle.command_frame.proofs.driver.tell_all.Given as goal
+use Rattle.command_frame.proofs.part_driver.tell_all.Given as goal
 
 abbrev pub invariant-telling : goal.invariant-telling
 invariant-telling g l = record {

@@ -1,6 +1,6 @@
 use Rattle.std.proofs.Common.{true}
 use Rattle.command_frame.proofs.HandingLemmas.{telling-start, telling-more, told-write}
-use Rattle.command_frame.proofs.driver.tell_all.Goals as goal
+use Rattle.command_frame.proofs.part_driver.tell_all.Goals as goal
 
 pub telling-init : goal.telling-init
 telling-init g c = record {

@@ -2,7 +2,7 @@ use Rattle.std.proofs.Common.{◌≡◌, length, []}
 use Rattle.edge_traits.specs.Outcome.{sink_tells}
 use Rattle.command_frame.specs.Task.{Settling, IsQuiet}
 use Rattle.command_frame.proofs.HandingLemmas.{HandingSoFar}
-use Rattle.command_frame.proofs.driver.hand_on.Given as goal
+use Rattle.command_frame.proofs.part_driver.hand_on.Given as goal
 
 abbrev pub invariant-pieces : goal.invariant-pieces
 invariant-pieces g l = record {

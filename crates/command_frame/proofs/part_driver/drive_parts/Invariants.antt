@@ -1,0 +1,20 @@
+use Rattle.std.proofs.Common.{◌≡◌, ◌-◌, ◌≤◌, []}
+use Rattle.edge_traits.specs.Outcome.{source_tells, sink_tells}
+use Rattle.command_frame.specs.Task.{Settling, IsQuiet}
+use Rattle.command_frame.proofs.PartDriveLemmas.{Going}
+use Rattle.command_frame.proofs.part_driver.drive_parts.Given as goal
+
+abbrev pub invariant-reading : goal.invariant-reading
+invariant-reading g l = record {
+  going : (settles : Settling) → g.T.PartTask.Stands l.initial.task [] settles → IsQuiet settles
+      → Going (g.T.PartTask.Stands l.task []) (g.T.PartTask.Began l.task) settles
+      (source_tells g.S.Source.left g.S.Source.faults g.S.Source.failing l.initial.source)
+      (source_tells g.S.Source.left g.S.Source.faults g.S.Source.failing l.source)
+      (sink_tells g.K.Sink.held g.K.Sink.faults g.K.Sink.failing l.initial.sink)
+      (sink_tells g.K.Sink.held g.K.Sink.faults g.K.Sink.failing l.sink) l.taken;
+  none_due : g.T.PartTask.parts l.task ≡ 0;
+  low : l.taken ≤ 67108864;
+}
+
+abbrev pub decreases-reading : goal.decreases-reading
+decreases-reading g l = 67108865 - l.taken

@@ -1,0 +1,111 @@
+//! The loop of a command that hands on its text in parts.
+ghost use Rattle.std.specs.Prelude.{◌≡◌, ◌<◌, ℕ, List, [], None};
+ghost use Rattle.edge_traits.specs.Content.{most_input};
+ghost use Rattle.edge_traits.specs.Outcome.{Ran, source_tells, sink_tells};
+ghost use Rattle.command_frame.specs.Task.{Settling, IsQuiet, WritesOfNothing};
+ghost use Rattle.command_frame.specs.Within.{within};
+ghost use Rattle.command_frame.specs.Handing.{Told, Handed};
+
+use crate::driver::BUFFER;
+use crate::part_task::{PartTask, Taken};
+use edge_traits::{Failed, MOST_INPUT, Sink, Source, Status, read_once, write_all};
+use std::alloc::{AllocError, Global};
+
+/// Runs a task that was told nothing yet, and that hands on its text in parts: each is written before
+/// the next, and all of them before the next read. It promises what [`crate::drive`] does.
+pub fn drive_parts<T: PartTask, S: Source, K: Sink>(
+    alloc: Global,
+    task: &mut T,
+    source: &mut S,
+    sink: &mut K,
+) -> Status
+    requires none_due { T.parts task.old ≡ 0 }
+    requires fresh { (settles : Settling) → T.Stands task.old [] settles → T.Began task.old → WritesOfNothing settles }
+    ensures { (settles : Settling) → T.Stands task.old [] settles → IsQuiet settles → Ran (within most_input settles) result
+        (source_tells S.left S.faults S.failing source.old) (source_tells S.left S.faults S.failing source.new)
+        (sink_tells K.held K.faults K.failing sink.old) (sink_tells K.held K.faults K.failing sink.new) }
+{
+    let mut text = String::new(alloc);
+    let mut buffer = [0u8; BUFFER];
+    let mut taken = 0;
+    'reading: while taken <= MOST_INPUT {
+        let n = match read_once(source, &mut buffer) {
+            Ok(n) => n,
+            Err(Failed) => return Status::ReadFault,
+        };
+        if n == 0 {
+            text.clear();
+            match task.end(&mut text) {
+                Err(AllocError) => return Status::Memory,
+                Ok(status) => match write_all(sink, text.as_bytes()) {
+                    Err(Failed) => return Status::WriteFault,
+                    Ok(()) => return status,
+                },
+            }
+        }
+        let size = n.min(MOST_INPUT - taken);
+        match hand_on(task, &buffer[..size], &mut text, sink) {
+            Some(status) => return status,
+            None if size < n => return Status::Limit,
+            None => taken += size,
+        }
+    }
+    Status::Limit
+}
+
+/// Writes all that the octets of a piece settle: how the run ends, where they settle that too or
+/// something failed.
+fn hand_on<T: PartTask, K: Sink>(
+    task: &mut T,
+    piece: &[u8],
+    text: &mut String,
+    sink: &mut K,
+) -> Option<Status>
+    requires { T.parts task.old ≡ 0 }
+    ensures none_due { result ≡ None → T.parts task.new ≡ 0 }
+    ensures handed { (settles : Settling) → T.Stands task.old [] settles → IsQuiet settles
+        → Handed (T.Stands task.new []) settles piece.now
+        (sink_tells K.held K.faults K.failing sink.old) (sink_tells K.held K.faults K.failing sink.new) result }
+{
+    let mut left = piece;
+    'pieces: while !left.is_empty() {
+        text.clear();
+        let Ok(taken) = task.take(left, text) else {
+            return Some(Status::Memory);
+        };
+        let Ok(()) = write_all(sink, text.as_bytes()) else {
+            return Some(Status::WriteFault);
+        };
+        match taken {
+            Taken::All => return None,
+            Taken::Ends(status) => return Some(status),
+            Taken::Due(used) => match tell_all(task, text, sink) {
+                Some(status) => return Some(status),
+                None => left = &left[used..],
+            },
+        }
+    }
+    None
+}
+
+/// Writes all parts of the text that is due: how the run ends, where something failed.
+fn tell_all<T: PartTask, K: Sink>(task: &mut T, text: &mut String, sink: &mut K) -> Option<Status>
+    requires { 0 < T.parts task.old }
+    ensures none_due { result ≡ None → T.parts task.new ≡ 0 }
+    ensures told { (due : List ℕ) (settles : Settling) → T.Stands task.old due settles
+        → Told (T.Stands task.new [] settles) due
+        (sink_tells K.held K.faults K.failing sink.old) (sink_tells K.held K.faults K.failing sink.new) result }
+{
+    let mut more = true;
+    'telling: while more {
+        text.clear();
+        more = match task.tell(text) {
+            Ok(more) => more,
+            Err(AllocError) => return Some(Status::Memory),
+        };
+        let Ok(()) = write_all(sink, text.as_bytes()) else {
+            return Some(Status::WriteFault);
+        };
+    }
+    None
+}

@@ -20,3 +20,6 @@ mod stop;
 mod summing;
 
 pub use run::make;
+
+#[cfg(test)]
+mod tests;

@@ -1,4 +1,5 @@
 pub mod ServeLemmas
+pub mod MakeLemmas
 pub mod BlockLemmas
 pub mod CellLemmas
 pub mod LawLemmas

@@ -1,5 +1,6 @@
 pub mod Words
 pub mod ServeWords
+pub mod MakeWords
 pub mod LineContent
 pub mod Session
 pub mod KeptSessions

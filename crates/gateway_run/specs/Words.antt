@@ -123,8 +123,9 @@ IsLawful Law status before now =
 
 -- the law of a command: of `receive` the receiver's, and of `node` that the events which its first
 -- lines say are answered; that their red parts keep the receiver's law is a law of `node_run`. Of
--- `world` that the events of its script are answered, and that its `up` lines are blocks that came
--- whole, as they were sent, and once
+-- `world` that the events of its script are answered, and those of a drain; that its `up` lines are
+-- blocks that came whole, as they were sent, and once; and that a drain from a path that is hopeful and
+-- has room completes the sessions
 abbrev pub KeepsLaw : Option Command → List ℕ → Status → Option (List ℕ) → Option (List ℕ) → Type 0
 KeepsLaw None input status before now = Unit {0}
 KeepsLaw (Some (commands.Bundles command)) input status before now = Unit {0}

@@ -21,6 +21,9 @@ pub enum Passed {
     /// This line sets the clock of `world` past 2^62 - 1 ms, or with it the datagrams have more than
     /// 268,435,456 octets.
     World { line: u64 },
+    /// The script of `make` leaves more than 268,435,456 octets of datagrams, or its drain sets the
+    /// clock past 2^62 - 1 ms.
+    Made,
 }
 
 /// How a run ended, and which limit it passed. That one is named if and only if the status is

@@ -2,11 +2,15 @@
 ghost use Rattle.std.specs.Prelude.{◌≡◌, ◌↔◌, ◌-◌, ◌<◌, ◌^◌, None, is_some, IfSome};
 ghost use Rattle.edge_traits.specs.Outcome.{Ran, source_tells, sink_tells};
 ghost use Rattle.gateway_run.specs.ServeWords.{serve_of};
+ghost use Rattle.gateway_run.specs.MakeWords.{make_of};
+ghost use Rattle.make_run.specs.Making.{answer_of};
+ghost use Rattle.make_run.specs.Runs.{RanMade};
 ghost use Rattle.serve_run.specs.Serve.{serve_turns};
 ghost use Rattle.serve_run.specs.Tells.{RanTurns, links_tell};
 ghost use Rattle.gateway_run.specs.Words.{command_of, is_limit, settles, CompletesCommand, KeepsLaw, IsSound};
 
 use crate::commands::command::{Command, command_named};
+use crate::commands::making::{make_named, run_make};
 use crate::commands::passed::{
     Ended, Passed, ended_with, passed_by_node, passed_by_receive, passed_by_world,
 };
@@ -38,7 +42,7 @@ pub fn run<S: Source, K: Sink, L: Link, C: Clock>(
     requires sink { K.faults sink.old < 2 ^ 64 - 1 }
 
     // Words that name no command are answered as such, and nothing is read or written.
-    ensures usage { (result ≡ Status.Usage) ↔ ((command_of words.now ≡ None) × (serve_of words.now ≡ None)) }
+    ensures usage { (result ≡ Status.Usage) ↔ ((command_of words.now ≡ None) × (serve_of words.now ≡ None) × (make_of words.now ≡ None)) }
     ensures untouched { result ≡ Status.Usage → (source.new ≡ source.old) × (sink.new ≡ sink.old) }
 
     // What is written, how the run ends, and how its reads and writes went, by what the octets of
@@ -55,7 +59,8 @@ pub fn run<S: Source, K: Sink, L: Link, C: Clock>(
     // or a limit is passed. `node` answers the events that its lines say, whose red parts keep the
     // same law (`node_run::laws`). `world` answers the events of its script, and each of its `up` lines
     // is a block that came whole, as it was sent, and once: at either end a piece of what becomes of one
-    // bundle that the other end sent, or a report on one that it sent itself.
+    // bundle that the other end sent, or a report on one that it sent itself. From a path that is hopeful
+    // and has room a last line `drain` completes the sessions, in no more events than they cost.
     ensures red_parts { IfSome (S.left source.old) (λ input.
         KeepsLaw (command_of words.now) input result (K.held sink.old) (K.held sink.new)) }
 
@@ -69,6 +74,11 @@ pub fn run<S: Source, K: Sink, L: Link, C: Clock>(
     ensures old_link { serve_of words.now ≡ None → old_link.new ≡ old_link.old }
     ensures new_link { serve_of words.now ≡ None → new_link.new ≡ new_link.old }
     ensures clock { serve_of words.now ≡ None → clock.new ≡ clock.old }
+
+    // `make` writes its line, or a front of it where that failed, and reads nothing.
+    ensures made { IfSome (make_of words.now) (λ m. RanMade (answer_of m.seed m.count) result
+        (sink_tells K.held K.faults K.failing sink.old) (sink_tells K.held K.faults K.failing sink.new)) }
+    ensures unread_too { IfSome (make_of words.now) (λ m. source.new ≡ source.old) }
 {
     worlds_keep_headline();
     run_told(alloc, words, source, sink, old_link, new_link, clock).status
@@ -85,7 +95,7 @@ pub fn run_told<S: Source, K: Sink, L: Link, C: Clock>(
     new_link: &mut L,
     clock: &mut C,
 ) -> Ended
-    ensures usage { (result.status ≡ Status.Usage) ↔ ((command_of words.now ≡ None) × (serve_of words.now ≡ None)) }
+    ensures usage { (result.status ≡ Status.Usage) ↔ ((command_of words.now ≡ None) × (serve_of words.now ≡ None) × (make_of words.now ≡ None)) }
     ensures untouched { result.status ≡ Status.Usage → (source.new ≡ source.old) × (sink.new ≡ sink.old) }
     ensures ran { IfSome (command_of words.now) (λ command. Ran (settles command) result.status
         (source_tells S.left S.faults S.failing source.old) (source_tells S.left S.faults S.failing source.new)
@@ -104,9 +114,41 @@ pub fn run_told<S: Source, K: Sink, L: Link, C: Clock>(
     ensures old_link { serve_of words.now ≡ None → old_link.new ≡ old_link.old }
     ensures new_link { serve_of words.now ≡ None → new_link.new ≡ new_link.old }
     ensures clock { serve_of words.now ≡ None → clock.new ≡ clock.old }
+
+    // `make` writes its line, or a front of it where that failed, and reads nothing.
+    ensures made { IfSome (make_of words.now) (λ m. RanMade (answer_of m.seed m.count) result.status
+        (sink_tells K.held K.faults K.failing sink.old) (sink_tells K.held K.faults K.failing sink.new)) }
+    ensures unread_too { IfSome (make_of words.now) (λ m. source.new ≡ source.old) }
 {
     match command_named(words) {
         Some(command) => run_command(alloc, command, source, sink),
+        None => run_unread(alloc, words, sink, old_link, new_link, clock),
+    }
+}
+
+/// Runs a command that reads nothing.
+fn run_unread<K: Sink, L: Link, C: Clock>(
+    alloc: Global,
+    words: &[Word],
+    sink: &mut K,
+    old_link: &mut L,
+    new_link: &mut L,
+    clock: &mut C,
+) -> Ended
+    ensures usage { (result.status ≡ Status.Usage) ↔ ((serve_of words.now ≡ None) × (make_of words.now ≡ None)) }
+    ensures untouched { result.status ≡ Status.Usage → sink.new ≡ sink.old }
+    ensures links { serve_of words.now ≡ None
+        → (old_link.new ≡ old_link.old) × (new_link.new ≡ new_link.old) × (clock.new ≡ clock.old) }
+    ensures served { IfSome (serve_of words.now) (λ s. RanTurns (serve_turns s.gate s.count) result.status
+        (links_tell L.coming L.gone L.failing L.faults old_link.old new_link.old (C.readings clock.old))
+        (links_tell L.coming L.gone L.failing L.faults old_link.new new_link.new (C.readings clock.new))
+        (sink_tells K.held K.faults K.failing sink.old) (sink_tells K.held K.faults K.failing sink.new)) }
+    ensures made { IfSome (make_of words.now) (λ m. RanMade (answer_of m.seed m.count) result.status
+        (sink_tells K.held K.faults K.failing sink.old) (sink_tells K.held K.faults K.failing sink.new)) }
+    ensures passed { is_some result.passed ≡ is_limit result.status }
+{
+    match make_named(words) {
+        Some(asked) => run_make(alloc, asked, sink),
         None => run_serve(alloc, words, sink, old_link, new_link, clock),
     }
 }

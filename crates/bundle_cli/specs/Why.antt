@@ -2,7 +2,7 @@
 use Rattle.std.specs.Prelude.{Bool, true, false, not, ℕ, List, ◌++◌, codes}
 use Rattle.std.specs.Fmt.{decimal}
 use Rattle.gateway_run.specs.declared.commands.passed.Passed.{Passed}
-use Rattle.gateway_run.specs.declared.commands.passed.Passed.TheVariants.{Size, Lines, LineLength, Sessions, Clock, World}
+use Rattle.gateway_run.specs.declared.commands.passed.Passed.TheVariants.{Size, Lines, LineLength, Sessions, Clock, World, Made}
 use Rattle.edge_traits.specs.declared.status.Status.{Status}
 use Rattle.edge_traits.specs.declared.status.Status.TheVariants.{Done, Refused, Usage, ReadFault, WriteFault, Limit, Memory}
 
@@ -26,3 +26,5 @@ limit_text (Clock line) = codes "fimdahol: line " ++ (decimal line ++ codes " se
 limit_text (World line) =
     codes "fimdahol: line "
     ++ (decimal line ++ codes " sets the clock past 4611686018427387903, or leaves more than 268435456 octets of datagrams\n")
+limit_text Made =
+    codes "fimdahol: the script sets the clock past 4611686018427387903, or leaves more than 268435456 octets of datagrams\n"

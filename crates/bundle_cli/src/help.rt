@@ -14,6 +14,7 @@ usage: fimdahol receive < DATAGRAMS      hands up the red parts of recorded LTP 
        fimdahol join < BUNDLES           puts recorded pieces together
        fimdahol node OWN PEER < EVENTS   is one end of an LTP link, by the numbers of two engines
        fimdahol world < SCRIPT           replays a script on an old node, the gateway and a new node
+       fimdahol make SEED COUNT          makes such a script, replays it, and sums what is written
        fimdahol serve GATE OLD_BIND OLD_PEER NEW_BIND NEW_PEER TURNS
                                          is a gateway between two UDP sockets
        fimdahol --help | --version
@@ -52,13 +53,20 @@ clock MS (time passes), and writes what the engine does
 world reads a script of a path between an old node and a new one, and writes what happens there,
 at o, g.o, g.n and n: the old node, the gateway's two sides, and the new node. Its first line is
 path GATE SEGMENT TIMEOUT LIMIT CUT START [CAP]; then send old HEX or send new HEX (a node sends a
-bundle), deliver K (datagram K comes to where it was sent, again or at last) or clock MS
+bundle), deliver K (datagram K comes to where it was sent, again or at last) or clock MS; and as
+the last one, where there is one, drain: from there on nothing is lost, until nothing is left to do
   sent K ROUTE HEX               datagram K was sent: o>g, g>o, g>n or n>g
   up PLACE SESSION HEX           a block came whole, in this session
   join PLACE WORD, join PLACE Whole HEX        a node has a piece more, or the whole
   note PLACE NAME ..             as of serve and node
   refused PLACE CAUSE, refused deliver         nothing is sent, or there is no such datagram
+  end EVENTS                     the drain is over, after so many deliveries and clocks
   refused line LINE CAUSE        last, where a line is no event
+
+make reads nothing. It makes a script of COUNT bundles, 1 to 1000, out of SEED, with a drain at its
+end, and writes
+  made COUNT sent DATAGRAMS up BLOCKS events EVENTS sum SUM      the blocks that came whole at the
+                                 two nodes, the events of the drain, and the transcript's sum
 
 serve stands between a node of BPv6, at the old link, and one of BPv7, at the new link; GATE is its
 own endpoint, for example ipn:9.0. Each link is a UDP socket at an address of its own (BIND) with
@@ -76,8 +84,8 @@ at g.n of the new
   note old Send, note new Send   a datagram couldn't be sent on a link, and is lost
 
 limits: 67108864 octets of input; of receive, node and world 1000000 lines and 9000000 octets a
-        line; of receive 64 unfinished sessions; of node and world a clock of 4611686018427387903
-        ms; of world 268435456 octets of datagrams
+        line; of receive 64 unfinished sessions; of node, world and make a clock of
+        4611686018427387903 ms; of world and make 268435456 octets of datagrams
 
 status: 0 done, 1 the input was refused, 2 wrong usage, 3 a read failed, 4 a write failed,
         5 an address can't be used, 6 the input passes a limit, 7 memory ran out; standard error

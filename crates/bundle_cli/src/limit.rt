@@ -35,6 +35,12 @@ pub fn limit_line(alloc: Global, passed: Passed) -> Result<String, AllocError>
                 "fimdahol: line {line} sets the clock past 4611686018427387903, or leaves more than 268435456 octets of datagrams\n"
             )?;
         }
+        Passed::Made => {
+            write!(
+                text,
+                "fimdahol: the script sets the clock past 4611686018427387903, or leaves more than 268435456 octets of datagrams\n"
+            )?;
+        }
     }
     Ok(text)
 }

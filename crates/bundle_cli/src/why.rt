@@ -40,6 +40,9 @@ fn usage(words: &[Word]) -> &'static str {
         [word, ..] if word.octets() == b"node".as_slice() => {
             "fimdahol: node wants two different numbers, from 1 to 4294967295: fimdahol node OWN PEER < EVENTS\n"
         }
+        [word, ..] if word.octets() == b"make".as_slice() => {
+            "fimdahol: make wants a seed below 18446744073709551616 and a count from 1 to 1000: fimdahol make SEED COUNT\n"
+        }
         [word, ..] if word.octets() == b"serve".as_slice() => {
             "fimdahol: serve wants a name, four addresses and 1 to 1000000000 turns: fimdahol serve GATE OLD_BIND OLD_PEER NEW_BIND NEW_PEER TURNS\n"
         }

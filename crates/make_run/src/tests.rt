@@ -7,7 +7,10 @@ use std::test::Fail;
 /// How many bundles are sent with the seed 7, and the line.
 const LINES: &[(u64, &str)] = &[
     (12, "made 12 sent 524 up 14 events 168 sum 3945896668\n"),
-    (100, "made 100 sent 13287 up 125 events 1744 sum 751211969\n"),
+    (
+        100,
+        "made 100 sent 13287 up 125 events 1744 sum 751211969\n",
+    ),
 ];
 
 #[test]

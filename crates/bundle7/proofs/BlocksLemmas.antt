@@ -16,11 +16,11 @@ answered earlier b to = Ok ((earlier, b), to)
 
 module _ (part : Option Fragment) (text : List ℕ) where
   -- what follows a block that was read
-  after_it : ℕ → List Block7 → Block7 × ℕ → Result ((List Block7 × Block7) × ℕ) (ℕ × Stop Cause7)
+  pub after_it : ℕ → List Block7 → Block7 × ℕ → Result ((List Block7 × Block7) × ℕ) (ℕ × Stop Cause7)
   after_it left earlier x =
       read (choice (x.0.kind == 1) (give (earlier, x.0)) (blocks part left (earlier ++ x.0 ∷ []))) text x.1
 
-  one_of : (n i : ℕ) (earlier : List Block7) (at : ℕ) → i < n
+  pub one_of : (n i : ℕ) (earlier : List Block7) (at : ℕ) → i < n
       → read (blocks part (n - i) earlier) text at ≡ go_on (read (block part (n - i) (seen_of earlier)) text at) (after_it (n - (i + 1)) earlier)
   unfolding blocks after_it
   one_of n i earlier at h =

@@ -1,4 +1,5 @@
 pub mod CheckLemmas
+pub mod KnownLemmas
 pub mod BlocksLemmas
 pub mod CallLemmas
 pub mod WritingLemmas

@@ -8,7 +8,7 @@ use Rattle.wire_fields.specs.Reading.{read, IsOctets}
 use Rattle.wire_fields.specs.Gives.{Fails, Judges}
 use Rattle.wire_fields.proofs.ResultLemmas.{found, found_is, stopped, stopped_is}
 use Rattle.wire_fields.proofs.ReadLemmas.{read-refused}
-use Rattle.wire_fields.proofs.StayLemmas.{begins-read, read-begins, begins-within, refusal-within, octets-front}
+use Rattle.wire_fields.proofs.StayLemmas.{begins-read, read-begins, begins-within, refusal-within}
 use Rattle.wire_fields.proofs.ContinueLemmas.{found-longer}
 use Rattle.bundle7.specs.declared.fault.Cause7.{Cause7}
 use Rattle.bundle7.specs.declared.fault.Cause7.TheVariants as causes
@@ -365,26 +365,14 @@ module _ (longest : ℕ) (old : Stream) (piece part : List ℕ) (cut : Bool) (sm
         named = spread.named;
       })
 
-nothing-long : (xs : List ℕ) → length xs ≡ 0 → xs ≡ []
-nothing-long [] none = refl
-nothing-long (x ∷ xs) none = absurd (omega (arith, none))
-
-octets-near : (longest : ℕ) (old : Stream) (piece : List ℕ) → IsOctets piece → IsOctets (near longest old piece)
-octets-near longest old piece fits =
-    let room = longest - length old.kept in
-    octets-front (take room piece) (drop room piece) (subst IsOctets (sym (take-append-drop room piece)) fits)
-
--- a bundle lies in a piece, and nothing was kept before
-pub feeds-at_once : (longest : ℕ) (old : Stream) (piece part : List ℕ) (b : Bundle7) (k : ℕ) (after : Stream)
-    → length old.kept ≤ longest → part ≡ near longest old piece → length old.kept ≡ 0 → IsOctets piece → k ≤ length part
-    → read (bundle 64) part 0 ≡ found b k → after ≡ stream (old.before + k) [] → Takes longest old piece k (Some b) after
-feeds-at_once longest old piece part b k after small is none fits within reads stands =
-    let octets : IsOctets part = subst IsOctets (sym is) (octets-near longest old piece fits) in
-    let whole : IsWhole (old.kept ++ part) b k =
-    subst (λ t. IsWhole (t ++ part) b k) (sym (nothing-long old.kept none)) (whole-text part b k octets within reads) in
-    let size : k - length old.kept ≡ k = omega (arith, none) in
-    subst (λ n. Takes longest old piece n (Some b) after) size
-    (takes-whole longest old piece part (ltb (length part) (length piece)) small is refl b k after whole (omega (arith, none)) stands)
+-- a text that was passed over, and has a bundle, reads as that
+pub ended-right : (old new : Held) (part : List ℕ) (k : ℕ) (text : List ℕ) → HasEnded old part k new
+    → text ≡ text_of new.kept.items part → IsOk (read (bundle 64) text 0)
+ended-right old new part k text ended same =
+    let parts = old.kept.items ++ part in
+    let reads : read (bundle 64) text 0 ≡ found ended.bundle k =
+    ap (λ t. read (bundle 64) t 0) (same ∙ ended.text ∙ sym (append-nil parts)) ∙ ended.whole.reads [] in
+    rw reads refl
 
 -- a bundle that is whole wants memory to be built
 pub feeds-memory : (longest : ℕ) (old : Stream) (piece part : List ℕ) (b : Bundle7) (k : ℕ) (new : Stream)

@@ -11,6 +11,7 @@ pub mod Streaming
 pub mod Cutting
 -- What follows only ties code to the definitions.
 pub mod Lent
+pub mod Known
 pub mod Seen
 pub mod Judging
 pub mod Passing

@@ -6,9 +6,10 @@ ghost use Rattle.wire_fields.specs.Gives.{Gives, IsOn};
 ghost use Rattle.bundle7.specs.Cause.{refused};
 ghost use Rattle.bundle7.specs.Table.{is_single, is_number, is_within, block_items, kind_field, number_field, size_field, body_field, lead, block};
 ghost use Rattle.bundle7.specs.Lent.{block_of};
+ghost use Rattle.bundle7.specs.Known.{Knows};
 
 use crate::body::{BUNDLE_AGE, HOP_COUNT, PREVIOUS_NODE, is_body};
-use crate::check::crc_at;
+use crate::check::{Checks, crc_at};
 use crate::fault::{Cause7, Refused7};
 use crate::fields::{item, octets, unsigned};
 use crate::primary::crc_type_at;
@@ -136,8 +137,10 @@ pub(crate) fn block_at<'a>(
     fragment: Option<Fragment>,
     left: u64,
     earlier: &Seen,
+    checks: Checks,
 ) -> Result<(LentBlock<'a>, usize), Refused7>
-    requires { at ≤ length text.now }
+    requires place { at ≤ length text.now }
+    requires knows { Knows checks (read (block fragment left earlier.now) text.now at) }
     ensures within { IfOk result (λ x. IsOn at text.now x.1) }
     ensures exact { Gives block_of refused result (read (block fragment left earlier.now) text.now at) }
 {
@@ -145,7 +148,7 @@ pub(crate) fn block_at<'a>(
     let (lead, at) = lead_at(text, at, left, earlier)?;
     let (size, at) = size_at(text, at, fragment, lead.kind)?;
     let (body, at) = body_at(text, at, lead.kind, size)?;
-    let (_, at) = crc_at(text, at, lead.crc, start)?;
+    let (_, at) = crc_at(text, at, lead.crc, start, checks)?;
     Ok((LentBlock { lead, body }, at))
 }
 

@@ -1,26 +1,71 @@
 //! The check of a block (RFC 9171, section 4.2.1).
 
-ghost use Rattle.std.specs.Prelude.{◌≡◌, ◌≤◌, ◌==◌, ℕ, List, length, false, IfOk};
+ghost use Rattle.std.specs.Prelude.{◌≡◌, ◌≤◌, ◌==◌, ℕ, List, length, false, IfOk, IsOk};
 ghost use Rattle.wire_fields.specs.Reading.{read};
 ghost use Rattle.wire_fields.specs.Gives.{Gives, IsOn};
 ghost use Rattle.bundle7.specs.Cause.{refused};
 ghost use Rattle.bundle7.specs.Check.{check16, check32, exact_octets, crc_field};
 ghost use Rattle.bundle7.specs.Passing.{between, Sums};
+ghost use Rattle.bundle7.specs.Known.{Knows};
 
 use crate::fault::{Cause7, Refused7};
 use crate::fields::{exactly, octets};
 use crc_fields::{Register16, Register32};
 use wire_fields::BYTE_STRING;
 
+/// What is known of the checks in some octets before they are read.
+#[derive(Clone, Copy)]
+pub(crate) enum Checks {
+    /// Nothing: each is computed and compared.
+    Untested,
+    /// That they are right, since the octets were judged: none is computed again.
+    Right,
+}
+
 /// The check of this type at the end of the block that begins at `start`; nothing for type 0.
-pub(crate) fn crc_at(text: &[u8], at: usize, crc: u8, start: usize) -> Result<((), usize), Refused7>
+pub(crate) fn crc_at(
+    text: &[u8],
+    at: usize,
+    crc: u8,
+    start: usize,
+    checks: Checks,
+) -> Result<((), usize), Refused7>
     requires place { at ≤ length text.now }
     requires order { start ≤ at }
+    requires knows { Knows checks (read (crc_field crc start) text.now at) }
     ensures within { IfOk result (λ x. IsOn at text.now x.1) }
     ensures exact { Gives (λ _. tt) refused result (read (crc_field crc start) text.now at) }
 {
-    let sum = Sum::new(crc, start).up_to(text, at);
-    check_at(text, sum)
+    match checks {
+        Checks::Untested => {
+            let sum = Sum::new(crc, start).up_to(text, at);
+            check_at(text, sum)
+        }
+        Checks::Right => right_at(text, at, crc, start),
+    }
+}
+
+/// The same of a check that is known to be right: its octets are passed over.
+#[tactic(auto, unfolding(crate::specs::Check::crc_field))]
+fn right_at(text: &[u8], at: usize, crc: u8, start: usize) -> Result<((), usize), Refused7>
+    requires place { at ≤ length text.now }
+    requires right { IsOk (read (crc_field crc start) text.now at) }
+    ensures within { IfOk result (λ x. IsOn at text.now x.1) }
+    ensures exact { Gives (λ _. tt) refused result (read (crc_field crc start) text.now at) }
+{
+    match crc {
+        0 => Ok(((), at)),
+        1 => {
+            let (_, at) = exactly(text, at, BYTE_STRING, 2, Cause7::Crc)?;
+            let (_, at) = octets(text, at, 2, Cause7::Crc)?;
+            Ok(((), at))
+        }
+        _ => {
+            let (_, at) = exactly(text, at, BYTE_STRING, 4, Cause7::Crc)?;
+            let (_, at) = octets(text, at, 4, Cause7::Crc)?;
+            Ok(((), at))
+        }
+    }
 }
 
 /// The octets of a check, which are these.

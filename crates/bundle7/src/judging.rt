@@ -11,6 +11,7 @@ ghost use Rattle.bundle7.specs.Table.{blocks, bundle};
 ghost use Rattle.bundle7.specs.Legal.{Spells7, Refusal7};
 
 use crate::block::{PAYLOAD, block_at};
+use crate::check::Checks;
 use crate::fault::{Cause7, Refused7};
 use crate::fields::mark;
 use crate::primary::primary_at;
@@ -52,7 +53,7 @@ pub(crate) fn bundle_judged(text: &[u8], at: usize, most: u64) -> Result<usize, 
     ensures exact { Judges stop_of result (read (bundle most) text.now at) }
 {
     let (_, at) = mark(text, at, OPEN, Cause7::Start)?;
-    let (primary, at) = primary_at(text, at)?;
+    let (primary, at) = primary_at(text, at, Checks::Untested)?;
     let at = blocks_judged(text, at, primary.fragment, most)?;
     let (_, end) = mark(text, at, BREAK, Cause7::Break)?;
     Ok(end)
@@ -74,13 +75,13 @@ fn blocks_judged(
     let mut seen = Seen::none();
     let mut next = at;
     'extensions: for i in 0..most {
-        let (block, after) = block_at(text, next, fragment, most - i, &seen)?;
+        let (block, after) = block_at(text, next, fragment, most - i, &seen, Checks::Untested)?;
         next = after;
         if block.lead.kind == PAYLOAD {
             return Ok(next);
         }
         seen.push(block.lead.kind, block.lead.number);
     }
-    let (_, end) = block_at(text, next, fragment, 0, &seen)?;
+    let (_, end) = block_at(text, next, fragment, 0, &seen, Checks::Untested)?;
     Ok(end)
 }

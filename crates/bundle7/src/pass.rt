@@ -9,7 +9,7 @@ ghost use Rattle.bundle7.specs.Judging.{judged_start, judged_front};
 ghost use Rattle.bundle7.specs.Passing.{IsFresh, Fits, Stands, Steps, Comes, steps_left};
 
 use crate::block::{Lead, PAYLOAD, body_at, lead_at, size_at};
-use crate::check::{Sum, check_at};
+use crate::check::{Checks, Sum, check_at};
 use crate::fault::{Cause7, Refused7};
 use crate::fields::mark;
 use crate::primary::primary_at;
@@ -232,7 +232,7 @@ pub fn start_judged(text: &[u8], at: usize) -> Result<(Option<Fragment>, usize),
     ensures exact { Gives (λ part. part) refused result (read judged_start text.now at) }
 {
     let (_, at) = mark(text, at, OPEN, Cause7::Start)?;
-    let (primary, at) = primary_at(text, at)?;
+    let (primary, at) = primary_at(text, at, Checks::Untested)?;
     Ok((primary.fragment, at))
 }
 

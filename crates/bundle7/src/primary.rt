@@ -7,8 +7,9 @@ ghost use Rattle.wire_fields.specs.Gives.{Gives, IsOn};
 ghost use Rattle.bundle7.specs.Cause.{refused};
 ghost use Rattle.bundle7.specs.Table.{is_fragment, main_items, crc_type_field, opening, names, creation, fragment, primary};
 ghost use Rattle.bundle7.specs.Lent.{names_of, primary_of};
+ghost use Rattle.bundle7.specs.Known.{Knows};
 
-use crate::check::crc_at;
+use crate::check::{Checks, crc_at};
 use crate::eid::{LentEndpoint, eid_at};
 use crate::fault::{Cause7, Refused7};
 use crate::fields::{exactly, item, unsigned};
@@ -101,8 +102,13 @@ impl LentPrimary<'_> {
 
 /// The primary block.
 #[tactic(auto, unfolding(crate::specs::Table::primary))]
-pub(crate) fn primary_at(text: &[u8], at: usize) -> Result<(LentPrimary<'_>, usize), Refused7>
-    requires { at ≤ length text.now }
+pub(crate) fn primary_at(
+    text: &[u8],
+    at: usize,
+    checks: Checks,
+) -> Result<(LentPrimary<'_>, usize), Refused7>
+    requires place { at ≤ length text.now }
+    requires knows { Knows checks (read primary text.now at) }
     ensures within { IfOk result (λ x. IsOn at text.now x.1) }
     ensures exact { Gives primary_of refused result (read primary text.now at) }
 {
@@ -112,7 +118,7 @@ pub(crate) fn primary_at(text: &[u8], at: usize) -> Result<(LentPrimary<'_>, usi
     let (creation, at) = creation_at(text, at)?;
     let (lifetime, at) = unsigned(text, at, Cause7::Number)?;
     let (fragment, at) = optional_fragment_at(text, at, opening.flags)?;
-    let (_, at) = crc_at(text, at, opening.crc, start)?;
+    let (_, at) = crc_at(text, at, opening.crc, start, checks)?;
     let primary = LentPrimary {
         opening,
         names,

@@ -7,6 +7,7 @@ ghost use Rattle.bundle7.specs.Streaming.{near, Feeds, JudgesPiece, Finishes, Re
 ghost use Rattle.bundle7.specs.Holding.{IsHeld, stream_of, text_of, Gains, PassesOver, Ends};
 
 use crate::bundle::Bundle7;
+use crate::check::Checks;
 use crate::fault::{Cause7, Fail7, Refused7};
 use crate::pass::Pass;
 use crate::reading::bundle_at;
@@ -49,8 +50,8 @@ pub(crate) struct Held {
 ///
 /// How the stream is cut into pieces makes no difference, and judging a piece costs what its octets
 /// cost: no body is looked at before it is whole, none is looked at twice, and a block is summed for its
-/// check as its octets come. [`Reader7::feed`] besides decodes a bundle when it is whole. Places count
-/// from the first octet that was taken.
+/// check once, as its octets come. [`Reader7::feed`] besides builds a bundle when it is whole, and sums
+/// none of its blocks again. Places count from the first octet that was taken.
 #[derive(Drop)]
 pub struct Reader7 {
     held: Held,
@@ -190,34 +191,9 @@ impl Held {
         }
     }
 
-    /// Takes a piece; with it the unfinished bundle may have so many octets. A bundle that lies in the
-    /// piece as a whole is read there at once.
+    /// Takes a piece; with it the unfinished bundle may have so many octets. A bundle is judged as its
+    /// octets come, and built once it is whole.
     fn feed(&mut self, alloc: Global, piece: &[u8], longest: usize) -> Result<Fed7, Fail7>
-        requires held { IsHeld self.old }
-        requires small { length self.old.kept.items ≤ longest }
-        requires counted { self.old.before + length self.old.kept.items + length piece.now
-            < 2 ^ 64 }
-        ensures held { IsHeld self.new }
-        ensures small { length self.new.kept.items ≤ longest }
-        ensures feeds { Feeds longest (stream_of self.old) piece.now result (stream_of self.new) }
-        ensures kept { OnErr result (stream_of self.new ≡ stream_of self.old) }
-    {
-        let near = self.near(piece, longest);
-        let held = self.kept.as_slice().len();
-        if held == 0 {
-            if let Ok((bundle, end)) = bundle_at(alloc, near, 0, MOST_EXTENSIONS) {
-                self.close(end);
-                return Ok(Fed7 {
-                    used: end,
-                    bundle: Some(bundle),
-                });
-            }
-        }
-        self.feed_judged(alloc, piece, longest)
-    }
-
-    /// The same; a bundle is judged before it is read.
-    fn feed_judged(&mut self, alloc: Global, piece: &[u8], longest: usize) -> Result<Fed7, Fail7>
         requires held { IsHeld self.old }
         requires small { length self.old.kept.items ≤ longest }
         requires counted { self.old.before + length self.old.kept.items + length piece.now
@@ -235,7 +211,7 @@ impl Held {
                 bundle: None,
             });
         };
-        match bundle_at(alloc, self.text(near), 0, MOST_EXTENSIONS) {
+        match bundle_at(alloc, self.text(near), 0, MOST_EXTENSIONS, Checks::Right) {
             Ok((bundle, _)) => {
                 self.close(end);
                 Ok(Fed7 {

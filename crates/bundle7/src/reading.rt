@@ -9,9 +9,11 @@ ghost use Rattle.bundle7.specs.declared.bundle.Bundle7.{Bundle7};
 ghost use Rattle.bundle7.specs.Cause.{refusal};
 ghost use Rattle.bundle7.specs.Table.{blocks, bundle};
 ghost use Rattle.bundle7.specs.Legal.{IsLegal7, Spells7, Refusal7};
+ghost use Rattle.bundle7.specs.Known.{Knows};
 
 use crate::block::{Block7, Blocks7, PAYLOAD, block_at};
 use crate::bundle::Bundle7;
+use crate::check::Checks;
 use crate::fault::{Cause7, Fail7};
 use crate::fields::mark;
 use crate::judging::bundle_judged;
@@ -67,7 +69,7 @@ fn decoded(alloc: Global, text: &[u8], at: usize, most: u64) -> Result<(Bundle7,
     ensures exact { Gives (λ b. b) refusal result (read (bundle most) text.now at) }
     ensures wants { WantsOnlySpelled refusal result (read (bundle most) text.now at) }
 {
-    match bundle_at(alloc, text, at, most) {
+    match bundle_at(alloc, text, at, most, Checks::Untested) {
         Err(Fail7::Memory) => {
             bundle_judged(text, at, most)?;
             Err(Fail7::Memory)
@@ -83,15 +85,17 @@ pub(crate) fn bundle_at(
     text: &[u8],
     at: usize,
     most: u64,
+    checks: Checks,
 ) -> Result<(Bundle7, usize), Fail7>
     requires place { at ≤ length text.now }
     requires few { most ≤ 64 }
+    requires knows { Knows checks (read (bundle most) text.now at) }
     ensures within { IfOk result (λ x. IsOn at text.now x.1) }
     ensures exact { Gives (λ b. b) refusal result (read (bundle most) text.now at) }
 {
     let (_, at) = mark(text, at, OPEN, Cause7::Start)?;
-    let (primary, at) = primary_at(text, at)?;
-    let ((exts, payload), at) = blocks_at(alloc, text, at, primary.fragment, most)?;
+    let (primary, at) = primary_at(text, at, checks)?;
+    let ((exts, payload), at) = blocks_at(alloc, text, at, primary.fragment, most, checks)?;
     let (_, at) = mark(text, at, BREAK, Cause7::Break)?;
     let bundle = Bundle7 {
         primary: primary.owned(alloc)?,
@@ -108,9 +112,11 @@ fn blocks_at(
     at: usize,
     fragment: Option<Fragment>,
     most: u64,
+    checks: Checks,
 ) -> Result<((Vec<Block7>, Block7), usize), Fail7>
     requires place { at ≤ length text.now }
     requires few { most ≤ 64 }
+    requires knows { Knows checks (read (blocks fragment most []) text.now at) }
     ensures within { IfOk result (λ x. IsOn at text.now x.1) }
     ensures exact { Gives (λ b. (b.0.items, b.1)) refusal result (read (blocks fragment most []) text.now at) }
 {
@@ -118,7 +124,7 @@ fn blocks_at(
     let mut seen = Seen::none();
     let mut next = at;
     'extensions: for i in 0..most {
-        let (lent, after) = block_at(text, next, fragment, most - i, &seen)?;
+        let (lent, after) = block_at(text, next, fragment, most - i, &seen, checks)?;
         let block = lent.owned(alloc)?;
         next = after;
         if block.kind == PAYLOAD {
@@ -127,6 +133,6 @@ fn blocks_at(
         seen.push(block.kind, block.number);
         exts.push(block)?;
     }
-    let (lent, end) = block_at(text, next, fragment, 0, &seen)?;
+    let (lent, end) = block_at(text, next, fragment, 0, &seen, checks)?;
     Ok(((exts, lent.owned(alloc)?), end))
 }

@@ -9,7 +9,20 @@ use Rattle.bundle7.specs.declared.seen.Seen.{Seen}
 use Rattle.bundle7.specs.Seen.{seen_with}
 use Rattle.bundle7.proofs.JudgingLemmas.{seen-more}
 use Rattle.bundle7.proofs.BlocksLemmas.{blocks-step, blocks-last, blocks-fails, blocks-end, blocks-none}
+use Rattle.bundle7.proofs.KnownLemmas.{knows-next, knows-last}
 use Rattle.bundle7.proofs.reading.blocks_at.Goals as goal
+
+pub block_at-requires-clause-knows : goal.block_at-requires-clause-knows
+block_at-requires-clause-knows c =
+    knows-next c.args.checks c.args.fragment c.args.text.now c.args.most c.extensions.i c.extensions.exts.items c.extensions.seen c.extensions.next
+    (read (blocks c.args.fragment c.args.most []) c.args.text.now c.args.at) c.extensions-test.true c.extensions.invariant.shows
+    c.extensions.invariant.rest c.requires.knows
+
+pub block_at-requires-2-clause-knows : goal.block_at-requires-2-clause-knows
+block_at-requires-2-clause-knows c =
+    knows-last c.args.checks c.args.fragment c.args.text.now c.args.most c.extensions.i c.extensions.exts.items c.extensions.seen c.extensions.next
+    (read (blocks c.args.fragment c.args.most []) c.args.text.now c.args.at) c.extensions-test.false c.extensions.invariant.shows
+    c.extensions.invariant.rest c.requires.knows
 
 pub returns-in_err-lent-clause-exact : goal.returns-in_err-lent-clause-exact
 returns-in_err-lent-clause-exact c =

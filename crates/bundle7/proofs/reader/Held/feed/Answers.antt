@@ -1,12 +1,28 @@
--- The bundle lies in the piece.
-use Rattle.std.proofs.Common.{◌≡◌, length, arith}
-use Rattle.bundle7.specs.Holding.{stream_of}
-use Rattle.bundle7.proofs.ReaderLemmas.{feeds-at_once}
+-- The bundle ended, and is built.
+use Rattle.std.proofs.Common.{refl}
+use Rattle.bundle7.proofs.ReaderLemmas.{held-again, feeds-built, feeds-unbuilt, ended-right}
 use Rattle.bundle7.proofs.reader.Held.feed.Goals as goal
+
+pub bundle_at-requires-clause-knows : goal.bundle_at-requires-clause-knows
+bundle_at-requires-clause-knows c =
+    ended-right c.args.self.now c.pass_over.new.self c.near-near.result.now c.in-Some.end c.text.result.now
+    (rw c.in-Some.is at c.in_ok-end.ensures) c.text.ensures
 
 pub returns-in-Ok-clause-feeds : goal.returns-in-Ok-clause-feeds
 returns-in-Ok-clause-feeds c =
-    let none : length c.args.self.now.kept.items ≡ 0 = rw c.as_slice-held.ensures.value at c.if-held-eq0.true in
-    feeds-at_once c.args.longest (stream_of c.args.self.now) c.args.piece.now c.near-near.result.now c.in-Ok.bundle c.in-Ok.end _
-    c.requires.small c.near-near.ensures none (λ i. omega (arith, c.type_inv.piece i))
-    c.in-Ok.ensures.within.within c.in-Ok.ensures.exact c.close.ensures.closed
+    rw c.as_slice-held.ensures.value
+    (feeds-built c.args.longest c.args.self.now c.pass_over.new.self c.args.piece.now c.near-near.result.now _ c.requires.small
+    c.near-near.ensures refl c.in-Some.end _ c.in-Ok.bundle c.text.result.now _ (rw c.in-Some.is at c.in_ok-end.ensures)
+    c.text.ensures c.in-Ok.ensures.exact c.close.ensures.closed)
+
+pub returns-in-Err-clause-feeds : goal.returns-in-Err-clause-feeds
+returns-in-Err-clause-feeds c =
+    feeds-unbuilt c.args.longest c.args.self.now c.pass_over.new.self c.args.piece.now c.near-near.result.now _ c.requires.small
+    c.near-near.ensures refl c.in-Some.end c.in-Err.fail c.text.result.now _ (rw c.in-Some.is at c.in_ok-end.ensures)
+    c.text.ensures c.in-Err.ensures.exact
+
+pub returns-in-Err-clause-held : goal.returns-in-Err-clause-held
+returns-in-Err-clause-held c =
+    let ended = rw c.in-Some.is at c.in_ok-end.ensures in
+    held-again c.args.self.now _ c.requires.held ended.pass
+    (rw (c.truncate.ensures.items, c.as_slice-held.ensures.value) ended.part) ended.before

@@ -1,81 +1,34 @@
 #!/usr/bin/env python3
 """How long the two ends of one session of LTP take, beside what writing the same octets alone takes.
 
-usage: bench/sessions.py build [FOLDER]   copies the crates, adds the program sessions.rt.txt as one more, proves and builds it
-       bench/sessions.py [FOLDER]         runs it (and builds it first where it isn't there), and prints a table
-FOLDER is one in the system's folder for temporary files where none is named. Each time is the least of three runs in
-seconds of the user's processor time, less that of a run that does it no time. A segment has 512 octets. Columns are
-blocks of 2,048, 4,096 and 8,192 segments; the last has 4,194,304 octets, the most that a receiver takes. It tests
-nothing, but a row says so where the program's count isn't the one wanted.
+usage: bench/sessions.py [build] [FOLDER]    crates.py says what the words are
+
+Each time is the least of three runs in seconds of the user's processor time, less that of a run that does it no time.
+A segment has 512 octets. Columns are blocks of 2,048, 4,096 and 8,192 segments; the last has 4,194,304 octets, the
+most that a receiver takes. It tests nothing, but a row says so where the program's count isn't the one wanted.
 """
 import os
-import shutil
-import subprocess
 import sys
-import tempfile
 
 sys.dont_write_bytecode = True
-HERE = os.path.dirname(os.path.abspath(__file__))
-ROOT = os.path.dirname(HERE)
-NEEDED = ("sdnv", "cbor_lite", "endpoint", "spans", "wire_fields", "ltp_segment", "ltp_session", "ltp_sender",
-          "ltp_receiver")
-NAME = "sessions_bench"
+from crates import least, program, run, text_of
+
+USES = ("endpoint", "sdnv", "ltp_segment", "ltp_session", "ltp_sender", "ltp_receiver", "anyhow")
 COUNTS = (2048, 4096, 8192)
 SIZE = 512
 RUNS = 3
 
 
-def build(folder):
-    """Makes a repository of its own in the folder, with the program as the crate `sessions_bench`."""
-    crates = os.path.join(folder, "crates")
-    shutil.rmtree(folder, ignore_errors=True)
-    for name in NEEDED:
-        shutil.copytree(os.path.join(ROOT, "crates", name), os.path.join(crates, name),
-                        ignore=shutil.ignore_patterns("out"))
-    add(crates, "sessions.rt.txt", "src/main.rt")
-    add(crates, "sessions.antt.txt", "proofs/are_claims/Invariants.antt")
-    with open(os.path.join(ROOT, "crates.txt"), encoding="utf-8") as file:
-        lines = [line for line in file if line.split(":")[0] in NEEDED]
-    with open(os.path.join(folder, "crates.txt"), "w", encoding="utf-8") as file:
-        file.writelines(lines)
-        file.write(f"{NAME}: endpoint sdnv ltp_segment ltp_session ltp_sender ltp_receiver anyhow\n")
-    shutil.copy(os.path.join(ROOT, "HANDLES"), folder)
-    subprocess.run(["rt", "run", "--", "begin", "1", "1"], cwd=os.path.join(crates, NAME), stdin=subprocess.DEVNULL)
-    if not os.path.exists(program_in(folder)):
-        sys.exit("the program was not built")
-
-
-def add(crates, source, place):
-    """Puts a file of this folder into the program's crate."""
-    path = os.path.join(crates, NAME, place)
-    os.makedirs(os.path.dirname(path), exist_ok=True)
-    shutil.copy(os.path.join(HERE, source), path)
-
-
-def program_in(folder):
-    return os.path.join(folder, "crates", NAME, "out", NAME)
-
-
 class Bench:
-    def __init__(self, program):
-        self.program = program
+    def __init__(self, path):
+        self.path = path
         self.known = {}
-
-    def run(self, what, count, times):
-        """What the program counts, its user time in seconds, and its peak in octets."""
-        child = subprocess.Popen([self.program, what, str(count), str(times)], stdout=subprocess.PIPE)
-        text = child.stdout.read()
-        _, raw, used = os.wait4(child.pid, 0)
-        child.returncode = os.waitstatus_to_exitcode(raw)
-        if child.returncode != 0:
-            sys.exit(f"{what} {count} {times}: status {child.returncode}")
-        return int(text), used.ru_utime, used.ru_maxrss * 1024
 
     def seconds(self, what, count, times):
         """The time of doing it once, and what the program counts then."""
         if (what, count) not in self.known:
-            done = [self.run(what, count, times) for _ in range(RUNS)]
-            none = [self.run(what, count, 0) for _ in range(RUNS)]
+            done = [run(self.path, (what, count, times)) for _ in range(RUNS)]
+            none = [run(self.path, (what, count, 0)) for _ in range(RUNS)]
             least = min(used for _, used, _ in done) - min(used for _, used, _ in none)
             self.known[what, count] = least / times, (done[0][0] - none[0][0]) // times
         return self.known[what, count]
@@ -112,15 +65,8 @@ def resent(count):
 
 
 def main():
-    words = sys.argv[1:]
-    only_build = words[:1] == ["build"]
-    folder = (words[1:] if only_build else words)[:1]
-    folder = os.path.abspath(folder[0]) if folder else os.path.join(tempfile.gettempdir(), "fimdahol-bench-sessions")
-    if only_build or not os.path.exists(program_in(folder)):
-        build(folder)
-    if only_build:
-        return
-    bench = Bench(program_in(folder))
+    bench = Bench(program("sessions", USES, ("begin", "1", "1"),
+                          {"proofs/are_claims/Invariants.antt": text_of("sessions.antt.txt")}))
     print(f"load {os.getloadavg()[0]:.1f} on {os.cpu_count()} processors; µs of user time")
     print(f"{'in a block of so many segments':<66}{''.join(f'{count:>11,}' for count in COUNTS)}{'ms in all':>11}")
     sender(bench)
@@ -166,9 +112,9 @@ def ends(bench):
 def memory(bench):
     """Of a receiver that got one octet, at offset 4,194,303. The peak is taken between many and few of them."""
     few, many, times = 10_000, 110_000, 1_000_000
-    least = min(bench.run("far", 1, times)[1] for _ in range(RUNS))
+    least = least(bench.path, ("far", 1, times))
     print(f"{'one octet at offset 4,194,303, with its receiver':<66}{least / times * 1e6:>11,.3f}")
-    peaks = [bench.run("far_kept", 1, count)[2] for count in (few, many)]
+    peaks = [run(bench.path, ("far_kept", 1, count))[2] for count in (few, many)]
     print(f"{'  octets of memory of such a session':<66}{(peaks[1] - peaks[0]) / (many - few):>11,.0f}")
 
 

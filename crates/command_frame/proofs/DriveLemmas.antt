@@ -6,13 +6,14 @@ use Rattle.edge_traits.specs.declared.status.Status.{Status}
 use Rattle.edge_traits.specs.declared.status.Status.TheVariants as statuses
 use Rattle.edge_traits.specs.Content.{Gains, GainsFront, Took}
 use Rattle.edge_traits.specs.Faults.{NoneFailed, LastFailed}
-use Rattle.edge_traits.specs.Settled.{at_end, goes_on, Settled, GoesOnAs, EarliestDecides}
-use Rattle.edge_traits.specs.Outcome.{SourceTells, SinkTells, EndsAs, Wrote, WentReading, WentWriting, Ran, IsAnswer}
+use Rattle.edge_traits.specs.Settled.{at_end, goes_on, Settled, put_before, GoesOnAs, EarliestDecides}
+use Rattle.edge_traits.specs.Outcome.{SourceTells, SinkTells, EndsAs, Wrote, Ran}
 use Rattle.edge_traits.proofs.ContentLemmas.{Gains-none, Gains-more, Consumes-none, Consumes-more}
 use Rattle.edge_traits.proofs.FaultsLemmas.{NoneFailed-same, NoneFailed-more, LastFailed-after}
-use Rattle.command_frame.specs.Stops.{IsStop}
 use Rattle.command_frame.specs.Task.{Settling, IsQuiet, WritesOfNothing, over, GoesOnTo, Takes}
+use Rattle.command_frame.specs.Handing.{SettlesFirst, Handed, EndedSo, HandedEnd}
 use Rattle.command_frame.specs.Within.{within}
+use Rattle.command_frame.proofs.HandingLemmas.{GainsFront-more}
 use Rattle.command_frame.proofs.WithinLemmas.{within-low, within-text, within-now, within-past, within-over, GoesOnTo-more}
 
 -- ---- by the input
@@ -49,6 +50,10 @@ front-more (Some before) (Some mid) (Some now) text new whole more first (front,
   rw (is, parts, append_assoc text (front ++ rest) more, append_assoc front rest more, append_assoc text front (rest ++ more)) refl,
   rw (gains, first, append_assoc before text front) refl,
 )
+
+append-inside : (a b c d : List ℕ) → (a ++ (b ++ c)) ++ d ≡ (a ++ b) ++ (c ++ d)
+append-inside a b c d =
+    append_assoc a (b ++ c) d ∙ ap (λ (v : List ℕ). a ++ v) (append_assoc b c d) ∙ sym (append_assoc a b (c ++ d))
 
 -- what was written before a failed read is a front of the answer
 pub fault-front : (settles : Settling) → EarliestDecides settles → (input : List ℕ) (left before now : Option (List ℕ))
@@ -105,210 +110,220 @@ module _ (most : ℕ) (Stands : Settling → Type 0) (Began : Type 0) (settles :
       wrote (Some input) (Some rest) None read kept = absurd kept
       wrote (Some input) (Some rest) (Some left) read kept = (going.came, rw kept read, rw now refl, rw now going.wrote)
 
-  -- there was no memory for octets that came
-  module _ (later : SourceTells) (piece : List ℕ) (some : 0 < length (going.came ++ piece))
-      (read : Consumes source.left later.left (going.came ++ piece)) (reads : NoneFailed source_now.calls later.calls) where
-    pub ran-memory : Ran (within most settles) statuses.Memory source later sink sink_now
-    ran-memory = record {
-      wrote = on_input (λ input. Wrote (within most settles) statuses.Memory input later.left sink.held sink_now.held)
-          source.left later.left going.came piece read
-          (λ rest.
-          let (more, is) = within-text settles going.later going.came going.text going.goes most inside at_end (piece ++ rest) in
-          let long : 0 < length (going.came ++ (piece ++ rest)) =
-          omega (arith, length-append going.came (piece ++ rest), length-append piece rest, length-append going.came piece, some) in
-          (omega (arith, long), gains-front sink.held sink_now.held going.text _ more going.wrote is));
-      reads = NoneFailed-more source.calls source_now.calls later.calls going.reads reads;
-      writes = going.writes;
-      to_end = λ done. absurd (cc);
-    }
-
-  -- octets were fed that were read, and perhaps not all of those: this is settled now
-  module _ (later : SourceTells) (piece cut new : List ℕ) (ends : Option Status) (StandsNow : Settling → Type 0)
-      (takes : Takes StandsNow going.later piece new ends) (fits : length (going.came ++ piece) ≤ most)
+  -- octets were handed on that were read, and perhaps not all of those
+  module _ (later : SourceTells) (piece cut : List ℕ) (fits : length (going.came ++ piece) ≤ most)
       (read : Consumes source.left later.left ((going.came ++ piece) ++ cut)) (reads : NoneFailed source_now.calls later.calls) where
-    text-so-far : (due : Option Status) → Takes StandsNow going.later piece new due → (more : List ℕ)
+    -- what was written is a front of the answer
+    text-so-far : (new : List ℕ) → SettlesFirst going.later piece new → (more : List ℕ)
         → (rest : List ℕ) × ((within most settles at_end ((going.came ++ piece) ++ more)).text ≡ (going.text ++ new) ++ rest)
-    text-so-far None (last, stands, quiet, goes) more =
-        within-text settles last (going.came ++ piece) (going.text ++ new)
-        (GoesOnTo-more settles going.later last going.came going.text piece new going.goes goes) most fits at_end more
-    text-so-far (Some status) (stop, goes) more =
-        within-text settles (over status) (going.came ++ piece) (going.text ++ new)
-        (GoesOnTo-more settles going.later (over status) going.came going.text piece new going.goes goes) most fits at_end more
+    text-so-far new first more =
+        let low : length (going.came ++ first.taken) ≤ most =
+        omega (
+          arith,
+          fits,
+          ap length first.parts,
+          length-append going.came piece,
+          length-append going.came first.taken,
+          length-append first.taken first.left,
+        ) in
+        let (rest, is) = within-text settles first.later (going.came ++ first.taken) (going.text ++ (new ++ first.due))
+        (GoesOnTo-more settles going.later first.later going.came going.text first.taken (new ++ first.due) going.goes first.goes) most low at_end (first.left ++ more) in
+        let same : (going.came ++ piece) ++ more ≡ (going.came ++ first.taken) ++ (first.left ++ more) =
+        ap (λ (v : List ℕ). (going.came ++ v) ++ more) first.parts ∙ append-inside going.came first.taken first.left more in
+        (first.due ++ rest, rw same (is ∙ append-inside going.text new first.due rest))
 
-    pub ran-write : (after : SinkTells) → GainsFront sink_now.held after.held new → LastFailed sink_now.calls after.calls
-        → Ran (within most settles) statuses.WriteFault source later sink after
-    ran-write after gains failed = record {
+    ran-write : (new : List ℕ) → SettlesFirst going.later piece new → (after : SinkTells) → GainsFront sink_now.held after.held new
+        → LastFailed sink_now.calls after.calls → Ran (within most settles) statuses.WriteFault source later sink after
+    ran-write new first after gains failed = record {
       wrote = on_input (λ input. Wrote (within most settles) statuses.WriteFault input later.left sink.held after.held)
           source.left later.left (going.came ++ piece) cut read
           (λ rest.
-          let (more, is) = text-so-far ends takes (cut ++ rest) in
+          let (more, is) = text-so-far new first (cut ++ rest) in
           front-more sink.held sink_now.held after.held going.text new _ more going.wrote gains is);
       reads = NoneFailed-more source.calls source_now.calls later.calls going.reads reads;
       writes = LastFailed-after sink.calls sink_now.calls after.calls going.writes failed;
       to_end = λ done. absurd (cc);
     }
 
-    module _ (after : SinkTells) (gains : Gains sink_now.held after.held new) (writes : NoneFailed sink_now.calls after.calls) where
-      all-written : Gains sink.held after.held (going.text ++ new)
-      all-written = Gains-more sink.held sink_now.held after.held going.text new going.wrote gains
-
-      over-now : (status : Status) → ends ≡ Some status → IsStop status × ((more : List ℕ)
-          → within most settles at_end ((going.came ++ piece) ++ more) ≡ record { text = going.text ++ new; ends = Some status })
-      over-now status is =
-          let due : Takes StandsNow going.later piece new (Some status) = rw is at takes in (
-            due.0,
-            λ more. within-over settles (going.came ++ piece) (going.text ++ new) status
-                (GoesOnTo-more settles going.later (over status) going.came going.text piece new going.goes due.1) most fits at_end more,
-          )
-
-      ended-so : (status : Status) → ends ≡ Some status
-          → IfSome source.left (λ input. EndsAs (within most settles at_end input) status sink.held after.held)
-      ended-so status is = on_input (λ input. EndsAs (within most settles at_end input) status sink.held after.held)
+    -- there was no memory for octets that came
+    ran-memory : (new : List ℕ) → SettlesFirst going.later piece new → (after : SinkTells) → Gains sink_now.held after.held new
+        → NoneFailed sink_now.calls after.calls → 0 < length piece + length cut → Ran (within most settles) statuses.Memory source later sink after
+    ran-memory new first after gains writes some = record {
+      wrote = on_input (λ input. Wrote (within most settles) statuses.Memory input later.left sink.held after.held)
           source.left later.left (going.came ++ piece) cut read
-          (λ rest. rw ((over-now status is).1 (cut ++ rest)) (refl, all-written))
-
-      ran-stop : (status : Status) → IsStop status → IfSome source.left (λ input. EndsAs (within most settles at_end input) status sink.held after.held)
-          → Ran (within most settles) status source later sink after
-      ran-stop statuses.Refused stop ended = record {
-        wrote = ended;
-        reads = NoneFailed-more source.calls source_now.calls later.calls going.reads reads;
-        writes = NoneFailed-more sink.calls sink_now.calls after.calls going.writes writes;
-        to_end = λ done. absurd (cc);
-      }
-      ran-stop statuses.Limit stop ended = record {
-        wrote = ended;
-        reads = NoneFailed-more source.calls source_now.calls later.calls going.reads reads;
-        writes = NoneFailed-more sink.calls sink_now.calls after.calls going.writes writes;
-        to_end = λ done. absurd (cc);
-      }
-      ran-stop statuses.Done stop ended = absurd stop
-      ran-stop statuses.Usage stop ended = absurd stop
-      ran-stop statuses.ReadFault stop ended = absurd stop
-      ran-stop statuses.WriteFault stop ended = absurd stop
-      ran-stop statuses.Memory stop ended = absurd stop
-
-      pub ran-over : (status : Status) → ends ≡ Some status → Ran (within most settles) status source later sink after
-      ran-over status is = ran-stop status (over-now status is).0 (ended-so status is)
-
-      goes-now : ends ≡ None → Takes StandsNow going.later piece new None
-      goes-now is = rw is at takes
-
-      pub ran-limit : ends ≡ None → length (going.came ++ piece) ≡ most → 0 < length cut → Ran (within most settles) statuses.Limit source later sink after
-      ran-limit is size some =
-          let (last, stands, quiet, goes) = goes-now is in
-          record {
-            wrote = on_input (λ input. Wrote (within most settles) statuses.Limit input later.left sink.held after.held)
-                source.left later.left (going.came ++ piece) cut read
-                (λ rest.
-                let long : 0 < length (cut ++ rest) = omega (arith, length-append cut rest, some) in
-                rw (within-past settles last (going.came ++ piece) (going.text ++ new)
-                (GoesOnTo-more settles going.later last going.came going.text piece new going.goes goes)
-                most quiet size at_end (cut ++ rest) long) (refl, all-written));
-            reads = NoneFailed-more source.calls source_now.calls later.calls going.reads reads;
-            writes = NoneFailed-more sink.calls sink_now.calls after.calls going.writes writes;
-            to_end = λ done. absurd (cc);
-          }
-
-      pub goes-on : ends ≡ None → cut ≡ [] → (counted : ℕ) → length (going.came ++ piece) ≡ counted → (BeganNow : Type 0) → 0 < counted
-          → Going StandsNow BeganNow settles source later sink after counted
-      goes-on is none counted size BeganNow some =
-          let (last, stands, quiet, goes) = goes-now is in
-          record {
-            came = going.came ++ piece;
-            text = going.text ++ new;
-            later = last;
-            stands = stands;
-            quiet = quiet;
-            goes = GoesOnTo-more settles going.later last going.came going.text piece new going.goes goes;
-            began = λ began. omega (arith, size, some);
-            size = size;
-            read = rw (none, append-nil (going.came ++ piece)) at read;
-            reads = NoneFailed-more source.calls source_now.calls later.calls going.reads reads;
-            wrote = all-written;
-            writes = NoneFailed-more sink.calls sink_now.calls after.calls going.writes writes;
-          }
-
-  -- the input ended
-  module _ (later : SourceTells) (read : Consumes source.left later.left going.came) (end : IsAtEnd later.left) (reads : NoneFailed source_now.calls later.calls)
-      (new : List ℕ) (status : Status) (finished : going.later at_end [] ≡ record { text = new; ends = Some status }) where
-    whole : within most settles at_end going.came ≡ record { text = going.text ++ new; ends = Some status }
-    whole =
-        let all = going.goes at_end [] in
-        within-low most settles at_end going.came inside ∙ (rw (append-nil going.came, finished) at all)
-
-    ended-as : (after : SinkTells) → Gains sink_now.held after.held new
-        → EndsAs (within most settles at_end going.came) status sink.held after.held
-    ended-as after gains = rw whole (refl, Gains-more sink.held sink_now.held after.held going.text new going.wrote gains)
-
-    ended-by : (s : Status) (after : SinkTells) → IsAnswer s → EndsAs (within most settles at_end going.came) s sink.held after.held
-        → Wrote (within most settles) s going.came later.left sink.held after.held
-    ended-by statuses.Done after answer ends = ends
-    ended-by statuses.Refused after answer ends = ends
-    ended-by statuses.Limit after answer ends = ends
-    ended-by statuses.Usage after answer ends = absurd answer
-    ended-by statuses.ReadFault after answer ends = absurd answer
-    ended-by statuses.WriteFault after answer ends = absurd answer
-    ended-by statuses.Memory after answer ends = absurd answer
-
-    went-reading : (s : Status) → IsAnswer s → NoneFailed source.calls later.calls → WentReading s source.calls later.calls
-    went-reading statuses.Done answer none = none
-    went-reading statuses.Refused answer none = none
-    went-reading statuses.Limit answer none = none
-    went-reading statuses.Usage answer none = absurd answer
-    went-reading statuses.ReadFault answer none = absurd answer
-    went-reading statuses.WriteFault answer none = none
-    went-reading statuses.Memory answer none = none
-
-    went-writing : (s : Status) (after : SinkTells) → IsAnswer s → NoneFailed sink.calls after.calls → WentWriting s sink.calls after.calls
-    went-writing statuses.Done after answer none = none
-    went-writing statuses.Refused after answer none = none
-    went-writing statuses.Limit after answer none = none
-    went-writing statuses.Usage after answer none = absurd answer
-    went-writing statuses.ReadFault after answer none = none
-    went-writing statuses.WriteFault after answer none = absurd answer
-    went-writing statuses.Memory after answer none = none
-
-    pub ran-ended : (after : SinkTells) → Gains sink_now.held after.held new → NoneFailed sink_now.calls after.calls → IsAnswer status
-        → Ran (within most settles) status source later sink after
-    ran-ended after gains writes answer = record {
-      wrote = on_end (λ input. Wrote (within most settles) status input later.left sink.held after.held)
-          source.left later.left going.came read end (ended-by status after answer (ended-as after gains));
-      reads = went-reading status answer (NoneFailed-more source.calls source_now.calls later.calls going.reads reads);
-      writes = went-writing status after answer (NoneFailed-more sink.calls sink_now.calls after.calls going.writes writes);
-      to_end = λ done. end;
-    }
-
-    pub ran-end-write : (after : SinkTells) → GainsFront sink_now.held after.held new → LastFailed sink_now.calls after.calls
-        → Ran (within most settles) statuses.WriteFault source later sink after
-    ran-end-write after gains failed = record {
-      wrote = on_end (λ input. Wrote (within most settles) statuses.WriteFault input later.left sink.held after.held)
-          source.left later.left going.came read end
-          (front-more sink.held sink_now.held after.held going.text new _ [] going.wrote gains
-          (ap (λ (s : Settled). s.text) whole ∙ sym (append-nil (going.text ++ new))));
+          (λ rest.
+          let (more, is) = text-so-far new first (cut ++ rest) in
+          let long : 0 < length ((going.came ++ piece) ++ (cut ++ rest)) =
+          omega (arith, length-append (going.came ++ piece) (cut ++ rest), length-append cut rest, length-append going.came piece, some) in (
+            omega (arith, long),
+            gains-front sink.held after.held (going.text ++ new) _ more
+                (Gains-more sink.held sink_now.held after.held going.text new going.wrote gains) is,
+          ));
       reads = NoneFailed-more source.calls source_now.calls later.calls going.reads reads;
-      writes = LastFailed-after sink.calls sink_now.calls after.calls going.writes failed;
+      writes = NoneFailed-more sink.calls sink_now.calls after.calls going.writes writes;
       to_end = λ done. absurd (cc);
     }
 
-  -- there was no memory for the end of the input
-  pub ran-end-memory : (later : SourceTells) → Consumes source.left later.left going.came → IsAtEnd later.left → NoneFailed source_now.calls later.calls
-      → Began → Ran (within most settles) statuses.Memory source later sink sink_now
-  ran-end-memory later read end reads began = record {
-    wrote = on_end (λ input. Wrote (within most settles) statuses.Memory input later.left sink.held sink_now.held)
-        source.left later.left going.came read end
-        (wanted, gains-front sink.held sink_now.held going.text _ (going.later at_end []).text going.wrote text);
-    reads = NoneFailed-more source.calls source_now.calls later.calls going.reads reads;
-    writes = going.writes;
-    to_end = λ done. absurd (cc);
-  }
-    where
-      text : (within most settles at_end going.came).text ≡ going.text ++ (going.later at_end []).text
-      text =
-          let all = going.goes at_end [] in
-          ap (λ (s : Settled). s.text) (within-low most settles at_end going.came inside ∙ (rw (append-nil going.came) at all))
+    -- all that they settle was written
+    module _ (new : List ℕ) (after : SinkTells) (gains : Gains sink_now.held after.held new) (writes : NoneFailed sink_now.calls after.calls)
+        (StandsNow : Settling → Type 0) where
+      all-written : Gains sink.held after.held (going.text ++ new)
+      all-written = Gains-more sink.held sink_now.held after.held going.text new going.wrote gains
 
-      wanted : 0 < length going.came + length (within most settles at_end going.came).text
-      wanted = omega (arith, going.began began, ap length text, length-append going.text (going.later at_end []).text)
+      over-now : (status : Status) → Takes StandsNow going.later piece new (Some status) → (more : List ℕ)
+          → within most settles at_end ((going.came ++ piece) ++ more) ≡ record { text = going.text ++ new; ends = Some status }
+      over-now status (stop, goes) more =
+          within-over settles (going.came ++ piece) (going.text ++ new) status
+          (GoesOnTo-more settles going.later (over status) going.came going.text piece new going.goes goes) most fits at_end more
+
+      ended-so : (status : Status) → Takes StandsNow going.later piece new (Some status)
+          → IfSome source.left (λ input. EndsAs (within most settles at_end input) status sink.held after.held)
+      ended-so status takes = on_input (λ input. EndsAs (within most settles at_end input) status sink.held after.held)
+          source.left later.left (going.came ++ piece) cut read
+          (λ rest. rw (over-now status takes (cut ++ rest)) (refl, all-written))
+
+      ran-refused : Takes StandsNow going.later piece new (Some statuses.Refused)
+          → Ran (within most settles) statuses.Refused source later sink after
+      ran-refused takes = record {
+        wrote = ended-so statuses.Refused takes;
+        reads = NoneFailed-more source.calls source_now.calls later.calls going.reads reads;
+        writes = NoneFailed-more sink.calls sink_now.calls after.calls going.writes writes;
+        to_end = λ done. absurd (cc);
+      }
+
+      ran-stopped : Takes StandsNow going.later piece new (Some statuses.Limit)
+          → Ran (within most settles) statuses.Limit source later sink after
+      ran-stopped takes = record {
+        wrote = ended-so statuses.Limit takes;
+        reads = NoneFailed-more source.calls source_now.calls later.calls going.reads reads;
+        writes = NoneFailed-more sink.calls sink_now.calls after.calls going.writes writes;
+        to_end = λ done. absurd (cc);
+      }
+
+      pub ran-limit : Takes StandsNow going.later piece new None → length (going.came ++ piece) ≡ most → 0 < length cut
+          → Ran (within most settles) statuses.Limit source later sink after
+      ran-limit (last, stands, quiet, goes) size some = record {
+        wrote = on_input (λ input. Wrote (within most settles) statuses.Limit input later.left sink.held after.held)
+            source.left later.left (going.came ++ piece) cut read
+            (λ rest.
+            let long : 0 < length (cut ++ rest) = omega (arith, length-append cut rest, some) in
+            rw (within-past settles last (going.came ++ piece) (going.text ++ new)
+            (GoesOnTo-more settles going.later last going.came going.text piece new going.goes goes)
+            most quiet size at_end (cut ++ rest) long) (refl, all-written));
+        reads = NoneFailed-more source.calls source_now.calls later.calls going.reads reads;
+        writes = NoneFailed-more sink.calls sink_now.calls after.calls going.writes writes;
+        to_end = λ done. absurd (cc);
+      }
+
+      pub goes-on : Takes StandsNow going.later piece new None → cut ≡ [] → (counted : ℕ) → length (going.came ++ piece) ≡ counted
+          → (BeganNow : Type 0) → 0 < counted → Going StandsNow BeganNow settles source later sink after counted
+      goes-on (last, stands, quiet, goes) none counted size BeganNow some = record {
+        came = going.came ++ piece;
+        text = going.text ++ new;
+        later = last;
+        stands = stands;
+        quiet = quiet;
+        goes = GoesOnTo-more settles going.later last going.came going.text piece new going.goes goes;
+        began = λ began. omega (arith, size, some);
+        size = size;
+        read = rw (none, append-nil (going.came ++ piece)) at read;
+        reads = NoneFailed-more source.calls source_now.calls later.calls going.reads reads;
+        wrote = all-written;
+        writes = NoneFailed-more sink.calls sink_now.calls after.calls going.writes writes;
+      }
+
+    -- the run ended with them
+    pub ran-handed : (StandsNow : Settling → Type 0) (after : SinkTells) (status : Status) → 0 < length piece + length cut
+        → Handed StandsNow going.later piece sink_now after (Some status) → Ran (within most settles) status source later sink after
+    ran-handed StandsNow after statuses.WriteFault some (new, first, gains, failed) = ran-write new first after gains failed
+    ran-handed StandsNow after statuses.Memory some (new, first, gains, writes) = ran-memory new first after gains writes some
+    ran-handed StandsNow after statuses.Refused some (new, takes, gains, writes) = ran-refused new after gains writes StandsNow takes
+    ran-handed StandsNow after statuses.Limit some (new, takes, gains, writes) = ran-stopped new after gains writes StandsNow takes
+    ran-handed StandsNow after statuses.Done some handed = absurd handed
+    ran-handed StandsNow after statuses.Usage some handed = absurd handed
+    ran-handed StandsNow after statuses.ReadFault some handed = absurd handed
+
+  -- the input ended
+  module _ (later : SourceTells) (read : Consumes source.left later.left going.came) (end : IsAtEnd later.left) (reads : NoneFailed source_now.calls later.calls)
+      (after : SinkTells) where
+    whole : within most settles at_end going.came ≡ put_before going.text (going.later at_end [])
+    whole =
+        let all = going.goes at_end [] in
+        within-low most settles at_end going.came inside ∙ (rw (append-nil going.came) at all)
+
+    reads-now : NoneFailed source.calls later.calls
+    reads-now = NoneFailed-more source.calls source_now.calls later.calls going.reads reads
+
+    ended-as : (status : Status) → EndsAs (going.later at_end []) status sink_now.held after.held
+        → EndsAs (within most settles at_end going.came) status sink.held after.held
+    ended-as status (ends, gains) =
+        rw whole (ends, Gains-more sink.held sink_now.held after.held going.text (going.later at_end []).text going.wrote gains)
+
+    ran-done : EndedSo statuses.Done going.later sink_now after → Ran (within most settles) statuses.Done source later sink after
+    ran-done (ended, writes) = record {
+      wrote = on_end (λ input. EndsAs (within most settles at_end input) statuses.Done sink.held after.held)
+          source.left later.left going.came read end (ended-as statuses.Done ended);
+      reads = reads-now;
+      writes = NoneFailed-more sink.calls sink_now.calls after.calls going.writes writes;
+      to_end = λ done. end;
+    }
+
+    ran-end-refused : EndedSo statuses.Refused going.later sink_now after → Ran (within most settles) statuses.Refused source later sink after
+    ran-end-refused (ended, writes) = record {
+      wrote = on_end (λ input. EndsAs (within most settles at_end input) statuses.Refused sink.held after.held)
+          source.left later.left going.came read end (ended-as statuses.Refused ended);
+      reads = reads-now;
+      writes = NoneFailed-more sink.calls sink_now.calls after.calls going.writes writes;
+      to_end = λ done. end;
+    }
+
+    ran-end-limit : EndedSo statuses.Limit going.later sink_now after → Ran (within most settles) statuses.Limit source later sink after
+    ran-end-limit (ended, writes) = record {
+      wrote = on_end (λ input. EndsAs (within most settles at_end input) statuses.Limit sink.held after.held)
+          source.left later.left going.came read end (ended-as statuses.Limit ended);
+      reads = reads-now;
+      writes = NoneFailed-more sink.calls sink_now.calls after.calls going.writes writes;
+      to_end = λ done. end;
+    }
+
+    front-now : GainsFront sink_now.held after.held (going.later at_end []).text
+        → GainsFront sink.held after.held (within most settles at_end going.came).text
+    front-now front =
+        rw whole (GainsFront-more sink.held sink_now.held after.held going.text (going.later at_end []).text going.wrote front)
+
+    ran-end-write : GainsFront sink_now.held after.held (going.later at_end []).text → LastFailed sink_now.calls after.calls
+        → Ran (within most settles) statuses.WriteFault source later sink after
+    ran-end-write front failed = record {
+      wrote = on_end (λ input. GainsFront sink.held after.held (within most settles at_end input).text)
+          source.left later.left going.came read end (front-now front);
+      reads = reads-now;
+      writes = LastFailed-after sink.calls sink_now.calls after.calls going.writes failed;
+      to_end = λ done. end;
+    }
+
+    ran-end-memory : Began → GainsFront sink_now.held after.held (going.later at_end []).text → NoneFailed sink_now.calls after.calls
+        → Ran (within most settles) statuses.Memory source later sink after
+    ran-end-memory began front writes = record {
+      wrote = on_end (λ input. Wrote (within most settles) statuses.Memory input later.left sink.held after.held)
+          source.left later.left going.came read end (wanted, front-now front);
+      reads = reads-now;
+      writes = NoneFailed-more sink.calls sink_now.calls after.calls going.writes writes;
+      to_end = λ done. end;
+    }
+      where
+        wanted : 0 < length going.came + length (within most settles at_end going.came).text
+        wanted =
+            let text = ap (λ (s : Settled). length s.text) whole in
+            omega (arith, going.began began, text, length-append going.text (going.later at_end []).text)
+
+    pub ran-closed : (status : Status) → HandedEnd Began going.later sink_now after status → Ran (within most settles) status source later sink after
+    ran-closed statuses.Done ended = ran-done ended
+    ran-closed statuses.Refused ended = ran-end-refused ended
+    ran-closed statuses.Limit ended = ran-end-limit ended
+    ran-closed statuses.WriteFault (front, failed) = ran-end-write front failed
+    ran-closed statuses.Memory (began, front, writes) = ran-end-memory began front writes
+    ran-closed statuses.Usage ended = absurd ended
+    ran-closed statuses.ReadFault ended = absurd ended
 
 -- ---- one read
 
@@ -320,6 +335,7 @@ pub record CameMore (most : ℕ) (before now : Option (List ℕ)) (came buffer :
   pub full : size < n → length (came ++ take size buffer) ≡ most
   pub cut : size < n → 0 < length (drop size (take n buffer))
   pub none : n ≤ size → drop size (take n buffer) ≡ []
+  pub some : 0 < n → 0 < length (take size buffer) + length (drop size (take n buffer))
 
 pub came-more : (most : ℕ) (a b c : Option (List ℕ)) (came buffer : List ℕ) (n size count : ℕ) → count ≤ most → length came ≡ count
     → size ≡ min n (most - count) → n ≤ length buffer → Consumes a b came → Consumes b c (take n buffer)
@@ -338,6 +354,7 @@ came-more most a b c came buffer n size count low counted size_is inside first s
       full = λ less. omega (arith, both, size_is, low, less);
       cut = λ less. omega (arith, length-drop size (take n buffer), whole, less);
       none = λ all. nil_from_length _ (omega (arith, length-drop size (take n buffer), whole, all));
+      some = λ octets. omega (arith, octets, front, length-drop size (take n buffer), whole);
     }
 
 pub read-end : (a b c : Option (List ℕ)) (came buffer : List ℕ) (n : ℕ) → n ≡ 0 → Consumes a b came → Took b c (take n buffer)

@@ -6,14 +6,15 @@ use Rattle.edge_traits.specs.declared.status.Status.TheVariants as statuses
 use Rattle.edge_traits.specs.Content.{Gains, GainsFront}
 use Rattle.edge_traits.specs.Faults.{NoneFailed, LastFailed}
 use Rattle.edge_traits.specs.Outcome.{SinkTells}
+use Rattle.edge_traits.specs.Settled.{at_end, Settled, put_before}
 use Rattle.edge_traits.proofs.ContentLemmas.{Gains-none, Gains-more}
 use Rattle.edge_traits.proofs.FaultsLemmas.{NoneFailed-same, NoneFailed-more, LastFailed-after}
 use Rattle.command_frame.specs.Stops.{IsStop}
 use Rattle.command_frame.specs.declared.part_task.Taken.{Taken}
 use Rattle.command_frame.specs.declared.part_task.Taken.TheVariants.{All, Due, Ends}
 use Rattle.command_frame.specs.Task.{Settling, IsQuiet, over, GoesOnTo, Takes}
-use Rattle.command_frame.specs.PartTask.{TakesPart, FeedsPart, TellsPart}
-use Rattle.command_frame.specs.Handing.{IsFront, Told, SettlesFirst, Handed}
+use Rattle.command_frame.specs.PartTask.{TakesPart, FeedsPart, TellsPart, EndsOn}
+use Rattle.command_frame.specs.Handing.{IsFront, Told, SettlesFirst, Handed, EndedSo, HandedEnd}
 use Rattle.command_frame.proofs.WithinLemmas.{GoesOnTo-more, Takes-more}
 
 -- a front of some text more was written
@@ -140,7 +141,7 @@ first-all settles later piece text goes = record {
   goes = rw (append-nil text) goes;
 }
 
-first-none : (settles : Settling) (piece : List ℕ) → SettlesFirst settles piece []
+pub first-none : (settles : Settling) (piece : List ℕ) → SettlesFirst settles piece []
 first-none settles piece = record { taken = []; left = piece; parts = refl; due = []; later = settles; goes = λ ends more. refl }
 
 first-some : (settles later : Settling) (piece text due rest : List ℕ) (used : ℕ) → GoesOnTo settles (take used piece) (text ++ due) later
@@ -160,6 +161,11 @@ first-taken : (Stands : List ℕ → Settling → Type 0) (settles : Settling) (
 first-taken Stands settles piece text All (later, stands, quiet, goes) = first-all settles later piece text goes
 first-taken Stands settles piece text (Due used) (due, (later, stands, quiet, goes)) = first-some settles later piece text due due used goes refl
 first-taken Stands settles piece text (Ends status) (stop, goes) = first-all settles (over status) piece text goes
+
+pub first-fed : (Stands : Settling → Type 0) (settles : Settling) (piece text : List ℕ) (ends : Option Status) → Takes Stands settles piece text ends
+    → SettlesFirst settles piece text
+first-fed Stands settles piece text None (later, stands, quiet, goes) = first-all settles later piece text goes
+first-fed Stands settles piece text (Some status) (stop, goes) = first-all settles (over status) piece text goes
 
 -- some of the text that is due was told too
 first-told : (settles later : Settling) (piece text due part : List ℕ) (used : ℕ) → GoesOnTo settles (take used piece) (text ++ due) later
@@ -286,3 +292,84 @@ module _ (Stands : Settling → Type 0) (StandsNow : List ℕ → Settling → T
               gains = rw (← append_assoc so_far.text text due) (Gains-more a.held c.held d.held (so_far.text ++ text) due gains-now gains);
               calls = NoneFailed-more a.calls c.calls d.calls calls-now calls;
             }
+
+-- ---- the end of the input
+
+-- a longer text has the same fronts
+GainsFront-in : (a b : Option (List ℕ)) (text whole more : List ℕ) → GainsFront a b text → whole ≡ text ++ more → GainsFront a b whole
+GainsFront-in a None text whole more front is = tt
+GainsFront-in None (Some now) text whole more front is = absurd front
+GainsFront-in (Some before) (Some now) text whole more (first, rest, parts, gains) is =
+    (first, rest ++ more, rw (is, parts, append_assoc first rest more) refl, gains)
+
+pub front-settled : (a b : Option (List ℕ)) (text : List ℕ) (all later : Settled) → GainsFront a b text → all ≡ put_before text later
+    → GainsFront a b all.text
+front-settled a b text all later front is = rw is (GainsFront-in a b text (text ++ later.text) later.text front refl)
+
+Gains-front : (a b : Option (List ℕ)) (text whole more : List ℕ) → Gains a b text → whole ≡ text ++ more → GainsFront a b whole
+Gains-front a None text whole more gains is = tt
+Gains-front None (Some now) text whole more gains is = absurd gains
+Gains-front (Some before) (Some now) text whole more gains is = (text, more, is, gains)
+
+pub closed-memory : (Began : Type 0) (settles : Settling) (sink : SinkTells) → Began → HandedEnd Began settles sink sink statuses.Memory
+closed-memory Began settles sink began =
+    (began, Gains-front sink.held sink.held [] (settles at_end []).text (settles at_end []).text (Gains-none sink.held) refl, NoneFailed-same sink.calls)
+
+-- text was written that octets settle which were kept, and then all that is settled after it
+module _ (Now Began : Type 0) (settles later : Settling) (text : List ℕ) (is : settles at_end [] ≡ put_before text (later at_end [])) (a b c : SinkTells)
+    (gains : Gains a.held b.held text) (calls : NoneFailed a.calls b.calls) (began : Now → Began) where
+  ended-more : (status : Status) → EndedSo status later b c → EndedSo status settles a c
+  ended-more status ((ends, more), writes) = (
+    rw is (ends, Gains-more a.held b.held c.held text (later at_end []).text gains more),
+    NoneFailed-more a.calls b.calls c.calls calls writes,
+  )
+
+  pub closed-more : (status : Status) → HandedEnd Now later b c status → HandedEnd Began settles a c status
+  closed-more statuses.Done ended = ended-more statuses.Done ended
+  closed-more statuses.Refused ended = ended-more statuses.Refused ended
+  closed-more statuses.Limit ended = ended-more statuses.Limit ended
+  closed-more statuses.WriteFault (front, failed) = (
+    rw is (GainsFront-more a.held b.held c.held text (later at_end []).text gains front),
+    LastFailed-after a.calls b.calls c.calls calls failed,
+  )
+  closed-more statuses.Memory (now, front, writes) = (
+    began now,
+    rw is (GainsFront-more a.held b.held c.held text (later at_end []).text gains front),
+    NoneFailed-more a.calls b.calls c.calls calls writes,
+  )
+  closed-more statuses.Usage ended = absurd ended
+  closed-more statuses.ReadFault ended = absurd ended
+
+-- text was due that octets settle which were kept
+module _ (Began : Type 0) (Owed : List ℕ → Settling → Type 0) (Later : Settling → Type 0) (settles : Settling) (due : List ℕ) (on : EndsOn (Owed due) settles [] due)
+    (a b : SinkTells) (result : Option Status) (told : (due : List ℕ) (later : Settling) → Owed due later → Told (Later later) due a b result) where
+  is-due : settles at_end [] ≡ put_before due (on.later at_end [])
+  is-due = rw on.added on.ends
+
+  front-of : (text : List ℕ) → IsFront due text → (rest : List ℕ) × ((settles at_end []).text ≡ text ++ rest)
+  front-of text (rest, parts) =
+      (rest ++ (on.later at_end []).text, rw (is-due, parts, append_assoc text rest (on.later at_end []).text) refl)
+
+  closed-by : (After : Type 0) (status : Status) → Began → Told After due a b (Some status) → HandedEnd Began settles a b status
+  closed-by After statuses.WriteFault began (text, front, gains, failed) =
+      let (rest, all) = front-of text front in
+      (GainsFront-in a.held b.held text (settles at_end []).text rest gains all, failed)
+  closed-by After statuses.Memory began (text, front, gains, calls) =
+      let (rest, all) = front-of text front in
+      (began, Gains-front a.held b.held text (settles at_end []).text rest gains all, calls)
+  closed-by After statuses.Done began told = absurd told
+  closed-by After statuses.Refused began told = absurd told
+  closed-by After statuses.Limit began told = absurd told
+  closed-by After statuses.Usage began told = absurd told
+  closed-by After statuses.ReadFault began told = absurd told
+
+  -- a part of it was written
+  pub closed-told : (status : Status) → result ≡ Some status → Began → HandedEnd Began settles a b status
+  closed-told status some began = closed-by (Later on.later) status began (rw some at (told due on.later on.stands))
+
+  -- all of it was, and what is settled after it
+  pub closed-owed : result ≡ None → Began → (Now : Type 0) (c : SinkTells) (status : Status)
+      → ((later : Settling) → Later later → HandedEnd Now later b c status) → HandedEnd Began settles a c status
+  closed-owed none began Now c status closes =
+      let (there, gains, calls) : Told (Later on.later) due a b None = rw none at (told due on.later on.stands) in
+      closed-more Now Began settles on.later due is-due a b c gains calls (λ now. began) status (closes on.later there)

@@ -2,6 +2,6 @@ pub mod InputLinesLemmas
 pub mod WithinLemmas
 pub mod HandingLemmas
 pub mod DriveLemmas
-pub mod PartDriveLemmas
 pub mod LinesLemmas
+pub mod PartLinesLemmas
 pub mod FrontLemmas

@@ -4,7 +4,7 @@ use Rattle.std.proofs.lemmas.List.{append-nil, nil_from_length}
 use Rattle.std.proofs.lemmas.Bool.Decides.{nat_tests}
 use Rattle.edge_traits.specs.declared.status.Status.{Status}
 use Rattle.edge_traits.specs.declared.status.Status.TheVariants as statuses
-use Rattle.edge_traits.specs.Settled.{Ends, at_end, goes_on, Settled, nothing_yet, put_before}
+use Rattle.edge_traits.specs.Settled.{Ends, at_end, goes_on, Settled, nothing_yet}
 use Rattle.command_frame.specs.InputLines.{lines_of, ended_part, open_part}
 use Rattle.command_frame.specs.Stops.{IsStop}
 use Rattle.command_frame.specs.Task.{Settling, IsQuiet, Feeds, Finishes, WritesOfNothing}
@@ -163,53 +163,16 @@ module _ {S : Type 0} (rules : LineRules S) where
     finish-writes none some =
         rw (stands.is at_end [] ∙ lines-done n stands.state rest (ap length none)) some
 
-    last-settles : 0 < length rest → settles at_end [] ≡ after_turn (rules.step n stands.state rest) rules.finish
+    pub last-settles : 0 < length rest → settles at_end [] ≡ after_turn (rules.step n stands.state rest) rules.finish
     last-settles some =
         stands.is at_end []
         ∙ (lines-last n stands.state rest some stands.plain
         ∙ ap (λ (turn : Turn S). after_turn turn rules.finish) (turn-inside n stands.state rest (inside-line n rest some stands.inside)))
 
-    finish-stop-by : (turn : Turn S) (before now : List ℕ) (status : Status) → settles at_end [] ≡ after_turn turn rules.finish
-        → TurnsAs Later turn before now (Some status) → Finishes settles before now status
-    finish-stop-by (passes text state) before now status is turn = absurd turn
-    finish-stop-by (ends_run text due) before now status is turn = record {
-      text = text;
-      added = turn.0;
-      ends = rw turn.1 is;
-    }
-
-    pub finish-stop : (before now : List ℕ) (status : Status) → 0 < length rest
-        → ((state : S) → Shows state → TurnsAs Later (rules.step n state rest) before now (Some status)) → Finishes settles before now status
-    finish-stop before now status some turns =
-        finish-stop-by (rules.step n stands.state rest) before now status (last-settles some) (turns stands.state stands.shows)
-
-    finish-more-by : (turn : Turn S) (before mid now : List ℕ) (status : Status) → settles at_end [] ≡ after_turn turn rules.finish
-        → TurnsAs Later turn before mid None → ((state : S) → Later state → EndsAs (rules.finish state) mid now status) → Finishes settles before now status
-    finish-more-by (passes text state) before mid now status is turn finished =
-        let ends = finished state turn.1 in
-        record {
-          text = text ++ (rules.finish state).text;
-          added = rw (ends.added, turn.0, append_assoc before text (rules.finish state).text) refl;
-          ends = is ∙ ap (put_before text) (ends-so (rules.finish state) status ends.ends);
-        }
-    finish-more-by (ends_run text due) before mid now status is turn finished = absurd turn
-
-    pub finish-more : (before mid now : List ℕ) (status : Status) → 0 < length rest
-        → ((state : S) → Shows state → TurnsAs Later (rules.step n state rest) before mid None)
-        → ((state : S) → Later state → EndsAs (rules.finish state) mid now status) → Finishes settles before now status
-    finish-more before mid now status some turns finished =
-        finish-more-by (rules.step n stands.state rest) before mid now status (last-settles some) (turns stands.state stands.shows) finished
-
     pub finished-done : {E : Type 0} (before now : List ℕ) (result : Result Status E) → length rest ≡ 0
         → ((state : S) → Shows state → IfOk result (EndsAs (rules.finish state) before now)) → IfOk result (Finishes settles before now)
     finished-done before now (Ok status) none finished = finish-done before now status none finished
     finished-done before now (Err e) none finished = tt
-
-    pub finished-more : {E : Type 0} (before mid now : List ℕ) (result : Result Status E) → 0 < length rest
-        → ((state : S) → Shows state → TurnsAs Later (rules.step n state rest) before mid None)
-        → ((state : S) → Later state → IfOk result (EndsAs (rules.finish state) mid now)) → IfOk result (Finishes settles before now)
-    finished-more before mid now (Ok status) some turns finished = finish-more before mid now status some turns finished
-    finished-more before mid now (Err e) some turns finished = tt
 
     -- octets of a line that hasn't ended
     pub keep-past : (Now : Settling → Type 0) (octets text : List ℕ) → 0 < length octets → ended_part octets ≡ []
@@ -298,11 +261,11 @@ module _ {S : Type 0} (rules : LineRules S) where
       pub line-turn : (before now : List ℕ) (ends : Option Status) → IfSome ends IsStop
           → (nat_lt rules.lines n || nat_lt rules.octets (length rest + length last)) ≡ false
           → (line kept : List ℕ) → line ≡ rest ++ last → kept ≡ []
-          → ((state : S) → Shows state → TurnsAs Later (rules.step n state line) before now ends)
+          → TurnsAs Later (rules.step n stands.state line) before now ends
           → Feeds (InLine rules Later (n + 1) kept) settles (last ++ 10 ∷ []) before now ends
       line-turn before now ends stop inside line kept line_is none turns =
           let test : (nat_lt rules.lines n || nat_lt rules.octets (length (rest ++ last))) ≡ false = rw (length-append rest last) inside in
-          let turn = rw line_is at (turns stands.state stands.shows) in
+          let turn = rw line_is at turns in
           rw none (line-turn-by (rules.step n stands.state (rest ++ last)) before now ends stop (turn-inside n stands.state (rest ++ last) test) turn)
 
 -- ---- a piece, line by line
@@ -355,10 +318,3 @@ pub FeedsOn-none : (Old Now : Settling → Type 0) (before now piece left : List
 FeedsOn-none Old Now before now piece left none so_far settles stands =
     let same : piece ≡ so_far.done = so_far.parts ∙ rw (nil_from_length left none) (append-nil so_far.done) in
     rw same (so_far.goes settles stands)
-
-pub FeedsOn-kept : {E : Type 0} (Old Mid Now : Settling → Type 0) (before between now piece left : List ℕ) (result : Result (Option Status) E)
-    → FeedsOn Old Mid before between piece left → ((settles : Settling) → Mid settles → IfOk result (Feeds Now settles left between now))
-    → (settles : Settling) → Old settles → IfOk result (Feeds Now settles piece before now)
-FeedsOn-kept Old Mid Now before between now piece left (Ok ends) so_far last settles stands =
-    FeedsOn-last Old Mid Now before between now piece left ends so_far last settles stands
-FeedsOn-kept Old Mid Now before between now piece left (Err e) so_far last settles stands = tt

@@ -1,10 +1,11 @@
 -- What the loops of the driver do with one piece.
-use Rattle.std.specs.Prelude.{◌≡◌, ℕ, List, ◌++◌, Option, None, Some}
+use Rattle.std.specs.Prelude.{◌≡◌, ℕ, List, [], ◌++◌, Option, None, Some}
 use Rattle.edge_traits.specs.declared.status.Status.{Status}
 use Rattle.edge_traits.specs.declared.status.Status.TheVariants as statuses
 use Rattle.edge_traits.specs.Content.{Gains, GainsFront}
 use Rattle.edge_traits.specs.Faults.{NoneFailed, LastFailed}
-use Rattle.edge_traits.specs.Outcome.{SinkTells}
+use Rattle.edge_traits.specs.Outcome.{SinkTells, EndsAs}
+use Rattle.edge_traits.specs.Settled.{at_end}
 use Rattle.command_frame.specs.Task.{Settling, GoesOnTo, Takes}
 
 -- ---- the text that is due
@@ -55,3 +56,22 @@ Handed Stands settles piece before now (Some statuses.Limit) = (text : List ℕ)
 Handed Stands settles piece before now (Some statuses.Done) = ⊥
 Handed Stands settles piece before now (Some statuses.Usage) = ⊥
 Handed Stands settles piece before now (Some statuses.ReadFault) = ⊥
+
+-- ---- the end of the input
+
+-- the end, by what it settles: a run that ended so wrote all of the text, or up to a failed write or want of
+-- memory a front of it
+abbrev pub EndedSo : Status → Settling → SinkTells → SinkTells → Type 0
+EndedSo status settles before now =
+    EndsAs (settles at_end []) status before.held now.held × NoneFailed before.calls now.calls
+
+abbrev pub HandedEnd : (Began : Type 0) → Settling → SinkTells → SinkTells → Status → Type 0
+HandedEnd Began settles before now statuses.Done = EndedSo statuses.Done settles before now
+HandedEnd Began settles before now statuses.Refused = EndedSo statuses.Refused settles before now
+HandedEnd Began settles before now statuses.Limit = EndedSo statuses.Limit settles before now
+HandedEnd Began settles before now statuses.WriteFault =
+    GainsFront before.held now.held (settles at_end []).text × LastFailed before.calls now.calls
+HandedEnd Began settles before now statuses.Memory =
+    Began × GainsFront before.held now.held (settles at_end []).text × NoneFailed before.calls now.calls
+HandedEnd Began settles before now statuses.Usage = ⊥
+HandedEnd Began settles before now statuses.ReadFault = ⊥

@@ -4,5 +4,6 @@ pub mod PartTask
 pub mod Within
 pub mod InputLines
 pub mod Lines
+pub mod PartLines
 -- what only ties code to these
 pub mod Handing

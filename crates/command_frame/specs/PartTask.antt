@@ -2,7 +2,11 @@
 use Rattle.std.specs.Prelude.{◌≡◌, ℕ, ◌<◌, ◌≤◌, List, [], ◌++◌, length, take, Bool, true, false, None, Some}
 use Rattle.command_frame.specs.declared.part_task.Taken.{Taken}
 use Rattle.command_frame.specs.declared.part_task.Taken.TheVariants.{All, Due, Ends}
-use Rattle.command_frame.specs.Task.{Settling, Takes}
+use Rattle.command_frame.specs.declared.turned.Turned.{Turned}
+use Rattle.command_frame.specs.declared.turned.Turned.TheVariants as turned
+use Rattle.edge_traits.specs.Settled.{at_end, put_before}
+use Rattle.command_frame.specs.Stops.{IsStop}
+use Rattle.command_frame.specs.Task.{Settling, Takes, Finishes}
 
 -- how a task stands: this text is due, and after it the octets still to come settle that
 abbrev pub Owing : Type 1
@@ -30,12 +34,12 @@ LeavesDue piece parts (Due used) = (0 < used) × (used ≤ length piece) × (0 <
 LeavesDue piece parts (Ends status) = Unit {0}
 
 -- a part of the text that is due was added to the text before, and the rest of it is due, if any
-pub record TellsPart (Stands : Owing) (settles : Settling) (due before now : List ℕ) (more : Bool) : Type 0 where
+pub record TellsPart {S : Type 0} (Stands : List ℕ → S → Type 0) (state : S) (due before now : List ℕ) (more : Bool) : Type 0 where
   pub part : List ℕ
   pub rest : List ℕ
   pub added : now ≡ before ++ part
   pub parts : due ≡ part ++ rest
-  pub stands : Stands rest settles
+  pub stands : Stands rest state
   pub last : more ≡ false → rest ≡ []
 
 -- a part is due at least, or none
@@ -46,3 +50,34 @@ IsDue false parts = parts ≡ 0
 -- there can be fewer parts than before, and whether there is one more was answered
 abbrev pub LeavesFewer : ℕ → ℕ → Bool → Type 0
 LeavesFewer before now more = (now < before) × IsDue more now
+
+-- ---- the last octets
+
+-- the input ended with octets that settle this text, which was added to the text before; after it is settled
+-- what an input without octets settles from there
+pub record EndsOn (Stands : Settling → Type 0) (settles : Settling) (before now : List ℕ) : Type 0 where
+  pub text : List ℕ
+  pub later : Settling
+  pub added : now ≡ before ++ text
+  pub stands : Stands later
+  pub ends : settles at_end [] ≡ put_before text (later at_end [])
+
+-- the input ended, and with it octets that were kept: their text was added, or no text was added and all of
+-- it is due, or they settle how the run ends
+abbrev pub TakesLast : Owing → Settling → List ℕ → List ℕ → Turned → Type 0
+TakesLast Stands settles before now turned.Passes = EndsOn (Stands []) settles before now
+TakesLast Stands settles before now turned.Owes = (now ≡ before) × ((due : List ℕ) × EndsOn (Stands due) settles [] due)
+TakesLast Stands settles before now (turned.Ends status) = Finishes settles before now status
+
+-- After octets whose text was added no part is due, and where their text is due there is a part at least.
+-- They end the run with a refusal or a limit.
+abbrev pub LeavesTurn : ℕ → Turned → Type 0
+LeavesTurn parts turned.Passes = parts ≡ 0
+LeavesTurn parts turned.Owes = 0 < parts
+LeavesTurn parts (turned.Ends status) = IsStop status
+
+-- memory is wanted after them only of a task whose end might want it before
+abbrev pub BeganBefore : Type 0 → Type 0 → Turned → Type 0
+BeganBefore Before Now turned.Passes = Now → Before
+BeganBefore Before Now turned.Owes = Before
+BeganBefore Before Now (turned.Ends status) = Unit {0}

@@ -8,11 +8,14 @@
 //! went (`Ran`) is proved here once.
 //!
 //! Octets may settle a text that is much longer than they are. A `PartTask` hands such a text on part
-//! by part, and `drive_parts` writes each before the next. Its loop promises word for word what that of
-//! `drive` does.
+//! by part, and `drive_parts` writes each before the next. It promises word for word what `drive` does:
+//! both run the one loop (`drive_by`), which leaves to the kind of task what is done with a piece and with
+//! the end.
 //!
 //! A command that answers line by line gives a `LineStep`, which answers one line. `LineReader` is
-//! the task over it: it holds the numbers of lines, the limits on them, and the last line's end.
+//! the task over it: it holds the numbers of lines, the limits on them, and the last line's end. A
+//! `PartLineStep` may leave the text of a line to be told in parts, and `PartLineReader` is the part task
+//! over it, on which `LineReader` stands.
 #![tactic(auto)]
 
 mod driver;
@@ -21,13 +24,19 @@ mod laws;
 mod line_step;
 mod lines;
 mod part_driver;
+mod part_line_step;
+mod part_lines;
 mod part_task;
 mod task;
+mod turned;
 
 pub use driver::drive;
 pub use laws::{earliest_place_decides_by_lines, earliest_place_decides_within};
 pub use line_step::LineStep;
-pub use lines::{LinePassed, LineReader};
+pub use lines::LineReader;
 pub use part_driver::drive_parts;
+pub use part_line_step::PartLineStep;
+pub use part_lines::{LinePassed, PartLineReader};
 pub use part_task::{PartTask, Taken};
 pub use task::Task;
+pub use turned::Turned;

@@ -4,11 +4,12 @@ ghost use Rattle.edge_traits.specs.Content.{most_input};
 ghost use Rattle.edge_traits.specs.Outcome.{Ran, source_tells, sink_tells};
 ghost use Rattle.command_frame.specs.Task.{Settling, IsQuiet, WritesOfNothing};
 ghost use Rattle.command_frame.specs.Within.{within};
-ghost use Rattle.command_frame.specs.Handing.{Told, Handed};
+ghost use Rattle.command_frame.specs.Handing.{Told, Handed, HandedEnd};
 
-use crate::driver::BUFFER;
+use crate::driver::{Hands, drive_by, write_last};
 use crate::part_task::{PartTask, Taken};
-use edge_traits::{Failed, MOST_INPUT, Sink, Source, Status, read_once, write_all};
+use crate::turned::Turned;
+use edge_traits::{Failed, Sink, Source, Status, write_all};
 use std::alloc::{AllocError, Global};
 
 /// Runs a task that was told nothing yet, and that hands on its text in parts: each is written before
@@ -25,32 +26,58 @@ pub fn drive_parts<T: PartTask, S: Source, K: Sink>(
         (source_tells S.left S.faults S.failing source.old) (source_tells S.left S.faults S.failing source.new)
         (sink_tells K.held K.faults K.failing sink.old) (sink_tells K.held K.faults K.failing sink.new) }
 {
-    let mut text = String::new(alloc);
-    let mut buffer = [0u8; BUFFER];
-    let mut taken = 0;
-    'reading: while taken <= MOST_INPUT {
-        let n = match read_once(source, &mut buffer) {
-            Ok(n) => n,
-            Err(Failed) => return Status::ReadFault,
+    drive_by::<Parts, T, S, K>(alloc, task, source, sink)
+}
+
+/// The tasks that hand on their text in parts.
+struct Parts;
+
+impl<T: PartTask> Hands<T> for Parts {
+    ghost Stands = { λ t. T.Stands t [] };
+
+    ghost Began = { λ t. T.Began t };
+
+    ghost Ready = { λ t. T.parts t ≡ 0 };
+
+    fn hand<K: Sink>(
+        task: &mut T,
+        piece: &[u8],
+        text: &mut String,
+        sink: &mut K,
+    ) -> Option<Status> {
+        hand_on(task, piece, text, sink)
+    }
+
+    fn close<K: Sink>(task: &mut T, text: &mut String, sink: &mut K) -> Status {
+        text.clear();
+        let Ok(turned) = task.last(text) else {
+            return Status::Memory;
         };
-        if n == 0 {
-            text.clear();
-            match task.end(&mut text) {
-                Err(AllocError) => return Status::Memory,
-                Ok(status) => match write_all(sink, text.as_bytes()) {
-                    Err(Failed) => return Status::WriteFault,
-                    Ok(()) => return status,
-                },
-            }
-        }
-        let size = n.min(MOST_INPUT - taken);
-        match hand_on(task, &buffer[..size], &mut text, sink) {
-            Some(status) => return status,
-            None if size < n => return Status::Limit,
-            None => taken += size,
+        match turned {
+            Turned::Ends(status) => write_last(text, status, sink),
+            Turned::Owes => match tell_all(task, text, sink) {
+                Some(status) => status,
+                None => end_whole(task, text, sink),
+            },
+            Turned::Passes => match write_all(sink, text.as_bytes()) {
+                Ok(()) => end_whole(task, text, sink),
+                Err(Failed) => Status::WriteFault,
+            },
         }
     }
-    Status::Limit
+}
+
+/// Writes what the end of the input settles, where nothing is kept that is told in parts.
+fn end_whole<T: PartTask, K: Sink>(task: &mut T, text: &mut String, sink: &mut K) -> Status
+    requires { T.parts task.old ≡ 0 }
+    ensures { (settles : Settling) → T.Stands task.old [] settles → HandedEnd (T.Began task.old) settles
+        (sink_tells K.held K.faults K.failing sink.old) (sink_tells K.held K.faults K.failing sink.new) result }
+{
+    text.clear();
+    match task.end(text) {
+        Ok(status) => write_last(text, status, sink),
+        Err(AllocError) => Status::Memory,
+    }
 }
 
 /// Writes all that the octets of a piece settle: how the run ends, where they settle that too or

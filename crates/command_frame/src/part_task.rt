@@ -3,8 +3,9 @@ ghost use Rattle.std.specs.Prelude.{◌≡◌, ℕ, ◌<◌, List, [], IfOk, OnE
 ghost use Rattle.std.specs.String.{string_bytes};
 ghost use Rattle.edge_traits.specs.Outcome.{IsAnswer};
 ghost use Rattle.command_frame.specs.Task.{Settling, Finishes};
-ghost use Rattle.command_frame.specs.PartTask.{FeedsPart, LeavesDue, TellsPart, LeavesFewer};
+ghost use Rattle.command_frame.specs.PartTask.{FeedsPart, LeavesDue, TellsPart, LeavesFewer, TakesLast, LeavesTurn, BeganBefore};
 
+use crate::turned::Turned;
 use edge_traits::Status;
 use std::alloc::AllocError;
 
@@ -46,6 +47,19 @@ pub trait PartTask {
         ensures told { (due : List ℕ) (settles : Settling) → Stands self.old due settles → IfOk result
             (TellsPart (Stands self.new) settles due (string_bytes text.old) (string_bytes text.new)) }
         ensures leaves { IfOk result (LeavesFewer (parts self.old) (parts self.new)) };
+
+    /// The input ended, and no text is due: takes octets that are kept, where their text may be too long to be
+    /// kept whole. A task that keeps no such octets does nothing here.
+    fn last(&mut self, text: &mut String) -> Result<Turned, AllocError>
+        requires { parts self.old ≡ 0 }
+        ensures ended { (settles : Settling) → Stands self.old [] settles → IfOk result
+            (TakesLast (Stands self.new) settles (string_bytes text.old) (string_bytes text.new)) }
+        ensures leaves { IfOk result (LeavesTurn (parts self.new)) }
+        ensures began { IfOk result (BeganBefore (Began self.old) (Began self.new)) }
+        ensures memory { OnErr result (Began self.old) }
+    {
+        Ok(Turned::Passes)
+    }
 
     /// The input ended, and no text is due: appends the text that this settles, and answers how the run
     /// ends.

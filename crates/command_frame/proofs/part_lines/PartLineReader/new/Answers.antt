@@ -1,15 +1,15 @@
-use Rattle.std.proofs.Common.{refl, inl, inr, ap, length, arith}
+use Rattle.std.proofs.Common.{refl, inl, inr, ap, length, arith, []}
 use Rattle.command_frame.proofs.LinesLemmas.{in_line-new, finish-writes}
-use Rattle.command_frame.proofs.lines.LineReader.new.Goals as goal
+use Rattle.command_frame.proofs.part_lines.PartLineReader.new.Goals as goal
 
 pub returns-clause-stands : goal.returns-clause-stands
 returns-clause-stands g c = λ start shows.
-    in_line-new g.L.LineStep.rules (g.L.LineStep.Shows c.args.step) 1 c.new.result.items start shows refl c.new.ensures.items
+    in_line-new g.L.PartLineStep.rules (g.L.PartLineStep.Shows c.args.step []) 1 c.new.result.items start shows refl c.new.ensures.items
 
 pub returns-clause-fresh : goal.returns-clause-fresh
 returns-clause-fresh g c = λ writes settles stands began. elim began [
   | inl some ↦ absurd (omega (arith, some, ap length c.new.ensures.items))
   | inr wants ↦
-      finish-writes g.L.LineStep.rules (g.L.LineStep.Shows c.args.step) (g.L.LineStep.Shows c.args.step) 1 c.new.result.items settles stands
+      finish-writes g.L.PartLineStep.rules (g.L.PartLineStep.Shows c.args.step []) (g.L.PartLineStep.Shows c.args.step []) 1 c.new.result.items settles stands
       c.new.ensures.items (writes stands.state stands.shows wants)
 ]

@@ -2,16 +2,17 @@ use Rattle.std.proofs.Common.{◌-◌, ◌≤◌}
 use Rattle.edge_traits.specs.Outcome.{source_tells, sink_tells}
 use Rattle.command_frame.specs.Task.{Settling, IsQuiet}
 use Rattle.command_frame.proofs.DriveLemmas.{Going}
-use Rattle.command_frame.proofs.driver.drive.Given as goal
+use Rattle.command_frame.proofs.driver.drive_by.Given as goal
 
 abbrev pub invariant-reading : goal.invariant-reading
 invariant-reading g l = record {
-  going : (settles : Settling) → g.T.Task.Stands l.initial.task settles → IsQuiet settles
-      → Going (g.T.Task.Stands l.task) (g.T.Task.Began l.task) settles
+  going : (settles : Settling) → g.H.Hands.Stands l.initial.task settles → IsQuiet settles
+      → Going (g.H.Hands.Stands l.task) (g.H.Hands.Began l.task) settles
       (source_tells g.S.Source.left g.S.Source.faults g.S.Source.failing l.initial.source)
       (source_tells g.S.Source.left g.S.Source.faults g.S.Source.failing l.source)
       (sink_tells g.K.Sink.held g.K.Sink.faults g.K.Sink.failing l.initial.sink)
       (sink_tells g.K.Sink.held g.K.Sink.faults g.K.Sink.failing l.sink) l.taken;
+  ready : g.H.Hands.Ready l.task;
   low : l.taken ≤ 67108864;
 }
 

@@ -1,12 +1,12 @@
-use Rattle.std.proofs.Common.{◌≡◌, arith, take, drop, ◌∙◌, []}
+use Rattle.std.proofs.Common.{arith, take, drop}
 use Rattle.edge_traits.specs.Content.{most_input}
-use Rattle.command_frame.proofs.PartDriveLemmas.{going-start, ran-fault, ran-handed, ran-limit, goes-on, ran-ended, ran-end-write, ran-end-memory, came-more, read-end}
-use Rattle.command_frame.proofs.part_driver.drive_parts.Goals as goal
+use Rattle.command_frame.proofs.DriveLemmas.{going-start, ran-fault, ran-handed, ran-limit, ran-closed, goes-on, came-more, read-end}
+use Rattle.command_frame.proofs.driver.drive_by.Goals as goal
 
 pub reading-init : goal.reading-init
 reading-init g c = record {
   going = λ settles stands quiet. going-start _ _ settles _ _ stands quiet (c.requires.fresh settles stands);
-  none_due = c.requires.none_due;
+  ready = c.requires.ready;
   low = omega arith;
 }
 
@@ -15,33 +15,12 @@ returns-in-Err g c = λ settles stands quiet.
     ran-fault most_input _ _ settles _ _ _ _ c.reading.taken (c.reading.invariant.going settles stands quiet) c.reading.invariant.low _
     c.in-Err.ensures.kept c.in-Err.ensures.calls
 
--- ---- the input ended
-
-pub returns-in-Err-end : goal.returns-in-Err-end
-returns-in-Err-end g c = λ settles stands quiet.
+pub returns-then-n-eq0 : goal.returns-then-n-eq0
+returns-then-n-eq0 g c = λ settles stands quiet.
     let going = c.reading.invariant.going settles stands quiet in
     let ended = read-end _ _ _ going.came c.read_once.new.buffer c.in-Ok.n c.if-n-eq0.true going.read c.in-Ok.ensures.took in
-    ran-end-memory most_input _ _ settles _ _ _ _ c.reading.taken going c.reading.invariant.low _ ended.0 ended.1 c.in-Ok.ensures.calls
-    c.in-Err-end.ensures.memory
-
-pub returns-in-Err-write_all : goal.returns-in-Err-write_all
-returns-in-Err-write_all g c = λ settles stands quiet.
-    let going = c.reading.invariant.going settles stands quiet in
-    let ended = read-end _ _ _ going.came c.read_once.new.buffer c.in-Ok.n c.if-n-eq0.true going.read c.in-Ok.ensures.took in
-    let finished = c.in-Ok-end.ensures.finished going.later going.stands in
-    let text : c.as_bytes.result.now ≡ finished.text = c.as_bytes.ensures.value ∙ (rw c.clear.ensures.bytes at finished.added) in
-    ran-end-write most_input _ _ settles _ _ _ _ c.reading.taken going c.reading.invariant.low _ ended.0 ended.1 c.in-Ok.ensures.calls
-    finished.text c.in-Ok-end.status finished.ends _ (rw text at c.in-Err-write_all.ensures.err) c.in-Err-write_all.ensures.calls
-
-pub returns-in-Ok-write_all : goal.returns-in-Ok-write_all
-returns-in-Ok-write_all g c = λ settles stands quiet.
-    let going = c.reading.invariant.going settles stands quiet in
-    let ended = read-end _ _ _ going.came c.read_once.new.buffer c.in-Ok.n c.if-n-eq0.true going.read c.in-Ok.ensures.took in
-    let finished = c.in-Ok-end.ensures.finished going.later going.stands in
-    let text : c.as_bytes.result.now ≡ finished.text = c.as_bytes.ensures.value ∙ (rw c.clear.ensures.bytes at finished.added) in
-    ran-ended most_input _ _ settles _ _ _ _ c.reading.taken going c.reading.invariant.low _ ended.0 ended.1 c.in-Ok.ensures.calls
-    finished.text c.in-Ok-end.status finished.ends _ (rw text at c.in-Ok-write_all.ensures.ok) c.in-Ok-write_all.ensures.calls
-    c.in-Ok-end.ensures.status
+    ran-closed most_input _ _ settles _ _ _ _ c.reading.taken going c.reading.invariant.low _ ended.0 ended.1 c.in-Ok.ensures.calls
+    _ c.close.result (c.close.ensures going.later going.stands)
 
 -- ---- octets came
 
@@ -52,15 +31,15 @@ returns-in-Some g c = λ settles stands quiet.
     going.size c.min-size.ensures c.in-Ok.ensures.bound.0 going.read c.in-Ok.ensures.took.read in
     ran-handed most_input _ _ settles _ _ _ _ c.reading.taken going c.reading.invariant.low _
     (take c.min-size.result c.read_once.new.buffer) (drop c.min-size.result (take c.in-Ok.n c.read_once.new.buffer))
-    more.fits more.read c.in-Ok.ensures.calls (g.T.PartTask.Stands c.hand_on.new.task []) _ c.in-Some.status (more.some (omega (arith, c.if-n-eq0.false)))
-    (rw c.in-Some.is at (c.hand_on.ensures.handed going.later going.stands going.quiet))
+    more.fits more.read c.in-Ok.ensures.calls (g.H.Hands.Stands c.hand.new.task) _ c.in-Some.status (more.some (omega (arith, c.if-n-eq0.false)))
+    (rw c.in-Some.is at (c.hand.ensures.handed going.later going.stands going.quiet))
 
 pub returns-in-None : goal.returns-in-None
 returns-in-None g c = λ settles stands quiet.
     let going = c.reading.invariant.going settles stands quiet in
     let more = came-more most_input _ _ _ going.came c.read_once.new.buffer c.in-Ok.n c.min-size.result c.reading.taken c.reading.invariant.low
     going.size c.min-size.ensures c.in-Ok.ensures.bound.0 going.read c.in-Ok.ensures.took.read in
-    let handed = rw c.in-None.is at (c.hand_on.ensures.handed going.later going.stands going.quiet) in
+    let handed = rw c.in-None.is at (c.hand.ensures.handed going.later going.stands going.quiet) in
     ran-limit most_input _ _ settles _ _ _ _ c.reading.taken going c.reading.invariant.low _
     (take c.min-size.result c.read_once.new.buffer) (drop c.min-size.result (take c.in-Ok.n c.read_once.new.buffer))
     more.fits more.read c.in-Ok.ensures.calls handed.0 _ handed.2 handed.3 _ handed.1 (more.full c.if-size-n.true) (more.cut c.if-size-n.true)
@@ -71,11 +50,11 @@ reading-preserved g c = record {
       let going = c.reading.invariant.going settles stands quiet in
       let more = came-more most_input _ _ _ going.came c.read_once.new.buffer c.in-Ok.n c.min-size.result c.reading.taken c.reading.invariant.low
       going.size c.min-size.ensures c.in-Ok.ensures.bound.0 going.read c.in-Ok.ensures.took.read in
-      let handed = rw c.in-None-2.is at (c.hand_on.ensures.handed going.later going.stands going.quiet) in
+      let handed = rw c.in-None-2.is at (c.hand.ensures.handed going.later going.stands going.quiet) in
       goes-on most_input _ _ settles _ _ _ _ c.reading.taken going c.reading.invariant.low _
       (take c.min-size.result c.read_once.new.buffer) (drop c.min-size.result (take c.in-Ok.n c.read_once.new.buffer))
       more.fits more.read c.in-Ok.ensures.calls handed.0 _ handed.2 handed.3 _ handed.1 (more.none (omega (arith, c.if-size-n.false))) _ more.counted _
       (omega (arith, c.min-size.ensures, c.if-size-n.false, c.if-n-eq0.false));
-  none_due = c.hand_on.ensures.none_due c.in-None-2.is;
+  ready = c.hand.ensures.ready c.in-None-2.is;
   low = omega (arith, c.min-size.ensures, c.reading.invariant.low);
 }

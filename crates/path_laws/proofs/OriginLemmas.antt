@@ -91,7 +91,7 @@ apart s ups vs bs cs tagged_bs tagged_cs once numbers b c in_bs in_cs same =
 
 -- ---- a block at the gate
 
-face-end : (face : Face) → face_of (end_of face) ≡ face
+pub face-end : (face : Face) → face_of (end_of face) ≡ face
 face-end faces.Old = refl
 face-end faces.New = refl
 
@@ -491,7 +491,7 @@ received s begun ups all tagged u among end is =
     subst (λ p. ComesFrom s begun ups b.origin p u.body) place
     (subst (λ body. ComesFrom s begun ups b.origin b.place body) sent.whole
     (comes-from s begun ups all b.origin b.place b.session b.block (all-in (IsTagged s ups) begun tagged b sent.among))) in
-    record { session = b; among = sent.among; place = place; number = sent.number; is_one = by b.origin from }
+    record { session = b; among = sent.among; place = place; number = sent.number; block = sent.whole; is_one = by b.origin from }
   where
     by : (origin : Origin) → ComesFrom s begun ups origin (face_place (face_of end)) u.body
         → ((n : ℕ) × (i : ℕ) × (origin ≡ a_piece (other_path_end end) n i) × IsPieceOf s begun (other_path_end end) n i u.body)

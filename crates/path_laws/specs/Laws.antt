@@ -87,8 +87,11 @@ pub record IsPieceOf
       (map (octets_at (other_of (face_of end))) (pieces_on (passage arrival.full) s.gate.cut)) i
       ≡ Some body
 
--- A report on an end's n-th send, which came whole to the gate: the report that was asked for when
--- it came, with a moment and a number of the gate's.
+-- A report on an end's n-th send, which came whole to the gate: the report that is asked for where
+-- this bundle comes at some moment to a gate with some room at its other face, spelled with that
+-- moment and some number. They are the clock, the room and the counter of the gate as the event
+-- comes that hands the bundle up; but what was begun and handed up doesn't tell them, so it isn't
+-- said here. `IsReportAt` of `path_completion` says it of each event that begins a report.
 pub record IsReportOn
     (s : PathSetup) (begun : List Begun) (ups : List UpAt) (end : PathEnd) (n : ℕ)
     (body : List ℕ) : Type 0 where
@@ -146,6 +149,7 @@ pub record IsReceived
     pub among : IsIn session begun
     pub place : session.place ≡ face_place (face_of end)
     pub number : session.session ≡ u.session
+    pub block : session.block ≡ u.body
     pub is_one :
         ((n : ℕ) × (i : ℕ) × (session.origin ≡ a_piece (other_path_end end) n i)
         × IsPieceOf s begun (other_path_end end) n i u.body)
@@ -156,7 +160,9 @@ abbrev pub IsReceivedAt : PathSetup → List Begun → List UpAt → UpAt → Ty
 IsReceivedAt s begun ups u =
     (end : PathEnd) → u.place ≡ node_place end → IsReceived s begun ups end u
 
--- two blocks that came to one end come from sessions of one origin
+-- Two blocks that came to one end have the numbers of two sessions of one origin. Where these were
+-- begun isn't said, so that `different`, by which no two blocks are so, says the more: it covers the
+-- sessions across the link, in which the blocks came.
 pub record ShareOrigin (begun : List Begun) (u v : UpAt) : Type 0 where
   pub end : PathEnd
   pub first_place : u.place ≡ node_place end

@@ -3,23 +3,18 @@
 use Rattle.std.proofs.Common.{◌≡◌, ℕ, ◌+◌, List, [], ◌∷◌, map, Option, None, Some, Result, Ok, Err}
 use Rattle.std.proofs.Common.{◌⊎◌, inl, inr, refl, sym, ◌∙◌, ap, arith, subst}
 use Rattle.std.specs.List.{AllByRecursion, slice_get}
-use Rattle.std.specs.Option.{option_map}
-use Rattle.ltp_segment.specs.declared.fault.SegmentCause.{SegmentCause}
 use Rattle.ltp_segment.specs.Values.{SegmentValue}
-use Rattle.ltp_session.specs.declared.name.SessionName.{SessionName}
-use Rattle.ltp_session.specs.Engine.{Engine, EngineStep, Party, Reply, SubmitFault, UpValue}
-use Rattle.ltp_session.specs.Engine.{arrives, datagram_step, list_of, replied_or_stranger}
+use Rattle.ltp_session.specs.Engine.{Engine, EngineStep, SubmitFault, UpValue}
 use Rattle.link_laws.specs.View.{IsIn}
 use Rattle.gate_cases.specs.declared.face.Face.{Face}
-use Rattle.gate_cases.specs.declared.face.Face.TheVariants as faces
 use Rattle.gate_cases.specs.declared.judged.Judged.{Judged}
 use Rattle.gate_cases.specs.Bundles.{status_bundle}
 use Rattle.gate_cases.specs.Cases.{judged}
 use Rattle.gate_cases.specs.Faces.{other_of}
 use Rattle.gateway_core.specs.declared.effects.FaceUp.{FaceUp}
-use Rattle.gateway_core.specs.Gate.{Gate, GateSetup, and_then, arrives_at, at_face, does_at}
+use Rattle.gateway_core.specs.Gate.{Gate, and_then, arrives_at, at_face, does_at}
 use Rattle.gateway_core.specs.Gate.{hears_at, in_turn, judged_at, passes_at, room_of, sends_at}
-use Rattle.gateway_core.specs.Gate.{sends_unless, submission_at, up_at, with_face}
+use Rattle.gateway_core.specs.Gate.{up_at}
 use Rattle.path_laws.specs.declared.effects.UpAt.{UpAt}
 use Rattle.path_laws.specs.declared.places.PathEnd.{PathEnd}
 use Rattle.path_laws.specs.Places.{Stand, across, at_gate, at_node, end_of, face_of, face_place}
@@ -31,63 +26,13 @@ use Rattle.path_laws.specs.Path.{sends_block, up_from}
 use Rattle.path_laws.specs.Log.{Begun, a_send, begun_at, begun_in, begun_unless, come_begun, decided_begun}
 use Rattle.path_laws.specs.Log.{delivered_begun, passed_begun, pieces_begun, report_begun}
 use Rattle.path_laws.proofs.LogLemmas.{all-in, all-more, in-left}
-use Rattle.path_laws.proofs.OriginLemmas.{came_up, pieces-all, report-all}
-use Rattle.path_room.proofs.CaseNotes.{make-in}
+use Rattle.path_laws.proofs.OriginLemmas.{came_up, face-end, pieces-all, report-all}
+use Rattle.path_room.proofs.CaseNotes.{HasOneAtMost, heard-one, make-in, other-stays}
+use Rattle.path_room.proofs.PathNotes.{pieces-counter}
 use Rattle.path_drain_laws.proofs.AdvanceLemmas.{in-either}
 use Rattle.path_completion.specs.Decided.{BegunAreDecided, IsBegunIn, IsDecidedAt}
 
--- ---- one block at most is handed up at once
-
-abbrev HasOneAtMost : List UpValue → Type 0
-HasOneAtMost [] = Unit {0}
-HasOneAtMost (up ∷ ups) = ups ≡ []
-
-listed-one : (found : Option UpValue) → HasOneAtMost (list_of found)
-listed-one None = tt
-listed-one (Some up) = refl
-
-replied-one : (e : Engine) (name : SessionName) (answer : Option Reply)
-    → HasOneAtMost (replied_or_stranger e name answer).effects.ups
-replied-one e name None = tt
-replied-one e name (Some reply) =
-    listed-one (option_map (λ body. record { session = name.number; body = body }) reply.up)
-
-heard-one : (p : Party) (e : Engine) (read : Result SegmentValue (ℕ × SegmentCause)) (now : ℕ)
-    → HasOneAtMost (datagram_step p e read now).effects.ups
-unfolding datagram_step
-heard-one p e (Err refusal) now = tt
-heard-one p e (Ok s) now = replied-one e _ (arrives p e s now)
-
--- ---- what stays of a gate
-
-other-stays : (pair : Engine × Engine) (face : Face) (e : Engine)
-    → at_face (with_face pair face e) (other_of face) ≡ at_face pair (other_of face)
-other-stays pair faces.Old e = refl
-other-stays pair faces.New e = refl
-
--- the pieces take no number of a report
-sends-counter : (s : GateSetup) (face : Face) (now : ℕ) (block : List ℕ) (g : Gate)
-    → (sends_at s face now block g).gate.counter ≡ g.counter
-unfolding sends_at
-sends-counter s face now block g = by (submission_at s face now block g)
-  where
-    by : (r : Result EngineStep SubmitFault) → (sends_unless face g r).gate.counter ≡ g.counter
-    by (Ok step) = refl
-    by (Err fault) = refl
-
-pieces-counter : (s : GateSetup) (face : Face) (now : ℕ) (pieces : List (List ℕ)) (g : Gate)
-    → (in_turn (sends_at s face now) pieces g).gate.counter ≡ g.counter
-unfolding in_turn and_then
-pieces-counter s face now [] g = refl
-pieces-counter s face now (piece ∷ pieces) g =
-    pieces-counter s face now pieces (sends_at s face now piece g).gate
-    ∙ sends-counter s face now piece g
-
 -- ---- one block
-
-face-end : (face : Face) → face_of (end_of face) ≡ face
-face-end faces.Old = refl
-face-end faces.New = refl
 
 abbrev IsDecided : PathSetup → Path → List UpAt → Begun → Type 0
 IsDecided s w ups b = IsDecidedAt s w ups b.origin b.block

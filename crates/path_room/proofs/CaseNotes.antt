@@ -96,7 +96,7 @@ all-up_none s face now (up ∷ ups) g =
 
 -- ---- one block at most is handed up at once
 
-abbrev HasOneAtMost : List UpValue → Type 0
+abbrev pub HasOneAtMost : List UpValue → Type 0
 HasOneAtMost [] = Unit {0}
 HasOneAtMost (up ∷ ups) = ups ≡ []
 
@@ -110,7 +110,7 @@ replied-one e name None = tt
 replied-one e name (Some reply) =
     listed-one (option_map (λ body. record { session = name.number; body = body }) reply.up)
 
-heard-one : (p : Party) (e : Engine) (read : Result SegmentValue (ℕ × SegmentCause)) (now : ℕ)
+pub heard-one : (p : Party) (e : Engine) (read : Result SegmentValue (ℕ × SegmentCause)) (now : ℕ)
     → HasOneAtMost (datagram_step p e read now).effects.ups
 unfolding datagram_step
 heard-one p e (Err refusal) now = tt
@@ -119,7 +119,7 @@ heard-one p e (Ok s) now = replied-one e _ (arrives p e s now)
 -- ---- the case is noted
 
 -- what comes to a face leaves the other one as it is
-other-stays : (pair : Engine × Engine) (face : Face) (e : Engine)
+pub other-stays : (pair : Engine × Engine) (face : Face) (e : Engine)
     → at_face (with_face pair face e) (other_of face) ≡ at_face pair (other_of face)
 other-stays pair faces.Old e = refl
 other-stays pair faces.New e = refl

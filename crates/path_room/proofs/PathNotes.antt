@@ -82,6 +82,7 @@ engine-fine s at ups now made face (note ∷ noted) none =
 
 -- ---- how many reports were made
 
+-- pieces take no number of a report
 sends-counter : (s : GateSetup) (face : Face) (now : ℕ) (block : List ℕ) (g : Gate)
     → (sends_at s face now block g).gate.counter ≡ g.counter
 unfolding sends_at
@@ -91,7 +92,7 @@ sends-counter s face now block g = by (submission_at s face now block g)
     by (Ok step) = refl
     by (Err fault) = refl
 
-pieces-counter : (s : GateSetup) (face : Face) (now : ℕ) (pieces : List (List ℕ)) (g : Gate)
+pub pieces-counter : (s : GateSetup) (face : Face) (now : ℕ) (pieces : List (List ℕ)) (g : Gate)
     → (in_turn (sends_at s face now) pieces g).gate.counter ≡ g.counter
 unfolding in_turn and_then
 pieces-counter s face now [] g = refl

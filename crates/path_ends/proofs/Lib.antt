@@ -5,3 +5,4 @@ pub mod PathWears
 pub mod PathEnds
 pub mod OneDrain
 pub mod TimedLemmas
+pub mod QuietLemmas

@@ -25,6 +25,7 @@ use Rattle.path_laws.specs.Places.{Stand, across, at_gate, at_node, if_link, lin
 use Rattle.path_laws.proofs.RunLemmas.{step-chunk, whole-chunk}
 use Rattle.path_drain_laws.specs.Clean.{path_clean_event, path_deadline}
 use Rattle.path_ends.specs.Left.{IsTimed, PathWearsOut, all_left, path_left}
+use Rattle.path_ends.specs.Moments.{IsBeforeAny, PathDeadlinesAreAhead}
 use Rattle.path_ends.proofs.LinkLeft.{delivers-left, submits-stay}
 use Rattle.path_ends.proofs.PathLeft.{got-on, passed-low, passed-more, passed_on, path-is, submits-on}
 
@@ -193,6 +194,18 @@ path-clock s w most now timed reached due =
     (reached.links faces.Old) t is)
     (λ t is. reached-ahead (link_parties s faces.New) (link_at faces.New w) (timed.links faces.New)
     (reached.links faces.New) t is)
+
+-- so the clock is before the earliest of them, where there is one
+pub path-ahead : PathDeadlinesAreAhead
+path-ahead s start most events timed =
+    by (path_deadline (path_run s (starts_path s start) events)) refl
+  where
+    by : (due : Option ℕ) → path_deadline (path_run s (starts_path s start) events) ≡ due
+        → IsBeforeAny (path_run s (starts_path s start) events).now due
+    by None is = tt
+    by (Some deadline) is =
+        path-clock s (path_run s (starts_path s start) events) most deadline timed
+        (runs-reach s start events) is
 
 pub wears : (s : PathSetup) (w : Path) (most c : ℕ) (event : PathEvent) → IsTimed s most
     → AreReached s w → path_clean_event w c ≡ Some event → PathWearsOut most s w c event

@@ -3,6 +3,17 @@
 ghost use Rattle.path_ends.specs.Drained.{CleanRunsAreOne, DrainsAreMade, DrainsAreOne};
 ghost use Rattle.path_ends.specs.Drained.{PathsAreTimed};
 ghost use Rattle.path_ends.specs.Left.{PathDrainsWearOut};
+ghost use Rattle.path_ends.specs.Moments.{PathDeadlinesAreAhead, QuietClocksGoOn};
+
+/// Each deadline of a path that a run leads to is after its clock.
+pub fn path_deadlines_are_ahead()
+    ensures { PathDeadlinesAreAhead }
+{}
+
+/// A clock that is set to a moment before every deadline does nothing but show it, on any path.
+pub fn quiet_clocks_go_on()
+    ensures { QuietClocksGoOn }
+{}
 
 /// In each path that a run leads to, hopeful or not, a clean delivery leaves less than there was, and a
 /// clean clock is set to a later moment.

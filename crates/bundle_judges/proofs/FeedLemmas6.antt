@@ -34,7 +34,8 @@ use Rattle.bundle_judges.specs.Stand6.{dictionary_of, Keeps, IsAt, HasCome, HasE
 use Rattle.bundle_judges.specs.Judging6.{KeepsLittle, HasTaken, IsTaking, taken_by, JudgesOn}
 use Rattle.bundle_judges.proofs.MovedLemmas.{cut-from}
 use Rattle.bundle_judges.proofs.FieldLemmas6.{small-free, small-fails, octets-cut}
-use Rattle.bundle_judges.proofs.StandLemmas6.{fails-here, small-room}
+use Rattle.bundle_judges.proofs.StandLemmas6.{fails-here}
+use Rattle.bundle_judges.proofs.FewLemmas6.{small-room}
 
 -- ---- octets
 

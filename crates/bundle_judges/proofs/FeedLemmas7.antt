@@ -39,7 +39,9 @@ use Rattle.bundle_judges.specs.Judging7.{KeepsLittle, HasTaken, IsTaking, taken_
 use Rattle.bundle_judges.proofs.MovedLemmas.{cut-from}
 use Rattle.bundle_judges.proofs.SumLemmas7.{sum-longer}
 use Rattle.bundle_judges.proofs.FieldLemmas7.{small-free, body-cut}
-use Rattle.bundle_judges.proofs.StepLemmas7.{bundle-err, fails-here, small-fails, small-room, start-begun}
+use Rattle.bundle_judges.proofs.StepLemmas7.{bundle-err, fails-here}
+use Rattle.bundle_judges.proofs.FewLemmas7.{small-fails, small-room}
+use Rattle.bundle_judges.proofs.StartLemmas7.{start-begun}
 
 -- ---- octets
 
@@ -114,6 +116,49 @@ come-before text s before come =
       all = come.all;
       inside = inside-before s before s.stage come.inside;
     }
+
+-- the same judge of another stream
+abbrev anew : Stand → Stand
+anew s = record {
+  before = 0;
+  came = s.came;
+  at = s.at;
+  stage = s.stage;
+  seen = s.seen;
+  part = s.part;
+  main = s.main;
+  head = s.head;
+}
+
+keeps-anew : (text : List ℕ) (start : ℕ) (s : Stand) (stage : Stage) → Keeps text start s stage → Keeps text start (anew s) stage
+keeps-anew text start s Primary keeps = keeps
+keeps-anew text start s (Field small) keeps = keeps
+keeps-anew text start s (Body front sum) keeps = keeps
+
+inside-anew : (s : Stand) (stage : Stage) → IsInside s stage → IsInside (anew s) stage
+inside-anew s Primary inside = inside
+inside-anew s (Field small) inside = inside
+inside-anew s (Body front sum) inside = inside
+
+-- nothing came after whole bundles
+pub come-anew : (text : List ℕ) (s : Stand) → HasCome text s → s.came ≤ 0 → HasCome [] (anew s)
+come-anew text s come none =
+    let stands = come.stands in
+    subst (λ t. HasCome t (anew s)) (empty text (omega (arith, come.all, none))) (record {
+      stands = record {
+        octets = stands.octets;
+        within = stands.within;
+        place = stands.place;
+        few = stands.few;
+        each = stands.each;
+        start = stands.start;
+        order = stands.order;
+        goes_on = stands.goes_on;
+        keeps = keeps-anew text stands.start s s.stage stands.keeps;
+      };
+      all = come.all;
+      inside = inside-anew s s.stage come.inside;
+    })
 
 -- ---- more octets are there
 

@@ -1,11 +1,16 @@
 pub mod MovedLemmas
 pub mod FieldLemmas6
 pub mod StandLemmas6
+pub mod FewLemmas6
+pub mod StartLemmas6
 pub mod RunLemmas6
 pub mod FeedLemmas6
 pub mod SumLemmas7
 pub mod FieldLemmas7
 pub mod StandLemmas7
 pub mod StepLemmas7
+pub mod FewLemmas7
+pub mod StartLemmas7
+pub mod HereLemmas7
 pub mod RunLemmas7
 pub mod FeedLemmas7

@@ -224,7 +224,7 @@ module _ (text : List ℕ) (s : Stand) (end more : ℕ) where
       record {
         octets = passes.octets;
         within = passes.within;
-        stage = omega (arith, stage);
+        some = omega (arith, stage);
         few = passes.few;
         each = passes.each;
         main = passes.main;
@@ -277,7 +277,7 @@ checks-last text s lead more checks last =
       later = (omega arith, tt);
       goes_on = λ more'.
           checks.goes_on more' ∙ on-last s.part text 64 (length s.seen.kinds) s.seen lead (text ++ more') (s.came + more) last;
-    }) (omega (arith, checks.stage)) refl refl
+    }) (omega (arith, checks.some)) refl refl
 
 pub few-more : (kind count : ℕ) → count ≤ 64 → (kind == 1 || count == 64) ≡ false → count < 64
 few-more kind count few more = by (kind == 1) more
@@ -312,7 +312,7 @@ checks-more text s seen lead more checks last is =
           ∙ on-more s.part text 64 (length s.seen.kinds) s.seen lead (text ++ more') (s.came + more) checks.few last
           ∙ ap (λ n. read (judged_blocks s.part n (seen_with s.seen lead.kind lead.number)) (text ++ more') (s.came + more)) left
           ∙ ap (λ (x : Seen). read (judged_blocks s.part (64 - length seen.kinds) x) (text ++ more') (s.came + more)) (sym is);
-    }) (omega (arith, checks.stage)) refl refl
+    }) (omega (arith, checks.some)) refl refl
 
 -- ---- after the primary block
 

@@ -6,4 +6,5 @@ pub mod Field6
 pub mod Stand6
 pub mod Sum7
 pub mod Field7
+pub mod Here7
 pub mod Stand7

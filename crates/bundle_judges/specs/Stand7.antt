@@ -223,7 +223,7 @@ pub record Passes (text : List ℕ) (s : Stand) (small : Small) (front : Option 
 pub record Checks (text : List ℕ) (s : Stand) (lead : Lead) (more : ℕ) : Type 0 where
   pub octets : IsOctets text
   pub within : s.came + more ≤ length text
-  pub stage : 0 < steps_left s.stage
+  pub some : 0 < 4 * more + steps_left s.stage
   pub few : length s.seen.kinds ≤ 64
   pub each : length s.seen.numbers ≡ length s.seen.kinds
   pub main : s.main.items ≡ []

@@ -48,6 +48,19 @@ impl Stand {
         self.head.clear();
     }
 
+    /// Nothing came, of another stream.
+    pub(crate) fn restart(&mut self)
+        requires { (stream : Stream) × TookSo stream self.old }
+        ensures come { HasCome [] self.new }
+        ensures before { self.new.before ≡ 0 }
+    {
+        self.before = 0;
+        // After whole bundles there is nothing to let go of.
+        if self.came > 0 {
+            self.close(0);
+        }
+    }
+
     /// Takes a piece; with it the bundle under way may have so many octets.
     pub(crate) fn feed(&mut self, piece: &[u8], longest: usize) -> Result<Judged7, Fail7>
         requires taken { (stream : Stream) × HasTaken longest stream self.old }

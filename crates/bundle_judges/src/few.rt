@@ -1,6 +1,6 @@
 //! The first octets of a field that is under way.
 
-ghost use Rattle.std.specs.Prelude.{◌≡◌, ◌+◌, ◌<◌, ◌≤◌, ◌++◌, ◌∷◌, [], length};
+ghost use Rattle.std.specs.Prelude.{◌≡◌, ◌+◌, ◌<◌, ◌≤◌, ◌++◌, ◌∷◌, [], length, ◌==◌};
 
 use std::marker::Model;
 
@@ -47,6 +47,13 @@ impl Few {
         ensures { result ≡ length self.now }
     {
         self.count
+    }
+
+    /// Whether there are none.
+    pub(crate) fn is_empty(&self) -> bool
+        ensures { result ≡ (length self.now == 0) }
+    {
+        self.count == 0
     }
 
     /// The octets, lent.

@@ -44,6 +44,19 @@ impl Judge7 {
         }
     }
 
+    /// Lets go of the stream that was taken so far, and keeps its room for another: places count anew. It
+    /// takes no memory.
+    pub fn restart(&mut self)
+        requires whole { self.old.spent ≡ false }
+        requires taken { IsTaking self.old.stand }
+        requires fresh { self.old.refused ≡ None }
+        ensures taken { HasTaken 67108864 (record { before = 0; kept = [] }) self.new.stand }
+        ensures fresh { self.new.refused ≡ None }
+        ensures whole { self.new.spent ≡ false }
+    {
+        self.stand.restart();
+    }
+
     /// Takes a piece of the stream that was taken so far, up to the end of the first bundle that it
     /// completes, or all of it.
     ///

@@ -9,11 +9,15 @@
 //! version 7 keeps the octets of the primary block as long as they don't end it, at most 1,050 of
 //! another field, the types and numbers of the extension blocks, and the register of the check that has
 //! run over the block so far. So many octets only a body has that is one item: an endpoint.
+//!
+//! A block of version 7 is summed once, as its octets come. One that lies in a piece as a whole is judged
+//! there. Only a primary block whose check is cut by the end of a piece is summed again with the next.
 #![tactic(auto)]
 
 mod feed6;
 mod feed7;
 mod few;
+mod here7;
 mod judge6;
 mod judge7;
 mod stand6;

@@ -6,19 +6,19 @@ ghost use Rattle.wire_fields.specs.Words.{exact_octet};
 ghost use Rattle.wire_fields.specs.Gives.{Gives};
 ghost use Rattle.bundle7.specs.declared.fault.Cause7.TheVariants.{Break};
 ghost use Rattle.bundle7.specs.Cause.{refused};
-ghost use Rattle.bundle7.specs.Table.{is_single, body_field};
+ghost use Rattle.bundle7.specs.Table.{is_single};
 ghost use Rattle.bundle_judges.specs.Field7.{small_field, most_octets, is_kept, body_stage};
 ghost use Rattle.bundle_judges.specs.Stand7.{entered, IsThere, waiting, waited, Fitting, Passes, Checks, Starts, Steps, StepsOn, RunsOn};
 
 use crate::few::{Few, MOST};
+use crate::here7::{block_here, item_of};
 use crate::sum7::{Sum, absent, missed};
 use bundle7::{
-    Cause7, Fail7, Front, Lead, MOST_EXTENSIONS, Refused7, Seen, front_judged, is_body,
-    start_judged,
+    Cause7, Fail7, Front, Lead, MOST_EXTENSIONS, Refused7, Seen, front_judged, start_judged,
 };
 use endpoint::Fragment;
 use std::alloc::AllocError;
-use wire_fields::{octet_at, octets_at};
+use wire_fields::octet_at;
 
 /// How many octets of a primary block are kept at once, before they are looked at.
 const CHUNK: usize = 4_096;
@@ -96,6 +96,8 @@ impl Stand {
                     self.start_on(rest)
                 }
             }
+            Stage::Field(Small::Block) => self.block(rest),
+            Stage::Field(Small::End) => self.end(rest),
             Stage::Field(small) => self.short(rest, &small),
             Stage::Body { front, sum } => self.body(rest, front, sum),
         }
@@ -167,6 +169,36 @@ impl Stand {
         self.part = part;
         self.seen.clear();
         self.go(Stage::Field(Small::Block), more)
+    }
+
+    /// A block: one that is there as a whole is judged where it lies, and its octets are summed at once.
+    fn block(&mut self, rest: &[u8]) -> Result<Step, Fail7>
+        requires there { IsThere self.old rest.now }
+        requires counted { self.old.came + length rest.now < 2 ^ 64 }
+        requires stage { self.old.stage ≡ Stage.Field Small.Block }
+        ensures { StepsOn self.old rest.now result self.new }
+    {
+        if self.head.is_empty() {
+            if let Some((lead, end)) = block_here(rest, self.part, &self.seen) {
+                return Ok(self.checked(lead, end));
+            }
+        }
+        self.short(rest, &Small::Block)
+    }
+
+    /// The mark that ends the bundle.
+    fn end(&mut self, rest: &[u8]) -> Result<Step, Fail7>
+        requires there { IsThere self.old rest.now }
+        requires counted { self.old.came + length rest.now < 2 ^ 64 }
+        requires stage { self.old.stage ≡ Stage.Field Small.End }
+        ensures { StepsOn self.old rest.now result self.new }
+    {
+        if self.head.is_empty() {
+            if let Ok((_, end)) = end_of(rest) {
+                return Ok(Step::Ended(self.came + end));
+            }
+        }
+        self.short(rest, &Small::End)
     }
 
     /// A field of few octets, with those that came of it before.
@@ -379,23 +411,6 @@ fn is_last(kind: u64, count: u64) -> bool
     ensures { result ≡ (kind == 1 || count == 64) }
 {
     kind == 1 || count == MOST_EXTENSIONS
-}
-
-/// A body of one item at the front of some octets.
-fn item_of(text: &[u8], front: Front) -> Result<(&[u8], usize), Refused7>
-    ensures within { IfOk result (λ x. x.1 ≤ length text.now) }
-    ensures exact { Gives (λ lent. lent.now) refused result
-        (read (body_field front.lead.kind front.size) text.now 0) }
-{
-    match octets_at(text, 0, front.size) {
-        Ok((body, end)) => {
-            if !is_body(front.lead.kind, body) {
-                return Err(absent(Cause7::ExtensionBody));
-            }
-            Ok((body, end))
-        }
-        Err(miss) => Err(missed(miss, Cause7::Body)),
-    }
 }
 
 /// The mark that ends a bundle.

@@ -48,9 +48,9 @@ impl Sum {
     }
 
     /// The head of the check at the front of some octets.
-    pub(crate) fn head(self, text: &[u8]) -> Result<((), usize), Refused7>
+    pub(crate) fn head(&self, text: &[u8]) -> Result<((), usize), Refused7>
         ensures within { IfOk result (λ x. x.1 ≤ length text.now) }
-        ensures exact { Gives (λ _. tt) refused result (read (check_head self) text.now 0) }
+        ensures exact { Gives (λ _. tt) refused result (read (check_head self.now) text.now 0) }
     {
         match self {
             Sum::Unchecked => Ok(((), 0)),

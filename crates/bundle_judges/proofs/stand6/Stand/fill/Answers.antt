@@ -1,7 +1,8 @@
 -- All of the primary block came.
 use Rattle.std.proofs.Common.{refl}
 use Rattle.bundle_judges.specs.declared.stand6.Stand.{Stand}
-use Rattle.bundle_judges.proofs.StandLemmas6.{read_again, primary-enters, moves-entered}
+use Rattle.bundle_judges.proofs.StandLemmas6.{read_again, moves-entered}
+use Rattle.bundle_judges.proofs.StartLemmas6.{primary-enters}
 use Rattle.bundle_judges.proofs.stand6.Stand.fill.Goals as goal
 
 pub returns : goal.returns

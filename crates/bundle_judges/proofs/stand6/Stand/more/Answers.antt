@@ -1,7 +1,8 @@
 -- A field of few octets, with one octet more.
 use Rattle.std.proofs.Common.{◌∙◌, Ok, length, ap, refl, arith}
 use Rattle.std.proofs.lemmas.List.{length-drop}
-use Rattle.bundle_judges.proofs.StandLemmas6.{first-there, set_head, steps-same, small-room, small-goes, small-ends, small-enters, small-waits, small-refused, fails-inside, refused-same}
+use Rattle.bundle_judges.proofs.StandLemmas6.{steps-same, fails-inside, refused-same}
+use Rattle.bundle_judges.proofs.FewLemmas6.{first-there, set_head, small-room, small-goes, small-ends, small-enters, small-waits, small-refused}
 use Rattle.bundle_judges.proofs.stand6.Stand.more.Goals as goal
 
 pub push-requires : goal.push-requires

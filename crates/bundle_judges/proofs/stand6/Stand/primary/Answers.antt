@@ -2,7 +2,8 @@
 use Rattle.std.proofs.Common.{length, ap, refl, arith}
 use Rattle.std.proofs.lemmas.List.{length-drop}
 use Rattle.bundle_judges.specs.declared.stand6.Stand.{Stand}
-use Rattle.bundle_judges.proofs.StandLemmas6.{with_main, steps-same, chunk-some, chunk-joins, primary-late, primary-fills, primary-waits, primary-refused}
+use Rattle.bundle_judges.proofs.StandLemmas6.{with_main, steps-same}
+use Rattle.bundle_judges.proofs.StartLemmas6.{chunk-some, chunk-joins, primary-late, primary-fills, primary-waits, primary-refused}
 use Rattle.bundle_judges.proofs.stand6.Stand.primary.Goals as goal
 
 pub overflow_sub-more : goal.overflow_sub-more

@@ -1,7 +1,8 @@
 -- A field of few octets.
 use Rattle.std.proofs.Common.{length, ap, arith}
 use Rattle.std.proofs.lemmas.List.{length-drop}
-use Rattle.bundle_judges.proofs.StandLemmas6.{small-lies, small-enters, small-refused, fails-inside, refused-same}
+use Rattle.bundle_judges.proofs.StandLemmas6.{fails-inside, refused-same}
+use Rattle.bundle_judges.proofs.FewLemmas6.{small-lies, small-enters, small-refused}
 use Rattle.bundle_judges.proofs.stand6.Stand.short.Goals as goal
 
 pub next-requires : goal.next-requires

@@ -1,7 +1,8 @@
 -- A field of few octets.
 use Rattle.std.proofs.Common.{Some, None, Ok, length, ap, refl, arith}
 use Rattle.std.proofs.lemmas.List.{length-drop}
-use Rattle.bundle_judges.proofs.StepLemmas7.{small-fills, small-fits, small-room, small-late, small-passes, small-waits, small-refused, fails-inside, refused-same, steps-same, with_head}
+use Rattle.bundle_judges.proofs.StepLemmas7.{fails-inside, refused-same, steps-same}
+use Rattle.bundle_judges.proofs.FewLemmas7.{small-fills, small-fits, small-room, small-late, small-passes, small-waits, small-refused, with_head}
 use Rattle.bundle_judges.proofs.stand7.Stand.short.Goals as goal
 
 pub overflow_sub-room : goal.overflow_sub-room

@@ -1,6 +1,7 @@
 -- The primary block where it lies.
 use Rattle.std.proofs.Common.{refl}
-use Rattle.bundle_judges.proofs.StepLemmas7.{starts-here, stays-here, refused-here, open-here, wants-room}
+use Rattle.bundle_judges.proofs.StepLemmas7.{wants-room}
+use Rattle.bundle_judges.proofs.StartLemmas7.{starts-here, stays-here, refused-here, open-here}
 use Rattle.bundle_judges.proofs.stand7.Stand.start.Goals as goal
 
 pub returns-in-Ok : goal.returns-in-Ok

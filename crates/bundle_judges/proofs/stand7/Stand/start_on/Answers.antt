@@ -1,6 +1,7 @@
 -- The primary block, of which some octets more are kept.
 use Rattle.std.proofs.Common.{Ok, refl, arith}
-use Rattle.bundle_judges.proofs.StepLemmas7.{chunk-joins, start-late, start-starts, start-waited, start-refused, steps-same, with_main}
+use Rattle.bundle_judges.proofs.StepLemmas7.{steps-same}
+use Rattle.bundle_judges.proofs.StartLemmas7.{chunk-joins, start-late, start-starts, start-waited, start-refused, with_main}
 use Rattle.bundle_judges.proofs.stand7.Stand.start_on.Goals as goal
 
 pub overflow_sub-end : goal.overflow_sub-end

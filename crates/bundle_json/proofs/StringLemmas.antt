@@ -1,17 +1,18 @@
 -- The texts of strings: hex and decimal digits stand as they are, and so does what is visible but a quote and a backslash.
-use Rattle.std.proofs.Common.{◌≡◌, ◌≢◌, ℕ, zero, suc, ◌+◌, ◌/◌, ◌%◌, ◌^◌, ◌<◌, ◌≤◌, ◌==◌, Bool, true, ◌&&◌, not, ltb, leb, eqb, List, [], ◌∷◌, ◌++◌, length, take, drop, slice_index, codes, decimal, Result, Ok, Err, refl, sym, ap, ap₂, subst, ◌∙◌, arith, append_assoc, append-nil}
-use Rattle.std.proofs.lemmas.Bool.{ne_eqb, le-ltb, ltb-true, leb-true, eqb-false, eqb-true, not-true, and_parts}
+use Rattle.std.proofs.Common.{◌≡◌, ◌≢◌, ℕ, zero, suc, ◌+◌, ◌/◌, ◌%◌, ◌^◌, ◌<◌, ◌≤◌, ◌==◌, Bool, true, ◌&&◌, not, ltb, leb, eqb, List, [], ◌∷◌, ◌++◌, length, take, drop, slice_index, get_or, codes, decimal, Result, Ok, Err, refl, sym, ap, ap₂, subst, ◌∙◌, arith, append_assoc, append-nil}
+use Rattle.std.proofs.lemmas.List.Folds.{list_all-append}
+use Rattle.std.proofs.lemmas.Bool.{ne_eqb, le-leb, le-ltb, ltb-true, leb-true, eqb-false, eqb-true, not-true, and_parts}
 use Rattle.std.proofs.lemmas.Str.Ascii.{IsAscii-nil}
 use Rattle.std.specs.Prelude.{IsOk, MatchResult}
 use Rattle.std.specs.List.{list_all}
 use Rattle.std.proofs.lemmas.Grind.{flat_map-append}
-use Rattle.std.proofs.lemmas.List.{take-append-drop}
+use Rattle.std.proofs.lemmas.List.{take-append-drop, take_more}
 use Rattle.std.proofs.lemmas.Fmt.{decimal_by_steps}
 use Rattle.std.proofs.lemmas.Str.{IsUtf8-from_ascii}
 use Rattle.std.specs.Str.{IsAscii, IsUtf8, bytes_eq}
 use Rattle.endpoint.specs.declared.name.Endpoint.{Endpoint}
-use Rattle.endpoint.specs.declared.name.Endpoint.TheVariants.{Dtn}
-use Rattle.endpoint.specs.Endpoints.{IsEndpoint, is_visible, is_ssp}
+use Rattle.endpoint.specs.declared.name.Endpoint.TheVariants.{Null, Ipn, Dtn}
+use Rattle.endpoint.specs.Endpoints.{IsEndpoint, is_visible, is_ssp, scheme_of, ssp_of}
 use Rattle.hex.specs.Hex.{encode_with, encode_lower, lower_digits, IsBytes}
 use Rattle.hex.proofs.HexLemmas.{IsAscii-encode_with}
 use Rattle.json.specs.Print.{escape_byte, escape, quoted}
@@ -85,6 +86,34 @@ ssp-visible ssp legal =
 pub dtn-visible : (endpoint : Endpoint) (ssp : List ℕ) → endpoint ≡ Dtn ssp → IsEndpoint endpoint → list_all is_visible ssp ≡ true
 dtn-visible endpoint ssp is legal = ssp-visible ssp (subst IsEndpoint is legal)
 
+decimal-visible : (n : ℕ) → n < 2 ^ 64 → list_all is_visible (decimal n) ≡ true
+decimal-visible = decimal_by_steps (λ n ds. list_all is_visible ds ≡ true) one more
+  where
+    one : (n : ℕ) → n < 10 → list_all is_visible ((48 + n) ∷ []) ≡ true
+    one n low = rw (le-leb 33 (48 + n) (omega arith), le-leb (48 + n) 126 (omega arith)) refl
+
+    more : (n : ℕ) (ds : List ℕ) → 10 ≤ n → list_all is_visible ds ≡ true → list_all is_visible (ds ++ ((48 + n % 10) ∷ [])) ≡ true
+    more n ds high is = list_all-append is_visible ds ((48 + n % 10) ∷ []) ∙ ap₂ (λ (s t : Bool). s && t) is (one (n % 10) (omega arith))
+
+-- the two texts of a legal endpoint
+pub scheme-visible : (endpoint : Endpoint) → list_all is_visible (scheme_of endpoint) ≡ true
+scheme-visible Null = refl
+scheme-visible (Ipn node service) = refl
+scheme-visible (Dtn ssp) = refl
+
+pub part-visible : (endpoint : Endpoint) → IsEndpoint endpoint → list_all is_visible (ssp_of endpoint) ≡ true
+part-visible Null legal = refl
+part-visible (Ipn node service) legal =
+    list_all-append is_visible (decimal node) (codes "." ++ decimal service)
+    ∙ ap₂ (λ (s t : Bool). s && t) (decimal-visible node legal.0) (decimal-visible service legal.1)
+part-visible (Dtn ssp) legal = ssp-visible ssp legal
+
+pub visible-at : (octets : List ℕ) (i d : ℕ) → list_all is_visible octets ≡ true → i < length octets → is_visible (get_or octets i d) ≡ true
+visible-at [] i d all within = absurd (omega (arith, within))
+visible-at (octet ∷ octets) zero d all within = (and_parts (is_visible octet) (list_all is_visible octets) all).0
+visible-at (octet ∷ octets) (suc i) d all within =
+    visible-at octets i d (and_parts (is_visible octet) (list_all is_visible octets) all).1 (omega (arith, within))
+
 -- a visible octet but a quote and a backslash
 pub visible-plain : (octet : ℕ) → is_visible octet ≡ true → octet ≢ 34 → octet ≢ 92 → escape_byte octet ≡ octet ∷ []
 visible-plain octet visible quote backslash =
@@ -94,6 +123,16 @@ visible-plain octet visible quote backslash =
 pub visible-low : (octet : ℕ) → is_visible octet ≡ true → octet < 128
 visible-low octet visible =
     let low : octet ≤ 126 = leb-true octet 126 (and_parts (leb 33 octet) (leb octet 126) visible).1 in omega arith
+
+-- one octet more is written
+pub escape-more : (octets : List ℕ) (i : ℕ) (before mid now : List ℕ) → i < length octets → mid ≡ before ++ escape (take i octets)
+    → now ≡ mid ++ escape_byte (get_or octets i 0) → now ≡ before ++ escape (take (i + 1) octets)
+escape-more octets i before mid now within so_far more =
+    let octet = get_or octets i 0 in
+    more ∙ ap (λ s. s ++ escape_byte octet) so_far ∙ append_assoc before (escape (take i octets)) (escape_byte octet)
+    ∙ ap (λ s. before ++ s) (sym (ap escape (take_more octets i 0 within)
+    ∙ flat_map-append escape_byte (take i octets) (octet ∷ [])
+    ∙ ap (λ s. escape (take i octets) ++ s) (append-nil (escape_byte octet))))
 
 -- ---- hex
 

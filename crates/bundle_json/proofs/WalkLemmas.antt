@@ -1,8 +1,9 @@
 -- Walking over the octets of a bundle.
-use Rattle.std.proofs.Common.{◌≡◌, ℕ, suc, zero, ◌+◌, ◌-◌, ◌≤◌, Bool, true, false, eqb, codes, ◌&&◌, List, [], ◌∷◌, ◌++◌, length, take, drop, Option, Some, None, Ok, refl, sym, ◌∙◌, ap, arith, append_assoc, append-nil, length-append, length-drop}
+use Rattle.std.proofs.Common.{◌≡◌, ℕ, suc, zero, ◌+◌, ◌-◌, ◌≤◌, Bool, true, false, eqb, codes, ◌&&◌, List, [], ◌∷◌, ◌++◌, length, take, drop, Option, Some, None, Ok, Err, refl, sym, ◌∙◌, ap, arith, append_assoc, append-nil, length-append, length-drop}
 use Rattle.std.specs.Prelude.{is_some, unwrap_or}
 use Rattle.std.proofs.lemmas.List.{drop-drop}
 use Rattle.std.proofs.Math.Seq.{drop-append_seam, take-append_seam}
+use Rattle.wire_fields.specs.declared.miss.Miss.{Miss}
 use Rattle.wire_fields.specs.Kind.{Kind, ValueOf, SpellsKind}
 use Rattle.wire_fields.specs.Format.{give, Spells}
 use Rattle.wire_fields.specs.Reading.{look, look_at, ahead}
@@ -20,7 +21,8 @@ use Rattle.bundle6.specs.declared.fault.Cause6.TheVariants.{BlockRefs}
 use Rattle.bundle6.specs.Names.{text_at, numbered, resolve, resolves, name_of, all_resolve}
 use Rattle.bundle6.specs.Table.{offsets, four_names, name, has_payload, others, block, next_block}
 use Rattle.bundle_json.specs.declared.walk.Pair.{Pair}
-use Rattle.bundle_json.specs.Laid.{LiesAt, ValueOf as ValueIn, pair_of, IsPair, Names, AreRefs, SpellsBlock, AreBlocks}
+use Rattle.bundle_json.specs.Laid.{LiesAt, ValueOf as ValueIn, pair_of, IsPair, Names, AreVisible, AreRefs, SpellsBlock, AreBlocks}
+use Rattle.bundle_json.proofs.StringLemmas.{scheme-visible, part-visible}
 
 -- ---- places
 
@@ -67,6 +69,14 @@ found-lies k octets at text rest value found spells lies is =
     ap (λ (t : List ℕ). ahead at (look k t)) lies.is ∙ ap (ahead at) (look-only k text rest value spells) in
     let same : found ≡ (value, at + length text) = ok_is found (value, at + length text) (is ∙ there) in
     rw same (refl, lies-after octets at text rest lies)
+
+-- a field that lies there isn't missed
+pub never-missed : (k : Kind) (octets : List ℕ) (at : ℕ) (text rest : List ℕ) (value : ValueOf k) (miss : Miss)
+    → SpellsKind k text value → LiesAt octets at (text ++ rest) → Err miss ≡ look_at k octets at → ⊥
+never-missed k octets at text rest value miss spells lies is =
+    let there : look_at k octets at ≡ Ok (value, at + length text) =
+    ap (λ (t : List ℕ). ahead at (look k t)) lies.is ∙ ap (ahead at) (look-only k text rest value spells) in
+    let no = is ∙ there in absurd (cc)
 
 -- ---- names
 
@@ -120,6 +130,28 @@ named-texts dictionary pair endpoint scheme ssp some first second names =
     let here : named scheme ssp ≡ Some endpoint = rw (some, ← first, ← second) at names in
     let parts = named-found scheme ssp endpoint here in
     rw (parts.scheme_is, parts.ssp_is) refl
+
+-- and what they name is visible
+pub texts-visible : (dictionary : List ℕ) (pair : Pair) (endpoint : Endpoint) (scheme ssp : List ℕ) → eqb (length dictionary) 0 ≡ false
+    → Some scheme ≡ text_at dictionary pair.scheme → Some ssp ≡ text_at dictionary pair.ssp
+    → Names dictionary pair endpoint → AreVisible scheme × AreVisible ssp
+unfolding resolve
+texts-visible dictionary pair endpoint scheme ssp some first second names =
+    let here : named scheme ssp ≡ Some endpoint = rw (some, ← first, ← second) at names in
+    let parts = named-found scheme ssp endpoint here in
+    rw (parts.scheme_is, parts.ssp_is) (scheme-visible endpoint, part-visible endpoint parts.legal)
+
+-- both texts are there
+pub named-there : (dictionary : List ℕ) (pair : Pair) (endpoint : Endpoint) → eqb (length dictionary) 0 ≡ false → Names dictionary pair endpoint
+    → (scheme ssp : List ℕ) × (text_at dictionary pair.scheme ≡ Some scheme) × (text_at dictionary pair.ssp ≡ Some ssp)
+unfolding resolve
+named-there dictionary pair endpoint some names = by (text_at dictionary pair.scheme) (text_at dictionary pair.ssp) refl refl
+  where
+    by : (first second : Option (List ℕ)) → text_at dictionary pair.scheme ≡ first → text_at dictionary pair.ssp ≡ second
+        → (scheme ssp : List ℕ) × (text_at dictionary pair.scheme ≡ Some scheme) × (text_at dictionary pair.ssp ≡ Some ssp)
+    by None second is also = absurd (cc (rw (some, is) at names))
+    by (Some scheme) None is also = absurd (cc (rw (some, is, also) at names))
+    by (Some scheme) (Some ssp) is also = (scheme, ssp, is, also)
 
 -- ---- references
 

@@ -1,9 +1,10 @@
 -- Where the fields of a valid bundle of version 6 lie in its octets (RFC 5050, sections 4.5 and 4.6):
 -- what code walks over.
-use Rattle.std.specs.Prelude.{◌≡◌, ℕ, ◌+◌, ◌-◌, ◌≤◌, Bool, true, List, [], ◌∷◌, ◌++◌, length, take, drop, Option, Some, Result, IfOk}
-use Rattle.std.specs.declared.alloc.AllocError.{AllocError}
+use Rattle.std.specs.Prelude.{◌≡◌, ℕ, ◌+◌, ◌-◌, ◌≤◌, Bool, true, List, [], ◌∷◌, ◌++◌, length, take, drop, Option, Some}
+use Rattle.std.specs.List.{list_all}
 use Rattle.endpoint.specs.declared.name.Endpoint.{Endpoint}
 use Rattle.endpoint.specs.declared.extent.Fragment.{Fragment}
+use Rattle.endpoint.specs.Endpoints.{is_visible}
 use Rattle.wire_fields.specs.Format.{Format, Spells}
 use Rattle.bundle6.specs.declared.primary.Primary6.{Primary6}
 use Rattle.bundle6.specs.declared.block.Block6.{Block6}
@@ -22,10 +23,10 @@ pub record LiesAt (octets : List ℕ) (at : ℕ) (rest : List ℕ) : Type 0 wher
 
 -- Where the octets at a place spell a format, its value is shown, and the octets after them lie at the
 -- place that is told.
-abbrev pub Walks : {C A X : Type 0} → Format C A → (X → A → Type 0) → List ℕ → ℕ → Result (X × ℕ) AllocError → Type 0
-Walks {A = A} f Shows octets at result =
+abbrev pub Walks : {C A X : Type 0} → Format C A → (X → A → Type 0) → List ℕ → ℕ → X × ℕ → Type 0
+Walks {A = A} f Shows octets at found =
     (front text rest : List ℕ) (value : A) → Spells f front text value → LiesAt octets at (text ++ rest)
-    → IfOk result (λ found. Shows found.0 value × LiesAt octets found.1 rest)
+    → Shows found.0 value × LiesAt octets found.1 rest
 
 -- a number is shown by itself
 abbrev pub Same : ℕ → ℕ → Type 0
@@ -52,6 +53,10 @@ pub record AreFour (four : Four) (value : ValueOf four_names) : Type 0 where
 -- two numbers name an endpoint
 abbrev pub Names : List ℕ → Pair → Endpoint → Type 0
 Names dictionary pair endpoint = resolve dictionary (pair_of pair) ≡ Some endpoint
+
+-- octets that may stand in a name
+abbrev pub AreVisible : List ℕ → Type 0
+AreVisible octets = list_all is_visible octets ≡ true
 
 -- the references of a block, one after the other
 abbrev pub AreRefs : List ℕ → List ℕ → List Endpoint → Type 0

@@ -1,5 +1,5 @@
 //! Endpoints by their texts.
-ghost use Rattle.std.specs.Prelude.{◌≡◌, ◌++◌, codes, OnOk};
+ghost use Rattle.std.specs.Prelude.{◌≡◌, ◌++◌, codes, true, OnOk};
 ghost use Rattle.std.specs.List.{position};
 ghost use Rattle.std.specs.Option.{option_map};
 ghost use Rattle.std.specs.String.{string_bytes};
@@ -8,7 +8,7 @@ ghost use Rattle.bundle6.specs.Names.{is_nul, text_at, numbered};
 ghost use Rattle.endpoint.specs.Endpoints.{IsEndpoint, is_visible};
 ghost use Rattle.serde_json.specs.Written.{compact_text};
 ghost use Rattle.bundle_json.specs.Json.{name};
-ghost use Rattle.bundle_json.specs.Laid.{Names, pair_of};
+ghost use Rattle.bundle_json.specs.Laid.{Names, AreVisible, pair_of};
 
 use crate::list::Shown;
 use crate::walk::Pair;
@@ -41,7 +41,7 @@ pub(crate) fn write_name(text: &mut String, endpoint: &Endpoint) -> Result<(), A
     }
 }
 
-/// Writes the endpoint that two numbers name, in quotes.
+/// Writes the endpoint that two numbers name, in quotes; nothing where they name none.
 pub(crate) fn write_named(
     text: &mut String,
     dictionary: &[u8],
@@ -53,13 +53,13 @@ pub(crate) fn write_named(
     if dictionary.is_empty() {
         return write_name(text, &numbered(pair));
     }
-    let Some(scheme) = text_in(dictionary, pair.scheme) else {
-        return Err(AllocError);
-    };
-    let Some(ssp) = text_in(dictionary, pair.ssp) else {
-        return Err(AllocError);
-    };
-    write_texts(text, scheme, ssp)
+    match text_in(dictionary, pair.scheme) {
+        Some(scheme) => match text_in(dictionary, pair.ssp) {
+            Some(ssp) => write_texts(text, scheme, ssp),
+            None => Ok(()),
+        },
+        None => Ok(()),
+    }
 }
 
 /// The endpoint of two numbers, without a dictionary.
@@ -75,7 +75,7 @@ fn numbered(pair: Pair) -> Endpoint
 
 /// Writes an endpoint by its scheme and its scheme-specific part, in quotes.
 fn write_texts(text: &mut String, scheme: &[u8], ssp: &[u8]) -> Result<(), AllocError>
-    ensures { OnOk result (string_bytes text.new
+    ensures { AreVisible scheme.now → AreVisible ssp.now → OnOk result (string_bytes text.new
         ≡ string_bytes text.old ++ quoted (scheme.now ++ (codes ":" ++ ssp.now))) }
 {
     text.push_str("\"")?;
@@ -109,7 +109,8 @@ fn nul_in(text: &[u8]) -> Option<usize>
 
 /// Writes visible octets as they stand in a JSON string.
 fn write_visible(text: &mut String, octets: &[u8]) -> Result<(), AllocError>
-    ensures { OnOk result (string_bytes text.new ≡ string_bytes text.old ++ escape octets.now) }
+    ensures { AreVisible octets.now
+        → OnOk result (string_bytes text.new ≡ string_bytes text.old ++ escape octets.now) }
 {
     'octets: for octet in octets {
         write_one(text, *octet)?;
@@ -118,23 +119,14 @@ fn write_visible(text: &mut String, octets: &[u8]) -> Result<(), AllocError>
 }
 
 /// Writes a visible octet as it stands in a JSON string: a quote and a backslash have a backslash
-/// before them. Another octet has no text here; no name has one.
+/// before them.
 fn write_one(text: &mut String, octet: u8) -> Result<(), AllocError>
-    ensures { OnOk result (string_bytes text.new ≡ string_bytes text.old ++ escape_byte octet) }
+    ensures { is_visible octet ≡ true
+        → OnOk result (string_bytes text.new ≡ string_bytes text.old ++ escape_byte octet) }
 {
-    if !is_visible(octet) {
-        return Err(AllocError);
-    }
     match octet {
         b'"' => text.push_str("\\\""),
         b'\\' => text.push_str("\\\\"),
         _ => text.push(char::from(octet)),
     }
-}
-
-/// Whether an octet may stand in a name.
-fn is_visible(octet: u8) -> bool
-    ensures { result ≡ is_visible octet }
-{
-    b'!' <= octet && octet <= b'~'
 }

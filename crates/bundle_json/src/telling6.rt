@@ -1,5 +1,5 @@
 //! Telling a bundle of version 6 part by part, out of its octets.
-ghost use Rattle.std.specs.Prelude.{◌≡◌, ◌++◌, ◌<◌, ℕ, List, [], codes, if◌then◌else◌, IfOk, OnOk, true, false};
+ghost use Rattle.std.specs.Prelude.{◌≡◌, ◌++◌, ◌<◌, ℕ, List, [], codes, if◌then◌else◌, OnOk, true, false};
 ghost use Rattle.std.specs.String.{string_bytes};
 ghost use Rattle.serde_json.specs.Written.{compact_text};
 ghost use Rattle.bundle6.specs.declared.bundle.Bundle6.{Bundle6};
@@ -54,17 +54,17 @@ pub struct Telling6 {
 
 impl Telling6 {
     /// The telling of the bundle that these octets spell: its JSON text is left.
-    pub fn new(octets: &[u8]) -> Result<Telling6, AllocError>
+    pub fn new(octets: &[u8]) -> Telling6
         ensures left { (bundle : Bundle6) → Spells6 bundle octets.now
-            → IfOk result (λ telling. Left octets.now telling (compact_text (bundle6 bundle))) }
-        ensures some { IfOk result (λ telling. 0 < steps_left octets.now telling) }
+            → Left octets.now result (compact_text (bundle6 bundle)) }
+        ensures some { 0 < steps_left octets.now result }
     {
-        let (primary, at) = primary(octets)?;
-        Ok(Telling6 {
+        let (primary, at) = primary(octets);
+        Telling6 {
             primary,
             at,
             stage: Stage::Open,
-        })
+        }
     }
 
     /// Whether all was told.
@@ -131,7 +131,7 @@ impl Telling6 {
             self.stage = Stage::Over;
             return Ok(());
         }
-        let view = block(octets, self.at)?;
+        let view = block(octets, self.at);
         text.push_str(opening(later))?;
         self.at = view.body;
         self.stage = Stage::Body { view };
@@ -146,7 +146,7 @@ impl Telling6 {
     {
         if self.at < view.after {
             let size = BODY.min(view.after - self.at);
-            write_hex(text, part_of(octets, self.at, size)?)?;
+            write_hex(text, part_of(octets, self.at, size))?;
             self.at += size;
             return Ok(());
         }
@@ -183,7 +183,7 @@ impl Telling6 {
             self.stage = Stage::Block { later: true };
             return Ok(());
         }
-        let (named, at) = pair_at(octets, self.at)?;
+        let (named, at) = pair_at(octets, self.at);
         text.push_str(comma(later))?;
         write_named(text, self.primary.texts.lent(octets), named)?;
         self.at = at;

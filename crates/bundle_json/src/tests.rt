@@ -90,7 +90,7 @@ fn a_telling_is_the_text(rt: HostRuntime) -> Result<(), Fail> {
     let alloc = rt.alloc();
     let octets = octets(alloc, SIX)?;
     let mut text = String::new(alloc);
-    let mut telling = Telling6::new(&octets)?;
+    let mut telling = Telling6::new(&octets);
     for _ in 0..100 {
         if telling.is_over() {
             break;

@@ -3,7 +3,7 @@ use Rattle.std.specs.Prelude.{OnOk}
 use Rattle.std.specs.String.{string_bytes}
 use Rattle.json.specs.Print.{quoted}
 use Rattle.endpoint.specs.Endpoints.{IsEndpoint, text_of}
-use Rattle.bundle_json.proofs.StringLemmas.{quoted-null, quoted-ipn, quoted-dtn}
+use Rattle.bundle_json.proofs.StringLemmas.{quoted-null, quoted-ipn, quoted-dtn, dtn-visible}
 use Rattle.bundle_json.proofs.ObjectLemmas.{ends}
 use Rattle.bundle_json.proofs.name.write_name.Goals as goal
 
@@ -26,4 +26,4 @@ returns-in_ok-write_visible-in-Dtn c =
     let start = string_bytes c.args.text.now in
     ends c.push_str-in-Dtn-2.result start (string_bytes c.write_visible.new.text) (string_bytes c.push_str-in-Dtn-2.new.self) (codes "\"") whole c.push_str-in-Dtn-2.ensures.bytes
     (rw (ap (λ e. quoted (text_of e)) c.in-Dtn.is ∙ quoted-dtn c.in-Dtn.ssp)
-    (simp (c.in_ok-write_visible-in-Dtn.ensures, c.as_slice.ensures, c.in_ok-push_str-in-Dtn.ensures.bytes, append_assoc)))
+    (simp (c.in_ok-write_visible-in-Dtn.ensures (rw c.as_slice.ensures (dtn-visible c.args.endpoint.now c.in-Dtn.ssp c.in-Dtn.is c.requires)), c.as_slice.ensures, c.in_ok-push_str-in-Dtn.ensures.bytes, append_assoc)))

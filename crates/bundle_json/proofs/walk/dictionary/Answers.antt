@@ -9,9 +9,9 @@ pub returns : goal.returns
 unfolding dictionary
 returns c = λ pairs front text rest value s lies.
     let t = s.5 in
-    let a = c.in_ok-size.ensures Number front s.0 (s.1 ++ rest) s.2 s.4 (lies-parts _ _ text s.0 s.1 rest lies s.3) in
+    let a = c.number-size.ensures Number front s.0 (s.1 ++ rest) s.2 s.4 (lies-parts _ _ text s.0 s.1 rest lies s.3) in
     let there = lies-parts _ _ s.1 t.0 t.1 rest a.1 t.3 in
-    let b = c.in_ok-to.ensures t.0 (t.1 ++ rest) (t.4.0.1 ∙ sym a.0) there in (
+    let b = c.skip-to.ensures t.0 (t.1 ++ rest) (t.4.0.1 ∙ sym a.0) there in (
       record {
         order = omega (arith, b.0);
         inside = b.1.inside;

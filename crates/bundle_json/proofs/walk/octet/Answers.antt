@@ -1,7 +1,11 @@
 use Rattle.wire_fields.specs.Kind.{octet}
-use Rattle.bundle_json.proofs.WalkLemmas.{found-lies}
+use Rattle.bundle_json.proofs.WalkLemmas.{found-lies, never-missed}
 use Rattle.bundle_json.proofs.walk.octet.Goals as goal
 
 pub returns-in-Ok : goal.returns-in-Ok
 returns-in-Ok c = λ cause front text rest value spells lies.
     found-lies octet c.args.octets.now c.args.at text rest value c.in-Ok.found spells lies c.in-Ok.ensures.exact
+
+pub returns-in-Err : goal.returns-in-Err
+returns-in-Err c = λ cause front text rest value spells lies.
+    absurd (never-missed octet c.args.octets.now c.args.at text rest value _ spells lies c.in-Err.ensures.exact)

@@ -9,7 +9,7 @@ references-init c = λ dictionary text rest refs are many lies.
 pub references-preserved : goal.references-preserved
 references-preserved c = λ dictionary text rest refs are many lies.
     passing-next c.args.octets.now dictionary c.references.after _ _ _ rest _ (c.references.invariant dictionary text rest refs are many lies)
-    (omega (arith, c.references-test.true)) c.in_ok-next.ensures
+    (omega (arith, c.references-test.true)) c.pair_at-next.ensures
 
 pub returns : goal.returns
 returns c = λ dictionary text rest refs are many lies.
@@ -24,3 +24,14 @@ returns c = λ dictionary text rest refs are many lies.
       ),
       last,
     )
+
+pub returns-then-count-octets : goal.returns-then-count-octets
+returns-then-count-octets c = λ dictionary text rest refs are many lies.
+    absurd (omega (
+      arith,
+      c.if-count-octets.true,
+      refs-long dictionary text refs are,
+      many,
+      lies-long c.args.octets.now c.args.at (text ++ rest) lies,
+      length-append text rest,
+    ))

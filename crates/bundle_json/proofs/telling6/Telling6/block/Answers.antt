@@ -8,5 +8,5 @@ returns-then-self-octets c = λ rest left.
 
 pub returns : goal.returns
 returns c = λ rest left.
-    tells-block c.args.octets.now c.args.self.now c.args.later c.in_ok-view.view _ _ rest (λ i. omega (arith, c.type_inv.octets i)) c.requires left
-    (omega (arith, c.if-self-octets.false)) c.in_ok-view.ensures (rw c.opening.ensures at c.in_ok-push_str.ensures.bytes)
+    tells-block c.args.octets.now c.args.self.now c.args.later c.block-view.result _ _ rest (λ i. omega (arith, c.type_inv.octets i)) c.requires left
+    (omega (arith, c.if-self-octets.false)) c.block-view.ensures (rw c.opening.ensures at c.in_ok-push_str.ensures.bytes)

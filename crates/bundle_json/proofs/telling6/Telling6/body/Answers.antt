@@ -8,9 +8,9 @@ pub returns-then-self-view : goal.returns-then-self-view
 returns-then-self-view c = λ rest left.
     subst (λ stage. Tells c.args.octets.now c.args.self.now (record { primary = c.args.self.now.primary; at = c.args.self.now.at + c.min-size.result; stage = stage })
     (string_bytes c.args.text.now) (string_bytes c.write_hex.new.text) rest) (sym c.requires)
-    (tells-body c.args.octets.now c.args.self.now c.args.view c.min-size.result c.in_ok-part_of.field-0.now _ _ rest c.requires left
+    (tells-body c.args.octets.now c.args.self.now c.args.view c.min-size.result c.part_of.result.now _ _ rest c.requires left
     (omega (arith, c.min-size.ensures, c.if-self-view.true)) (omega (arith, c.min-size.ensures, c.if-self-view.true))
-    c.in_ok-part_of.ensures c.in_ok-write_hex.ensures)
+    c.part_of.ensures c.in_ok-write_hex.ensures)
 
 pub returns : goal.returns
 returns c = λ rest left.

@@ -8,6 +8,6 @@ returns-then-left-eq0 c = λ rest left.
 
 pub returns : goal.returns
 returns c = λ rest left.
-    tells-ref c.args.octets.now c.args.self.now c.args.left _ c.args.after c.args.later (c.in_ok-named.named, c.in_ok-named.at) _ _ _ rest c.requires left
-    (omega (arith, c.if-left-eq0.false)) c.in_ok-named.ensures (rw c.comma.ensures at c.in_ok-push_str-2.ensures.bytes)
+    tells-ref c.args.octets.now c.args.self.now c.args.left _ c.args.after c.args.later c.pair_at-at.result _ _ _ rest c.requires left
+    (omega (arith, c.if-left-eq0.false)) c.pair_at-at.ensures (rw c.comma.ensures at c.in_ok-push_str-2.ensures.bytes)
     (λ endpoint named. c.in_ok-write_named.ensures endpoint (rw (c.lent.ensures left.shows.order left.shows.inside) named))

@@ -1,9 +1,12 @@
 pub mod FrontLemmas
 pub mod FrontsLemmas
 pub mod GivenLemmas
+pub mod BegunLemmas
 pub mod TakingLemmas
 pub mod CheckLemmas
+pub mod CheckStepLemmas
 pub mod ShowLemmas
+pub mod ComingLemmas
 pub mod ShowJudgeLemmas
 pub mod ShowStepLemmas
 pub mod LawLemmas

@@ -1,85 +1,29 @@
--- Octets of one bundle that `show` judges.
-use Rattle.std.proofs.Common.{◌≡◌, ℕ, zero, suc, ◌+◌, ◌<◌, ◌≤◌, List, [], ◌∷◌, ◌++◌, length, take, drop, Option, None, Some, Result, Ok, Err, IfOk, IsSomeAnd, refl, sym, ◌∙◌, ap, arith, append_assoc, length-append}
+-- Octets of one bundle, and the line that they begin.
+use Rattle.std.proofs.Common.{◌≡◌, ℕ, zero, suc, ◌+◌, ◌<◌, ◌≤◌, List, [], ◌∷◌, ◌++◌, length, take, drop, Option, None, Some, IsSomeAnd, refl, sym, ◌∙◌, ap, arith, append_assoc, length-append}
 use Rattle.std.proofs.lemmas.List.{append-nil, take-append-drop, length-take-le, length-drop, take_all, nil_from_length}
-use Rattle.std.specs.declared.alloc.AllocError.{AllocError}
 use Rattle.edge_traits.specs.Settled.{put_before}
 use Rattle.wire_fields.specs.Reading.{IsOctets}
 use Rattle.bundle_runs.specs.declared.commands.command.Command.TheVariants.{Show}
 use Rattle.bundle_runs.specs.declared.front.Bundle.{Bundle}
 use Rattle.bundle_runs.specs.declared.front.Cause.{Cause}
-use Rattle.bundle_runs.specs.declared.given.Given.{Given}
 use Rattle.bundle_runs.specs.declared.given.Given.TheVariants.{Whole, Part, Refused}
 use Rattle.bundle_runs.specs.declared.unfinished.Unfinished.{Unfinished}
-use Rattle.bundle_runs.specs.declared.begun.Begun.{Begun}
+use Rattle.bundle_runs.specs.declared.coming.Coming.{Coming}
 use Rattle.bundle_runs.specs.declared.bundle_reader.Standing.{Standing}
 use Rattle.bundle_runs.specs.declared.bundle_reader.Next.TheVariants.{After, End}
 use Rattle.bundle_runs.specs.declared.show_reader.Showing.{Showing}
-use Rattle.bundle_runs.specs.Front.{whole, front_of, word_of}
+use Rattle.bundle_runs.specs.Front.{whole, front_of, word_of, version_of}
 use Rattle.bundle_runs.specs.Answering.{step_of}
 use Rattle.bundle_runs.specs.WrittenLines.{show_line, refused_line}
 use Rattle.fragment_lines.specs.Said.{says}
-use Rattle.bundle_runs.specs.Given.{Finds, IsVersion}
-use Rattle.bundle_runs.specs.Taking.{kept_of, kept_by, settling_of, with_unfinished, with_joiner, passed, waiting, IsCut, HasBegun, HasBegunWith, IsSound}
-use Rattle.bundle_runs.specs.Checking.{StandsFor, StandsForAny, MayTake, IfPart, JudgesMore}
-use Rattle.bundle_runs.specs.Showing.{ShowsAs, JudgedSo, IsBundle, BeginsLine, ShowsOn, ShowsStep}
-use Rattle.bundle_runs.proofs.TakingLemmas.{octets-join, drop-all, front-kept, took-more, whole-inside, goes-after-whole, whole-room, refused-room, step-part, step-refused}
-use Rattle.bundle_runs.proofs.CheckLemmas.{unfinished-some, unfinished-none}
+use Rattle.bundle_runs.specs.Given.{IsRead}
+use Rattle.bundle_runs.specs.Legal.{IsLegal}
+use Rattle.bundle_runs.specs.Taking.{kept_of, kept_by, settling_of, with_joiner, passed, waiting, IsCut, HasBegun, HasBegunWith, IsSound}
+use Rattle.bundle_runs.specs.Coming.{IsShown, JudgedSo}
+use Rattle.bundle_runs.specs.Showing.{ShowsAs, IsBundle, BeginsLine, ShowsOn, ShowsStep}
+use Rattle.bundle_runs.proofs.TakingLemmas.{whole-inside, goes-after-whole, whole-room, refused-room, step-part, step-refused}
+use Rattle.bundle_runs.proofs.BegunLemmas.{octets-join, drop-all, front-kept}
 use Rattle.bundle_runs.proofs.ShowLemmas.{front-own}
-
--- ---- judging
-
--- the judge of a bundle that has begun may take octets
-pub may-take-so : (begun : Begun) (old : Standing) (left : List ℕ) → StandsForAny (Some begun) old.unfinished → IsSound old
-    → old.at + old.taken + length left ≤ 67108864
-    → (bundle : Unfinished) × (old.unfinished ≡ Some bundle) × MayTake begun left bundle
-may-take-so begun old left stands sound room =
-    let (bundle, some, is) = unfinished-some begun old.unfinished stands in
-    let has : HasBegun bundle = rw some at sound.begun in
-    let held : old.taken ≡ length (kept_of bundle) = rw some at sound.held in
-    (bundle, some, (is, has.ready, omega (arith, held, room)))
-
-judged-so-more : (begun new : Begun) (old : Standing) (left : List ℕ) (given : Given ℕ) → StandsForAny (Some begun) old.unfinished → IsSound old
-    → IsOctets left → old.at + old.taken + length left ≤ 67108864
-    → ((bundle : Unfinished) → MayTake begun left bundle → JudgesMore bundle left new given)
-    → JudgedSo old left (Some new) given
-judged-so-more begun new old left given stands sound fits room judges =
-    let (bundle, some, may) = may-take-so begun old left stands sound room in
-    let more = judges bundle may in
-    record {
-      mid = with_unfinished old (Some more.later);
-      took = took-more IsVersion old bundle more.later left given some sound fits more.takes;
-      part = more.part;
-    }
-
-pub judged-so-more-of : (begun new : Begun) (old : Standing) (left : List ℕ) (result : Result (Given ℕ) AllocError) → StandsForAny (Some begun) old.unfinished
-    → IsSound old → IsOctets left → old.at + old.taken + length left ≤ 67108864
-    → ((bundle : Unfinished) → MayTake begun left bundle → IfOk result (JudgesMore bundle left new))
-    → IfOk result (JudgedSo old left (Some new))
-judged-so-more-of begun new old left (Ok given) stands sound fits room judges = judged-so-more begun new old left given stands sound fits room judges
-judged-so-more-of begun new old left (Err e) stands sound fits room judges = tt
-
-pub judged-so-at-once : (begun : Option Begun) (old : Standing) (left : List ℕ) (given : Given ℕ) → StandsForAny None old.unfinished
-    → Finds IsVersion (front_of left) 0 given → IfPart given ⊥ → JudgedSo old left begun given
-judged-so-at-once begun old left (Whole version used) stands finds other =
-    let none = unfinished-none old.unfinished stands in
-    record { mid = old; took = record { same = refl; finds = rw none finds; keeps = tt }; part = tt }
-judged-so-at-once begun old left Part stands finds other = absurd other
-judged-so-at-once begun old left (Refused at cause) stands finds other =
-    let none = unfinished-none old.unfinished stands in
-    record { mid = old; took = record { same = refl; finds = rw none finds; keeps = tt }; part = tt }
-
-pub judged-so-begun : (begun : Option Begun) (old : Standing) (left : List ℕ) → StandsForAny None old.unfinished
-    → Finds IsVersion (front_of left) 0 Part
-    → IsSomeAnd begun (λ judge. (bundle : Unfinished) × StandsFor judge bundle × HasBegunWith left bundle)
-    → JudgedSo old left begun Part
-judged-so-begun None old left stands finds begun = absurd begun
-judged-so-begun (Some judge) old left stands finds (bundle, is, has) =
-    let none = unfinished-none old.unfinished stands in
-    record {
-      mid = with_unfinished old (Some bundle);
-      took = record { same = refl; finds = rw none finds; keeps = rw none has };
-      part = is;
-    }
 
 -- ---- octets of one bundle
 
@@ -212,10 +156,7 @@ module _ (s : Showing) (left : List ℕ) (fits : IsOctets left) (some : 0 < leng
   pub old-room : old.at + old.taken + length left ≤ 67108864
   old-room = omega (arith, room, shows.place, (kept-is s [] old none shows).2)
 
-  module _ (begun : Option Begun) (version used : ℕ) (judged : JudgedSo old left begun (Whole version used)) where
-    bundle-is : Bundle
-    bundle-is = judged.took.finds.0
-
+  module _ (begun : Option Coming) (found : Option Bundle) (used : ℕ) (judged : JudgedSo old left begun (Whole found used)) where
     pub inside-whole : (0 < used) × (used ≤ length left)
     inside-whole =
         let (b, is, front) = judged.took.finds in
@@ -223,7 +164,7 @@ module _ (s : Showing) (left : List ℕ) (fits : IsOctets left) (some : 0 < leng
 
     pub room-whole : (s.at + length (s.octets.items ++ take used left) ≤ 67108864) × (s.number ≤ 67108864)
     room-whole =
-        let there = whole-room IsVersion old judged.mid left shows.sound fits some old-room version used judged.took in
+        let there = whole-room IsShown old judged.mid left shows.sound fits some old-room found used judged.took in
         let same = judged.took.same in (
           omega (
             arith,
@@ -238,34 +179,65 @@ module _ (s : Showing) (left : List ℕ) (fits : IsOctets left) (some : 0 < leng
           omega (arith, there.1, ap (λ (t : Standing). t.number) same, shows.number),
         )
 
-    pub bundle-whole : (octets : List ℕ) → octets ≡ s.octets.items ++ take used left → IsBundle octets version judged.took.finds.0
-    bundle-whole octets is =
-        let (b, named, front) = judged.took.finds in
+    -- one of version 6 is told out of its octets
+    pub bundle-whole : (octets : List ℕ) → found ≡ None → octets ≡ s.octets.items ++ take used left → IsBundle octets judged.took.finds.0
+    bundle-whole octets six is =
+        let (b, shown, front) = judged.took.finds in
         let same : octets ≡ kept_by old.unfinished ++ take used left = is ∙ ap (λ (v : List ℕ). v ++ take used left) kept in
+        let version : version_of b ≡ 6 = rw six at shown in
         record {
-          named = named;
+          named = sym version;
           fits = rw same (own-fits old left shows.sound fits some old-room b used front);
           front = rw same (own-bundle old left shows.sound fits some old-room b used front);
         }
 
-    pub shows-whole : (new : Showing) (octets before now : List ℕ) → octets ≡ s.octets.items ++ take used left → new.number ≡ s.number + 1
+    pub shows-whole : (new : Showing) (octets before now : List ℕ) → found ≡ None → octets ≡ s.octets.items ++ take used left → new.number ≡ s.number + 1
         → new.at ≡ s.at + length octets → new.begun ≡ None
-        → ((b : Bundle) → IsBundle octets version b → BeginsLine (show_line b) before new.telling new.octets.items now)
+        → ((b : Bundle) → IsBundle octets b → BeginsLine (show_line b) before new.telling new.octets.items now)
         → ShowsStep old left before new now (After used)
-    shows-whole new octets before now is number place none_begun line =
-        let (b, named, front) = judged.took.finds in
+    shows-whole new octets before now six is number place none_begun line =
+        let (b, shown, front) = judged.took.finds in
         let same : octets ≡ kept_by old.unfinished ++ take used left = is ∙ ap (λ (v : List ℕ). v ++ take used left) kept in (
           inside-whole.0,
           inside-whole.1,
           line-begun old left shows.sound fits some old-room b used front new before now shows.command
               (number ∙ ap (λ (n : ℕ). n + 1) shows.number) (omega (arith, place, shows.place, ap length same)) none_begun
-              (line b (bundle-whole octets is)),
+              (line b (bundle-whole octets six is)),
+        )
+
+    -- the line of one of version 7 is written at once
+    pub read-legal : (b : Bundle) → found ≡ Some b → IsLegal b
+    read-legal b seven =
+        let (bundle, shown, front) = judged.took.finds in
+        let is : IsRead bundle b = rw seven at shown in
+        rw is.0 is.1
+
+    pub shows-read : (new : Showing) (b : Bundle) (before now : List ℕ) → found ≡ Some b → new.number ≡ s.number + 1
+        → new.at ≡ s.at + (length s.octets.items + used) → new.begun ≡ None → new.telling ≡ None → new.octets.items ≡ [] → now ≡ before ++ show_line b
+        → ShowsStep old left before new now (After used)
+    shows-read new b before now seven number place none_begun none_told nothing added =
+        let (bundle, shown, front) = judged.took.finds in
+        let is : IsRead bundle b = rw seven at shown in
+        let long : length (take used left) ≡ used = length-take-le used left inside-whole.1 in (
+          inside-whole.0,
+          inside-whole.1,
+          line-begun old left shows.sound fits some old-room bundle used front new before now shows.command
+              (number ∙ ap (λ (n : ℕ). n + 1) shows.number)
+              (omega (arith, place, shows.place, ap length kept, long, length-append (kept_by old.unfinished) (take used left))) none_begun
+              (rw none_told (record {
+                text = show_line bundle;
+                due = [];
+                added = added ∙ ap (λ (v : Bundle). before ++ show_line v) is.0;
+                parts = sym (append-nil (show_line bundle));
+                owes = refl;
+                none_begun = nothing;
+              })),
         )
 
   pub shows-part : (new : Showing) (text : List ℕ) → JudgedSo old left new.begun Part → new.number ≡ s.number → new.at ≡ s.at → new.telling ≡ None
       → new.octets.items ≡ s.octets.items ++ left → ShowsStep old left text new text (After (length left))
   shows-part new text judged number place not_telling octets =
-      let goes = step-part IsVersion old judged.mid left shows.sound fits some old-room [] judged.took in
+      let goes = step-part IsShown old judged.mid left shows.sound fits some old-room [] judged.took in
       let same = judged.took.same in
       let all : take (length left) left ≡ left = take_all (length left) left (omega arith) in
       let added : new.octets.items ≡ kept_by judged.mid.unfinished =
@@ -294,17 +266,17 @@ module _ (s : Showing) (left : List ℕ) (fits : IsOctets left) (some : 0 < leng
         }),
       )
 
-  pub room-refused : (begun : Option Begun) (at : ℕ) (cause : Cause) → JudgedSo old left begun (Refused at cause) → s.at + at ≤ 67108864
+  pub room-refused : (begun : Option Coming) (at : ℕ) (cause : Cause) → JudgedSo old left begun (Refused at cause) → s.at + at ≤ 67108864
   room-refused begun at cause judged =
-      let there = refused-room IsVersion old judged.mid left shows.sound fits some old-room at cause judged.took in
+      let there = refused-room IsShown old judged.mid left shows.sound fits some old-room at cause judged.took in
       omega (arith, there, ap (λ (t : Standing). t.at) judged.took.same, shows.place)
 
-  pub shows-refused : (begun : Option Begun) (new : Showing) (at : ℕ) (cause : Cause) (before now : List ℕ) → JudgedSo old left begun (Refused at cause)
+  pub shows-refused : (begun : Option Coming) (new : Showing) (at : ℕ) (cause : Cause) (before now : List ℕ) → JudgedSo old left begun (Refused at cause)
       → now ≡ before ++ refused_line s.number (s.at + at) (word_of cause) → ShowsStep old left before new now End
   shows-refused begun new at cause before now judged added =
       let same = judged.took.same in
       let number : s.number ≡ judged.mid.number = shows.number ∙ sym (ap (λ (t : Standing). t.number) same) in
       let place : s.at ≡ judged.mid.at = shows.place ∙ sym (ap (λ (t : Standing). t.at) same) in
-      step-refused IsVersion old judged.mid left shows.sound fits some old-room at cause before now judged.took
+      step-refused IsShown old judged.mid left shows.sound fits some old-room at cause before now judged.took
       (added ∙ ap (λ (n : ℕ). before ++ refused_line n (s.at + at) (word_of cause)) number
       ∙ ap (λ (n : ℕ). before ++ refused_line judged.mid.number (n + at) (word_of cause)) place)

@@ -166,18 +166,3 @@ module _ (octets lent : List ℕ) (lends : lent ≡ octets) (old new : Telling6)
         owes = refl;
         none_begun = nothing;
       }
-
--- the line of a bundle of version 7 was written
-pub line-written : (front : Front) (b read : Bundle) (used size : ℕ) (before now cleared : List ℕ) → front ≡ whole b size → Finds IsRead front 0 (Whole read used)
-    → now ≡ before ++ show_line read → cleared ≡ [] → BeginsLine (show_line b) before None cleared now
-line-written front b read used size before now cleared is (bundle, (same, legal), finds) added nothing =
-    let there : whole bundle (0 + used) ≡ whole b size = sym finds ∙ is in
-    let one : bundle ≡ b = cc in
-    record {
-      text = show_line b;
-      due = [];
-      added = added ∙ ap (λ (v : Bundle). before ++ show_line v) (same ∙ one);
-      parts = sym (append-nil (show_line b));
-      owes = refl;
-      none_begun = nothing;
-    }

@@ -16,7 +16,7 @@ use Rattle.bundle_runs.specs.declared.front.Cause.{Cause}
 use Rattle.bundle_runs.specs.declared.given.Given.{Given}
 use Rattle.bundle_runs.specs.declared.given.Given.TheVariants.{Whole, Refused}
 use Rattle.bundle_runs.specs.declared.unfinished.Unfinished.{Unfinished}
-use Rattle.bundle_runs.specs.declared.begun.Begun.{Begun}
+use Rattle.bundle_runs.specs.declared.coming.Coming.{Coming}
 use Rattle.bundle_runs.specs.declared.bundle_reader.Standing.{Standing}
 use Rattle.bundle_runs.specs.declared.bundle_reader.Next.TheVariants.{After}
 use Rattle.bundle_runs.specs.declared.show_reader.Showing.{Showing}
@@ -24,11 +24,13 @@ use Rattle.bundle_runs.specs.Front.{front_of}
 use Rattle.bundle_runs.specs.Answering.{settles_from}
 use Rattle.bundle_runs.specs.WrittenLines.{refused_line}
 use Rattle.bundle_runs.specs.Taking.{kept_of, kept_by, settling_of, IsReady, IsCut, HasBegun, IsSound, IsCutAt}
-use Rattle.bundle_runs.specs.Checking.{StandsFor, StandsForAny}
-use Rattle.bundle_runs.specs.Showing.{Owes, OwesLine, steps_due, ShowsAs, IsShowing, StandsShowing, KeepsOctets, KeepsOneBundle, parts_due, JudgedSo, IsBundle, BeginsLine, ShowsStep, ShowsSoFar}
-use Rattle.bundle_runs.proofs.TakingLemmas.{front-kept, quiet, finish-none, finish-cut, cut-inside}
-use Rattle.bundle_runs.proofs.CheckLemmas.{unfinished-some, unfinished-none}
-use Rattle.bundle_runs.proofs.ShowJudgeLemmas.{kept-is, no-due, old-room, inside-whole, bundle-whole, room-refused}
+use Rattle.bundle_runs.specs.Legal.{IsLegal}
+use Rattle.bundle_runs.specs.Coming.{ComesFor, ComesForAny, JudgedSo}
+use Rattle.bundle_runs.specs.Showing.{Owes, OwesLine, steps_due, ShowsAs, IsShowing, StandsShowing, KeepsOctets, KeepsOneBundle, parts_due, IsBundle, BeginsLine, ShowsStep, ShowsSoFar}
+use Rattle.bundle_runs.proofs.TakingLemmas.{quiet, finish-none, finish-cut, cut-inside}
+use Rattle.bundle_runs.proofs.BegunLemmas.{front-kept}
+use Rattle.bundle_runs.proofs.ComingLemmas.{coming-some, coming-none}
+use Rattle.bundle_runs.proofs.ShowJudgeLemmas.{kept-is, no-due, old-room, inside-whole, room-whole, bundle-whole, read-legal, room-refused}
 
 -- ---- the steps so far
 
@@ -36,27 +38,45 @@ pub some-old : (s : Showing) → s.telling ≡ None → IsShowing s → (old : S
 some-old s none (due, old, shows) = (old, no-due s due old none shows)
 
 -- octets of one bundle were judged, whatever reading it stands for
-abbrev Judges : Showing → List ℕ → Option Begun → Given ℕ → Type 0
-Judges s left begun given = (old : Standing) → StandsForAny s.begun old.unfinished → IsSound old → old.at + old.taken + length left ≤ 67108864
+abbrev Judges : Showing → List ℕ → Option Coming → Given (Option Bundle) → Type 0
+Judges s left begun given = (old : Standing) → ComesForAny s.begun old.unfinished → IsSound old → old.at + old.taken + length left ≤ 67108864
     → JudgedSo old left begun given
 
 module _ (s : Showing) (left : List ℕ) (fits : IsOctets left) (some : 0 < length left) (none : s.telling ≡ None)
     (room : s.at + length s.octets.items + length left ≤ 67108864) where
-  pub judged-for : (begun : Option Begun) (given : Given ℕ) → Judges s left begun given → (old : Standing) → ShowsAs s [] old → JudgedSo old left begun given
+  pub judged-for : (begun : Option Coming) (given : Given (Option Bundle)) → Judges s left begun given → (old : Standing) → ShowsAs s [] old → JudgedSo old left begun given
   judged-for begun given judges old shows = judges old shows.bundle shows.sound (old-room s left fits some none room old shows)
 
-  module _ (showing : IsShowing s) (begun : Option Begun) where
-    pub whole-inside-of : (version used : ℕ) → Judges s left begun (Whole version used) → used ≤ length left
-    whole-inside-of version used judges =
+  module _ (showing : IsShowing s) (begun : Option Coming) where
+    pub whole-inside-of : (found : Option Bundle) (used : ℕ) → Judges s left begun (Whole found used) → used ≤ length left
+    whole-inside-of found used judges =
         let (old, shows) = some-old s none showing in
-        (inside-whole s left fits some none room old shows begun version used (judged-for begun (Whole version used) judges old shows)).1
+        (inside-whole s left fits some none room old shows begun found used (judged-for begun (Whole found used) judges old shows)).1
 
-    pub whole-bundle-of : (version used : ℕ) → Judges s left begun (Whole version used) → (octets : List ℕ) → octets ≡ s.octets.items ++ take used left
-        → (b : Bundle) × IsBundle octets version b
-    whole-bundle-of version used judges octets is =
+    pub whole-room-of : (found : Option Bundle) (used : ℕ) → Judges s left begun (Whole found used)
+        → (s.at + length (s.octets.items ++ take used left) ≤ 67108864) × (s.number ≤ 67108864)
+    whole-room-of found used judges =
         let (old, shows) = some-old s none showing in
-        let judged = judged-for begun (Whole version used) judges old shows in
-        (judged.took.finds.0, bundle-whole s left fits some none room old shows begun version used judged octets is)
+        room-whole s left fits some none room old shows begun found used (judged-for begun (Whole found used) judges old shows)
+
+    -- of a bundle that was read
+    pub read-room-of : (b : Bundle) (used : ℕ) → Judges s left begun (Whole (Some b) used) → s.at + (length s.octets.items + used) ≤ 67108864
+    read-room-of b used judges =
+        let there = whole-room-of (Some b) used judges in
+        let inside = whole-inside-of (Some b) used judges in
+        omega (arith, there.0, length-append s.octets.items (take used left), length-take-le used left inside)
+
+    pub read-legal-of : (b : Bundle) (used : ℕ) → Judges s left begun (Whole (Some b) used) → IsLegal b
+    read-legal-of b used judges =
+        let (old, shows) = some-old s none showing in
+        read-legal s left fits some none room old shows begun (Some b) used (judged-for begun (Whole (Some b) used) judges old shows) b refl
+
+    pub whole-bundle-of : (used : ℕ) → Judges s left begun (Whole None used) → (octets : List ℕ) → octets ≡ s.octets.items ++ take used left
+        → (b : Bundle) × IsBundle octets b
+    whole-bundle-of used judges octets is =
+        let (old, shows) = some-old s none showing in
+        let judged = judged-for begun (Whole None used) judges old shows in
+        (judged.took.finds.0, bundle-whole s left fits some none room old shows begun None used judged octets refl is)
 
     pub refused-room-of : (at : ℕ) (cause : Cause) → Judges s left begun (Refused at cause) → s.at + at ≤ 67108864
     refused-room-of at cause judges =
@@ -254,17 +274,17 @@ module _ (s new : Showing) (before now : List ℕ) (some : 0 < parts_due s) wher
       )
 
 pub show-finish-none : (s : Showing) (old : Standing) (text : List ℕ) → s.begun ≡ None → ShowsAs s [] old → Finishes (settling_of old) text text statuses.Done
-show-finish-none s old text is shows = finish-none old text (ap kept_by (unfinished-none old.unfinished (rw is at shows.bundle)))
+show-finish-none s old text is shows = finish-none old text (ap kept_by (coming-none old.unfinished (rw is at shows.bundle)))
 
-begun-bundle : (s : Showing) (old : Standing) (begun : Begun) → s.begun ≡ Some begun → ShowsAs s [] old
-    → (bundle : Unfinished) × (old.unfinished ≡ Some bundle) × StandsFor begun bundle × IsReady bundle
+begun-bundle : (s : Showing) (old : Standing) (begun : Coming) → s.begun ≡ Some begun → ShowsAs s [] old
+    → (bundle : Unfinished) × (old.unfinished ≡ Some bundle) × ComesFor begun bundle × IsReady bundle
 begun-bundle s old begun is shows =
-    let (bundle, some, stands) = unfinished-some begun old.unfinished (rw is at shows.bundle) in
+    let (bundle, some, stands) = coming-some begun old.unfinished (rw is at shows.bundle) in
     let has : HasBegun bundle = rw some at shows.sound.begun in
     (bundle, some, stands, has.ready)
 
-pub show-finish-room : (s : Showing) (begun : Begun) (at : ℕ) → s.telling ≡ None → IsShowing s → s.begun ≡ Some begun
-    → ((bundle : Unfinished) → StandsFor begun bundle → IsReady bundle → IsCutAt bundle (Some at)) → s.at + at ≤ 67108864
+pub show-finish-room : (s : Showing) (begun : Coming) (at : ℕ) → s.telling ≡ None → IsShowing s → s.begun ≡ Some begun
+    → ((bundle : Unfinished) → ComesFor begun bundle → IsReady bundle → IsCutAt bundle (Some at)) → s.at + at ≤ 67108864
 show-finish-room s begun at none showing is cut =
     let (old, shows) = some-old s none showing in
     let (bundle, some, stands, ready) = begun-bundle s old begun is shows in
@@ -273,8 +293,8 @@ show-finish-room s begun at none showing is cut =
     let inside = cut-inside bundle at has (cut bundle stands ready).0 in
     omega (arith, inside, held, shows.sound.within, shows.place)
 
-pub show-finish-cut : (s : Showing) (old : Standing) (begun : Begun) (at : ℕ) (before now : List ℕ) → s.begun ≡ Some begun → ShowsAs s [] old
-    → ((bundle : Unfinished) → StandsFor begun bundle → IsReady bundle → IsCutAt bundle (Some at))
+pub show-finish-cut : (s : Showing) (old : Standing) (begun : Coming) (at : ℕ) (before now : List ℕ) → s.begun ≡ Some begun → ShowsAs s [] old
+    → ((bundle : Unfinished) → ComesFor begun bundle → IsReady bundle → IsCutAt bundle (Some at))
     → now ≡ before ++ refused_line s.number (s.at + at) (codes "Truncated") → Finishes (settling_of old) before now statuses.Refused
 show-finish-cut s old begun at before now is shows cut added =
     let (bundle, some, stands, ready) = begun-bundle s old begun is shows in
@@ -288,20 +308,20 @@ show-finish-cut s old begun at before now is shows cut added =
 pub keeps-one : (s : Showing) → IsShowing s → KeepsOneBundle s
 keeps-one s (due, old, shows) = by_telling s.telling s.begun refl refl
   where
-    by_bundle : (begun : Begun) (bundle : Unfinished) → old.unfinished ≡ Some bundle → s.octets.items ≡ kept_by old.unfinished → IsCut (front_of s.octets.items)
+    by_bundle : (begun : Coming) (bundle : Unfinished) → old.unfinished ≡ Some bundle → s.octets.items ≡ kept_by old.unfinished → IsCut (front_of s.octets.items)
     by_bundle begun bundle is kept =
         let has : HasBegun bundle = rw is at shows.sound.begun in
         let same : s.octets.items ≡ kept_of bundle = kept ∙ ap kept_by is in
         rw same (rw (front-kept bundle has) has.cut)
 
-    by_telling : (telling : Option Telling6) (begun : Option Begun) → s.telling ≡ telling → s.begun ≡ begun → KeepsOctets telling begun s.octets.items
+    by_telling : (telling : Option Telling6) (begun : Option Coming) → s.telling ≡ telling → s.begun ≡ begun → KeepsOctets telling begun s.octets.items
     by_telling (Some telling) begun told began =
         let owes : OwesLine s.octets.items telling due = rw told at shows.owes in
         (owes.bundle, owes.spells)
     by_telling None None told began =
         let kept : s.octets.items ≡ kept_by old.unfinished = rw told at shows.kept in
-        kept ∙ ap kept_by (unfinished-none old.unfinished (rw began at shows.bundle))
+        kept ∙ ap kept_by (coming-none old.unfinished (rw began at shows.bundle))
     by_telling None (Some begun) told began =
         let kept : s.octets.items ≡ kept_by old.unfinished = rw told at shows.kept in
-        let (bundle, is, stands) = unfinished-some begun old.unfinished (rw began at shows.bundle) in
+        let (bundle, is, stands) = coming-some begun old.unfinished (rw began at shows.bundle) in
         by_bundle begun bundle is kept

@@ -1,5 +1,5 @@
 -- Where the reading of `check` stands: for a reading that keeps all octets of the bundle that has begun.
-use Rattle.std.specs.Prelude.{◌≡◌, ℕ, ◌+◌, ◌≤◌, List, length, Option, None, Some, false}
+use Rattle.std.specs.Prelude.{◌≡◌, ℕ, ◌+◌, ◌≤◌, List, [], length, Option, None, Some, false}
 use Rattle.command_frame.specs.Task.{Settling}
 use Rattle.bundle_judges.specs.Judging6 as judging6
 use Rattle.bundle_judges.specs.Judging7 as judging7
@@ -43,6 +43,22 @@ IfPart (Whole wanted used) fact = Unit {0}
 IfPart Part fact = fact
 IfPart (Refused at cause) fact = Unit {0}
 
+-- or where they gave a bundle or its beginning
+abbrev pub IfOn : {A : Type 0} → Given A → Type 0 → Type 0
+IfOn (Whole wanted used) fact = fact
+IfOn Part fact = fact
+IfOn (Refused at cause) fact = Unit {0}
+
+-- a judge of version 7 took nothing
+pub record IsNew (judge : judging7.Judging) : Type 0 where
+  pub fresh : judge.refused ≡ None
+  pub whole : judge.spent ≡ false
+  pub taken : judging7.HasTaken 67108864 (record { before = 0; kept = [] }) judge.stand
+
+-- or it may let go of what it took
+abbrev pub MayRestart : judging7.Judging → Type 0
+MayRestart judge = (judge.refused ≡ None) × (judge.spent ≡ false) × judging7.IsTaking judge.stand
+
 -- a piece was taken, as a reader would have taken it
 pub record JudgesMore (old : Unfinished) (piece : List ℕ) (new : Begun) (given : Given ℕ) : Type 0 where
   pub later : Unfinished
@@ -57,6 +73,7 @@ pub record Shadows (s : Checking) (standing : Standing) : Type 0 where
   pub took : s.taken ≡ standing.taken
   pub bundle : StandsForAny s.begun standing.unfinished
   pub sound : IsSound standing
+  pub seven : IsNew s.seven
 
 abbrev pub IsShadowed : Checking → Type 0
 IsShadowed s = (standing : Standing) × Shadows s standing
@@ -65,15 +82,16 @@ IsShadowed s = (standing : Standing) × Shadows s standing
 abbrev pub StandsChecking : Checking → Settling → Type 0
 StandsChecking s settles = (standing : Standing) × Shadows s standing × (settles ≡ settling_of standing)
 
--- nothing but the bundle that has begun differs
-abbrev pub with_begun : Checking → Option Begun → Checking
-with_begun s begun = record { number = s.number; at = s.at; taken = s.taken; begun = begun }
+-- nothing but the judges differs
+abbrev pub with_judges : Checking → Option Begun → judging7.Judging → Checking
+with_judges s begun seven = record { number = s.number; at = s.at; taken = s.taken; begun = begun; seven = seven }
 
 -- octets of one bundle were judged, as a reading that keeps them would have taken them
 pub record JudgedOn (old : Standing) (left : List ℕ) (new : Checking) (given : Given ℕ) : Type 0 where
   pub mid : Standing
   pub took : Took IsVersion old left mid given
   pub part : IfPart given (StandsForAny new.begun mid.unfinished)
+  pub seven : IfOn given (IsNew new.seven)
 
 -- So many octets were taken of those that are left, or the run ended with them.
 abbrev pub ChecksOn : Standing → List ℕ → List ℕ → Checking → List ℕ → Next → Type 0

@@ -11,4 +11,5 @@ pub mod Legal
 pub mod Given
 pub mod Taking
 pub mod Checking
+pub mod Coming
 pub mod Showing

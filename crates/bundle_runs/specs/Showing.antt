@@ -10,16 +10,14 @@ use Rattle.bundle_json.specs.declared.telling6.Telling6.{Telling6}
 use Rattle.bundle_json.specs.Telling.{Left, steps_left}
 use Rattle.bundle_runs.specs.declared.commands.command.Command.TheVariants.{Show}
 use Rattle.bundle_runs.specs.declared.front.Bundle.{Bundle}
-use Rattle.bundle_runs.specs.declared.given.Given.{Given}
-use Rattle.bundle_runs.specs.declared.begun.Begun.{Begun}
+use Rattle.bundle_runs.specs.declared.coming.Coming.{Coming}
 use Rattle.bundle_runs.specs.declared.bundle_reader.Standing.{Standing}
 use Rattle.bundle_runs.specs.declared.bundle_reader.Next.{Next}
 use Rattle.bundle_runs.specs.declared.bundle_reader.Next.TheVariants.{After, End}
 use Rattle.bundle_runs.specs.declared.show_reader.Showing.{Showing}
-use Rattle.bundle_runs.specs.Front.{whole, front_of}
-use Rattle.bundle_runs.specs.Given.{IsVersion}
-use Rattle.bundle_runs.specs.Taking.{kept_by, settling_of, IsCut, IsSound, Took, EndsWith}
-use Rattle.bundle_runs.specs.Checking.{StandsForAny, IfPart}
+use Rattle.bundle_runs.specs.Front.{whole, front_of, version_of}
+use Rattle.bundle_runs.specs.Taking.{kept_by, settling_of, IsCut, IsSound, EndsWith}
+use Rattle.bundle_runs.specs.Coming.{ComesForAny}
 
 -- ---- the line of a bundle
 
@@ -49,7 +47,7 @@ begun_octets (Some telling) octets = []
 
 -- The octets that are kept are those of the bundle of version 6 that is told, or else those that came of
 -- the bundle that has begun, or none.
-abbrev pub KeepsOctets : Option Telling6 → Option Begun → List ℕ → Type 0
+abbrev pub KeepsOctets : Option Telling6 → Option Coming → List ℕ → Type 0
 KeepsOctets (Some telling) begun octets = (bundle : Bundle6) × Spells6 bundle octets
 KeepsOctets None (Some begun) octets = IsCut (front_of octets)
 KeepsOctets None None octets = octets ≡ []
@@ -64,7 +62,7 @@ pub record ShowsAs (s : Showing) (due : List ℕ) (standing : Standing) : Type 0
   pub command : standing.command ≡ Show
   pub number : s.number ≡ standing.number
   pub place : s.at ≡ standing.at
-  pub bundle : StandsForAny s.begun standing.unfinished
+  pub bundle : ComesForAny s.begun standing.unfinished
   pub kept : begun_octets s.telling s.octets.items ≡ kept_by standing.unfinished
   pub owes : Owes s.telling s.octets.items due
   pub sound : IsSound standing
@@ -82,15 +80,9 @@ parts_due s = steps_due s.telling s.octets.items
 
 -- ---- a step
 
--- octets of one bundle were judged, as a reading that keeps them would have taken them
-pub record JudgedSo (old : Standing) (left : List ℕ) (begun : Option Begun) (given : Given ℕ) : Type 0 where
-  pub mid : Standing
-  pub took : Took IsVersion old left mid given
-  pub part : IfPart given (StandsForAny begun mid.unfinished)
-
--- the octets that are kept are those of a bundle, of this version
-pub record IsBundle (octets : List ℕ) (version : ℕ) (b : Bundle) : Type 0 where
-  pub named : IsVersion b version
+-- the octets that are kept are those of a bundle of version 6
+pub record IsBundle (octets : List ℕ) (b : Bundle) : Type 0 where
+  pub named : 6 ≡ version_of b
   pub fits : IsOctets octets
   pub front : front_of octets ≡ whole b (length octets)
 

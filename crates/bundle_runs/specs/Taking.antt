@@ -1,5 +1,5 @@
 -- Where the reading of bundles stands, and what a piece makes of it.
-use Rattle.std.specs.Prelude.{◌≡◌, ℕ, ◌+◌, ◌*◌, ◌<◌, ◌≤◌, List, [], ◌++◌, length, drop, slice_index, Option, None, Some, IfSome, IsSomeAnd, false}
+use Rattle.std.specs.Prelude.{◌≡◌, ◌≢◌, ℕ, ◌+◌, ◌*◌, ◌<◌, ◌≤◌, List, [], ◌++◌, length, drop, slice_index, Option, None, Some, IfSome, IsSomeAnd, false}
 use Rattle.wire_fields.specs.Reading.{IsOctets}
 use Rattle.edge_traits.specs.declared.status.Status.TheVariants as statuses
 use Rattle.fragments.specs.Joining.{Joining}
@@ -55,6 +55,12 @@ pub record HasBegun (bundle : Unfinished) : Type 0 where
 -- they are these
 abbrev pub HasBegunWith : List ℕ → Unfinished → Type 0
 HasBegunWith octets bundle = HasBegun bundle × (kept_of bundle ≡ octets)
+
+-- the reader of a bundle that begins with an octet took nothing, and there is one where the octet names
+-- a version
+abbrev pub BeginsWith : ℕ → Option Unfinished → Type 0
+BeginsWith first None = (first ≢ 0x06) × (first ≢ 0x9F)
+BeginsWith first (Some bundle) = IsReady bundle × (first ≡ mark_of bundle) × (kept_of bundle ≡ [])
 
 -- after a piece that doesn't end it the reader is ready for more, and has the octets
 abbrev pub GoesOn : {A : Type 0} → Unfinished → List ℕ → Unfinished → Given A → Type 0

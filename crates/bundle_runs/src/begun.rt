@@ -1,15 +1,15 @@
 //! The bundle that has begun, of which only the version is wanted.
-ghost use Rattle.std.specs.Prelude.{◌≡◌, ◌+◌, ◌<◌, ◌≤◌, length, false, IfOk, IsSomeAnd};
+ghost use Rattle.std.specs.Prelude.{◌≡◌, ◌+◌, ◌<◌, ◌≤◌, length, slice_index, false, IfOk};
 ghost use Rattle.bundle6.specs.Streaming.{Reading as Reading6};
 ghost use Rattle.bundle7.specs.Streaming.{Reading as Reading7};
 ghost use Rattle.bundle_runs.specs.declared.unfinished.Unfinished.{Unfinished};
 ghost use Rattle.bundle_runs.specs.declared.unfinished.Unfinished.TheVariants as bundles;
-ghost use Rattle.bundle_runs.specs.Front.{front_of};
+ghost use Rattle.bundle_runs.specs.Front.{front6};
 ghost use Rattle.bundle_runs.specs.Taking.{HasBegunWith, IsReady, IsCut, IsCutAt};
-ghost use Rattle.bundle_runs.specs.Checking.{StandsFor, MayTake, JudgesMore};
+ghost use Rattle.bundle_runs.specs.Checking.{StandsFor, MayTake, IfOn, MayRestart, JudgesMore};
 
 use crate::front::Cause;
-use crate::given::{Given, SEVEN, SIX};
+use crate::given::Given;
 use bundle_judges::{Judge6, Judge7};
 use bundle6::{Fail6, Judged6};
 use bundle7::{Fail7, Judged7};
@@ -25,34 +25,6 @@ pub enum Begun {
 }
 
 impl Begun {
-    /// The judge of the bundle that some octets begin and don't end.
-    #[tactic(auto, unfolding(crate::specs::Front::front_of))]
-    pub fn with(alloc: Global, octets: &[u8]) -> Result<Option<Begun>, AllocError>
-        requires some { 0 < length octets.now }
-        requires few { length octets.now ≤ 67108864 }
-        requires cut { IsCut (front_of octets.now) }
-        ensures { IfOk result (λ begun. IsSomeAnd begun (λ judge. (bundle : Unfinished)
-            × StandsFor judge bundle × HasBegunWith octets.now bundle)) }
-    {
-        match octets[0] {
-            SIX => {
-                let mut judge = Judge6::new(alloc);
-                match judge.feed(octets) {
-                    Ok(_) => Ok(Some(Begun::Six(judge))),
-                    Err(_) => Err(AllocError),
-                }
-            }
-            SEVEN => {
-                let mut judge = Judge7::new(alloc);
-                match judge.feed(octets) {
-                    Ok(_) => Ok(Some(Begun::Seven(judge))),
-                    Err(_) => Err(AllocError),
-                }
-            }
-            _ => Ok(None),
-        }
-    }
-
     /// Takes a piece, up to the end of the bundle where it has that.
     pub fn judge(&mut self, piece: &[u8]) -> Result<Given<u8>, AllocError>
         requires { (bundle : Unfinished) × MayTake self.old piece.now bundle }
@@ -86,7 +58,25 @@ impl Begun {
     }
 }
 
-fn judge6(judge: &mut Judge6, piece: &[u8]) -> Result<Given<u8>, AllocError>
+/// The judge of the bundle of version 6 that some octets begin and don't end.
+#[tactic(auto, unfolding(crate::specs::Front::front_of))]
+pub fn begin6(alloc: Global, octets: &[u8]) -> Result<Judge6, AllocError>
+    requires some { 0 < length octets.now }
+    requires few { length octets.now ≤ 67108864 }
+    requires first { slice_index octets.now 0 ≡ 0x06 }
+    requires cut { IsCut (front6 octets.now) }
+    ensures { IfOk result (λ judge. (bundle : Unfinished)
+        × StandsFor (Begun.Six judge) bundle × HasBegunWith octets.now bundle) }
+{
+    let mut judge = Judge6::new(alloc);
+    match judge.feed(octets) {
+        Ok(_) => Ok(judge),
+        Err(_) => Err(AllocError),
+    }
+}
+
+/// Takes a piece of a bundle of version 6, up to its end where it has that.
+pub fn judge6(judge: &mut Judge6, piece: &[u8]) -> Result<Given<u8>, AllocError>
     requires { (reader : Reading6) × MayTake (Begun.Six judge.old) piece.now (bundles.Six reader) }
     ensures { (reader : Reading6) → MayTake (Begun.Six judge.old) piece.now (bundles.Six reader)
         → IfOk result (JudgesMore (bundles.Six reader) piece.now (Begun.Six judge.new)) }
@@ -104,10 +94,12 @@ fn judge6(judge: &mut Judge6, piece: &[u8]) -> Result<Given<u8>, AllocError>
     }
 }
 
-fn judge7(judge: &mut Judge7, piece: &[u8]) -> Result<Given<u8>, AllocError>
+/// Takes a piece of a bundle of version 7, up to its end where it has that.
+pub fn judge7(judge: &mut Judge7, piece: &[u8]) -> Result<Given<u8>, AllocError>
     requires { (reader : Reading7) × MayTake (Begun.Seven judge.old) piece.now (bundles.Seven reader) }
-    ensures { (reader : Reading7) → MayTake (Begun.Seven judge.old) piece.now (bundles.Seven reader)
+    ensures judges { (reader : Reading7) → MayTake (Begun.Seven judge.old) piece.now (bundles.Seven reader)
         → IfOk result (JudgesMore (bundles.Seven reader) piece.now (Begun.Seven judge.new)) }
+    ensures goes_on { IfOk result (λ given. IfOn given (MayRestart judge.new)) }
 {
     match judge.feed(piece) {
         Ok(

@@ -1,20 +1,20 @@
 //! Bundles of either version, end to end, as they come.
-ghost use Rattle.std.specs.Prelude.{◌≡◌, ◌+◌, ◌<◌, ◌≤◌, ◌++◌, None, [], false, length, IfOk, OnOk, OnErr};
+ghost use Rattle.std.specs.Prelude.{◌≡◌, ◌+◌, ◌<◌, ◌≤◌, ◌++◌, None, Some, [], false, length, slice_index, IfOk, OnOk, OnErr};
 ghost use Rattle.std.specs.String.{string_bytes};
 ghost use Rattle.edge_traits.specs.Outcome.{IsAnswer};
 ghost use Rattle.command_frame.specs.Task.{Feeds, Finishes};
 ghost use Rattle.bundle_runs.specs.Answering.{settles_from};
 ghost use Rattle.bundle_runs.specs.Front.{word_of};
 ghost use Rattle.bundle_runs.specs.WrittenLines.{refused_line};
-ghost use Rattle.bundle_runs.specs.Given.{IsVersion, IsRead};
-ghost use Rattle.bundle_runs.specs.Taking.{kept_by, settling_of, passed, waiting, IsSound, Took, Steps, Stands};
+ghost use Rattle.bundle_runs.specs.Given.{IsRead};
+ghost use Rattle.bundle_runs.specs.Taking.{kept_by, settling_of, passed, waiting, BeginsWith, IsSound, Took, Steps, Stands};
 
 use crate::commands::command::Command;
 use crate::front::{Bundle, Cause};
-use crate::given::{Given, decoded, judged};
+use crate::given::Given;
 use crate::saying::say;
 use crate::unfinished::Unfinished;
-use crate::written_lines::{write_check, write_refused, write_turned_down};
+use crate::written_lines::{write_refused, write_turned_down};
 use command_frame::Task;
 use edge_traits::{MOST_INPUT, Status};
 use fragment_lines::BundleJoiner;
@@ -177,37 +177,6 @@ impl Standing {
         requires room { self.old.at + self.old.taken + length left.now ≤ 67108864 }
         ensures { IfOk result (Steps self.old left.now (string_bytes text.old) self.new (string_bytes text.new)) }
     {
-        match self.command {
-            Command::Check => self.check(alloc, left, text),
-            _ => self.tell(alloc, left, text),
-        }
-    }
-
-    /// The step of `check`, which wants no bundle.
-    fn check(&mut self, alloc: Global, left: &[u8], text: &mut String) -> Result<Next, AllocError>
-        requires sound { IsSound self.old }
-        requires some { 0 < length left.now }
-        requires room { self.old.at + self.old.taken + length left.now ≤ 67108864 }
-        requires is { self.old.command ≡ Command.Check }
-        ensures { IfOk result (Steps self.old left.now (string_bytes text.old) self.new (string_bytes text.new)) }
-    {
-        match self.judged(alloc, left)? {
-            Given::Whole(version, used) => {
-                write_check(text, version, self.taken + used)?;
-                Ok(self.pass(used))
-            }
-            Given::Part => Ok(self.wait(left.len())),
-            Given::Refused(at, cause) => self.refuse(at, cause, text),
-        }
-    }
-
-    /// The step of a command that looks into the bundle.
-    fn tell(&mut self, alloc: Global, left: &[u8], text: &mut String) -> Result<Next, AllocError>
-        requires sound { IsSound self.old }
-        requires some { 0 < length left.now }
-        requires room { self.old.at + self.old.taken + length left.now ≤ 67108864 }
-        ensures { IfOk result (Steps self.old left.now (string_bytes text.old) self.new (string_bytes text.new)) }
-    {
         match self.decoded(alloc, left)? {
             Given::Whole(bundle, used) => {
                 let size = self.taken + used;
@@ -224,27 +193,8 @@ impl Standing {
         }
     }
 
-    /// Takes octets of one bundle, of which the version is wanted. Where none has begun, and they have
-    /// it whole, nothing is kept.
-    fn judged(&mut self, alloc: Global, left: &[u8]) -> Result<Given<u8>, AllocError>
-        requires sound { IsSound self.old }
-        requires some { 0 < length left.now }
-        requires room { self.old.at + self.old.taken + length left.now ≤ 67108864 }
-        ensures { IfOk result (Took IsVersion self.old left.now self.new) }
-    {
-        match &mut self.unfinished {
-            Some(unfinished) => unfinished.judge(left),
-            None => match judged(left) {
-                Given::Part => {
-                    self.unfinished = Unfinished::begun(alloc, left)?;
-                    Ok(Given::Part)
-                }
-                given => Ok(given),
-            },
-        }
-    }
-
-    /// The same, where all of the bundle is wanted.
+    /// Takes octets of one bundle, which has begun or begins with them. They are judged as they come, and
+    /// the bundle is built once it is whole: so a block is summed once.
     fn decoded(&mut self, alloc: Global, left: &[u8]) -> Result<Given<Bundle>, AllocError>
         requires sound { IsSound self.old }
         requires some { 0 < length left.now }
@@ -253,13 +203,42 @@ impl Standing {
     {
         match &mut self.unfinished {
             Some(unfinished) => unfinished.feed(left),
-            None => match decoded(alloc, left)? {
-                Given::Part => {
-                    self.unfinished = Unfinished::begun(alloc, left)?;
-                    Ok(Given::Part)
-                }
-                given => Ok(given),
-            },
+            None => self.begin(alloc, left),
+        }
+    }
+
+    /// The same, where none has begun: its reader is kept where they don't end it.
+    fn begin(&mut self, alloc: Global, left: &[u8]) -> Result<Given<Bundle>, AllocError>
+        requires none { self.old.unfinished ≡ None }
+        requires some { 0 < length left.now }
+        requires few { length left.now ≤ 67108864 }
+        ensures { IfOk result (Took IsRead self.old left.now self.new) }
+    {
+        match Unfinished::of(alloc, left[0]) {
+            Some(unfinished) => self.begin_with(unfinished, left),
+            None => Ok(Given::Refused(0, Cause::Version)),
+        }
+    }
+
+    /// The same with a reader that has taken nothing.
+    fn begin_with(
+        &mut self,
+        mut unfinished: Unfinished,
+        left: &[u8],
+    ) -> Result<Given<Bundle>, AllocError>
+        requires none { self.old.unfinished ≡ None }
+        requires some { 0 < length left.now }
+        requires few { length left.now ≤ 67108864 }
+        requires fresh { BeginsWith (slice_index left.now 0) (Some unfinished) }
+        ensures { IfOk result (Took IsRead self.old left.now self.new) }
+    {
+        let given = unfinished.feed(left)?;
+        match given {
+            Given::Part => {
+                self.unfinished = Some(unfinished);
+                Ok(Given::Part)
+            }
+            given => Ok(given),
         }
     }
 

@@ -1,5 +1,5 @@
 //! `check`, which wants no bundle and keeps none, as the octets of its input come.
-ghost use Rattle.std.specs.Prelude.{◌≡◌, ◌+◌, ◌<◌, ◌≤◌, ◌++◌, None, [], length, IfOk, OnErr};
+ghost use Rattle.std.specs.Prelude.{◌≡◌, ◌+◌, ◌<◌, ◌≤◌, ◌++◌, None, [], length, slice_index, IfOk, OnErr};
 ghost use Rattle.std.specs.String.{string_bytes};
 ghost use Rattle.edge_traits.specs.Outcome.{IsAnswer};
 ghost use Rattle.command_frame.specs.Task.{Feeds, Finishes};
@@ -7,19 +7,26 @@ ghost use Rattle.bundle_runs.specs.declared.commands.command.Command.TheVariants
 ghost use Rattle.bundle_runs.specs.declared.bundle_reader.Standing.{Standing};
 ghost use Rattle.bundle_runs.specs.Answering.{settles_from};
 ghost use Rattle.bundle_runs.specs.Taking.{settling_of};
-ghost use Rattle.bundle_runs.specs.Checking.{Shadows, IsShadowed, StandsChecking, with_begun, JudgedOn, ChecksOn};
+ghost use Rattle.bundle_runs.specs.Checking.{IsNew, Shadows, IsShadowed, StandsChecking, with_judges, JudgedOn, ChecksOn};
 
-use crate::begun::Begun;
+use crate::begun::{Begun, begin6, judge7};
 use crate::bundle_reader::Next;
-use crate::given::{Given, judged};
+use crate::front::Cause;
+use crate::given::{Given, SEVEN, SIX, judged6};
 use crate::written_lines::{write_check, write_refused};
+use bundle_judges::Judge7;
 use command_frame::Task;
 use edge_traits::{MOST_INPUT, Status};
 use std::alloc::{AllocError, Global};
 use std::marker::Model;
+use std::mem;
 
 /// The command `check` on the octets of its input as they come. Of a bundle that has begun it keeps what
 /// a judge keeps: of the octets those of the primary block, and a few of another field.
+///
+/// A bundle of version 6 that lies in a piece as a whole is judged there without a judge, and the heads
+/// of one that doesn't are read twice. One of version 7 is judged by one judge from its first octet on,
+/// so that a block is summed once.
 #[derive(Drop)]
 pub struct CheckReader {
     standing: Checking,
@@ -48,6 +55,8 @@ pub struct Checking {
     taken: usize,
     /// Its judge, where it has begun.
     begun: Option<Begun>,
+    /// A judge of version 7 that has taken nothing.
+    seven: Judge7,
 }
 
 impl CheckReader {
@@ -57,7 +66,7 @@ impl CheckReader {
         ensures fresh { ⟦<CheckReader as Task>⟧.Began result → ⊥ }
     {
         CheckReader {
-            standing: Checking::new(),
+            standing: Checking::new(alloc),
             alloc,
         }
     }
@@ -77,7 +86,7 @@ impl Task for CheckReader {
         match ends {
             Ok(None) => {}
             // The run has ended: nothing is kept any more.
-            _ => self.standing = Checking::new(),
+            _ => self.standing = Checking::new(self.alloc),
         }
         ends
     }
@@ -89,14 +98,16 @@ impl Task for CheckReader {
 
 impl Checking {
     /// No octet came.
-    fn new() -> Checking
-        ensures { result ≡ record { number = 1; at = 0; taken = 0; begun = None } }
+    fn new(alloc: Global) -> Checking
+        ensures is { result ≡ record { number = 1; at = 0; taken = 0; begun = None; seven = result.seven } }
+        ensures seven { IsNew result.seven }
     {
         Checking {
             number: 1,
             at: 0,
             taken: 0,
             begun: None,
+            seven: Judge7::new(alloc),
         }
     }
 
@@ -155,25 +166,65 @@ impl Checking {
         }
     }
 
-    /// Takes octets of one bundle. Where none has begun, and they have it whole, nothing is kept.
+    /// Takes octets of one bundle, which has begun or begins with them.
     fn judged(&mut self, alloc: Global, left: &[u8]) -> Result<Given<u8>, AllocError>
         requires shadowed { IsShadowed self.old }
         requires some { 0 < length left.now }
         requires room { self.old.at + self.old.taken + length left.now ≤ 67108864 }
-        ensures same { IfOk result (λ given. self.new ≡ with_begun self.old self.new.begun) }
+        ensures same { IfOk result (λ given. self.new ≡ with_judges self.old self.new.begun self.new.seven) }
         ensures judged { (old : Standing) → Shadows self.old old
             → IfOk result (JudgedOn old left.now self.new) }
     {
         match &mut self.begun {
             Some(begun) => begun.judge(left),
-            None => match judged(left) {
+            None => self.begin(alloc, left),
+        }
+    }
+
+    /// The same, where none has begun. Its judge is kept where they don't end it.
+    fn begin(&mut self, alloc: Global, left: &[u8]) -> Result<Given<u8>, AllocError>
+        requires none { self.old.begun ≡ None }
+        requires shadowed { IsShadowed self.old }
+        requires some { 0 < length left.now }
+        requires few { length left.now ≤ 67108864 }
+        ensures same { IfOk result (λ given. self.new ≡ with_judges self.old self.new.begun self.new.seven) }
+        ensures judged { (old : Standing) → Shadows self.old old
+            → IfOk result (JudgedOn old left.now self.new) }
+    {
+        match left[0] {
+            SIX => match judged6(left) {
                 Given::Part => {
-                    self.begun = Begun::with(alloc, left)?;
+                    self.begun = Some(Begun::Six(begin6(alloc, left)?));
                     Ok(Given::Part)
                 }
                 given => Ok(given),
             },
+            SEVEN => self.begin_seven(alloc, left),
+            _ => Ok(Given::Refused(0, Cause::Version)),
         }
+    }
+
+    /// The same of a bundle of version 7.
+    fn begin_seven(&mut self, alloc: Global, left: &[u8]) -> Result<Given<u8>, AllocError>
+        requires none { self.old.begun ≡ None }
+        requires shadowed { IsShadowed self.old }
+        requires some { 0 < length left.now }
+        requires few { length left.now ≤ 67108864 }
+        requires first { slice_index left.now 0 ≡ 0x9F }
+        ensures same { IfOk result (λ given. self.new ≡ with_judges self.old self.new.begun self.new.seven) }
+        ensures judged { (old : Standing) → Shadows self.old old
+            → IfOk result (JudgedOn old left.now self.new) }
+    {
+        let given = judge7(&mut self.seven, left)?;
+        match &given {
+            Given::Whole(..) => self.seven.restart(),
+            Given::Part => {
+                let judge = mem::replace(&mut self.seven, Judge7::new(alloc));
+                self.begun = Some(Begun::Seven(judge));
+            }
+            Given::Refused(..) => {}
+        }
+        Ok(given)
     }
 
     /// The input ended.

@@ -13,13 +13,15 @@
 //! (`specs/Answering.antt`). A [`BundleReader`] is told the octets as they come, and keeps those of at
 //! most one unfinished bundle, and of the fragments that aren't joined yet; for `check`, which wants no
 //! bundle, a `CheckReader` keeps of one of version 6 the primary block alone. A [`ShowReader`] keeps the
-//! octets of at most one bundle, and tells one of version 6 out of them part by part. `command_frame`
-//! drives all three, and writes what is settled before it reads on.
+//! octets of at most one bundle, and tells one of version 6 out of them part by part. Each has one judge
+//! or reader for a bundle of version 7 from its first octet on, so that a block is summed once.
+//! `command_frame` drives all three, and writes what is settled before it reads on.
 #![tactic(auto)]
 
 mod begun;
 mod bundle_reader;
 mod check_reader;
+mod coming;
 mod commands;
 mod convert;
 mod fragmenting;

@@ -9,13 +9,12 @@ ghost use Rattle.bundle_runs.specs.declared.bundle_reader.Standing.{Standing};
 ghost use Rattle.bundle_runs.specs.declared.front.Bundle.{Bundle};
 ghost use Rattle.bundle_runs.specs.Answering.{settles_from};
 ghost use Rattle.bundle_runs.specs.WrittenLines.{show_line};
-ghost use Rattle.bundle_runs.specs.Taking.{settling_of, IsSound};
-ghost use Rattle.bundle_runs.specs.Checking.{StandsForAny};
-ghost use Rattle.bundle_runs.specs.Showing.{IsOn, Owes, OwesLine, ShowsAs, IsShowing, StandsShowing, KeepsOneBundle, parts_due, JudgedSo, IsBundle, BeginsLine, ShowsStep};
+ghost use Rattle.bundle_runs.specs.Taking.{settling_of};
+ghost use Rattle.bundle_runs.specs.Showing.{IsOn, Owes, OwesLine, ShowsAs, IsShowing, StandsShowing, KeepsOneBundle, parts_due, IsBundle, BeginsLine, ShowsStep};
 
-use crate::begun::Begun;
 use crate::bundle_reader::Next;
-use crate::given::{Given, decoded, judged};
+use crate::coming::{Coming, come};
+use crate::given::Given;
 use crate::written_lines::{write_refused, write_show};
 use bundle_json::Telling6;
 use command_frame::{PartTask, Taken};
@@ -24,7 +23,8 @@ use std::alloc::{AllocError, Global};
 use std::marker::Model;
 
 /// The command `show` on the octets of its input as they come. It keeps the octets of at most one
-/// bundle: of one that has begun, or of one of version 6 that is told.
+/// bundle: of one that has begun, or of one of version 6 that is told. While one of version 7 comes, its
+/// reader keeps them too, until the bundle is built.
 #[derive(Drop)]
 pub struct ShowReader {
     standing: Showing,
@@ -49,8 +49,8 @@ pub struct Showing {
     number: u64,
     /// The place of its first octet in the input.
     at: usize,
-    /// Its judge, where it has begun.
-    begun: Option<Begun>,
+    /// What takes it, where it has begun.
+    begun: Option<Coming>,
     /// What is told of the bundle before it, where that isn't told to its end.
     telling: Option<Telling6>,
     /// The octets of the one that is told, or else those that came of the one that has begun.
@@ -167,13 +167,22 @@ impl Showing {
         ensures { (old : Standing) → ShowsAs self.old [] old → IfOk result
             (ShowsStep old left.now (string_bytes text.old) self.new (string_bytes text.new)) }
     {
-        match judge_on(&mut self.begun, alloc, left)? {
-            Given::Whole(version, used) => {
-                self.octets.extend_from_slice(&left[..used])?;
-                self.pass();
-                self.begin(alloc, version, text)?;
-                Ok(Next::After(used))
-            }
+        let given = come(&mut self.begun, alloc, left)?;
+        match given {
+            Given::Whole(found, used) => match found {
+                None => {
+                    self.octets.extend_from_slice(&left[..used])?;
+                    self.pass(0);
+                    self.begin(text)?;
+                    Ok(Next::After(used))
+                }
+                Some(bundle) => {
+                    self.pass(used);
+                    self.octets = Vec::new(alloc);
+                    write_show(text, &bundle)?;
+                    Ok(Next::After(used))
+                }
+            },
             Given::Part => {
                 self.octets.extend_from_slice(left)?;
                 Ok(Next::After(left.len()))
@@ -185,29 +194,29 @@ impl Showing {
         }
     }
 
-    /// The bundle has ended whose octets are kept.
-    fn pass(&mut self)
-        requires few { self.old.at + length self.old.octets.items ≤ 67108864 }
+    /// The bundle has ended after so many octets more than are kept.
+    fn pass(&mut self, more: usize)
+        requires few { self.old.at + (length self.old.octets.items + more) ≤ 67108864 }
         requires counted { self.old.number ≤ 67108864 }
         ensures { self.new ≡ record {
           number = self.old.number + 1;
-          at = self.old.at + length self.old.octets.items;
+          at = self.old.at + (length self.old.octets.items + more);
           begun = None;
           telling = self.old.telling;
           octets = self.old.octets;
         } }
     {
         self.number += 1;
-        self.at += self.octets.len();
-        // To write none is to clear the room for a judge, so it isn't done for each bundle.
+        self.at += self.octets.len() + more;
+        // To write none is to clear the room for a reader, so it isn't done for each bundle.
         if self.begun.is_some() {
             self.begun = None;
         }
     }
 
-    /// Begins the line of the bundle whose octets are kept. That of one of version 7 is written at once.
-    fn begin(&mut self, alloc: Global, version: u8, text: &mut String) -> Result<(), AllocError>
-        requires { (b : Bundle) × IsBundle self.old.octets.items version b }
+    /// Begins the line of the bundle of version 6 whose octets are kept.
+    fn begin(&mut self, text: &mut String) -> Result<(), AllocError>
+        requires { (b : Bundle) × IsBundle self.old.octets.items b }
         ensures same { OnOk result (self.new ≡ record {
           number = self.old.number;
           at = self.old.at;
@@ -215,38 +224,11 @@ impl Showing {
           telling = self.new.telling;
           octets = self.new.octets;
         }) }
-        ensures line { (b : Bundle) → IsBundle self.old.octets.items version b → OnOk result
+        ensures line { (b : Bundle) → IsBundle self.old.octets.items b → OnOk result
             (BeginsLine (show_line b) (string_bytes text.old) self.new.telling self.new.octets.items (string_bytes text.new)) }
     {
-        match version {
-            6 => {
-                self.telling = Some(Telling6::new(&self.octets)?);
-                self.tell(text)?;
-                Ok(())
-            }
-            _ => self.write_seven(alloc, text),
-        }
-    }
-
-    /// Writes the line of the bundle of version 7 whose octets are kept.
-    fn write_seven(&mut self, alloc: Global, text: &mut String) -> Result<(), AllocError>
-        requires { 0 < length self.old.octets.items }
-        ensures same { OnOk result (self.new ≡ record {
-          number = self.old.number;
-          at = self.old.at;
-          begun = self.old.begun;
-          telling = None;
-          octets = self.new.octets;
-        }) }
-        ensures line { (b : Bundle) (version : ℕ) → IsBundle self.old.octets.items version b → OnOk result
-            (BeginsLine (show_line b) (string_bytes text.old) self.new.telling self.new.octets.items (string_bytes text.new)) }
-    {
-        match decoded(alloc, &self.octets)? {
-            Given::Whole(bundle, _) => write_show(text, &bundle)?,
-            _ => return Err(AllocError),
-        }
-        self.telling = None;
-        self.octets.clear();
+        self.telling = Some(Telling6::new(&self.octets));
+        self.tell(text)?;
         Ok(())
     }
 
@@ -298,25 +280,5 @@ impl Showing {
                 }
             },
         }
-    }
-}
-
-/// Judges octets of one bundle. Where none has begun, and they have it whole, no judge is kept.
-fn judge_on(begun: &mut Option<Begun>, alloc: Global, left: &[u8]) -> Result<Given<u8>, AllocError>
-    requires some { 0 < length left.now }
-    requires sound { (old : Standing) × StandsForAny begun.old old.unfinished × IsSound old
-        × (old.at + old.taken + length left.now ≤ 67108864) }
-    ensures { (old : Standing) → StandsForAny begun.old old.unfinished → IsSound old
-        → old.at + old.taken + length left.now ≤ 67108864 → IfOk result (JudgedSo old left.now begun.new) }
-{
-    match begun {
-        Some(judge) => judge.judge(left),
-        None => match judged(left) {
-            Given::Part => {
-                *begun = Begun::with(alloc, left)?;
-                Ok(Given::Part)
-            }
-            given => Ok(given),
-        },
     }
 }

@@ -1,6 +1,6 @@
 use Rattle.std.proofs.Common.{arith}
 use Rattle.bundle_runs.specs.Given.{IsRead}
-use Rattle.bundle_runs.proofs.TakingLemmas.{took-more-of}
+use Rattle.bundle_runs.proofs.BegunLemmas.{took-more-of}
 use Rattle.bundle_runs.proofs.bundle_reader.Standing.decoded.Goals as goal
 
 pub returns-in-Some : goal.returns-in-Some

@@ -1,5 +1,5 @@
 use Rattle.std.proofs.Common.{◌≡◌, None, refl, arith, rules}
-use Rattle.bundle_runs.proofs.CheckLemmas.{check-room-of, check-refused-room-of, check-whole-of, check-part-of, check-refused-of}
+use Rattle.bundle_runs.proofs.CheckStepLemmas.{check-room-of, check-refused-room-of, check-whole-of, check-part-of, check-refused-of}
 use Rattle.bundle_runs.proofs.check_reader.Checking.check.Goals as goal
 
 pub overflow_add-self : goal.overflow_add-self

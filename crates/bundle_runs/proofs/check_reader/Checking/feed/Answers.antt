@@ -1,6 +1,6 @@
 use Rattle.std.proofs.Common.{◌≡◌, length, rules}
 use Rattle.std.proofs.lemmas.List.{take_rest}
-use Rattle.bundle_runs.proofs.CheckLemmas.{checks-kept, checks-more, checks-end}
+use Rattle.bundle_runs.proofs.CheckStepLemmas.{checks-kept, checks-more, checks-end}
 use Rattle.bundle_runs.proofs.check_reader.Checking.feed.Goals as goal
 
 pub bundles-preserved : goal.bundles-preserved

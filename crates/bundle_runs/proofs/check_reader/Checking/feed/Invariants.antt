@@ -2,7 +2,7 @@ use Rattle.std.proofs.Common.{◌+◌, ◌*◌, ◌≤◌, length}
 use Rattle.std.specs.String.{string_bytes}
 use Rattle.bundle_runs.specs.declared.bundle_reader.Standing.{Standing}
 use Rattle.bundle_runs.specs.Checking.{Shadows, IsShadowed}
-use Rattle.bundle_runs.proofs.CheckLemmas.{ChecksSoFar}
+use Rattle.bundle_runs.proofs.CheckStepLemmas.{ChecksSoFar}
 use Rattle.bundle_runs.proofs.check_reader.Checking.feed.Given as goal
 
 abbrev pub invariant-bundles : goal.invariant-bundles

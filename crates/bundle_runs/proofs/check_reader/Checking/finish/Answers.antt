@@ -1,5 +1,5 @@
 use Rattle.std.proofs.Common.{sym, ◌∙◌, arith}
-use Rattle.bundle_runs.proofs.CheckLemmas.{shadowed-after, check-finish-none, check-finish-room, check-finish-cut}
+use Rattle.bundle_runs.proofs.CheckStepLemmas.{shadowed-after, check-finish-none, check-finish-room, check-finish-cut}
 use Rattle.bundle_runs.proofs.check_reader.Checking.finish.Goals as goal
 
 pub returns-in-None-clause-finished : goal.returns-in-None-clause-finished

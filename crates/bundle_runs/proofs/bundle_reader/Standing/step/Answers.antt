@@ -1,7 +1,7 @@
 use Rattle.std.proofs.Common.{arith}
 use Rattle.bundle_runs.specs.Given.{IsRead}
 use Rattle.bundle_runs.proofs.TakingLemmas.{whole-room, refused-room, step-said, step-turned-down, step-refused, refuse-ends}
-use Rattle.bundle_runs.proofs.bundle_reader.Standing.tell.Goals as goal
+use Rattle.bundle_runs.proofs.bundle_reader.Standing.step.Goals as goal
 
 pub overflow_add-size : goal.overflow_add-size
 overflow_add-size c =

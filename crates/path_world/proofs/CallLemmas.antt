@@ -1,35 +1,32 @@
 -- The calls of a path world.
 
-use Rattle.std.proofs.Common.{◌≡◌, ℕ, ◌<◌, ◌≤◌, ◌^◌, Bool, false, true, List, [], ◌∷◌, ◌++◌, length, Result, Ok, Err, refl, sym, ap, ◌∙◌, subst, arith, nat_lt}
+use Rattle.std.proofs.Common.{◌≡◌, ℕ, ◌≤◌, Bool, false, List, [], ◌++◌, length, Result, Ok, Err, refl, sym, ap, ◌∙◌, subst, arith, nat_lt}
 use Rattle.std.proofs.lemmas.Bool.Decides.{nat_tests}
-use Rattle.gate_cases.specs.declared.face.Face.{Face}
-use Rattle.gate_cases.specs.declared.face.Face.TheVariants as faces
-use Rattle.gate_cases.specs.Blocks.{found_at}
 use Rattle.ltp_engine.specs.declared.effects.Effects.{Effects}
 use Rattle.ltp_engine.specs.declared.refused.SubmitRefused.{SubmitRefused}
 use Rattle.ltp_engine.specs.declared.refused.SubmitRefused.TheVariants as causes
-use Rattle.ltp_engine.specs.Effects.{effects_of, up_of}
+use Rattle.ltp_engine.specs.Effects.{effects_of}
 use Rattle.ltp_engine.specs.Shows.{Shows}
 use Rattle.ltp_engine.specs.Values.{EngineValue}
 use Rattle.fragments.specs.Joining.{Joining}
-use Rattle.ltp_engine.specs.Steps.{Sends, IsSent, IsFault, IsNoFault}
-use Rattle.ltp_session.specs.Engine.{Party, Engine, EngineStep, SubmitFault, submits, submit_step}
+use Rattle.ltp_engine.specs.Steps.{IsSent, IsFault, IsNoFault}
+use Rattle.ltp_session.specs.Engine.{Engine, EngineStep, SubmitFault, submits, submit_step}
 use Rattle.path_laws.specs.declared.effects.EndJoin.{EndJoin}
 use Rattle.path_laws.specs.declared.effects.PathEffects.{PathEffects}
 use Rattle.path_laws.specs.declared.places.PathEnd.{PathEnd}
 use Rattle.path_laws.specs.declared.places.PathEnd.TheVariants as ends
-use Rattle.path_laws.specs.Path.{Path, PathSetup, PathStep, PathEvent, sends, clock_shows, at_path_end, node_does, node_ticks, sends_block, sent_unless, nothing_done, then_does, all_tick, path_step, fragments_in, joins_then, joins_told}
-use Rattle.path_laws.specs.Places.{node_place, face_of, other_path_end}
+use Rattle.path_laws.specs.Path.{Path, PathSetup, PathEvent, sends, clock_shows, at_path_end, node_ticks, sends_block, sent_unless, nothing_done, then_does, path_step, fragments_in, joins_then, joins_told}
+use Rattle.path_laws.specs.Places.{node_place, face_of}
 use Rattle.path_laws.proofs.ChunkLemmas.{sends-no-up}
 use Rattle.path_world.specs.declared.node.Node.{Node}
 use Rattle.path_world.specs.declared.parts.Parts.{Parts}
 use Rattle.path_world.specs.declared.sent.Sent.{Sent}
-use Rattle.path_world.specs.Shows.{ShowsPath, ShowsRun, Stands, AreBounded, path_after}
-use Rattle.path_world.specs.Steps.{Happens, Stays, OfSend}
-use Rattle.path_world.specs.Ties.{IsNode, NodeSubmits, NodeSubmitsAt, OtherStays, bodies_of, sent_from, node_told, both_told, value_of, live, setup_in, nodes_in, with_sent, IsKept, IsWhole, Does, Did, PartsSend, gate_ticks}
-use Rattle.path_world.specs.Values.{PathValue, setup_of, numbered, effects_told}
-use Rattle.path_world.proofs.StepLemmas.{NodeMoves, NodeLeaves, NodeStepped, StepOf, node-step, does-then, does-same, moment-kept, moment-shows, sent-kept}
-use Rattle.path_world.proofs.RunLemmas.{StepShown, happens-by, stays-by, did-so, does-happen}
+use Rattle.path_world.specs.Shows.{ShowsPath, ShowsRun, AreBounded, path_after}
+use Rattle.path_world.specs.Steps.{Stays, OfSend}
+use Rattle.path_world.specs.Ties.{NodeSubmitsAt, OtherStays, bodies_of, sent_from, node_told, both_told, value_of, live, setup_in, nodes_in, with_sent, IsKept, IsWhole, Does, Did, PartsSend, gate_ticks}
+use Rattle.path_world.specs.Values.{PathValue, setup_of, numbered}
+use Rattle.path_world.proofs.StepLemmas.{NodeStepped, StepOf, node-step, does-then, moment-shows, sent-kept}
+use Rattle.path_world.proofs.RunLemmas.{StepShown, happens-by, stays-by, did-so}
 
 -- ---- the clock goes on
 

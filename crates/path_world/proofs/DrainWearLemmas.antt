@@ -1,7 +1,6 @@
 -- Each event of a drain leaves less to do, or is later.
 
-use Rattle.std.proofs.Common.{◌≡◌, ℕ, zero, suc, ◌+◌, ◌<◌, ◌≤◌, ◌^◌, Bool, true, false, List, [], ◌∷◌, ◌++◌, length, map, drop, Option, None, Some, Ok, refl, sym, ◌∙◌, ap, arith, subst, nat_lt, if◌then◌else◌}
-use Rattle.std.proofs.lemmas.Bool.Decides.{nat_tests}
+use Rattle.std.proofs.Common.{◌≡◌, ℕ, zero, suc, ◌+◌, ◌<◌, ◌≤◌, ◌^◌, Bool, true, false, List, [], ◌∷◌, ◌++◌, length, map, drop, Option, None, Some, Ok, IfSome, refl, sym, ◌∙◌, ap, arith, subst}
 use Rattle.std.proofs.lemmas.List.{length-append}
 use Rattle.std.specs.List.{AllByRecursion, slice_get}
 use Rattle.gate_cases.specs.declared.face.Face.{Face}
@@ -14,10 +13,10 @@ use Rattle.ltp_engine.specs.Shows.{Shows}
 use Rattle.ltp_engine.specs.Values.{EngineValue}
 use Rattle.path_laws.specs.declared.effects.PathEffects.{PathEffects}
 use Rattle.path_laws.specs.Links.{link_parties}
-use Rattle.path_laws.specs.Path.{Path, PathEvent, PathSetup, SentFrom, all_tick, clock_shows, comes_to, delivers, delivers_if, nothing_done, path_run, path_step, then_does}
-use Rattle.path_laws.specs.Places.{Stand, across, at_gate, at_node, stand_of}
+use Rattle.path_laws.specs.Path.{Path, PathEvent, PathSetup, SentFrom, clock_shows, delivers, path_run, path_step}
 use Rattle.path_drain_laws.proofs.PathLists.{step-sends}
 use Rattle.path_ends.specs.Left.{IsTimed, engine_left, path_burden, path_left}
+use Rattle.path_ends.proofs.PathEnds.{clock-now, deliver-now}
 use Rattle.path_ends.proofs.PathWears.{path-clock, path-drains-wear-out, runs-reach}
 use Rattle.path_world.specs.declared.parts.Parts.{Parts}
 use Rattle.path_world.specs.Clean.{LeadsOn}
@@ -128,33 +127,6 @@ step-falls old new k effects stands there happens =
 
 -- ---- the clock, and how much was sent
 
-come-now : (s : PathSetup) (w : Path) (stand : Stand) (d : SentFrom)
-    → ((comes_to s w stand d.segment).path).now ≡ w.now
-come-now s w (at_node end) d = refl
-come-now s w (at_gate face) d = refl
-
-deliver-now : (s : PathSetup) (w : Path) (k : ℕ) → ((path_step s w (delivers k)).path).now ≡ w.now
-unfolding path_step
-deliver-now s w k = by_got (slice_get w.sent k)
-  where
-    by_got : (got : Option SentFrom) → ((delivers_if s w got).path).now ≡ w.now
-    by_got None = refl
-    by_got (Some d) = come-now s w (stand_of (across d.from)) d
-
-clock-now : (s : PathSetup) (w : Path) (now : ℕ) → w.now < now
-    → ((path_step s w (clock_shows now)).path).now ≡ now
-unfolding path_step then_does
-clock-now s w now later = by_test (nat_lt now w.now) (not-before now w.now later)
-  where
-    not-before : (a b : ℕ) → b < a → nat_lt a b ≡ false
-    not-before a b low = grind (arith, nat_tests)
-
-    by_test : (b : Bool) → b ≡ false
-        → ((if b then record { path = w; effects = nothing_done } else all_tick s now w).path).now
-        ≡ now
-    by_test true is = absurd (cc)
-    by_test false is = refl
-
 -- at an event that leaves the clock at this moment
 after-step : (old new : PathValue) (event : PathEvent) (effects : PathEffects) (moment : ℕ)
     → Stands old → Happens old new event effects
@@ -196,7 +168,7 @@ tick-clock old new now effects stands happens later =
     (λ w same. clock-now (setup_of old) w now (omega (arith, same, later)))
 
 -- a deadline is after the clock
-pub due-ahead : (v : PathValue) (deadline : ℕ) → Stands v → path_deadline v ≡ Some deadline
+due-ahead : (v : PathValue) (deadline : ℕ) → Stands v → path_deadline v ≡ Some deadline
     → v.moment < deadline
 due-ahead v deadline stands due = by stands.start stands.events stands.shows
   where
@@ -207,6 +179,11 @@ due-ahead v deadline stands due = by stands.start stands.events stands.shows
         (shown-deadline v (path_after v start events) shows.path ∙ due) in
         let now = (shows.path).now in
         omega (arith, ahead, now)
+
+pub all-ahead : (v : PathValue) (due : Option ℕ) → Stands v → due ≡ path_deadline v
+    → IfSome due (λ deadline. v.moment < deadline)
+all-ahead v None stands is = tt
+all-ahead v (Some deadline) stands is = due-ahead v deadline stands (sym is)
 
 -- ---- as the code has it
 

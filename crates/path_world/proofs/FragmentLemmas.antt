@@ -1,9 +1,8 @@
 -- What is read of a block is the fragment that it is.
 
-use Rattle.std.proofs.Common.{◌≡◌, ℕ, ◌&&◌, Bool, true, false, not, List, length, Option, None, Some, is_some, Result, Ok, Err, IfOk, IfSome, refl, sym, ap, ◌∙◌, subst}
+use Rattle.std.proofs.Common.{◌≡◌, ℕ, ◌&&◌, Bool, true, false, List, length, Option, None, Some, is_some, Result, Ok, Err, IfOk, IfSome, refl, sym, ap, ◌∙◌, subst}
 use Rattle.wire_fields.specs.Gives.{Fails}
 use Rattle.wire_fields.specs.Reading.{read}
-use Rattle.wire_fields.specs.Refusal.{Stop}
 use Rattle.bundle6.specs.declared.bundle.Bundle6.{Bundle6}
 use Rattle.bundle6.specs.declared.fault.Cause6.{Cause6}
 use Rattle.bundle6.specs.declared.fault.Fail6.{Fail6}
@@ -32,10 +31,10 @@ use Rattle.translate.proofs.BackLaws.{fits-own6, fits-own7}
 use Rattle.fragment_lines.proofs.ReadLemmas.{refusal-is}
 use Rattle.gate_cases.specs.declared.face.Face.{Face}
 use Rattle.gate_cases.specs.declared.face.Face.TheVariants.{Old, New}
-use Rattle.gate_cases.specs.Blocks.{Arrival, Found, one, bad, arrival6, arrival7, found6, found7, found_at}
+use Rattle.gate_cases.specs.Blocks.{Arrival, one, arrival6, arrival7, found_at}
 use Rattle.gate_cases.specs.Faces.{other_of, fits_at}
 use Rattle.gate_cases.proofs.JudgeLemmas.{early6, one6, early7, one7}
-use Rattle.path_laws.specs.Path.{fragment_if, is_translated, fragment_found}
+use Rattle.path_laws.specs.Path.{fragment_if, fragment_found}
 use Rattle.path_world.specs.Ties.{IsTaken, fragment_for}
 
 -- ---- the block is one bundle, or it isn't

@@ -1,11 +1,10 @@
 -- What an end's joiner answers to the blocks that come there.
 
-use Rattle.std.proofs.Common.{◌≡◌, ℕ, ◌<◌, ◌^◌, ◌+◌, true, false, List, [], ◌∷◌, ◌++◌, length, map, take, get_or, Option, None, Some, Result, Ok, Err, IfOk, OnOk, refl, sym, ap, ◌∙◌, subst}
+use Rattle.std.proofs.Common.{◌≡◌, ℕ, ◌<◌, ◌^◌, ◌+◌, false, List, [], ◌∷◌, ◌++◌, length, take, get_or, Option, None, Some, Result, Ok, Err, refl, sym, ap, ◌∙◌, subst}
 use Rattle.std.specs.List.{All}
 use Rattle.std.proofs.lemmas.List.{append-nil, append_assoc, map-append, take_more}
 use Rattle.endpoint.specs.declared.extent.Fragment.{Fragment}
 use Rattle.bundle_meaning.specs.declared.full.Full.{Full}
-use Rattle.translate.specs.Sound.{IsSound}
 use Rattle.fragments.specs.declared.fault.JoinRefused.{JoinRefused}
 use Rattle.fragments.specs.declared.fault.JoinRefused.TheVariants as refusals
 use Rattle.fragments.specs.declared.join.Join.{Join}
@@ -16,7 +15,6 @@ use Rattle.fragments.specs.Cutting.{octets_of}
 use Rattle.fragments.specs.Joining.{Joining, accepted, Adds}
 use Rattle.gate_cases.specs.declared.face.Face.{Face}
 use Rattle.gate_cases.specs.Blocks.{found_at}
-use Rattle.gate_cases.specs.Faces.{fits_at}
 use Rattle.ltp_engine.specs.declared.effects.Up.{Up}
 use Rattle.ltp_session.specs.Engine.{list_of}
 use Rattle.path_laws.specs.declared.effects.EndJoin.{EndJoin}

@@ -11,3 +11,4 @@ mod PartLemmas
 mod WorldLemmas
 mod DrainLemmas
 mod DrainWearLemmas
+mod ClockLemmas

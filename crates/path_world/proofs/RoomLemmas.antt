@@ -1,6 +1,6 @@
 -- A whole has room for its blocks in the version of its end: it has those of its first fragment.
 
-use Rattle.std.proofs.Common.{◌≡◌, ℕ, zero, suc, ◌<◌, ◌==◌, ◌^◌, ◌&&◌, Bool, true, false, not, nat_lt, nat_le, if◌then◌else◌, List, [], ◌∷◌, length, take, drop, Option, None, Some, is_some, Result, Ok, Err, IfSome, refl, sym, ap, ◌∙◌, subst}
+use Rattle.std.proofs.Common.{◌≡◌, ℕ, zero, suc, ◌<◌, ◌==◌, ◌^◌, Bool, true, false, nat_lt, if◌then◌else◌, List, [], ◌∷◌, length, take, drop, Option, None, Some, is_some, Result, Ok, Err, refl, sym, subst}
 use Rattle.std.specs.List.{All, slice_get}
 use Rattle.std.proofs.lemmas.List.Elements.{All-take, All-drop, All-append, All-nil, All-cons, All-head, All-tail}
 use Rattle.endpoint.specs.declared.extent.Fragment.{Fragment}
@@ -10,11 +10,8 @@ use Rattle.bundle_meaning.specs.declared.shared.Content.TheVariants.{Bytes, Repo
 use Rattle.bundle_meaning.specs.declared.shared.Shared.{Shared}
 use Rattle.bundle_meaning.specs.Reports.{is_report}
 use Rattle.bundle_meaning.specs.Valid.{IsFragment}
-use Rattle.translate.specs.View6.{fits6}
-use Rattle.translate.specs.View7.{fits7}
 use Rattle.fragments.specs.declared.fault.JoinRefused.{JoinRefused}
 use Rattle.fragments.specs.declared.join.Join.{Join}
-use Rattle.fragments.specs.declared.joining.Joined.{Joined}
 use Rattle.fragments.specs.declared.joining.Joined.TheVariants as answers
 use Rattle.fragments.specs.Again.{answer_at, answer, after_at, after}
 use Rattle.fragments.specs.Cells.{whole_octets}

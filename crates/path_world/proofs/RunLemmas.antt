@@ -1,33 +1,30 @@
 -- What happens to a path world is one event of every run where it stands.
 
-use Rattle.std.proofs.Common.{◌≡◌, ℕ, zero, suc, ◌<◌, ◌≤◌, false, true, List, [], ◌∷◌, ◌++◌, length, map, take, get_or, Option, None, Some, Result, Ok, Err, refl, sym, ap, ◌∙◌, subst, arith, nat_lt, inl, inr}
+use Rattle.std.proofs.Common.{◌≡◌, ℕ, zero, suc, ◌<◌, ◌≤◌, false, true, List, [], ◌∷◌, ◌++◌, length, map, take, None, Some, Ok, refl, sym, ap, ◌∙◌, subst, arith, nat_lt}
 use Rattle.std.proofs.lemmas.Bool.Decides.{nat_tests}
 use Rattle.std.proofs.lemmas.List.{append-nil, append_assoc, length-map}
 use Rattle.std.specs.List.{slice_get}
 use Rattle.gate_cases.specs.declared.face.Face.{Face}
 use Rattle.link_laws.proofs.WritableLemmas.{segments_can_be_written}
-use Rattle.ltp_segment.specs.declared.fault.SegmentCause.{SegmentCause}
 use Rattle.ltp_segment.specs.Reading.{segment_of}
 use Rattle.ltp_segment.specs.Spelling.{segment_octets}
 use Rattle.ltp_segment.specs.Values.{SegmentValue}
 use Rattle.ltp_segment.proofs.WritingLemmas.{segment-again}
 use Rattle.ltp_session.specs.World.{World, clock}
 use Rattle.path_laws.specs.declared.effects.PathEffects.{PathEffects}
-use Rattle.path_laws.specs.declared.effects.UpAt.{UpAt}
 use Rattle.path_laws.specs.Laws.{ReceivedAsSent}
 use Rattle.path_laws.specs.Links.{link_parties, link_sent, sent_on, link_events}
-use Rattle.path_laws.specs.Log.{begun_in, ups_in}
-use Rattle.path_laws.specs.Path.{Path, PathSetup, PathStep, PathEvent, SentFrom, sends, delivers, clock_shows, comes_to, delivers_if, all_tick, nothing_done, path_step, path_run, starts_path}
+use Rattle.path_laws.specs.Log.{ups_in}
+use Rattle.path_laws.specs.Path.{Path, PathSetup, PathStep, PathEvent, SentFrom, delivers, clock_shows, comes_to, delivers_if, nothing_done, path_step, path_run, starts_path}
 use Rattle.path_laws.specs.Places.{Stand, at_node, at_gate, across, link_of, stand_of}
 use Rattle.path_laws.proofs.RunLemmas.{got-on, whole-chunk}
 use Rattle.path_world.specs.declared.parts.Parts.{Parts}
 use Rattle.path_world.specs.declared.sent.Sent.{Sent}
-use Rattle.path_world.specs.HandedUp.{HandsUpAsSent, AsSent}
+use Rattle.path_world.specs.HandedUp.{AsSent}
 use Rattle.path_world.specs.Shows.{ShowsPath, IsSmallSetup, ShowsRun, Stands, path_after}
 use Rattle.path_world.specs.Steps.{Happens, Stays}
 use Rattle.path_world.specs.Ties.{live, setup_in, IsKept, IsWhole, Does, Did, hears_as}
 use Rattle.path_world.specs.Values.{PathValue, setup_of, spelled, numbered, effects_told, nothing_told}
-use Rattle.path_world.proofs.StepLemmas.{StepOf}
 
 -- ---- one more event
 
@@ -66,7 +63,7 @@ happens-by old new event effects whole same each = record {
 
 -- ---- nothing happens
 
-none-told : (k : ℕ) → nothing_told ≡ effects_told k nothing_done
+pub none-told : (k : ℕ) → nothing_told ≡ effects_told k nothing_done
 unfolding numbered
 none-told k = refl
 

@@ -1,6 +1,6 @@
 -- Datagrams that are kept, and the numbers that they are told with.
 
-use Rattle.std.proofs.Common.{◌≡◌, ℕ, ◌+◌, List, [], ◌∷◌, ◌++◌, length, map, refl, sym, ◌∙◌, ap, arith}
+use Rattle.std.proofs.Common.{◌≡◌, ℕ, ◌+◌, List, [], ◌∷◌, ◌++◌, length, refl, sym, ◌∙◌, ap, arith}
 use Rattle.std.proofs.lemmas.List.{append-nil, append_assoc, length-append}
 use Rattle.path_laws.specs.declared.effects.SentAt.{SentAt}
 use Rattle.path_world.specs.declared.sent.Sent.{Sent}

@@ -1,10 +1,9 @@
 -- What the parts of a path world do is the step of each path that they stand for.
 
-use Rattle.std.proofs.Common.{◌≡◌, ℕ, ◌+◌, ◌<◌, ◌^◌, false, List, [], ◌∷◌, ◌++◌, length, map, Result, Ok, Err, refl, sym, ap, ◌∙◌, subst, arith}
-use Rattle.std.proofs.lemmas.List.{append-nil, append_assoc, map-append, length-append, length-map}
+use Rattle.std.proofs.Common.{◌≡◌, ℕ, ◌+◌, ◌<◌, ◌^◌, false, List, [], ◌∷◌, ◌++◌, length, map, Result, refl, sym, ap, ◌∙◌, subst}
+use Rattle.std.proofs.lemmas.List.{append_assoc, map-append, length-append, length-map}
 use Rattle.fragments.specs.declared.join.Join.{Join}
 use Rattle.gateway_core.specs.declared.effects.GateEffects.{GateEffects}
-use Rattle.gateway_core.specs.declared.effects.Routed.{Routed}
 use Rattle.gateway_core.specs.Effects.{gate_effects_of, routed_of}
 use Rattle.gate_cases.specs.declared.face.Face.{Face}
 use Rattle.gateway_core.specs.Gate.{Gate, GateStep, GateEffectsValue, RoutedValue, arrives_at, ticks_gate}
@@ -12,31 +11,27 @@ use Rattle.gateway_core.specs.Shows.{ShowsGate, IsGateBounded}
 use Rattle.gateway_core.specs.Values.{setup_of as gate_setup_of}
 use Rattle.gateway_core.specs.Steps.{GateSteps}
 use Rattle.ltp_engine.specs.declared.effects.Effects.{Effects}
-use Rattle.ltp_engine.specs.declared.effects.Up.{Up}
 use Rattle.ltp_engine.specs.Effects.{effects_of, up_of}
 use Rattle.ltp_engine.specs.Shows.{Shows}
-use Rattle.ltp_engine.specs.Steps.{Steps}
-use Rattle.ltp_engine.specs.Values.{EngineValue}
 use Rattle.ltp_segment.specs.declared.fault.SegmentCause.{SegmentCause}
 use Rattle.ltp_segment.specs.Spelling.{segment_octets}
 use Rattle.ltp_segment.specs.Values.{SegmentValue}
 use Rattle.ltp_session.specs.Engine.{Engine, EngineStep, UpValue, datagram_step, tick_step}
 use Rattle.path_laws.specs.declared.effects.EndJoin.{EndJoin}
 use Rattle.path_laws.specs.declared.effects.PathEffects.{PathEffects}
-use Rattle.path_laws.specs.declared.effects.SentAt.{SentAt}
 use Rattle.path_laws.specs.declared.places.PathEnd.{PathEnd}
 use Rattle.path_laws.specs.declared.places.PathEnd.TheVariants as ends
 use Rattle.path_laws.specs.declared.places.Place.{Place}
-use Rattle.path_laws.specs.Path.{Path, PathSetup, PathStep, PathEffectsValue, SentFrom, at_path_end, with_path_end, node_does, node_effects, gate_does, gate_effects, gate_sent, fragments_in, fragments_of, joins_told, joins_then, join_from, note_from, up_from, node_ticks, then_does, and_more}
+use Rattle.path_laws.specs.Path.{Path, PathSetup, PathStep, PathEffectsValue, SentFrom, at_path_end, node_does, node_effects, gate_does, gate_effects, gate_sent, fragments_in, fragments_of, joins_told, joins_then, up_from, node_ticks, then_does, and_more}
 use Rattle.path_laws.specs.Path.{sent_from as path_sent}
-use Rattle.path_laws.specs.Places.{Stand, at_node, at_gate, face_of, face_place, node_place, other_path_end}
+use Rattle.path_laws.specs.Places.{at_node, at_gate, face_of, node_place}
 use Rattle.path_world.specs.declared.node.Done.{Done}
 use Rattle.path_world.specs.declared.node.Node.{Node}
 use Rattle.path_world.specs.declared.parts.Parts.{Parts}
 use Rattle.path_world.specs.declared.sent.Sent.{Sent}
 use Rattle.path_world.specs.Shows.{ShowsPath}
-use Rattle.path_world.specs.Values.{setup_of, spelled, numbered, effects_told}
-use Rattle.path_world.specs.Ties.{sent_of, sent_from, routed_from, up_at, node_told, gate_told, both_told, bodies_of, JoinsAll, IsNode, NodeDid, NodeDidAt, OtherStays, live, setup_in, nodes_in, IsKept, Does, hears_as, gate_ticks, with_sent}
+use Rattle.path_world.specs.Values.{spelled, numbered, effects_told}
+use Rattle.path_world.specs.Ties.{sent_of, sent_from, routed_from, up_at, node_told, gate_told, both_told, bodies_of, NodeDidAt, OtherStays, live, setup_in, nodes_in, IsKept, Does, hears_as, gate_ticks, with_sent}
 use Rattle.path_world.proofs.SentLemmas.{numbered-append}
 
 -- ---- what is told

@@ -1,17 +1,16 @@
 -- What a caller of a path world sees.
 
-use Rattle.std.proofs.Common.{◌≡◌, ℕ, ◌<◌, ◌≤◌, Bool, false, true, List, length, Result, Ok, Err, refl, sym, ap, ◌∙◌, subst}
+use Rattle.std.proofs.Common.{◌≡◌, ℕ, Bool, false, true, List, Result, Ok, Err, refl, sym, ap, ◌∙◌, subst}
 use Rattle.ltp_engine.specs.declared.refused.SubmitRefused.{SubmitRefused}
 use Rattle.ltp_engine.specs.declared.refused.SubmitRefused.TheVariants as causes
 use Rattle.ltp_engine.specs.Steps.{IsFault}
 use Rattle.path_laws.specs.declared.effects.PathEffects.{PathEffects}
 use Rattle.path_laws.specs.declared.places.PathEnd.{PathEnd}
-use Rattle.path_laws.specs.Path.{PathEvent, sends, clock_shows}
+use Rattle.path_laws.specs.Path.{PathEvent, sends}
 use Rattle.path_world.specs.declared.parts.Parts.{Parts}
-use Rattle.path_world.specs.Steps.{Happens, Stays, OfSend, Sends, Ticks}
+use Rattle.path_world.specs.Steps.{Happens, Stays, OfSend, Sends}
 use Rattle.path_world.specs.Ties.{value_of, live, IsWhole, Did, PartsSend, wants_memory}
-use Rattle.path_world.specs.Values.{PathValue, nothing_told}
-use Rattle.path_world.proofs.RunLemmas.{clock-stays}
+use Rattle.path_world.specs.Values.{PathValue}
 use Rattle.path_world.proofs.CallLemmas.{fault-stays}
 
 -- the value of whole parts

@@ -1,6 +1,6 @@
 -- What a drain of a path promises: clean events of every run where the world stands.
 
-use Rattle.std.specs.Prelude.{◌≡◌, ℕ, ◌≤◌, ◌^◌, true, false, List, [], ◌∷◌, ◌++◌, length}
+use Rattle.std.specs.Prelude.{◌≡◌, ℕ, ◌<◌, ◌≤◌, ◌^◌, true, false, List, [], ◌∷◌, ◌++◌, length}
 use Rattle.std.specs.Prelude.{Option, None, Some, Result, Ok, Err, ◌⊎◌}
 use Rattle.std.specs.List.{AllByRecursion, flat_map}
 use Rattle.link_laws.specs.View.{IsIn}
@@ -25,7 +25,7 @@ use Rattle.path_drain_laws.specs.Hopeful.{PathHopeful, path_cost, session_at}
 use Rattle.path_ends.specs.Left.{IsBefore}
 use Rattle.path_world.specs.declared.drained.PathDrained.{PathDrained}
 use Rattle.path_world.specs.Shows.{ShowsRun, path_after}
-use Rattle.path_world.specs.Values.{PathValue, effects_told, setup_of}
+use Rattle.path_world.specs.Values.{PathValue, effects_told, path_deadline, setup_of}
 
 -- ---- what is done
 
@@ -85,10 +85,17 @@ pub record InEveryRun (P : ℕ → List PathEvent → Type 0) (old new : PathVal
   pub setup : setup_of new ≡ setup_of old
   pub run : (start : ℕ) (events : List PathEvent) → ShowsRun old start events → P start events
 
+-- there is a deadline, and it is below 2^62: the first event of a drain sets the clock to it
+abbrev pub IsDueEarly : Option ℕ → Type 0
+IsDueEarly None = ⊥
+IsDueEarly (Some deadline) = deadline < 2 ^ 62
+
+-- Memory is wanted only for an event, so never where there is none, nor where the first one would be
+-- too late. At which event it ran out isn't told.
 abbrev pub Drains : PathValue → PathValue → Result PathDrained DrainRefused → Type 0
 Drains old new (Ok drained) = InEveryRun (DrainsAll drained old new) old new
 Drains old new (Err causes.TooLate) = InEveryRun (DrainsUntilLate old new) old new
-Drains old new (Err causes.Memory) = new.spent ≡ true
+Drains old new (Err causes.Memory) = (new.spent ≡ true) × IsDueEarly (path_deadline old)
 
 -- ---- what is handed up was sent
 

@@ -1,7 +1,7 @@
 -- What ties the code to the definitions: what its parts do, and what they keep.
 
-use Rattle.std.specs.Prelude.{◌≡◌, ℕ, ◌+◌, ◌<◌, ◌≤◌, ◌^◌, true, false, Bool, ◌&&◌, List, [], ◌∷◌, ◌++◌, length, map}
-use Rattle.std.specs.Prelude.{Option, None, Some, Result, Ok, Err, is_some, slice_get}
+use Rattle.std.specs.Prelude.{◌≡◌, ℕ, ◌<◌, ◌^◌, true, false, Bool, ◌&&◌, List, [], ◌++◌, length, map}
+use Rattle.std.specs.Prelude.{Option, None, Some, Result, Ok, Err, is_some}
 use Rattle.std.specs.List.{All}
 use Rattle.translate.specs.Sound.{IsSound}
 use Rattle.bundle_meaning.specs.declared.full.Full.{Full}
@@ -27,9 +27,8 @@ use Rattle.ltp_engine.specs.Steps.{Submits as EngineSubmits}
 use Rattle.ltp_segment.specs.declared.fault.SegmentCause.{SegmentCause}
 use Rattle.ltp_segment.specs.declared.session.Note.{Note}
 use Rattle.ltp_segment.specs.Values.{SegmentValue}
-use Rattle.ltp_session.specs.Engine.{Engine, EngineStep, SubmitFault, datagram_step, submits, submit_step}
+use Rattle.ltp_session.specs.Engine.{Engine, EngineStep, datagram_step, submits, submit_step}
 use Rattle.path_laws.specs.declared.effects.EndJoin.{EndJoin}
-use Rattle.path_laws.specs.declared.effects.NoteAt.{NoteAt}
 use Rattle.path_laws.specs.declared.effects.PathEffects.{PathEffects}
 use Rattle.path_laws.specs.declared.effects.SentAt.{SentAt}
 use Rattle.path_laws.specs.declared.effects.UpAt.{UpAt}

@@ -25,7 +25,8 @@ impl PathWorld {
     /// were sent before are lost.
     ///
     /// It returns from every world. After `TooLate` the world stands after the events made so far,
-    /// whose effects aren't handed back.
+    /// whose effects aren't handed back. No memory is wanted where there
+    /// is no event to do.
     pub fn drain(&mut self) -> Result<PathDrained, DrainRefused>
         requires whole { self.old.spent ≡ false }
         ensures does { Drains self.old self.new result }
@@ -37,17 +38,16 @@ impl PathWorld {
         ensures bounds { self.new.spent ≡ false → AreBounded self.new }
     {
         let mut steps = Vec::new(self.parts.alloc);
-        let mut from = self.sent();
         'ticking: loop {
-            self.deliver_from(from, &mut steps)?;
-            from = self.sent();
             let Some(deadline) = self.next_deadline() else {
                 break;
             };
             if deadline >= LATE {
                 return Err(DrainRefused::TooLate);
             }
+            let from = self.sent();
             self.tick_to(deadline, &mut steps)?;
+            self.deliver_from(from, &mut steps)?;
         }
         received_as_sent();
         let effects = PathSteps::from_vec(steps);
@@ -103,11 +103,10 @@ impl PathWorld {
         requires whole { self.old.spent ≡ false }
         requires moment { deadline < 2 ^ 62 }
         requires due { path_deadline self.old ≡ Some deadline }
+        requires later { self.old.moment < deadline }
         ensures done { OnOk result (LeadsOn self.old self.new (length self.old.sent)
             (length self.old.sent) steps.old.items steps.new.items) }
         ensures clock { OnOk result (self.new.moment ≡ deadline) }
-        // The deadline was after the clock.
-        ensures later { OnOk result (self.old.moment < deadline) }
         ensures there { OnOk result (length self.old.sent ≤ length self.new.sent) }
         ensures bounds { OnOk result (AreBounded self.new) }
         ensures err { OnErr result (self.new.spent ≡ true) }

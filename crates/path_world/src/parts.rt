@@ -1,6 +1,7 @@
 //! What a path world keeps, and what it does about what happens.
 
-ghost use Rattle.std.specs.Prelude.{◌≡◌, ◌<◌, ◌≤◌, ◌^◌, [], Some, length, map, slice_get, IfOk, OnOk};
+ghost use Rattle.std.specs.Prelude.{◌≡◌, ◌<◌, ◌≤◌, ◌^◌, false, [], Some, length, map, slice_get, IfOk, OnOk};
+ghost use Rattle.ltp_engine.specs.Steps.{is_due_at};
 ghost use Rattle.ltp_segment.specs.PolicyViews.{policy_value};
 ghost use Rattle.ltp_segment.specs.Reading.{segment_of};
 ghost use Rattle.gateway_core.specs.Config.{IsGateConfig};
@@ -13,7 +14,7 @@ ghost use Rattle.path_world.specs.Shows.{ShowsRun};
 
 use crate::node::{Done, Node, arrive_at, submit_at, tick_at};
 use crate::sent::SentLog;
-use crate::telling::{at_gate, at_node, both};
+use crate::telling::{at_gate, at_node, both, nothing};
 use fragments::Joiner;
 use gate_cases::Face;
 use gateway_core::{GateConfig, GateEffects, Gateway};
@@ -86,6 +87,29 @@ impl Parts {
         earlier_of(earlier_of(old, gate), new)
     }
 
+    /// Whether a timer is due, at any place.
+    pub fn is_due(&self, now: u64) -> bool
+        requires { IsKept self.now }
+        ensures { result ≡ is_due_at now (path_deadline (live self.now)) }
+    {
+        match self.next_deadline() {
+            Some(deadline) => deadline <= now,
+            None => false,
+        }
+    }
+
+    /// The clock goes on, where no timer is due.
+    pub fn go_on(&mut self, now: u64) -> PathEffects
+        requires whole { IsWhole self.old }
+        requires moment { now < 2 ^ 62 }
+        requires later { self.old.moment ≤ now }
+        requires quiet { is_due_at now (path_deadline (live self.old)) ≡ false }
+        ensures { Did self.old self.new (clock_shows now) result }
+    {
+        self.moment = now;
+        nothing(self.alloc)
+    }
+
     /// An end sends a bundle's octets, as one block that is all red.
     pub fn send(&mut self, end: PathEnd, bundle: &[u8]) -> Result<PathEffects, SubmitRefused>
         requires whole { IsWhole self.old }
@@ -111,7 +135,7 @@ impl Parts {
         }
     }
 
-    /// The clock goes on: the old node ticks, the gate's old face and its new face, and the new
+    /// The clock goes on, and timers are due: the old node ticks, the gate's old face and its new face, and the new
     /// node.
     pub fn clock(&mut self, now: u64) -> Result<PathEffects, AllocError>
         requires whole { IsWhole self.old }

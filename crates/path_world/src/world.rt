@@ -1,7 +1,8 @@
 //! A whole path, everything that was ever sent on it, and a clock.
 
-ghost use Rattle.std.specs.Prelude.{◌≡◌, ◌<◌, ◌^◌, false, true, [], length, IfOk, OnErr};
+ghost use Rattle.std.specs.Prelude.{◌≡◌, ◌<◌, ◌^◌, false, true, [], length, IfSome, IfOk, OnErr};
 ghost use Rattle.ltp_segment.specs.PolicyViews.{policy_value};
+ghost use Rattle.ltp_engine.specs.Steps.{is_due_at};
 ghost use Rattle.gateway_core.specs.Config.{IsGateConfig};
 ghost use Rattle.path_laws.specs.Path.{path_setup, delivers};
 ghost use Rattle.path_world.specs.Values.{setup_of, octets_in, path_deadline};
@@ -88,10 +89,11 @@ impl PathWorld {
         self.parts.sent.octets()
     }
 
-    /// When a timer is due next, at any place. It takes no memory.
+    /// When a timer is due next, at any place, which is after the clock. It takes no memory.
     pub fn next_deadline(&self) -> Option<u64>
-        requires { self.now.spent ≡ false }
-        ensures { result ≡ path_deadline self.now }
+        requires whole { self.now.spent ≡ false }
+        ensures least { result ≡ path_deadline self.now }
+        ensures ahead { IfSome result (λ deadline. self.now.moment < deadline) }
     {
         let _ = self.spent;
         self.parts.next_deadline()
@@ -135,17 +137,22 @@ impl PathWorld {
     }
 
     /// The clock is set to a moment below 2^62: the old node ticks, the gate's old face and its new
-    /// face, and the new node. A clock that would go back stays, and nothing ticks.
+    /// face, and the new node. A clock that would go back stays, and nothing ticks; and where no timer
+    /// is due nothing else is done, and no memory is wanted.
     pub fn clock(&mut self, now: u64) -> Result<PathEffects, AllocError>
         requires whole { self.old.spent ≡ false }
         requires moment { now < 2 ^ 62 }
         ensures done { IfOk result (Ticks self.old self.new now) }
         // All are within their bounds, whatever came.
         ensures bounds { self.new.spent ≡ false → AreBounded self.new }
+        ensures wanted { OnErr result (is_due_at now (path_deadline self.old) ≡ true) }
         ensures err { OnErr result (self.new.spent ≡ true) }
     {
         if now < self.parts.moment {
             return Ok(nothing(self.parts.alloc));
+        }
+        if !self.parts.is_due(now) {
+            return Ok(self.parts.go_on(now));
         }
         self.spent = true;
         let effects = self.parts.clock(now)?;

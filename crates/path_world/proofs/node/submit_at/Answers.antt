@@ -1,6 +1,5 @@
 use Rattle.std.proofs.Common.{refl, sym, subst}
 use Rattle.gate_cases.specs.declared.face.Face.TheVariants as faces
-use Rattle.path_laws.specs.declared.places.PathEnd.TheVariants as ends
 use Rattle.path_world.specs.Ties.{NodeSubmitsAt}
 use Rattle.path_world.proofs.node.submit_at.Goals as goal
 

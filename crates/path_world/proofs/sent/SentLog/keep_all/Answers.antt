@@ -1,4 +1,4 @@
-use Rattle.std.proofs.Common.{[], ◌∷◌, refl, sym, subst}
+use Rattle.std.proofs.Common.{[], ◌∷◌, sym, subst}
 use Rattle.std.proofs.lemmas.List.{map-append}
 use Rattle.path_world.specs.Ties.{sent_of}
 use Rattle.path_world.proofs.SentLemmas.{KeptSo, kept-none, kept-more}

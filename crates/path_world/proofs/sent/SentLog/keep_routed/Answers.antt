@@ -1,6 +1,6 @@
-use Rattle.std.proofs.Common.{[], ◌∷◌, refl, sym, subst, rules}
+use Rattle.std.proofs.Common.{[], ◌∷◌, sym, subst, rules}
 use Rattle.std.proofs.lemmas.List.{map-append}
-use Rattle.path_world.specs.Ties.{sent_of, routed_from}
+use Rattle.path_world.specs.Ties.{routed_from}
 use Rattle.path_world.proofs.SentLemmas.{KeptSo, kept-none, kept-more}
 use Rattle.path_world.proofs.sent.SentLog.keep_routed.Goals as goal
 

@@ -1,5 +1,4 @@
-use Rattle.std.proofs.Common.{[], ap, sym}
-use Rattle.path_world.specs.declared.sent.Sent.{Sent}
+use Rattle.std.proofs.Common.{ap, sym}
 use Rattle.path_world.specs.Values.{octets_in}
 use Rattle.path_world.proofs.sent.SentLog.new.Goals as goal
 

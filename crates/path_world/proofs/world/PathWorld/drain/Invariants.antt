@@ -1,13 +1,16 @@
-use Rattle.std.proofs.Common.{◌≡◌, ◌≤◌, ◌-◌, ◌^◌, false, [], length}
+use Rattle.std.proofs.Common.{◌≡◌, ◌-◌, ◌^◌, false, [], length, ◌⊎◌}
 use Rattle.path_world.specs.Clean.{LeadsOn}
+use Rattle.path_world.specs.Drain.{IsDueEarly}
 use Rattle.path_world.specs.Shows.{AreBounded}
+use Rattle.path_world.specs.Values.{path_deadline}
 use Rattle.path_world.proofs.world.PathWorld.drain.Given as goal
 
 abbrev pub invariant-ticking : goal.invariant-ticking
 invariant-ticking l = record {
   whole : l.self.spent ≡ false;
-  there : l.from ≤ length l.self.sent;
-  made : LeadsOn l.initial.self l.self (length l.initial.self.sent) l.from [] l.steps.items;
+  made : LeadsOn l.initial.self l.self (length l.initial.self.sent) (length l.self.sent) [] l.steps.items;
+  -- nothing was done yet, or there was something to do
+  begun : (path_deadline l.self ≡ path_deadline l.initial.self) ⊎ IsDueEarly (path_deadline l.initial.self);
   bounds : AreBounded l.self;
 }
 

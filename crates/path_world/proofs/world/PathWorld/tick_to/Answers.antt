@@ -1,7 +1,7 @@
 use Rattle.std.proofs.Common.{length, arith, sym, ◌∙◌, ap, subst}
 use Rattle.path_world.specs.Shows.{AreBounded}
 use Rattle.path_world.specs.Values.{PathValue}
-use Rattle.path_world.proofs.DrainWearLemmas.{due-ahead, live-stands, tick-clock, tick-told, unspent}
+use Rattle.path_world.proofs.DrainWearLemmas.{live-stands, tick-clock, tick-told, unspent}
 use Rattle.path_world.proofs.world.PathWorld.tick_to.Goals as goal
 
 pub returns-clause-done : goal.returns-clause-done
@@ -14,20 +14,13 @@ pub returns-clause-clock : goal.returns-clause-clock
 returns-clause-clock c =
     let stands = live-stands c.self.inside.spent c.self.inside.parts c.args.self.now c.self.view_is c.requires.whole c.self.invariant in
     ap (λ (v : PathValue). v.moment) c.self-2.view_is
-    ∙ (tick-clock c.args.self.now c.clock.new.self c.args.deadline c.in_ok-effects.effects stands c.in_ok-effects.ensures.done.happens
-    (due-ahead c.args.self.now c.args.deadline stands c.requires.due)).0
-
-pub returns-clause-later : goal.returns-clause-later
-returns-clause-later c =
-    due-ahead c.args.self.now c.args.deadline
-    (live-stands c.self.inside.spent c.self.inside.parts c.args.self.now c.self.view_is c.requires.whole c.self.invariant) c.requires.due
+    ∙ (tick-clock c.args.self.now c.clock.new.self c.args.deadline c.in_ok-effects.effects stands c.in_ok-effects.ensures.done.happens c.requires.later).0
 
 pub returns-clause-there : goal.returns-clause-there
 returns-clause-there c =
     let stands = live-stands c.self.inside.spent c.self.inside.parts c.args.self.now c.self.view_is c.requires.whole c.self.invariant in
     let same = ap (λ (v : PathValue). length v.sent) c.self-2.view_is in
-    let more = (tick-clock c.args.self.now c.clock.new.self c.args.deadline c.in_ok-effects.effects stands c.in_ok-effects.ensures.done.happens
-    (due-ahead c.args.self.now c.args.deadline stands c.requires.due)).1 in
+    let more = (tick-clock c.args.self.now c.clock.new.self c.args.deadline c.in_ok-effects.effects stands c.in_ok-effects.ensures.done.happens c.requires.later).1 in
     omega (arith, same, more)
 
 pub returns-clause-bounds : goal.returns-clause-bounds

@@ -23,7 +23,7 @@ pub record KeepsLittle (s : Stand) : Type 0 where
   pub main : IsOfPrimary s.main.items
   pub head : length s.head < 21
 
--- A judge took a stream so far. It keeps the octets of the stream nowhere else.
+-- a judge took a stream so far
 pub record HasTaken (longest : ℕ) (stream : Stream) (s : Stand) : Type 0 where
   pub took : TookSo stream s
   pub small : length stream.kept ≤ longest

@@ -1,4 +1,4 @@
-//! Judging streams of bundles, without the octets of the bundle that is under way.
+//! Judging streams of bundles, without the bodies of the bundle that is under way.
 //!
 //! [`Judge6`] and [`Judge7`] tell of a stream what [`bundle6::Reader6::judge`] and
 //! [`bundle7::Reader7::judge`] tell, piece by piece: the end of each bundle, and the refusal at its

@@ -9,6 +9,7 @@ use Rattle.command_frame.specs.Task.{Settling, Finishes}
 use Rattle.command_frame.specs.PartTask.{FeedsPart, LeavesFewer, TellsPart, IsDue}
 use Rattle.command_frame.proofs.WithinLemmas.{GoesOnTo-more}
 use Rattle.wire_fields.specs.Reading.{IsOctets}
+use Rattle.bundle_judges.specs.Judging6 as judging6
 use Rattle.bundle_json.specs.declared.telling6.Telling6.{Telling6}
 use Rattle.bundle_runs.specs.declared.commands.command.Command.TheVariants.{Show}
 use Rattle.bundle_runs.specs.declared.front.Bundle.{Bundle}
@@ -16,7 +17,9 @@ use Rattle.bundle_runs.specs.declared.front.Cause.{Cause}
 use Rattle.bundle_runs.specs.declared.given.Given.{Given}
 use Rattle.bundle_runs.specs.declared.given.Given.TheVariants.{Whole, Refused}
 use Rattle.bundle_runs.specs.declared.unfinished.Unfinished.{Unfinished}
+use Rattle.bundle_runs.specs.declared.unfinished.Unfinished.TheVariants.{Six, Seven}
 use Rattle.bundle_runs.specs.declared.coming.Coming.{Coming}
+use Rattle.bundle_runs.specs.declared.coming.Coming.TheVariants as comings
 use Rattle.bundle_runs.specs.declared.bundle_reader.Standing.{Standing}
 use Rattle.bundle_runs.specs.declared.bundle_reader.Next.TheVariants.{After}
 use Rattle.bundle_runs.specs.declared.show_reader.Showing.{Showing}
@@ -308,20 +311,38 @@ show-finish-cut s old begun at before now is shows cut added =
 pub keeps-one : (s : Showing) → IsShowing s → KeepsOneBundle s
 keeps-one s (due, old, shows) = by_telling s.telling s.begun refl refl
   where
-    by_bundle : (begun : Coming) (bundle : Unfinished) → old.unfinished ≡ Some bundle → s.octets.items ≡ kept_by old.unfinished → IsCut (front_of s.octets.items)
-    by_bundle begun bundle is kept =
+    by_bundle : (bundle : Unfinished) → old.unfinished ≡ Some bundle → s.octets.items ≡ kept_by old.unfinished → IsCut (front_of s.octets.items)
+    by_bundle bundle is kept =
         let has : HasBegun bundle = rw is at shows.sound.begun in
         let same : s.octets.items ≡ kept_of bundle = kept ∙ ap kept_by is in
         rw same (rw (front-kept bundle has) has.cut)
 
+    -- of a bundle that has begun octets came
+    none-begun : (begun : Option Coming) → s.begun ≡ begun → [] ≡ kept_by old.unfinished → begun ≡ None
+    none-begun None began none = refl
+    none-begun (Some coming) began none =
+        let (bundle, is, comes) = coming-some coming old.unfinished (rw began at shows.bundle) in
+        let has : HasBegun bundle = rw is at shows.sound.begun in
+        let nothing : [] ≡ kept_of bundle = none ∙ ap kept_by is in
+        absurd (omega (arith, has.some, ap length nothing))
+
+    little : (judge : judging6.Judging) (bundle : Unfinished) → ComesFor (comings.Six judge) bundle → judging6.KeepsLittle judge.stand
+    little judge (Six reader) comes = comes.2.keeps
+    little judge (Seven reader) comes = absurd comes
+
     by_telling : (telling : Option Telling6) (begun : Option Coming) → s.telling ≡ telling → s.begun ≡ begun → KeepsOctets telling begun s.octets.items
     by_telling (Some telling) begun told began =
         let owes : OwesLine s.octets.items telling due = rw told at shows.owes in
-        (owes.bundle, owes.spells)
+        let kept : [] ≡ kept_by old.unfinished = rw told at shows.kept in
+        (owes.bundle, owes.spells, none-begun begun began kept)
     by_telling None None told began =
         let kept : s.octets.items ≡ kept_by old.unfinished = rw told at shows.kept in
         kept ∙ ap kept_by (coming-none old.unfinished (rw began at shows.bundle))
-    by_telling None (Some begun) told began =
+    by_telling None (Some (comings.Six judge)) told began =
         let kept : s.octets.items ≡ kept_by old.unfinished = rw told at shows.kept in
-        let (bundle, is, stands) = coming-some begun old.unfinished (rw began at shows.bundle) in
-        by_bundle begun bundle is kept
+        let (bundle, is, comes) = coming-some (comings.Six judge) old.unfinished (rw began at shows.bundle) in
+        (by_bundle bundle is kept, little judge bundle comes)
+    by_telling None (Some (comings.Seven reader)) told began =
+        let kept : s.octets.items ≡ kept_by old.unfinished = rw told at shows.kept in
+        let (bundle, is, comes) = coming-some (comings.Seven reader) old.unfinished (rw began at shows.bundle) in
+        (by_bundle bundle is kept, sym (kept ∙ ap kept_by is ∙ ap kept_of comes))

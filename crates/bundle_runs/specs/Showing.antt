@@ -6,11 +6,13 @@ use Rattle.command_frame.specs.Task.{Settling, GoesOnTo}
 use Rattle.wire_fields.specs.Reading.{IsOctets}
 use Rattle.bundle6.specs.declared.bundle.Bundle6.{Bundle6}
 use Rattle.bundle6.specs.Legal.{Spells6}
+use Rattle.bundle_judges.specs.Judging6.{KeepsLittle}
 use Rattle.bundle_json.specs.declared.telling6.Telling6.{Telling6}
 use Rattle.bundle_json.specs.Telling.{Left, steps_left}
 use Rattle.bundle_runs.specs.declared.commands.command.Command.TheVariants.{Show}
 use Rattle.bundle_runs.specs.declared.front.Bundle.{Bundle}
 use Rattle.bundle_runs.specs.declared.coming.Coming.{Coming}
+use Rattle.bundle_runs.specs.declared.coming.Coming.TheVariants as comings
 use Rattle.bundle_runs.specs.declared.bundle_reader.Standing.{Standing}
 use Rattle.bundle_runs.specs.declared.bundle_reader.Next.{Next}
 use Rattle.bundle_runs.specs.declared.bundle_reader.Next.TheVariants.{After, End}
@@ -45,11 +47,13 @@ abbrev pub begun_octets : Option Telling6 → List ℕ → List ℕ
 begun_octets None octets = octets
 begun_octets (Some telling) octets = []
 
--- The octets that are kept are those of the bundle of version 6 that is told, or else those that came of
--- the bundle that has begun, or none.
+-- The octets that are kept are those of the bundle of version 6 that is told, and nothing has begun. Or
+-- else they are those that came of the bundle that has begun: beside them a judge of version 6 keeps the
+-- primary block and a few octets, and a reader of version 7 the same octets. Or there are none.
 abbrev pub KeepsOctets : Option Telling6 → Option Coming → List ℕ → Type 0
-KeepsOctets (Some telling) begun octets = (bundle : Bundle6) × Spells6 bundle octets
-KeepsOctets None (Some begun) octets = IsCut (front_of octets)
+KeepsOctets (Some telling) begun octets = (bundle : Bundle6) × Spells6 bundle octets × (begun ≡ None)
+KeepsOctets None (Some (comings.Six judge)) octets = IsCut (front_of octets) × KeepsLittle judge.stand
+KeepsOctets None (Some (comings.Seven reader)) octets = IsCut (front_of octets) × (reader.stream.kept ≡ octets)
 KeepsOctets None None octets = octets ≡ []
 
 abbrev pub KeepsOneBundle : Showing → Type 0

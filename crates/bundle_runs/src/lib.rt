@@ -11,10 +11,11 @@
 //!
 //! What a command answers is one definition from octets to the text and the status
 //! (`specs/Answering.antt`). A [`BundleReader`] is told the octets as they come, and keeps those of at
-//! most one unfinished bundle, and of the fragments that aren't joined yet; for `check`, which wants no
-//! bundle, a `CheckReader` keeps of one of version 6 the primary block alone. A [`ShowReader`] keeps the
-//! octets of at most one bundle, and tells one of version 6 out of them part by part. Each has one judge
-//! or reader for a bundle of version 7 from its first octet on, so that a block is summed once.
+//! most one unfinished bundle, and of the fragments that aren't joined yet. For `check`, which wants no
+//! bundle, a `CheckReader` keeps of one that has begun what a judge keeps: the octets of its primary
+//! block, and a few of another field. A [`ShowReader`] keeps the octets of at most one bundle, and tells
+//! one of version 6 out of them part by part. Each has one judge or reader for a bundle of version 7 from
+//! its first octet on, so that a block is summed once.
 //! `command_frame` drives all three, and writes what is settled before it reads on.
 #![tactic(auto)]
 

@@ -46,7 +46,7 @@ module _ (s : PathSetup) (w : Path) (event : PathEvent) where
       by_test false low is = by_deadline (path_deadline w) is
 
 -- so its lines are those of what it does
-clean-text : (s : PathSetup) (w : Path) (c : ℕ) (events : List PathEvent) → AreCleanOnPath s w c events
+pub clean-text : (s : PathSetup) (w : Path) (c : ℕ) (events : List PathEvent) → AreCleanOnPath s w c events
     → steps_text (done_in s w events) ≡ events_text s w events
 unfolding done_in events_text event_text
 clean-text s w c [] clean = refl
@@ -62,7 +62,7 @@ clean-text s w c (event ∷ events) clean =
 
 -- ---- where a drain ends
 
-none-follows : (w : Path) (c : ℕ) → IsPathDrained w c → path_clean_event w c ≡ None
+pub none-follows : (w : Path) (c : ℕ) → IsPathDrained w c → path_clean_event w c ≡ None
 none-follows w c drained_so =
     let past : nat_lt c (length w.sent) ≡ false = grind (arith, nat_tests, drained_so.delivered) in
     rw (past, drained_so.no_timer) refl
@@ -91,7 +91,7 @@ module _ (one : DrainsAreOne) (old new : PathValue) (s : PathSetup) (w : Path) (
 
   -- the events that were made are those of the definition
   module _ (made : List PathEvent) (ends : EndsBy no_moment (setup_of old) begins (length begins.sent) made) where
-    made-is : drain_made s w ≡ made
+    pub made-is : drain_made s w ≡ made
     made-is =
         rw (stands.path, stands.setup)
         (sym (one (setup_of old) stands.start BLOCK_MAX (length begins.sent) no_moment stands.events made timed ends))
@@ -99,9 +99,9 @@ module _ (one : DrainsAreOne) (old new : PathValue) (s : PathSetup) (w : Path) (
     by-made : (P : Turn WorldState → Type 0) → P (drains_by (setup_of old) begins made) → P (drains_by s w (drain_made s w))
     by-made P holds = rw (made-is, stands.path, stands.setup) holds
 
-  octets : (made : List PathEvent) → ShowsRun new stands.start (stands.events ++ made)
+  pub drained_octets : (made : List PathEvent) → ShowsRun new stands.start (stands.events ++ made)
       → octets_in new.sent ≡ octets_sent (path_run (setup_of old) begins made).sent
-  octets made shows =
+  drained_octets made shows =
       ap octets_in shows.path.sent
       ∙ (spelled-octets (path_after new stands.start (stands.events ++ made)).sent
       ∙ (ap (λ (x : PathSetup). octets_sent (path_run x (starts_path x stands.start) (stands.events ++ made)).sent) same
@@ -126,7 +126,7 @@ module _ (one : DrainsAreOne) (old new : PathValue) (s : PathSetup) (w : Path) (
     turn : (if nat_lt most_sent (octets_in new.sent) then ends_run [] statuses.Limit
         else passes (steps_text done.effects ++ end_line done.events) drained)
         ≡ drains_by (setup_of old) begins made
-    turn = rw (none, text, octets made all.shows) refl
+    turn = rw (none, text, drained_octets made all.shows) refl
 
     pub drained_turn : (P : Turn WorldState → Type 0)
         → P (if nat_lt most_sent (octets_in new.sent) then ends_run [] statuses.Limit

@@ -3,5 +3,6 @@ mod LineLemmas
 pub mod StartLemmas
 pub mod StepLemmas
 pub mod DrainLemmas
+pub mod TellingLemmas
 mod PlayLemmas
 pub mod ScriptLemmas

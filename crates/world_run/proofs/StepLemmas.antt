@@ -48,7 +48,7 @@ unfolding octets_in octets_sent
 spelled-octets [] = refl
 spelled-octets (d ∷ sent) = rw (spelled-octets sent) refl
 
-nothing-told : told_text nothing_told ≡ []
+pub nothing-told : told_text nothing_told ≡ []
 unfolding told_text
 nothing-told = refl
 
@@ -70,13 +70,13 @@ run-more s w events event = run-append s w events (event ∷ [])
 pub same-length : (v : PathValue) (s : PathSetup) (w : Path) → StandsOn v s w → length v.sent ≡ length w.sent
 same-length v s w stands = rw stands.path (ap length stands.run.path.sent ∙ length-map (path_after v stands.start stands.events).sent spelled)
 
-octets-are : (v : PathValue) (s : PathSetup) (w : Path) → StandsOn v s w → octets_in v.sent ≡ octets_sent w.sent
+pub octets-are : (v : PathValue) (s : PathSetup) (w : Path) → StandsOn v s w → octets_in v.sent ≡ octets_sent w.sent
 octets-are v s w stands =
     rw stands.path (ap octets_in stands.run.path.sent ∙ spelled-octets (path_after v stands.start stands.events).sent)
 
 module _ (old new : PathValue) (event : PathEvent) (effects : PathEffects) (s : PathSetup) (w : Path)
     (stands : StandsOn old s w) (does : Happens old new event effects) where
-  text : told_text effects ≡ effects_text (length w.sent) (path_step s w event).effects
+  pub text : told_text effects ≡ effects_text (length w.sent) (path_step s w event).effects
   text =
       ap told_text (does.told stands.start stands.events stands.run)
       ∙ (told-text (length old.sent) (path_step (setup_of old) (path_after old stands.start stands.events) event).effects
@@ -91,13 +91,13 @@ module _ (old new : PathValue) (event : PathEvent) (effects : PathEffects) (s : 
       ∙ (sym (run-more (setup_of old) (starts_path (setup_of old) stands.start) stands.events event)
       ∙ ap (λ (x : PathSetup). path_run x (starts_path x stands.start) (stands.events ++ event ∷ [])) (sym does.setup)))
 
-  octets : octets_in new.sent ≡ octets_sent (path_step s w event).path.sent
+  pub octets : octets_in new.sent ≡ octets_sent (path_step s w event).path.sent
   octets =
       ap octets_in (does.run stands.start stands.events stands.run).path.sent
       ∙ (spelled-octets (path_after new stands.start (stands.events ++ event ∷ [])).sent
       ∙ ap (λ (x : Path). octets_sent x.sent) (sym after))
 
-  stands_after : octets_sent (path_step s w event).path.sent ≤ most_sent → StandsOn new s (path_step s w event).path
+  pub stands_after : octets_sent (path_step s w event).path.sent ≤ most_sent → StandsOn new s (path_step s w event).path
   stands_after few = record {
     whole = does.whole;
     setup = stands.setup ∙ sym does.setup;
@@ -165,7 +165,7 @@ unless-sent end (Err fault) none = absurd none
 
 -- it is sent, or it is refused for a fault
 module _ (old new : PathValue) (end : PathEnd) (bundle : List ℕ) (s : PathSetup) (w : Path) (stands : StandsOn old s w) where
-  of_send : (P : Result EngineStep SubmitFault → Type 0) → OfSend P old end bundle → P (sends_block s w end bundle)
+  pub of_send : (P : Result EngineStep SubmitFault → Type 0) → OfSend P old end bundle → P (sends_block s w end bundle)
   of_send P holds =
       let same : sends_block (setup_of old) (path_after old stands.start stands.events) end bundle ≡ sends_block s w end bundle =
       ap (λ x. sends_block x (path_after old stands.start stands.events) end bundle) (sym stands.setup)

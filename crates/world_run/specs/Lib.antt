@@ -5,3 +5,4 @@ pub mod World
 pub mod Headline
 -- what only ties code to these
 pub mod Shows
+pub mod Telling

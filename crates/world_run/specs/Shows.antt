@@ -1,5 +1,5 @@
 -- What ties the code to the definition.
-use Rattle.std.specs.Prelude.{◌≡◌, ℕ, ◌≤◌, Bool, true, false, List, ◌++◌, Option, None, Some, Result, Ok, Err}
+use Rattle.std.specs.Prelude.{◌≡◌, ℕ, ◌≤◌, false, List, ◌++◌, Option, None, Some, Result, Ok, Err}
 use Rattle.std.specs.List.{flat_map}
 use Rattle.gateway_core.specs.Config.{IsGateConfig}
 use Rattle.ltp_segment.specs.declared.session.TheConstants.{BLOCK_MAX}
@@ -45,17 +45,6 @@ StandsFor (Some v) drained = ⊥
 abbrev pub StandsAfter : Option PathValue → WorldState → Type 0
 StandsAfter None state = ⊥
 StandsAfter (Some v) state = state ≡ drained
-
--- by whether there was one
-abbrev pub StandsAs : Bool → Option PathValue → WorldState → Type 0
-StandsAs true path state = StandsAfter path state
-StandsAs false path state = StandsFor path state
-
--- what the code keeps stands for this, where memory hasn't run out
-pub record ShowsWorld (spent over : Bool) (path : Option PathValue) (state : WorldState) : Type 0
-  where
-    pub whole : spent ≡ false
-    pub stands : StandsAs over path state
 
 -- ---- what is read
 

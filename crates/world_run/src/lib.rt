@@ -16,6 +16,7 @@
 
 pub mod laws;
 mod script;
+mod telling;
 #[cfg(test)]
 mod tests;
 mod world;

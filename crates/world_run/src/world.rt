@@ -1,22 +1,26 @@
 //! A path, told by lines.
 
-ghost use Rattle.std.specs.Prelude.{◌≡◌, ◌<◌, ◌^◌, ◌++◌, [], true, false, nat_lt, None, Some, IfOk, IfSome, if◌then◌else◌};
+ghost use Rattle.std.specs.Prelude.{◌≡◌, ◌<◌, ◌^◌, ◌++◌, ℕ, List, [], true, false, nat_lt, None, Some, IfOk, IfSome, if◌then◌else◌};
 ghost use Rattle.std.specs.String.{string_bytes};
 ghost use Rattle.std.proofs.Props.{props};
 ghost use Rattle.edge_traits.specs.declared.status.Status.TheVariants as statuses;
 ghost use Rattle.command_frame.specs.Stops.{IsStop};
 ghost use Rattle.command_frame.specs.Lines.{TurnsAs, passes, ends_run};
+ghost use Rattle.command_frame.specs.PartTask.{LeavesTurn};
+ghost use Rattle.command_frame.specs.PartLines.{TurnsPart};
 ghost use Rattle.path_laws.specs.Path.{PathSetup, Path, sends, delivers, clock_shows};
 ghost use Rattle.path_world.specs.Values.{octets_in};
 ghost use Rattle.world_run.specs.World.{WorldState, no_path, drained, world_rules, world_turn, start_turn, start_in, happens, drain_made, drains_by, line_turn, line_in, most_sent};
 ghost use Rattle.world_run.specs.WrittenLines.{refusal_line, after_drain_line, end_line};
-ghost use Rattle.world_run.specs.Shows.{StandsOn, StandsFor, StandsAs, ShowsWorld, told_text, steps_text};
+ghost use Rattle.world_run.specs.Shows.{StandsOn, StandsFor, told_text, steps_text};
+ghost use Rattle.world_run.specs.Telling.{StandsAs, OwesAs, ShowsWorld, at_once, due_parts, is_over};
 
 use crate::script::{end_named, read_later, read_start};
+use crate::telling::Telling;
 use crate::written_lines::{
-    write_after_drain, write_drained, write_effects, write_refusal, write_undelivered, write_unsent,
+    write_after_drain, write_effects, write_refusal, write_undelivered, write_unsent,
 };
-use command_frame::LineStep;
+use command_frame::{PartLineStep, Turned};
 use edge_traits::Status;
 use ltp_engine::SubmitRefused;
 use ltp_world::{DeliverRefused, DrainRefused};
@@ -38,14 +42,26 @@ const NO_MOMENT: u64 = 1 << 62;
 /// The most octets of all datagrams that were sent.
 const MOST_SENT: u64 = 1 << 28;
 
+/// How far a script has come.
+#[derive(Debug, Drop)]
+pub(crate) enum Course {
+    /// No line drained the path.
+    Open,
+    /// One did, and some of that is to be written.
+    Drains(Telling),
+    /// One did, and all of that is written.
+    Over,
+}
+
 /// What `world` keeps from line to line: a path, from the first line on, and whether it was drained.
+/// The transcript of a drain is told part by part.
 ///
 /// After want of memory each line is answered by that again.
 #[derive(Debug, Drop)]
 pub struct World {
     alloc: Global,
     path: Option<PathWorld>,
-    drained: bool,
+    course: Course,
     spent: bool,
     ghost whole: { spent ≡ false → IfSome path (λ p. p.spent ≡ false) } by { Prim.hlevel props },
 }
@@ -53,12 +69,13 @@ pub struct World {
 impl World {
     /// No line came yet.
     pub fn new(alloc: Global) -> World
-        ensures { ⟦<World as LineStep>⟧.Shows result no_path }
+        ensures shows { ⟦<World as PartLineStep>⟧.Shows result [] no_path }
+        ensures none_due { ⟦<World as PartLineStep>⟧.parts result ≡ 0 }
     {
         World {
             alloc,
             path: None,
-            drained: false,
+            course: Course::Open,
             spent: false,
         }
     }
@@ -75,7 +92,7 @@ impl World {
         ensures whole { IfOk result (λ ends. IfSome self.new.path (λ p. p.spent ≡ false)) }
         ensures turn { IfOk result (TurnsAs (StandsFor self.new.path) (start_turn number (start_in line.now))
             (string_bytes text.old) (string_bytes text.new)) }
-        ensures same { IfOk result (λ ends. self.new.drained ≡ self.old.drained) }
+        ensures same { self.new.course ≡ self.old.course }
     {
         paths_are_timed();
         match read_start(self.alloc, line) {
@@ -90,27 +107,43 @@ impl World {
     }
 
     /// Answers a line. What is kept counts as spent meanwhile.
-    fn turn(
-        &mut self,
-        number: u64,
-        line: &[u8],
-        text: &mut String,
-    ) -> Result<Option<Status>, AllocError>
+    fn turn(&mut self, number: u64, line: &[u8], text: &mut String) -> Result<Turned, AllocError>
         requires spent { self.old.spent ≡ true }
         requires whole { IfSome self.old.path (λ p. p.spent ≡ false) }
-        ensures stops { IfOk result (λ ends. IfSome ends IsStop) }
-        ensures whole { IfOk result (λ ends. IfSome self.new.path (λ p. p.spent ≡ false)) }
-        ensures turn { (state : WorldState) → StandsAs self.old.drained self.old.path state
-            → IfOk result (TurnsAs (StandsAs self.new.drained self.new.path) (world_turn number state line.now)
+        ensures leaves { IfOk result (LeavesTurn (due_parts self.new.course)) }
+        ensures whole { IfOk result (λ turned. IfSome self.new.path (λ p. p.spent ≡ false)) }
+        ensures turn { (state : WorldState) → StandsAs self.old.course self.old.path state
+            → IfOk result (TurnsPart (OwesAs self.new.course self.new.path) (world_turn number state line.now)
             (string_bytes text.old) (string_bytes text.new)) }
     {
-        if self.drained {
-            return refuse_after_drain(self.alloc, number, text);
+        if was_drained(&self.course) {
+            return at_once(refuse_after_drain(self.alloc, number, text));
         }
         match &mut self.path {
-            Some(path) => answer(self.alloc, path, &mut self.drained, number, line, text),
-            None => self.begin(number, line, text),
+            Some(path) => answer(self.alloc, path, &mut self.course, number, line, text),
+            None => at_once(self.begin(number, line, text)),
         }
+    }
+}
+
+/// Whether a line drained the path.
+fn was_drained(course: &Course) -> bool
+    ensures { result ≡ is_over course.now }
+{
+    match course {
+        Course::Open => false,
+        Course::Drains(_) | Course::Over => true,
+    }
+}
+
+/// An answer whose text is written at once.
+fn at_once(answer: Result<Option<Status>, AllocError>) -> Result<Turned, AllocError>
+    ensures { result ≡ at_once answer }
+{
+    match answer {
+        Ok(None) => Ok(Turned::Passes),
+        Ok(Some(status)) => Ok(Turned::Ends(status)),
+        Err(AllocError) => Err(AllocError),
     }
 }
 
@@ -119,31 +152,32 @@ impl World {
 fn answer(
     alloc: Global,
     path: &mut PathWorld,
-    drained: &mut bool,
+    course: &mut Course,
     number: u64,
     line: &[u8],
     text: &mut String,
-) -> Result<Option<Status>, AllocError>
+) -> Result<Turned, AllocError>
     requires whole { path.old.spent ≡ false }
-    requires open { drained.old ≡ false }
-    ensures stops { IfOk result (λ ends. IfSome ends IsStop) }
-    ensures whole { IfOk result (λ ends. path.new.spent ≡ false) }
+    requires open { course.old ≡ Course.Open }
+    ensures leaves { IfOk result (LeavesTurn (due_parts course.new)) }
+    ensures whole { IfOk result (λ turned. path.new.spent ≡ false) }
     ensures turn { (s : PathSetup) (w : Path) → StandsOn path.old s w
-        → IfOk result (TurnsAs (StandsAs drained.new (Some path.new)) (line_turn number s w (line_in line.now))
+        → IfOk result (TurnsPart (OwesAs course.new (Some path.new)) (line_turn number s w (line_in line.now))
         (string_bytes text.old) (string_bytes text.new)) }
 {
     match read_later(alloc, line) {
-        Ok(Event::Send { old, body }) => send(alloc, path, end_named(old), body.as_slice(), text),
-        Ok(Event::Deliver { k }) => deliver(alloc, path, k, text),
-        Ok(Event::Clock { now }) if now >= NO_MOMENT => Ok(Some(Status::Limit)),
-        Ok(Event::Clock { now }) => pass(alloc, path, now, text),
-        Ok(Event::Drain) => {
-            *drained = true;
-            drain(alloc, path, text)
+        Ok(Event::Send { old, body }) => {
+            at_once(send(alloc, path, end_named(old), body.as_slice(), text))
         }
-        Ok(Event::Path { .. }) => refuse(alloc, number, LineFault::Word, text),
-        Err(LineFault::Memory) => Err(AllocError),
-        Err(fault) => refuse(alloc, number, fault, text),
+        Ok(Event::Deliver { k }) => at_once(deliver(alloc, path, k, text)),
+        Ok(Event::Clock { now }) if now >= NO_MOMENT => Ok(Turned::Ends(Status::Limit)),
+        Ok(Event::Clock { now }) => at_once(pass(alloc, path, now, text)),
+        Ok(Event::Drain) => drain(path, course),
+        Ok(Event::Path { .. }) => at_once(refuse(alloc, number, LineFault::Word, text)),
+        Err(fault) => match fault {
+            LineFault::Memory => Err(AllocError),
+            cause => at_once(refuse(alloc, number, cause, text)),
+        },
     }
 }
 
@@ -244,44 +278,33 @@ fn tell(
 }
 
 /// The path stops losing, until nothing is left to do.
-fn drain(
-    alloc: Global,
-    path: &mut PathWorld,
-    text: &mut String,
-) -> Result<Option<Status>, AllocError>
+fn drain(path: &mut PathWorld, course: &mut Course) -> Result<Turned, AllocError>
     requires { path.old.spent ≡ false }
-    ensures stops { IfOk result (λ ends. IfSome ends IsStop) }
-    ensures whole { IfOk result (λ ends. path.new.spent ≡ false) }
-    ensures turn { (s : PathSetup) (w : Path) → StandsOn path.old s w
-        → IfOk result (TurnsAs (λ now. now ≡ drained) (drains_by s w (drain_made s w))
-        (string_bytes text.old) (string_bytes text.new)) }
+    ensures leaves { IfOk result (LeavesTurn (due_parts course.new)) }
+    ensures whole { IfOk result (λ turned. path.new.spent ≡ false) }
+    ensures turn { (s : PathSetup) (w : Path) (text : List ℕ) → StandsOn path.old s w
+        → IfOk result (TurnsPart (OwesAs course.new (Some path.new)) (drains_by s w (drain_made s w)) text text) }
 {
     drains_are_one();
     match path.drain() {
-        Ok(drained) => tell_drained(alloc, path, drained, text),
-        Err(DrainRefused::TooLate) => Ok(Some(Status::Limit)),
+        Ok(done) => Ok(owe(path, course, done)),
+        Err(DrainRefused::TooLate) => Ok(Turned::Ends(Status::Limit)),
         Err(DrainRefused::Memory) => Err(AllocError),
     }
 }
 
-/// Writes what a drain did, unless more octets were sent by then than may be.
-fn tell_drained(
-    alloc: Global,
-    path: &PathWorld,
-    done: PathDrained,
-    text: &mut String,
-) -> Result<Option<Status>, AllocError>
-    ensures stops { IfOk result (λ ends. IfSome ends IsStop) }
-    ensures told { IfOk result (TurnsAs (λ now. now ≡ drained)
+/// What a drain did is to be written, unless more octets were sent by then than may be.
+fn owe(path: &PathWorld, course: &mut Course, done: PathDrained) -> Turned
+    ensures leaves { LeavesTurn (due_parts course.new) result }
+    ensures owed { (text : List ℕ) → TurnsPart (OwesAs course.new (Some path.now))
         (if nat_lt most_sent (octets_in path.now.sent) then ends_run [] statuses.Limit
-        else passes (steps_text done.effects ++ end_line done.events) drained)
-        (string_bytes text.old) (string_bytes text.new)) }
+        else passes (steps_text done.effects ++ end_line done.events) drained) text text result }
 {
     if too_much_was_sent(path) {
-        return Ok(Some(Status::Limit));
+        return Turned::Ends(Status::Limit);
     }
-    write_drained(alloc, text, done)?;
-    Ok(None)
+    *course = Course::Drains(Telling::new(done));
+    Turned::Owes
 }
 
 /// Line `number` is refused.
@@ -311,14 +334,16 @@ fn refuse_after_drain(
     Ok(Some(Status::Refused))
 }
 
-impl LineStep for World {
+impl PartLineStep for World {
     ghost State = { WorldState };
 
-    ghost Shows = { λ w. ShowsWorld w.spent w.drained w.path };
+    ghost Shows = { λ w. ShowsWorld w.spent w.course w.path };
 
     ghost rules = { world_rules };
 
     ghost Began = { λ w. w.path ≡ None };
+
+    ghost parts = { λ w. due_parts w.course };
 
     fn most_lines(&self) -> u32 {
         MOST_LINES
@@ -328,19 +353,25 @@ impl LineStep for World {
         MOST_OCTETS
     }
 
-    fn line(
-        &mut self,
-        number: u64,
-        line: &[u8],
-        text: &mut String,
-    ) -> Result<Option<Status>, AllocError> {
+    fn line(&mut self, number: u64, line: &[u8], text: &mut String) -> Result<Turned, AllocError> {
         if self.spent {
             return Err(AllocError);
         }
         self.spent = true;
-        let ends = self.turn(number, line, text)?;
+        let turned = self.turn(number, line, text)?;
         self.spent = false;
-        Ok(ends)
+        Ok(turned)
+    }
+
+    fn tell(&mut self, text: &mut String) -> Result<bool, AllocError> {
+        let Course::Drains(telling) = &mut self.course else {
+            return Ok(false);
+        };
+        if telling.tell(self.alloc, text)? {
+            return Ok(true);
+        }
+        self.course = Course::Over;
+        Ok(false)
     }
 
     fn finish(&mut self, text: &mut String) -> Result<Status, AllocError> {

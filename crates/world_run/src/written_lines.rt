@@ -7,7 +7,7 @@ ghost use Rattle.ltp_session.specs.Engine.{SubmitFault};
 ghost use Rattle.ltp_engine.specs.Refused.{refusal_of};
 ghost use Rattle.path_laws.specs.Places.{node_place};
 ghost use Rattle.world_run.specs.WrittenLines.{site_of, route_of, up_line, join_line, note_line, send_refusal, deliver_refusal, refused_line, refusal_line, after_drain_line, end_line};
-ghost use Rattle.world_run.specs.Shows.{sent_at_line, told_text, steps_text};
+ghost use Rattle.world_run.specs.Shows.{sent_at_line, told_text};
 
 use gate_lines::push_gate_note;
 use ltp_engine::SubmitRefused;
@@ -15,7 +15,6 @@ use path_laws::{
     EndJoin, JoinAt, NoteAt, PathEffects, PathEnd, Place, PlaceJoins, PlaceNotes, PlaceUps, SentAt,
     SentList, UpAt,
 };
-use path_world::{PathDrained, PathSteps};
 use replay_script::{Line, LineFault, Route, Site, push_line};
 use std::alloc::{AllocError, Global};
 
@@ -38,30 +37,6 @@ pub fn write_effects(
     write_ups(alloc, text, ups)?;
     write_joins(alloc, text, joins)?;
     write_notes(alloc, text, notes)
-}
-
-/// Writes what a drain did, event by event, and that it ended.
-pub(crate) fn write_drained(
-    alloc: Global,
-    text: &mut String,
-    drained: PathDrained,
-) -> Result<(), AllocError>
-    ensures { OnOk result (string_bytes text.new
-        ≡ string_bytes text.old ++ (steps_text drained.effects ++ end_line drained.events)) }
-{
-    let PathDrained { events, effects } = drained;
-    write_steps(alloc, text, effects)?;
-    write_end(alloc, text, events)
-}
-
-/// Writes what was done at each event.
-fn write_steps(alloc: Global, text: &mut String, steps: PathSteps) -> Result<(), AllocError>
-    ensures { OnOk result (string_bytes text.new ≡ string_bytes text.old ++ steps_text steps) }
-{
-    'each: for effects in steps.into_vec() {
-        write_effects(alloc, text, effects)?;
-    }
-    Ok(())
 }
 
 /// Writes that a drain ended after so many events.

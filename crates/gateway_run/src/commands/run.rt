@@ -18,7 +18,7 @@ use crate::commands::receive::Receive;
 use crate::commands::serving::serve_named;
 use crate::commands::word::Word;
 use bundle_runs::bundles;
-use command_frame::{LineReader, drive};
+use command_frame::{LineReader, PartLineReader, drive, drive_parts};
 use edge_traits::{Clock, Link, Sink, Source, Status};
 use node_run::Node;
 use replay_script::gate_in;
@@ -209,8 +209,8 @@ fn run_command<S: Source, K: Sink>(
             ended_with(status, passed_by_node(task.passed()))
         }
         Command::World => {
-            let mut task = LineReader::new(alloc, World::new(alloc));
-            let status = drive(alloc, &mut task, source, sink);
+            let mut task = PartLineReader::new(alloc, World::new(alloc));
+            let status = drive_parts(alloc, &mut task, source, sink);
             ended_with(status, passed_by_world(task.passed()))
         }
     }

@@ -23,6 +23,6 @@ returns-in-Node-clause-ran g c =
 
 pub returns-in-World-clause-ran : goal.returns-in-World-clause-ran
 returns-in-World-clause-ran g c =
-    let stands = c.new-task-in-World.ensures.stands no_path c.new-in-World.ensures in
+    let stands = c.new-task-in-World.ensures.stands no_path c.new-in-World.ensures.shows in
     rw (c.in-World.is, c.ended_with-in-World.ensures.status)
-    (c.drive-status-in-World.ensures world.settles stands (in_line-quiet world_rules _ _ _ world.settles stands))
+    (c.drive_parts-status.ensures world.settles stands (in_line-quiet world_rules _ _ _ world.settles stands))

@@ -18,8 +18,7 @@ use Rattle.world_run.specs.WrittenLines.{end_line}
 use Rattle.world_run.specs.World.{drained, no_moment, octets_sent, most_sent, events_text, clean_after, drain_made, drain_text, drains_by}
 use Rattle.world_run.specs.Shows.{StandsOn, steps_text}
 use Rattle.world_run.proofs.StepLemmas.{run-append}
-use Rattle.world_run.proofs.DrainLemmas.{late_turn}
-use Rattle.make_run.proofs.WorldLemmas.{clean-text, none-follows, made-is, drained_octets}
+use Rattle.world_run.proofs.DrainLemmas.{late_turn, clean-text, none-follows, made-is, drained_octets}
 use Rattle.make_run.specs.declared.making.Making.{Making}
 use Rattle.make_run.specs.declared.stop.Stop.{Stop}
 use Rattle.make_run.specs.declared.stop.Stop.TheVariants as stops

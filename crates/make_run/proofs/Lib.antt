@@ -1,5 +1,4 @@
 pub mod BundleLemmas
-pub mod WorldLemmas
 pub mod RunLemmas
 pub mod PlayLemmas
 pub mod DrainLemmas

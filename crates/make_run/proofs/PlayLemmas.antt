@@ -25,8 +25,7 @@ use Rattle.path_world.specs.Drain.{ups_told}
 use Rattle.world_run.specs.Shows.{StandsOn, told_text, steps_text}
 use Rattle.world_run.specs.World.{happens, on_path, is_late, octets_sent, most_sent, unless_sent, unless_there, refused_text, event_text, events_text}
 use Rattle.world_run.specs.WrittenLines.{effects_text, send_refusal, deliver_refusal}
-use Rattle.world_run.proofs.StepLemmas.{run-append, same-length}
-use Rattle.make_run.proofs.WorldLemmas.{text, octets, stands_after, octets-are, nothing-told, of_send}
+use Rattle.world_run.proofs.StepLemmas.{run-append, same-length, text, octets, stands_after, octets-are, nothing-told, of_send}
 use Rattle.make_run.specs.declared.making.Making.{Making}
 use Rattle.make_run.specs.declared.stop.Stop.{Stop}
 use Rattle.make_run.specs.declared.stop.Stop.TheVariants as stops

@@ -131,6 +131,7 @@ impl Seen {
 }
 
 /// A block's type.
+#[inline(always)]
 pub(crate) fn kind_at(
     text: &[u8],
     at: usize,
@@ -156,6 +157,7 @@ pub(crate) fn kind_at(
 }
 
 /// A block's flags. The last block may come once there is a payload block.
+#[inline(always)]
 pub(crate) fn flags_at(text: &[u8], at: usize, paid: bool) -> Result<(u64, usize), Refused6>
     requires { at ≤ length text.now }
     ensures within { IfOk result (λ x. IsOn at text.now x.1) }
@@ -190,6 +192,7 @@ fn reference_at(
 }
 
 /// How many references there are: none where the flags don't say that there are some.
+#[inline(always)]
 pub(crate) fn count_at(text: &[u8], at: usize, present: bool) -> Result<(u64, usize), Refused6>
     requires { at ≤ length text.now }
     ensures within { IfOk result (λ x. IsOn at text.now x.1) }
@@ -258,6 +261,7 @@ fn is_within(part: Option<Fragment>, payload: bool, size: u64) -> bool
 }
 
 /// How many octets a block has. Those of a payload lie within the whole of which it is a fragment.
+#[inline(always)]
 pub fn size_at(
     text: &[u8],
     at: usize,

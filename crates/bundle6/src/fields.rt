@@ -11,6 +11,7 @@ use crate::fault::{Cause6, Refused6};
 use wire_fields::{number_at, octet_at, octets_at};
 
 /// One octet.
+#[inline(always)]
 pub(crate) fn octet(text: &[u8], at: usize, cause: Cause6) -> Result<(u8, usize), Refused6>
     requires place { at ≤ length text.now }
     requires cause { why cause ≡ because cause }
@@ -24,6 +25,7 @@ pub(crate) fn octet(text: &[u8], at: usize, cause: Cause6) -> Result<(u8, usize)
 }
 
 /// A number of seven bits an octet.
+#[inline(always)]
 pub(crate) fn number(text: &[u8], at: usize) -> Result<(u64, usize), Refused6>
     requires { at ≤ length text.now }
     ensures within { IfOk result (λ x. IsOn at text.now x.1) }
@@ -36,6 +38,7 @@ pub(crate) fn number(text: &[u8], at: usize) -> Result<(u64, usize), Refused6>
 }
 
 /// So many octets, lent out of the text.
+#[inline(always)]
 pub(crate) fn octets(text: &[u8], at: usize, count: u64) -> Result<(&[u8], usize), Refused6>
     requires { at ≤ length text.now }
     ensures within { IfOk result (λ x. IsOn at text.now x.1) }

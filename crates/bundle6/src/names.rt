@@ -78,6 +78,7 @@ impl From<AllocError> for Unresolved {
 const LONGEST_TEXT: usize = 1023;
 
 /// Two numbers.
+#[inline(always)]
 #[tactic(auto, unfolding(crate::specs::Table::offsets))]
 pub(crate) fn offsets_at(text: &[u8], at: usize) -> Result<(Offsets, usize), Refused6>
     requires { at ≤ length text.now }
@@ -90,6 +91,7 @@ pub(crate) fn offsets_at(text: &[u8], at: usize) -> Result<(Offsets, usize), Ref
 }
 
 /// Destination, source, report-to and custodian.
+#[inline(always)]
 #[tactic(auto, unfolding(crate::specs::Table::four_names))]
 pub(crate) fn four_names_at(text: &[u8], at: usize) -> Result<(Pairs, usize), Refused6>
     requires { at ≤ length text.now }

@@ -218,6 +218,7 @@ impl Pass {
 }
 
 /// The primary block: where the payload lies in the whole, and where the dictionary lies.
+#[inline(always)]
 #[tactic(auto, unfolding(crate::specs::Judging::judged_primary))]
 pub fn primary_judged(
     text: &[u8],
@@ -244,6 +245,7 @@ pub fn primary_judged(
 }
 
 /// The dictionary, in which the four names resolve.
+#[inline(always)]
 #[tactic(auto, unfolding(crate::specs::Judging::judged_dictionary))]
 fn dictionary_judged(text: &[u8], at: usize, pairs: Pairs) -> Result<(Texts, usize), Refused6>
     requires { at ≤ length text.now }
@@ -262,6 +264,7 @@ fn dictionary_judged(text: &[u8], at: usize, pairs: Pairs) -> Result<(Texts, usi
 }
 
 /// The head of a block: its type, flags and how many references follow.
+#[inline(always)]
 #[tactic(auto, unfolding(crate::specs::Judging::judged_head))]
 pub fn head_judged(text: &[u8], at: usize, most: u64, seen: Seen) -> Result<(Head, usize), Refused6>
     requires place { at ≤ length text.now }
@@ -286,6 +289,7 @@ pub fn head_judged(text: &[u8], at: usize, most: u64, seen: Seen) -> Result<(Hea
 }
 
 /// The octets of a block, and before them how many there are.
+#[inline(always)]
 #[tactic(auto, unfolding(crate::specs::Judging::judged_body))]
 fn body_judged(
     text: &[u8],

@@ -42,6 +42,7 @@ pub struct Primary6 {
 }
 
 /// The version's octet.
+#[inline(always)]
 pub(crate) fn version_at(text: &[u8], at: usize) -> Result<(u8, usize), Refused6>
     requires { at ≤ length text.now }
     ensures within { IfOk result (λ x. IsOn at text.now x.1) }
@@ -56,6 +57,7 @@ pub(crate) fn version_at(text: &[u8], at: usize) -> Result<(u8, usize), Refused6
 }
 
 /// Offset and total of a fragment, where the flags say that the bundle is one.
+#[inline(always)]
 #[tactic(auto, unfolding(crate::specs::Table::fragment))]
 pub(crate) fn fragment_at(
     text: &[u8],
@@ -76,6 +78,7 @@ pub(crate) fn fragment_at(
 }
 
 /// The end of the primary block: so many octets stand after the start of what its length counts.
+#[inline(always)]
 pub(crate) fn end_at(start: usize, at: usize, size: u64) -> Result<(), Refused6>
     requires { start ≤ at }
     ensures here { OnOk result ((at - start == size) ≡ true) }

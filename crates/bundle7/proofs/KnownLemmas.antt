@@ -1,5 +1,5 @@
 -- Octets whose checks are known to be right: each block of what is read is there.
-use Rattle.std.proofs.Common.{◌≡◌, ℕ, ◌+◌, ◌-◌, ◌<◌, ◌≤◌, List, Option, Result, Ok, Err, IsOk, refl, sym, ap, ◌∙◌, subst, arith}
+use Rattle.std.proofs.Common.{◌≡◌, ℕ, ◌+◌, ◌-◌, ◌<◌, ◌≤◌, List, Option, Result, Ok, Err, refl, sym, ap, ◌∙◌, subst, arith}
 use Rattle.endpoint.specs.declared.extent.Fragment.{Fragment}
 use Rattle.wire_fields.specs.Refusal.{Stop}
 use Rattle.wire_fields.specs.Reading.{go_on, read}

@@ -13,6 +13,7 @@ use crate::fault::{Cause7, Refused7};
 use wire_fields::{UNSIGNED, head_at, octet_at, octets_at};
 
 /// The head of a CBOR item of this major type.
+#[inline(always)]
 pub(crate) fn item(
     text: &[u8],
     at: usize,
@@ -31,6 +32,7 @@ pub(crate) fn item(
 }
 
 /// An unsigned number.
+#[inline(always)]
 pub(crate) fn unsigned(text: &[u8], at: usize, cause: Cause7) -> Result<(u64, usize), Refused7>
     requires place { at ≤ length text.now }
     requires cause { why cause ≡ because cause }
@@ -41,6 +43,7 @@ pub(crate) fn unsigned(text: &[u8], at: usize, cause: Cause7) -> Result<(u64, us
 }
 
 /// The head of a CBOR item of this major type, which says this number.
+#[inline(always)]
 pub(crate) fn exactly(
     text: &[u8],
     at: usize,
@@ -62,6 +65,7 @@ pub(crate) fn exactly(
 }
 
 /// So many octets, lent out of the text.
+#[inline(always)]
 pub(crate) fn octets(
     text: &[u8],
     at: usize,
@@ -80,6 +84,7 @@ pub(crate) fn octets(
 }
 
 /// This octet.
+#[inline(always)]
 pub(crate) fn mark(
     text: &[u8],
     at: usize,

@@ -49,9 +49,11 @@ pub(crate) struct Held {
 /// A reader of a stream of bundles, which keeps the octets of at most one unfinished bundle.
 ///
 /// How the stream is cut into pieces makes no difference, and judging a piece costs what its octets
-/// cost: no body is looked at before it is whole, none is looked at twice, and a block is summed for its
-/// check once, as its octets come. [`Reader7::feed`] besides builds a bundle when it is whole, and sums
-/// none of its blocks again. Places count from the first octet that was taken.
+/// cost: no body is looked at before it is whole, none is looked at twice, and a block after the primary
+/// block is summed for its check once, as its octets come. The primary block is read from its start with
+/// each piece until it is whole; it is summed once all its octets before the check are there.
+/// [`Reader7::feed`] besides builds a bundle when it is whole, and sums none of its blocks again. Places
+/// count from the first octet that was taken, or that was taken after [`Reader7::restart`].
 #[derive(Drop)]
 pub struct Reader7 {
     held: Held,
@@ -88,10 +90,22 @@ impl Reader7 {
         }
     }
 
+    /// Lets go of the stream that was taken so far, and keeps its room for another: places count anew, and
+    /// an earlier refusal or want of memory is forgotten. It takes no memory.
+    pub fn restart(&mut self)
+        ensures stream { self.new.stream ≡ record { before = 0; kept = [] } }
+        ensures fresh { self.new.refused ≡ None }
+        ensures whole { self.new.spent ≡ false }
+    {
+        self.held.restart();
+        self.refused = None;
+        self.spent = false;
+    }
+
     /// Takes a piece of the stream, up to the end of the first bundle that it completes, or all of it.
     ///
     /// A refusal comes with the octets that settle it, and each later call answers it again. After want
-    /// of memory the reader may only be dropped.
+    /// of memory the reader may only be dropped or restarted.
     pub fn feed(&mut self, piece: &[u8]) -> Result<Fed7, Fail7>
         requires whole { self.old.spent ≡ false }
         requires counted { self.old.stream.before + length self.old.stream.kept + length piece.now
@@ -336,6 +350,16 @@ impl Held {
             ≡ record { before = self.old.before + end; kept = [] } }
     {
         self.before += end;
+        self.kept.clear();
+        self.pass.restart();
+    }
+
+    /// Lets go of the stream.
+    fn restart(&mut self)
+        ensures held { IsHeld self.new }
+        ensures empty { stream_of self.new ≡ record { before = 0; kept = [] } }
+    {
+        self.before = 0;
         self.kept.clear();
         self.pass.restart();
     }

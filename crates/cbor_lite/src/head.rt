@@ -34,6 +34,7 @@ pub fn read_head(bytes: &[u8]) -> Result<(Head, usize), CborFault>
 
 /// Reads the head of an item of this kind, 0 to 7, and how many octets it has. What this says of
 /// the octets stands at `read_uint` and `read_array`, whose kinds are 0 and 4.
+#[inline(always)]
 pub fn read_head_of(kind: u8, bytes: &[u8]) -> Result<(u64, usize), CborFault>
     ensures { result ≡ head_at kind bytes.now }
 {
@@ -58,6 +59,7 @@ fn first_kind(bytes: &[u8]) -> u8
     }
 }
 
+#[inline(always)]
 #[tactic(auto, unfolding(crate::specs::Head::head_at))]
 fn head_of(kind: u8, bytes: &[u8]) -> Result<(u64, usize), CborFault>
     ensures { result ≡ head_at kind bytes.now }
@@ -69,12 +71,26 @@ fn head_of(kind: u8, bytes: &[u8]) -> Result<(u64, usize), CborFault>
     }
 }
 
-/// The number of a head with this additional information, and how many octets the head has.
+/// The number of a head with this additional information, and how many octets the head has. Most numbers
+/// stand in the first octet, so only the others are left to a call.
+#[inline(always)]
 fn number(information: u8, rest: &[u8]) -> Result<(u64, usize), CborFault>
     ensures { result ≡ number_at information rest.now }
 {
+    if information < 24 {
+        Ok((u64::from(information), 1))
+    } else {
+        number_behind(information, rest)
+    }
+}
+
+/// The same of a number that stands in the octets after the first.
+#[inline(never)]
+fn number_behind(information: u8, rest: &[u8]) -> Result<(u64, usize), CborFault>
+    requires { 24 ≤ information }
+    ensures { result ≡ number_at information rest.now }
+{
     match information {
-        0..=23 => Ok((u64::from(information), 1)),
         24 => in_one_octet(rest),
         25 => in_two_octets(rest),
         26 => in_four_octets(rest),

@@ -12,8 +12,9 @@ use crate::turned::Turned;
 use edge_traits::{Failed, Sink, Source, Status, write_all};
 use std::alloc::{AllocError, Global};
 
-/// Runs a task that was told nothing yet, and that hands on its text in parts: each is written before
-/// the next, and all of them before the next read. It promises what [`crate::drive`] does.
+/// Runs a task that was told nothing yet, and that hands on its text in parts. It promises what
+/// [`crate::drive`] does: what is written, and how the run ends. That each part is written before the next
+/// is told is how it is built, and no clause says it.
 pub fn drive_parts<T: PartTask, S: Source, K: Sink>(
     alloc: Global,
     task: &mut T,

@@ -21,7 +21,8 @@ pub enum Taken {
 }
 
 /// A command whose octets may settle a text that is too long to be kept whole. It takes octets up to
-/// where such a text is due, and hands that on part by part before it takes more. After want of memory,
+/// where such a text is due, and hands that on part by part before it takes more; how long a part is, no
+/// clause says. After want of memory,
 /// and once it answered how the run ends, it is told nothing more.
 pub trait PartTask {
     // This text is due, and after it the octets still to come settle that.

@@ -78,8 +78,8 @@ IsOpenAnswer (Ok answers.Repeat) = Unit {0}
 IsOpenAnswer (Ok (answers.Whole whole)) = ⊥
 IsOpenAnswer (Err refused) = ⊥
 
--- The pieces of a record, in any order and with repeats, give the record with the last one that was
--- missing, and nothing before.
+-- The pieces of one cut of a record come in any order and with repeats, as long as one is missing: the last
+-- one that was missing gives the record, and each before it gives nothing.
 abbrev pub PiecesJoinAgain : Type 0
 PiecesJoinAgain = (full : Full) (size : ℕ) (joins : List Join) (earlier : List ℕ) (i : ℕ)
     → IsCut full size joins → AreIndexes (count_of full size) (i ∷ earlier)

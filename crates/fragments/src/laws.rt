@@ -8,8 +8,9 @@ pub fn pieces_lie_end_to_end()
     ensures { LieEndToEnd }
 {}
 
-/// The pieces of a record, in any order and with repeats, give that record with the last one that was
-/// missing, and nothing before.
+/// The pieces of one cut of a record come in any order and with repeats, as long as one is missing: the
+/// last one that was missing gives that record, and each before it gives nothing. What a piece gives after
+/// that isn't said.
 pub fn pieces_join_again()
     ensures { PiecesJoinAgain }
 {}

@@ -1,6 +1,6 @@
 -- What reading gives, by how many octets go on, and what each answer says of the text.
 
-use Rattle.std.proofs.Common.{◌≡◌, ℕ, ◌+◌, ◌*◌, ◌%◌, ◌^◌, ◌<◌, ◌≤◌, List, length, take, get_or, refl, sym, ap, subst, Result, ◌∙◌, arith, Ok, Err, IfOk, inl, inr}
+use Rattle.std.proofs.Common.{◌≡◌, ℕ, ◌+◌, ◌*◌, ◌%◌, ◌^◌, ◌<◌, ◌≤◌, List, ◌∷◌, length, take, get_or, refl, sym, ap, subst, Result, ◌∙◌, arith, Ok, Err, IfOk, inl, inr}
 use Rattle.std.proofs.lemmas.Bool.{lt-ltb, le-ltb, leb-true, leb-false, cases_lt}
 use Rattle.std.proofs.lemmas.List.{length-take-le, take_more}
 use Rattle.std.proofs.lemmas.List.Sums.{prefix_len_passes, prefix_len_stops}
@@ -184,3 +184,15 @@ read_of-tenth text value result there so_far sum goes_on ends =
           ends low ∙ ap (λ n. judged n 10) whole ∙ sym (read_of-ended text 9 at (omega arith) there)
       | inr high ↦ goes_on high ∙ sym (read_of-long text (high_count-more text 9 there so_far high))
     ]
+
+-- ---- one octet
+
+pub read_of-one : (octet : ℕ) (rest : List ℕ) → octet < 128 → read_of (octet ∷ rest) ≡ Ok (octet, 1)
+unfolding sum_of
+read_of-one octet rest low =
+    let at = high_count-end (octet ∷ rest) 0 (omega arith) low in
+    let sum = sum_of-more (octet ∷ rest) 0 0 (omega arith) refl in
+    let number : sum_of (take 1 (octet ∷ rest)) ≡ octet = omega (arith, sum) in
+    read_of-ended (octet ∷ rest) 0 at (omega arith) (omega arith)
+    ∙ ap (λ n. judged n 1) number
+    ∙ judged-small octet 1 (omega arith)

@@ -20,6 +20,7 @@ pub const TEXT_STRING: u8 = 3;
 pub const ARRAY: u8 = 4;
 
 /// One octet.
+#[inline(always)]
 pub fn octet_at(text: &[u8], at: usize) -> Result<(u8, usize), Miss>
     requires { at ≤ length text.now }
     ensures within { IfOk result (λ x. IsOn at text.now x.1) }
@@ -33,6 +34,7 @@ pub fn octet_at(text: &[u8], at: usize) -> Result<(u8, usize), Miss>
 }
 
 /// So many octets, lent out of the text. None of them is looked at.
+#[inline(always)]
 pub fn octets_at(text: &[u8], at: usize, count: u64) -> Result<(&[u8], usize), Miss>
     requires { at ≤ length text.now }
     ensures within { IfOk result (λ x. IsOn at text.now x.1) }
@@ -47,6 +49,7 @@ pub fn octets_at(text: &[u8], at: usize, count: u64) -> Result<(&[u8], usize), M
 }
 
 /// A number of seven bits an octet (RFC 5050, section 4.1).
+#[inline(always)]
 pub fn number_at(text: &[u8], at: usize) -> Result<(u64, usize), Miss>
     requires { at ≤ length text.now }
     ensures within { IfOk result (λ x. IsOn at text.now x.1) }
@@ -61,6 +64,7 @@ pub fn number_at(text: &[u8], at: usize) -> Result<(u64, usize), Miss>
 }
 
 /// The head of a CBOR item of this kind, 0 to 7, and the number that it says.
+#[inline(always)]
 pub fn head_at(text: &[u8], at: usize, kind: u8) -> Result<(u64, usize), Miss>
     requires { at ≤ length text.now }
     ensures within { IfOk result (λ x. IsOn at text.now x.1) }

@@ -1,9 +1,10 @@
--- From bits to octets to words of eight octets: what the register is after each, by sums without
--- carries. A faster kernel that takes more octets at a time needs `take_text-sliced` alone.
-use Rattle.std.proofs.Common.{◌≡◌, ◌⊎◌, inl, inr, ℕ, zero, suc, ◌+◌, ◌*◌, ◌/◌, ◌%◌, ◌^◌, ◌<◌, ◌≤◌, List, [], ◌∷◌, ◌++◌, length, get_or, take, drop, replicate, refl, sym, ap, ◌∙◌, arith, append_assoc, pow-suc}
+-- From bits to octets to words of eight octets and pairs of words: what the register is after each,
+-- by sums without carries. A kernel that takes still more octets at a time needs `take_text-met` alone.
+use Rattle.std.proofs.Common.{◌≡◌, ◌⊎◌, inl, inr, ℕ, zero, suc, ◌+◌, ◌*◌, ◌/◌, ◌%◌, ◌^◌, ◌<◌, List, [], ◌∷◌, ◌++◌, length, get_or, take, drop, replicate, refl, sym, ap, ◌∙◌, arith, append_assoc, pow-suc}
 use Rattle.std.specs.Int.Bits.{bit_xor, xor_assoc, xor_shifted, xor_zero_r, xor_self}
-use Rattle.std.specs.Int.{w16, w32, to_le_bytes}
-use Rattle.std.proofs.lemmas.Nat.{xor_comm, xor_shr, xor_mod}
+use Rattle.std.specs.Int.{w64, w128, to_le_bytes, from_le_bytes, byte_at, byte_worth, bytes_low_first, sum_through}
+use Rattle.std.proofs.Math.Nat.{div-eq_of_lt, div-div-eq-div-mul}
+use Rattle.std.proofs.lemmas.Nat.{xor_comm, xor_lt, xor_shr, xor_mod}
 use Rattle.std.proofs.lemmas.List.{take-append-drop, take_more}
 use Rattle.std.proofs.lemmas.Bool.{cases_eq}
 use Rattle.crc_fields.specs.Crc.{take_bit, take_bits, octet_bits, bits_of, take_text, zeroed}
@@ -78,7 +79,7 @@ after_zeros-xor p zero a b = refl
 after_zeros-xor p (suc n) a b =
     ap (after_zeros p n) (zero-bit-xor p a b) ∙ after_zeros-xor p n (take_bit p a 0) (take_bit p b 0)
 
-after_zeros-add : (p m n r : ℕ) → after_zeros p (m + n) r ≡ after_zeros p n (after_zeros p m r)
+pub after_zeros-add : (p m n r : ℕ) → after_zeros p (m + n) r ≡ after_zeros p n (after_zeros p m r)
 unfolding after_zeros
 after_zeros-add p zero n r = let same : 0 + n ≡ n = omega arith in ap (λ (k : ℕ). after_zeros p k r) same
 after_zeros-add p (suc m) n r =
@@ -159,60 +160,64 @@ pub data AreOctets : List ℕ → Type 0 where
   no_octets : AreOctets []
   octet_more : {o : ℕ} {w : List ℕ} → o < 256 → AreOctets w → AreOctets (o ∷ w)
 
-take_text-xor : (p x y : ℕ) (w : List ℕ) → AreOctets w
-    → take_text p (bit_xor x y) w ≡ bit_xor (after_zeros p (8 * length w) x) (take_text p y w)
-unfolding take_bits after_zeros
-take_text-xor p x y [] are = refl
-take_text-xor p x y (o ∷ w) (octet_more small are) =
-    let longer : 8 + 8 * length w ≡ 8 * length (o ∷ w) = omega arith in
-    take_text-cons p (bit_xor x y) o w small
-    ∙ (ap (λ (r : ℕ). take_text p r w) (ap (after_zeros p 8) (xor_assoc x y o) ∙ after_zeros-xor p 8 x (bit_xor y o))
-    ∙ (take_text-xor p (after_zeros p 8 x) (after_zeros p 8 (bit_xor y o)) w are
-    ∙ (ap (λ (k : ℕ). bit_xor k (take_text p (after_zeros p 8 (bit_xor y o)) w))
-    (sym (after_zeros-add p 8 (8 * length w) x) ∙ ap (λ (n : ℕ). after_zeros p n x) longer)
-    ∙ ap (bit_xor (after_zeros p (8 * length (o ∷ w)) x)) (sym (take_text-cons p y o w small)))))
+AreOctets-each : (w : List ℕ) → ((i : ℕ) → get_or w i 0 < 256) → AreOctets w
+AreOctets-each [] small = no_octets
+AreOctets-each (o ∷ w) small = octet_more (small 0) (AreOctets-each w (λ i. small (suc i)))
 
 -- the number that octets spell, the low one first
 pub octets_value : List ℕ → ℕ
 octets_value [] = 0
 octets_value (o ∷ w) = octets_value w * 256 + o
 
--- The register after a text of at least as many octets as it has itself: each octet acts alone, by
--- the zeros that are as many as its own bits and those after it.
-pub sliced : ℕ → List ℕ → List ℕ → ℕ
-sliced p rs [] = 0
-sliced p [] (o ∷ w) = bit_xor (after_zeros p (8 * (length w + 1)) o) (sliced p [] w)
-sliced p (r ∷ rs) (o ∷ w) = bit_xor (after_zeros p (8 * (length w + 1)) (bit_xor r o)) (sliced p rs w)
+-- a text acts as so many bits 0 on the register that its number met
+take_text-value : (p r : ℕ) (w : List ℕ) → AreOctets w → take_text p r w ≡ after_zeros p (8 * length w) (bit_xor r (octets_value w))
+unfolding take_bits octets_value after_zeros
+take_text-value p r [] are = sym (xor_zero_r r)
+take_text-value p r (o ∷ w) (octet_more small are) =
+    let value : ℕ = octets_value w in
+    let place : bit_xor (value * 256) o ≡ value * 256 + o = xor_shifted value 8 o small in
+    let here : bit_xor (bit_xor r o) (value * 256) ≡ bit_xor r (value * 256 + o) =
+    xor_assoc r o (value * 256) ∙ ap (bit_xor r) (xor_comm o (value * 256) ∙ place) in
+    let longer : 8 + 8 * length w ≡ 8 * length (o ∷ w) = omega arith in
+    take_text-cons p r o w small
+    ∙ (take_text-value p (after_zeros p 8 (bit_xor r o)) w are
+    ∙ (ap (after_zeros p (8 * length w))
+    (ap (bit_xor (after_zeros p 8 (bit_xor r o))) (sym (after_zeros-place p 8 value))
+    ∙ (sym (after_zeros-xor p 8 (bit_xor r o) (value * 256)) ∙ ap (after_zeros p 8) here))
+    ∙ (sym (after_zeros-add p 8 (8 * length w) (bit_xor r (value * 256 + o)))
+    ∙ ap (λ (n : ℕ). after_zeros p n (bit_xor r (value * 256 + o))) longer)))
 
-take_text-first : (p r rest o : ℕ) (w : List ℕ) → AreOctets w → r < 256 → o < 256
-    → take_text p (rest * 256 + r) (o ∷ w) ≡ bit_xor (after_zeros p (8 * (length w + 1)) (bit_xor r o)) (take_text p rest w)
-take_text-first p r rest o w are small_r small_o =
-    let place : bit_xor (rest * 256) r ≡ rest * 256 + r = xor_shifted rest 8 r small_r in
-    let here : bit_xor (rest * 256 + r) o ≡ bit_xor (bit_xor r o) (rest * 256) =
-    ap (λ (x : ℕ). bit_xor x o) (sym place) ∙ (xor_assoc (rest * 256) r o ∙ xor_comm (rest * 256) (bit_xor r o)) in
-    let longer : 8 + 8 * length w ≡ 8 * (length w + 1) = omega arith in
-    take_text-cons p (rest * 256 + r) o w small_o
-    ∙ (ap (λ (x : ℕ). take_text p x w)
-    (ap (after_zeros p 8) here ∙ (after_zeros-xor p 8 (bit_xor r o) (rest * 256) ∙ ap (bit_xor (after_zeros p 8 (bit_xor r o))) (after_zeros-place p 8 rest)))
-    ∙ (take_text-xor p (after_zeros p 8 (bit_xor r o)) rest w are
-    ∙ ap (λ (x : ℕ). bit_xor x (take_text p rest w))
-    (sym (after_zeros-add p 8 (8 * length w) (bit_xor r o)) ∙ ap (λ (n : ℕ). after_zeros p n (bit_xor r o)) longer)))
+-- Octets by which the register is taken through a text: each acts alone, by the zeros that are as many
+-- as its own bits and those after it.
+pub sliced : ℕ → List ℕ → ℕ
+sliced p [] = 0
+sliced p (o ∷ w) = bit_xor (after_zeros p (8 * (length w + 1)) o) (sliced p w)
 
-take_text-zero : (p : ℕ) (w : List ℕ) → AreOctets w → take_text p 0 w ≡ sliced p [] w
-unfolding take_bits sliced
-take_text-zero p [] are = refl
-take_text-zero p (o ∷ w) (octet_more small are) =
-    take_text-first p 0 0 o w are (omega arith) small
-    ∙ ap (bit_xor (after_zeros p (8 * (length w + 1)) o)) (take_text-zero p w are)
+after_zeros-sliced : (p : ℕ) (w : List ℕ) → AreOctets w → after_zeros p (8 * length w) (octets_value w) ≡ sliced p w
+unfolding octets_value after_zeros sliced
+after_zeros-sliced p [] are = refl
+after_zeros-sliced p (o ∷ w) (octet_more small are) =
+    let value : ℕ = octets_value w in
+    let bits : ℕ = 8 * length w in
+    let place : bit_xor (value * 256) o ≡ value * 256 + o = xor_shifted value 8 o small in
+    let longer : 8 * length (o ∷ w) ≡ 8 + bits = omega arith in
+    let here : 8 + bits ≡ 8 * (length w + 1) = omega arith in
+    ap (λ (n : ℕ). after_zeros p n (value * 256 + o)) longer
+    ∙ (ap (after_zeros p (8 + bits)) (sym place)
+    ∙ (after_zeros-xor p (8 + bits) (value * 256) o
+    ∙ (xor_comm (after_zeros p (8 + bits) (value * 256)) (after_zeros p (8 + bits) o)
+    ∙ (ap (λ (n : ℕ). bit_xor (after_zeros p n o) (after_zeros p (8 + bits) (value * 256))) here
+    ∙ ap (bit_xor (after_zeros p (8 * (length w + 1)) o))
+    (after_zeros-add p 8 bits (value * 256)
+    ∙ (ap (after_zeros p bits) (after_zeros-place p 8 value) ∙ after_zeros-sliced p w are))))))
 
-pub take_text-sliced : (p : ℕ) (rs w : List ℕ) → AreOctets rs → AreOctets w → length rs ≤ length w
-    → take_text p (octets_value rs) w ≡ sliced p rs w
-unfolding take_bits octets_value sliced
-take_text-sliced p [] w none are long = take_text-zero p w are
-take_text-sliced p (r ∷ rs) [] some are long = absurd (omega arith)
-take_text-sliced p (r ∷ rs) (o ∷ w) (octet_more small_r some) (octet_more small_o are) long =
-    take_text-first p r (octets_value rs) o w are small_r small_o
-    ∙ ap (bit_xor (after_zeros p (8 * (length w + 1)) (bit_xor r o))) (take_text-sliced p rs w some are (omega arith))
+-- where a text's number met the register, the octets of the sum act alone
+pub take_text-met : (p r : ℕ) (w os : List ℕ) → AreOctets w → AreOctets os → length os ≡ length w
+    → octets_value os ≡ bit_xor r (octets_value w) → take_text p r w ≡ sliced p os
+take_text-met p r w os are met_are size met =
+    take_text-value p r w are
+    ∙ (ap (after_zeros p (8 * length w)) (sym met)
+    ∙ (ap (λ (n : ℕ). after_zeros p (8 * n) (octets_value os)) (sym size) ∙ after_zeros-sliced p os met_are))
 
 -- ---- what the code computes
 
@@ -232,75 +237,113 @@ pub take_text-push : (p r o : ℕ) (w : List ℕ) → o < 256 → after_zeros p 
 take_text-push p r o w small =
     sym (take_text-append p r w (o ∷ []) ∙ (take_text-cons p (take_text p r w) o [] small ∙ take_text-none p (after_zeros p 8 (bit_xor (take_text p r w) o))))
 
--- the eight octets of a word
-eight_are : (w : List ℕ) → length w ≡ 8
-    → w ≡ get_or w 0 0 ∷ get_or w 1 0 ∷ get_or w 2 0 ∷ get_or w 3 0 ∷ get_or w 4 0 ∷ get_or w 5 0 ∷ get_or w 6 0 ∷ get_or w 7 0 ∷ []
-eight_are [] size = absurd (omega arith)
-eight_are (a ∷ []) size = absurd (omega arith)
-eight_are (a ∷ (b ∷ [])) size = absurd (omega arith)
-eight_are (a ∷ (b ∷ (c ∷ []))) size = absurd (omega arith)
-eight_are (a ∷ (b ∷ (c ∷ (d ∷ [])))) size = absurd (omega arith)
-eight_are (a ∷ (b ∷ (c ∷ (d ∷ (e ∷ []))))) size = absurd (omega arith)
-eight_are (a ∷ (b ∷ (c ∷ (d ∷ (e ∷ (f ∷ [])))))) size = absurd (omega arith)
-eight_are (a ∷ (b ∷ (c ∷ (d ∷ (e ∷ (f ∷ (g ∷ []))))))) size = absurd (omega arith)
-eight_are (a ∷ (b ∷ (c ∷ (d ∷ (e ∷ (f ∷ (g ∷ (h ∷ [])))))))) size = refl
-eight_are (a ∷ (b ∷ (c ∷ (d ∷ (e ∷ (f ∷ (g ∷ (h ∷ (i ∷ w))))))))) size = absurd (omega arith)
+-- ---- octets and the numbers of the code
 
-take_word : (p : ℕ) (rs w : List ℕ) → AreOctets rs → length rs ≤ 8 → length w ≡ 8 → ((i : ℕ) → get_or w i 0 < 256)
-    → take_text p (octets_value rs) w
-    ≡ sliced p rs (get_or w 0 0 ∷ get_or w 1 0 ∷ get_or w 2 0 ∷ get_or w 3 0 ∷ get_or w 4 0 ∷ get_or w 5 0 ∷ get_or w 6 0 ∷ get_or w 7 0 ∷ [])
-take_word p rs w some short size small =
-    ap (take_text p (octets_value rs)) (eight_are w size)
-    ∙ take_text-sliced p rs (get_or w 0 0 ∷ get_or w 1 0 ∷ get_or w 2 0 ∷ get_or w 3 0 ∷ get_or w 4 0 ∷ get_or w 5 0 ∷ get_or w 6 0 ∷ get_or w 7 0 ∷ [])
-    some
-    (octet_more (small 0) (octet_more (small 1) (octet_more (small 2) (octet_more (small 3)
-    (octet_more (small 4) (octet_more (small 5) (octet_more (small 6) (octet_more (small 7) no_octets)))))))) short
+byte_at-is : (i n : ℕ) → byte_at i n ≡ n / 256 ^ i % 256
+byte_at-is zero n = omega arith
+byte_at-is (suc i) n = refl
 
-joined : (a b c d e f g h : ℕ)
-    → bit_xor (bit_xor (bit_xor (bit_xor (bit_xor (bit_xor (bit_xor a b) c) d) e) f) g) h
+-- a number that is written as octets is theirs
+octets_value-low : (i k n : ℕ) → n < 256 ^ (i + k) → octets_value (bytes_low_first i k n) ≡ n / 256 ^ i
+unfolding octets_value
+octets_value-low i zero n small = let same : i + 0 ≡ i = omega arith in sym (div-eq_of_lt (rw same at small))
+octets_value-low i (suc k) n small =
+    let same : i + suc k ≡ suc i + k = omega arith in
+    let higher : n / 256 ^ suc i ≡ n / 256 ^ i / 256 =
+    ap (λ (m : ℕ). n / m) (pow-suc 256 i) ∙ sym (div-div-eq-div-mul n (256 ^ i) 256) in
+    let rest : octets_value (bytes_low_first (suc i) k n) ≡ n / 256 ^ suc i = octets_value-low (suc i) k n (rw same at small) in
+    let whole : (m : ℕ) → m / 256 * 256 + m % 256 ≡ m = λ m. omega arith in
+    rw (rest, higher, byte_at-is i n) (whole (n / 256 ^ i))
+
+bytes-are : (i k n : ℕ) → AreOctets (bytes_low_first i k n)
+bytes-are i zero n = no_octets
+bytes-are i (suc k) n = let low : byte_at i n < 256 = rw (byte_at-is i n) (omega arith) in octet_more low (bytes-are (suc i) k n)
+
+-- and octets that are read as a number are its own
+sum-first : (f : ℕ → ℕ) (k : ℕ) → sum_through f (suc k) ≡ f 0 + sum_through (λ i. f (suc i)) k
+sum-first f zero = refl
+sum-first f (suc k) = omega (arith, sum-first f k)
+
+sum-scaled : (f g : ℕ → ℕ) (k : ℕ) → ((i : ℕ) → f i ≡ g i * 256) → sum_through f k ≡ sum_through g k * 256
+sum-scaled f g zero each = each 0
+sum-scaled f g (suc k) each = omega (arith, sum-scaled f g k each, each (suc k))
+
+worth-more : (i b : ℕ) → byte_worth (suc i) b ≡ byte_worth i b * 256
+worth-more zero b = omega arith
+worth-more (suc i) b = rw pow-suc (omega arith)
+
+octets_value-sum : (w : List ℕ) (k : ℕ) → length w ≡ suc k → octets_value w ≡ sum_through (λ i. byte_worth i (get_or w i 0)) k
+unfolding octets_value
+octets_value-sum [] k size = absurd (omega arith)
+octets_value-sum (o ∷ []) zero size = omega arith
+octets_value-sum (o ∷ (b ∷ w)) zero size = absurd (omega arith)
+octets_value-sum (o ∷ w) (suc k) size =
+    let rest : octets_value w ≡ sum_through (λ i. byte_worth i (get_or w i 0)) k = octets_value-sum w k (omega arith) in
+    let scaled : sum_through (λ i. byte_worth (suc i) (get_or w i 0)) k ≡ sum_through (λ i. byte_worth i (get_or w i 0)) k * 256 =
+    sum-scaled (λ i. byte_worth (suc i) (get_or w i 0)) (λ i. byte_worth i (get_or w i 0)) k (λ i. worth-more i (get_or w i 0)) in
+    omega (arith, rest, scaled, sum-first (λ i. byte_worth i (get_or (o ∷ w) i 0)) k)
+
+joined-word : (a b c d e f g h : ℕ)
+    → bit_xor (bit_xor (bit_xor (bit_xor (bit_xor (bit_xor (bit_xor e f) g) h) a) b) c) d
     ≡ bit_xor a (bit_xor b (bit_xor c (bit_xor d (bit_xor e (bit_xor f (bit_xor g (bit_xor h 0)))))))
-joined a b c d e f g h = simp (xor_assoc, xor_zero_r)
+joined-word a b c d e f g h =
+    let front : ℕ = bit_xor a (bit_xor b (bit_xor c d)) in
+    let back : ℕ = bit_xor e (bit_xor f (bit_xor g h)) in
+    let later : bit_xor (bit_xor (bit_xor (bit_xor (bit_xor (bit_xor (bit_xor e f) g) h) a) b) c) d ≡ bit_xor back front = simp xor_assoc in
+    later ∙ (xor_comm back front ∙ simp (xor_assoc, xor_zero_r))
 
--- eight entries of a table give the register after a word, where it has two octets
-pub word16 : (p r : ℕ) (rs w : List ℕ) (a b c d e f g h : ℕ) → r < 2 ^ 16 → rs ≡ to_le_bytes w16 r → length w ≡ 8 → ((i : ℕ) → get_or w i 0 < 256)
-    → a ≡ after_zeros p 64 (bit_xor (get_or rs 0 0) (get_or w 0 0)) → b ≡ after_zeros p 56 (bit_xor (get_or rs 1 0) (get_or w 1 0))
-    → c ≡ after_zeros p 48 (get_or w 2 0) → d ≡ after_zeros p 40 (get_or w 3 0) → e ≡ after_zeros p 32 (get_or w 4 0)
-    → f ≡ after_zeros p 24 (get_or w 5 0) → g ≡ after_zeros p 16 (get_or w 6 0) → h ≡ after_zeros p 8 (get_or w 7 0)
-    → bit_xor (bit_xor (bit_xor (bit_xor (bit_xor (bit_xor (bit_xor a b) c) d) e) f) g) h ≡ take_text p r w
-unfolding sliced octets_value
-word16 p r rs w a b c d e f g h small_r are size small ha hb hc hd he hf hg hh =
-    let value : octets_value (to_le_bytes w16 r) ≡ r = omega arith in
-    let some : AreOctets (to_le_bytes w16 r) = octet_more (omega arith) (octet_more (omega arith) no_octets) in
-    let a_is : a ≡ after_zeros p 64 (bit_xor (get_or (to_le_bytes w16 r) 0 0) (get_or w 0 0)) = ha ∙ ap (λ (xs : List ℕ). after_zeros p 64 (bit_xor (get_or xs 0 0) (get_or w 0 0))) are in
-    let b_is : b ≡ after_zeros p 56 (bit_xor (get_or (to_le_bytes w16 r) 1 0) (get_or w 1 0)) = hb ∙ ap (λ (xs : List ℕ). after_zeros p 56 (bit_xor (get_or xs 1 0) (get_or w 1 0))) are in
-    joined a b c d e f g h
-    ∙ (rw (a_is, b_is, hc, hd, he, hf, hg, hh) (sym (take_word p (to_le_bytes w16 r) w some (omega arith) size small))
-    ∙ ap (λ (x : ℕ). take_text p x w) value)
+-- eight entries of a table give the register after a word
+pub word : (p r number wide : ℕ) (w os : List ℕ) (a b c d e f g h : ℕ) → r < 2 ^ 32 → length w ≡ 8 → ((i : ℕ) → get_or w i 0 < 256)
+    → number ≡ from_le_bytes w64 w → number < 2 ^ 64 → wide ≡ r → os ≡ to_le_bytes w64 (bit_xor number wide)
+    → e ≡ after_zeros p 32 (get_or os 4 0) → f ≡ after_zeros p 24 (get_or os 5 0) → g ≡ after_zeros p 16 (get_or os 6 0) → h ≡ after_zeros p 8 (get_or os 7 0)
+    → a ≡ after_zeros p 64 (get_or os 0 0) → b ≡ after_zeros p 56 (get_or os 1 0) → c ≡ after_zeros p 48 (get_or os 2 0) → d ≡ after_zeros p 40 (get_or os 3 0)
+    → bit_xor (bit_xor (bit_xor (bit_xor (bit_xor (bit_xor (bit_xor e f) g) h) a) b) c) d ≡ take_text p r w
+unfolding sliced
+word p r number wide w os a b c d e f g h small_r size small is fits same octets he hf hg hh ha hb hc hd =
+    let value : octets_value w ≡ number = octets_value-sum w 7 size ∙ sym is in
+    let fitting : bit_xor number wide < 2 ^ 64 = xor_lt 64 number wide fits (omega arith) in
+    let whole : bit_xor number wide / 256 ^ 0 ≡ bit_xor number wide = omega arith in
+    let met : octets_value (bytes_low_first 0 8 (bit_xor number wide)) ≡ bit_xor r (octets_value w) =
+    octets_value-low 0 8 (bit_xor number wide) (omega arith) ∙ (whole ∙ rw (value, same) (xor_comm number r)) in
+    let taken : take_text p r w ≡ sliced p (bytes_low_first 0 8 (bit_xor number wide)) =
+    take_text-met p r w (bytes_low_first 0 8 (bit_xor number wide)) (AreOctets-each w small) (bytes-are 0 8 (bit_xor number wide)) (sym size) met in
+    joined-word a b c d e f g h ∙ rw (he, hf, hg, hh, ha, hb, hc, hd, octets) (sym taken)
 
--- the same where the register has four octets
-pub word32 : (p r : ℕ) (rs w : List ℕ) (a b c d e f g h : ℕ) → r < 2 ^ 32 → rs ≡ to_le_bytes w32 r → length w ≡ 8 → ((i : ℕ) → get_or w i 0 < 256)
-    → a ≡ after_zeros p 64 (bit_xor (get_or rs 0 0) (get_or w 0 0)) → b ≡ after_zeros p 56 (bit_xor (get_or rs 1 0) (get_or w 1 0))
-    → c ≡ after_zeros p 48 (bit_xor (get_or rs 2 0) (get_or w 2 0)) → d ≡ after_zeros p 40 (bit_xor (get_or rs 3 0) (get_or w 3 0))
-    → e ≡ after_zeros p 32 (get_or w 4 0) → f ≡ after_zeros p 24 (get_or w 5 0) → g ≡ after_zeros p 16 (get_or w 6 0) → h ≡ after_zeros p 8 (get_or w 7 0)
-    → bit_xor (bit_xor (bit_xor (bit_xor (bit_xor (bit_xor (bit_xor a b) c) d) e) f) g) h ≡ take_text p r w
-unfolding sliced octets_value
-word32 p r rs w a b c d e f g h small_r are size small ha hb hc hd he hf hg hh =
-    let value : octets_value (to_le_bytes w32 r) ≡ r = omega arith in
-    let some : AreOctets (to_le_bytes w32 r) = octet_more (omega arith) (octet_more (omega arith) (octet_more (omega arith) (octet_more (omega arith) no_octets))) in
-    let a_is : a ≡ after_zeros p 64 (bit_xor (get_or (to_le_bytes w32 r) 0 0) (get_or w 0 0)) = ha ∙ ap (λ (xs : List ℕ). after_zeros p 64 (bit_xor (get_or xs 0 0) (get_or w 0 0))) are in
-    let b_is : b ≡ after_zeros p 56 (bit_xor (get_or (to_le_bytes w32 r) 1 0) (get_or w 1 0)) = hb ∙ ap (λ (xs : List ℕ). after_zeros p 56 (bit_xor (get_or xs 1 0) (get_or w 1 0))) are in
-    let c_is : c ≡ after_zeros p 48 (bit_xor (get_or (to_le_bytes w32 r) 2 0) (get_or w 2 0)) = hc ∙ ap (λ (xs : List ℕ). after_zeros p 48 (bit_xor (get_or xs 2 0) (get_or w 2 0))) are in
-    let d_is : d ≡ after_zeros p 40 (bit_xor (get_or (to_le_bytes w32 r) 3 0) (get_or w 3 0)) = hd ∙ ap (λ (xs : List ℕ). after_zeros p 40 (bit_xor (get_or xs 3 0) (get_or w 3 0))) are in
-    joined a b c d e f g h
-    ∙ (rw (a_is, b_is, c_is, d_is, he, hf, hg, hh) (sym (take_word p (to_le_bytes w32 r) w some (omega arith) size small))
-    ∙ ap (λ (x : ℕ). take_text p x w) value)
+joined-pair : (a b c d e f g h i j k l m n o q : ℕ)
+    → bit_xor (bit_xor (bit_xor (bit_xor (bit_xor (bit_xor (bit_xor (bit_xor (bit_xor (bit_xor (bit_xor (bit_xor (bit_xor (bit_xor (bit_xor e f) g) h) i) j) k) l) m) n) o) q) a) b) c) d
+    ≡ bit_xor a (bit_xor b (bit_xor c (bit_xor d (bit_xor e (bit_xor f (bit_xor g (bit_xor h (bit_xor i (bit_xor j (bit_xor k (bit_xor l (bit_xor m (bit_xor n (bit_xor o (bit_xor q 0)))))))))))))))
+joined-pair a b c d e f g h i j k l m n o q =
+    let front : ℕ = bit_xor a (bit_xor b (bit_xor c d)) in
+    let back : ℕ = bit_xor e (bit_xor f (bit_xor g (bit_xor h (bit_xor i (bit_xor j (bit_xor k (bit_xor l (bit_xor m (bit_xor n (bit_xor o q)))))))))) in
+    let later : bit_xor (bit_xor (bit_xor (bit_xor (bit_xor (bit_xor (bit_xor (bit_xor (bit_xor (bit_xor (bit_xor (bit_xor (bit_xor (bit_xor (bit_xor e f) g) h) i) j) k) l) m) n) o) q) a) b) c) d ≡ bit_xor back front = simp xor_assoc in
+    later ∙ (xor_comm back front ∙ simp (xor_assoc, xor_zero_r))
+
+-- and sixteen the register after two words
+pub pair : (p r number wide : ℕ) (w os : List ℕ) (a b c d e f g h i j k l m n o q : ℕ) → r < 2 ^ 32 → length w ≡ 16 → ((i : ℕ) → get_or w i 0 < 256)
+    → number ≡ from_le_bytes w128 w → number < 2 ^ 128 → wide ≡ r → os ≡ to_le_bytes w128 (bit_xor number wide)
+    → e ≡ after_zeros p 96 (get_or os 4 0) → f ≡ after_zeros p 88 (get_or os 5 0) → g ≡ after_zeros p 80 (get_or os 6 0) → h ≡ after_zeros p 72 (get_or os 7 0)
+    → i ≡ after_zeros p 64 (get_or os 8 0) → j ≡ after_zeros p 56 (get_or os 9 0) → k ≡ after_zeros p 48 (get_or os 10 0) → l ≡ after_zeros p 40 (get_or os 11 0)
+    → m ≡ after_zeros p 32 (get_or os 12 0) → n ≡ after_zeros p 24 (get_or os 13 0) → o ≡ after_zeros p 16 (get_or os 14 0) → q ≡ after_zeros p 8 (get_or os 15 0)
+    → a ≡ after_zeros p 128 (get_or os 0 0) → b ≡ after_zeros p 120 (get_or os 1 0) → c ≡ after_zeros p 112 (get_or os 2 0) → d ≡ after_zeros p 104 (get_or os 3 0)
+    → bit_xor (bit_xor (bit_xor (bit_xor (bit_xor (bit_xor (bit_xor (bit_xor (bit_xor (bit_xor (bit_xor (bit_xor (bit_xor (bit_xor (bit_xor e f) g) h) i) j) k) l) m) n) o) q) a) b) c) d ≡ take_text p r w
+unfolding sliced
+pair p r number wide w os a b c d e f g h i j k l m n o q small_r size small is fits same octets he hf hg hh hi hj hk hl hm hn ho hq ha hb hc hd =
+    let value : octets_value w ≡ number = octets_value-sum w 15 size ∙ sym is in
+    let fitting : bit_xor number wide < 2 ^ 128 = xor_lt 128 number wide fits (omega arith) in
+    let whole : bit_xor number wide / 256 ^ 0 ≡ bit_xor number wide = omega arith in
+    let met : octets_value (bytes_low_first 0 16 (bit_xor number wide)) ≡ bit_xor r (octets_value w) =
+    octets_value-low 0 16 (bit_xor number wide) (omega arith) ∙ (whole ∙ rw (value, same) (xor_comm number r)) in
+    let taken : take_text p r w ≡ sliced p (bytes_low_first 0 16 (bit_xor number wide)) =
+    take_text-met p r w (bytes_low_first 0 16 (bit_xor number wide)) (AreOctets-each w small) (bytes-are 0 16 (bit_xor number wide)) (sym size) met in
+    joined-pair a b c d e f g h i j k l m n o q ∙ rw (he, hf, hg, hh, hi, hj, hk, hl, hm, hn, ho, hq, ha, hb, hc, hd, octets) (sym taken)
 
 -- ---- steps of the loops
 
-pub words-step : (p r next : ℕ) (rest word after : List ℕ) → word ≡ take 8 rest → after ≡ drop 8 rest → next ≡ take_text p r word
+-- n octets more of a text
+pub words-step : (p n r next : ℕ) (rest word after : List ℕ) → word ≡ take n rest → after ≡ drop n rest → next ≡ take_text p r word
     → take_text p next after ≡ take_text p r rest
-words-step p r next rest word after front back taken =
-    rw (taken, back, front) (sym (take_text-append p r (take 8 rest) (drop 8 rest)) ∙ ap (take_text p r) (take-append-drop 8 rest))
+words-step p n r next rest word after front back taken =
+    rw (taken, back, front) (sym (take_text-append p r (take n rest) (drop n rest)) ∙ ap (take_text p r) (take-append-drop n rest))
 
 pub octets-step : (p start r next i : ℕ) (w : List ℕ) → ((k : ℕ) → get_or w k 0 < 256) → i < length w → r ≡ take_text p start (take i w)
     → next ≡ after_zeros p 8 (bit_xor r (get_or w i 0)) → next ≡ take_text p start (take (i + 1) w)

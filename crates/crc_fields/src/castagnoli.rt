@@ -53,7 +53,8 @@ impl Register32 {
     pub fn update(self, bytes: &[u8]) -> Register32
         ensures { result ≡ take_text 0x82F63B78 self bytes.now }
     {
-        let (register, rest) = take_words(self.register, bytes);
+        let (register, rest) = take_pairs(self.register, bytes);
+        let (register, rest) = take_words(register, rest);
         Register32 {
             register: take_octets(register, rest),
         }
@@ -65,6 +66,19 @@ impl Register32 {
     {
         self.register ^ u32::MAX
     }
+}
+
+/// Takes two words at a time, as long as there are two, and gives the octets that are left.
+fn take_pairs(start: u32, bytes: &[u8]) -> (u32, &[u8])
+    ensures { take_text 0x82F63B78 result.0 result.1.now ≡ take_text 0x82F63B78 start bytes.now }
+{
+    let mut register = start;
+    let mut rest = bytes;
+    'pairs: while let Some((pair, after)) = rest.split_first_chunk::<16>() {
+        register = take_pair(register, pair);
+        rest = after;
+    }
+    (register, rest)
 }
 
 /// Takes eight octets at a time, as long as there are eight, and gives those that are left.
@@ -91,21 +105,47 @@ fn take_octets(start: u32, bytes: &[u8]) -> u32
     register
 }
 
-/// Takes eight octets at once: each acts by the row of the table that has as many zeros as octets
-/// follow it.
+/// Takes sixteen octets at once: the register meets the first of them, and then each acts by the
+/// row of the table that has as many zeros as octets follow it.
+fn take_pair(register: u32, pair: &[u8; 16]) -> u32
+    ensures { result ≡ take_text 0x82F63B78 register pair.now }
+{
+    // As a number the octets take two loads, and one by one as many as the tables do.
+    let met = u128::from_le_bytes(*pair) ^ u128::from(register);
+    let [a, b, c, d, e, f, g, h, i, j, k, l, m, n, o, p] = met.to_le_bytes();
+    // The first come last, since they alone wait for the register.
+    entry(11, e)
+        ^ entry(10, f)
+        ^ entry(9, g)
+        ^ entry(8, h)
+        ^ entry(7, i)
+        ^ entry(6, j)
+        ^ entry(5, k)
+        ^ entry(4, l)
+        ^ entry(3, m)
+        ^ entry(2, n)
+        ^ entry(1, o)
+        ^ entry(0, p)
+        ^ entry(15, a)
+        ^ entry(14, b)
+        ^ entry(13, c)
+        ^ entry(12, d)
+}
+
+/// The same of eight octets.
 fn take_word(register: u32, word: &[u8; 8]) -> u32
     ensures { result ≡ take_text 0x82F63B78 register word.now }
 {
-    let [a, b, c, d] = register.to_le_bytes();
-    let [s, t, u, v, w, x, y, z] = *word;
-    entry(7, a ^ s)
-        ^ entry(6, b ^ t)
-        ^ entry(5, c ^ u)
-        ^ entry(4, d ^ v)
-        ^ entry(3, w)
+    let met = u64::from_le_bytes(*word) ^ u64::from(register);
+    let [s, t, u, v, w, x, y, z] = met.to_le_bytes();
+    entry(3, w)
         ^ entry(2, x)
         ^ entry(1, y)
         ^ entry(0, z)
+        ^ entry(7, s)
+        ^ entry(6, t)
+        ^ entry(5, u)
+        ^ entry(4, v)
 }
 
 /// Takes one octet.
@@ -117,7 +157,7 @@ fn take_octet(register: u32, octet: u8) -> u32
 
 /// The register after an octet that met it empty, and k octets of zeros.
 fn entry(k: usize, octet: u8) -> u32
-    requires { k < 8 }
+    requires { k < 16 }
     ensures { result ≡ after_zeros 0x82F63B78 (8 * (k + 1)) octet }
 {
     CRC32C[k][octet as usize]

@@ -1,8 +1,9 @@
 //! The two checks of bundle blocks: CRC-16 X-25 and CRC-32C.
 //!
 //! What they are is said bit by bit: the bits of a text go through a register one after another.
-//! The code takes eight octets at a time by tables. Each call takes no memory, and the zeroed forms
-//! copy nothing; a text that lies in parts goes part by part through `Register16` or `Register32`.
+//! The code takes sixteen octets at a time by tables. Each call takes no memory, and the zeroed
+//! forms copy nothing; a text that lies in parts goes part by part through `Register16` or
+//! `Register32`.
 #![tactic(auto)]
 
 mod castagnoli;

@@ -1,5 +1,5 @@
 #!/usr/bin/env python3
-"""Nanoseconds of judging and of reading a version 6 bundle, and seconds of feeding one in pieces, by judge.rt.txt.
+"""Nanoseconds of judging and of reading a version 6 bundle, by judge.rt.txt; readers.py times one in pieces.
 
 usage: bench/judge.py [build] [FOLDER]    crates.py says what the words are
 
@@ -21,8 +21,6 @@ def main():
         for what in ("judge", "decode"):
             taken = least(path, (what, which, times)) - least(path, (what, which, 0))
             print(f"{what:7} {text:22} {taken / times * 1e9:14,.0f} ns", flush=True)
-    for size in (100, 8192):
-        print(f"feed    100,000 references in pieces of {size:5}  {least(path, ('feed', 'references', size)):6.2f} s")
 
 
 main()

@@ -153,6 +153,7 @@ pub(crate) fn block_at<'a>(
 }
 
 /// What a block has before its body.
+#[inline(always)]
 #[tactic(auto, unfolding(crate::specs::Table::lead))]
 pub(crate) fn lead_at(
     text: &[u8],
@@ -179,6 +180,7 @@ pub(crate) fn lead_at(
 }
 
 /// The head of an array of 5 or 6 items.
+#[inline(always)]
 fn block_items_at(text: &[u8], at: usize) -> Result<(u64, usize), Refused7>
     requires { at ≤ length text.now }
     ensures within { IfOk result (λ x. IsOn at text.now x.1) }
@@ -192,6 +194,7 @@ fn block_items_at(text: &[u8], at: usize) -> Result<(u64, usize), Refused7>
 }
 
 /// The type of a block.
+#[inline(always)]
 fn kind_at(text: &[u8], at: usize, left: u64, earlier: &Seen) -> Result<(u64, usize), Refused7>
     requires { at ≤ length text.now }
     ensures within { IfOk result (λ x. IsOn at text.now x.1) }
@@ -215,6 +218,7 @@ fn is_single(kind: u64) -> bool
 }
 
 /// The number of a block of this type.
+#[inline(always)]
 fn number_at(text: &[u8], at: usize, kind: u64, earlier: &Seen) -> Result<(u64, usize), Refused7>
     requires { at ≤ length text.now }
     ensures within { IfOk result (λ x. IsOn at text.now x.1) }
@@ -239,6 +243,7 @@ fn is_number(kind: u64, earlier: &Seen, number: u64) -> bool
 }
 
 /// How many octets a block's body has; those of a fragment's payload lie within the whole.
+#[inline(always)]
 pub(crate) fn size_at(
     text: &[u8],
     at: usize,
@@ -269,6 +274,7 @@ fn is_within(fragment: Option<Fragment>, kind: u64, size: u64) -> bool
 }
 
 /// The octets of a body, lent.
+#[inline(always)]
 pub(crate) fn body_at(
     text: &[u8],
     at: usize,

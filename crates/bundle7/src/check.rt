@@ -23,6 +23,7 @@ pub(crate) enum Checks {
 }
 
 /// The check of this type at the end of the block that begins at `start`; nothing for type 0.
+#[tactic(auto, unfolding(crate::specs::Check::crc_field))]
 pub(crate) fn crc_at(
     text: &[u8],
     at: usize,
@@ -36,6 +37,9 @@ pub(crate) fn crc_at(
     ensures within { IfOk result (λ x. IsOn at text.now x.1) }
     ensures exact { Gives (λ _. tt) refused result (read (crc_field crc start) text.now at) }
 {
+    if crc == 0 {
+        return Ok(((), at));
+    }
     match checks {
         Checks::Untested => {
             let sum = Sum::new(crc, start).up_to(text, at);

@@ -131,6 +131,7 @@ impl LentEndpoint<'_> {
 }
 
 /// An endpoint.
+#[inline(always)]
 #[tactic(auto, unfolding(crate::specs::Eid::eid))]
 pub(crate) fn eid_at(text: &[u8], at: usize) -> Result<(LentEndpoint<'_>, usize), Refused7>
     requires { at ≤ length text.now }
@@ -146,6 +147,7 @@ pub(crate) fn eid_at(text: &[u8], at: usize) -> Result<(LentEndpoint<'_>, usize)
 }
 
 /// The number of a scheme: 1 for dtn, 2 for ipn.
+#[inline(always)]
 fn scheme_at(text: &[u8], at: usize) -> Result<(u64, usize), Refused7>
     requires { at ≤ length text.now }
     ensures within { IfOk result (λ x. IsOn at text.now x.1) }
@@ -176,6 +178,7 @@ fn dtn_name_at(text: &[u8], at: usize) -> Result<(LentEndpoint<'_>, usize), Refu
 }
 
 /// The number 0, or the head of a text.
+#[inline(always)]
 fn dtn_lead_at(text: &[u8], at: usize) -> Result<(UnsignedOrText, usize), Refused7>
     requires { at ≤ length text.now }
     ensures within { IfOk result (λ x. IsOn at text.now x.1) }
@@ -203,6 +206,7 @@ fn ssp_at(text: &[u8], at: usize, count: u64) -> Result<(&[u8], usize), Refused7
 }
 
 /// What the scheme ipn has: the numbers of node and service.
+#[inline(always)]
 #[tactic(auto, unfolding(crate::specs::Eid::ipn_name))]
 fn ipn_name_at(text: &[u8], at: usize) -> Result<(LentEndpoint<'_>, usize), Refused7>
     requires { at ≤ length text.now }

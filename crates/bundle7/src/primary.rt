@@ -101,6 +101,7 @@ impl LentPrimary<'_> {
 }
 
 /// The primary block.
+#[inline(always)]
 #[tactic(auto, unfolding(crate::specs::Table::primary))]
 pub(crate) fn primary_at(
     text: &[u8],
@@ -130,6 +131,7 @@ pub(crate) fn primary_at(
 }
 
 /// The array's head, the version, the flags and the type of the check.
+#[inline(always)]
 #[tactic(auto, unfolding(crate::specs::Table::opening))]
 fn opening_at(text: &[u8], at: usize) -> Result<(Opening, usize), Refused7>
     requires { at ≤ length text.now }
@@ -145,6 +147,7 @@ fn opening_at(text: &[u8], at: usize) -> Result<(Opening, usize), Refused7>
 }
 
 /// The head of an array of 8 to 11 items.
+#[inline(always)]
 fn main_items_at(text: &[u8], at: usize) -> Result<(u64, usize), Refused7>
     requires { at ≤ length text.now }
     ensures within { IfOk result (λ x. IsOn at text.now x.1) }
@@ -158,6 +161,7 @@ fn main_items_at(text: &[u8], at: usize) -> Result<(u64, usize), Refused7>
 }
 
 /// The type of a check, in an array of so many items that has so many without the check.
+#[inline(always)]
 pub(crate) fn crc_type_at(
     text: &[u8],
     at: usize,
@@ -181,6 +185,7 @@ pub(crate) fn crc_type_at(
 }
 
 /// Destination, source and report-to.
+#[inline(always)]
 #[tactic(auto, unfolding(crate::specs::Table::names))]
 fn names_at(text: &[u8], at: usize) -> Result<(LentNames<'_>, usize), Refused7>
     requires { at ≤ length text.now }
@@ -199,6 +204,7 @@ fn names_at(text: &[u8], at: usize) -> Result<(LentNames<'_>, usize), Refused7>
 }
 
 /// The creation timestamp.
+#[inline(always)]
 #[tactic(auto, unfolding(crate::specs::Table::creation))]
 fn creation_at(text: &[u8], at: usize) -> Result<(Creation, usize), Refused7>
     requires { at ≤ length text.now }
@@ -224,6 +230,7 @@ fn fragment_at(text: &[u8], at: usize) -> Result<(Fragment, usize), Refused7>
 }
 
 /// The same, where the flags say that the bundle is one.
+#[inline(always)]
 fn optional_fragment_at(
     text: &[u8],
     at: usize,

@@ -1,7 +1,7 @@
 //! A pass over the octets of a bundle. It takes no memory, and goes on where it stood once more octets
 //! have come.
 
-ghost use Rattle.std.specs.Prelude.{◌≡◌, ◌≢◌, ◌-◌, ◌≤◌, ◌<◌, ◌^◌, [], length, IfOk};
+ghost use Rattle.std.specs.Prelude.{◌≡◌, ◌≢◌, ◌-◌, ◌≤◌, ◌<◌, ◌^◌, ◌==◌, [], length, false, IfOk};
 ghost use Rattle.wire_fields.specs.Reading.{read};
 ghost use Rattle.wire_fields.specs.Gives.{Gives, IsOn};
 ghost use Rattle.bundle6.specs.Cause.{refused_at};
@@ -324,6 +324,7 @@ pub fn name_judged(text: &[u8], at: usize, dictionary: &[u8]) -> Result<((), usi
 }
 
 /// Whether each of the four names resolves.
+#[inline(always)]
 fn all_resolve(dictionary: &[u8], pairs: Pairs) -> bool
     ensures { result ≡ all_resolve dictionary.now pairs }
 {
@@ -333,14 +334,22 @@ fn all_resolve(dictionary: &[u8], pairs: Pairs) -> bool
         && resolves(dictionary, pairs.custodian)
 }
 
-/// Whether two numbers name an endpoint.
+/// Whether two numbers name an endpoint. Where there is no dictionary they do, and no call says so.
+#[inline(always)]
 #[tactic(auto, unfolding(crate::specs::Names::resolve))]
 fn resolves(dictionary: &[u8], pair: Offsets) -> bool
     ensures { result ≡ resolves dictionary.now pair }
 {
-    if dictionary.is_empty() {
-        return true;
-    }
+    dictionary.is_empty() || finds(dictionary, pair)
+}
+
+/// The same in a dictionary that isn't empty.
+#[inline(never)]
+#[tactic(auto, unfolding(crate::specs::Names::resolve))]
+fn finds(dictionary: &[u8], pair: Offsets) -> bool
+    requires { (length dictionary.now == 0) ≡ false }
+    ensures { result ≡ resolves dictionary.now pair }
+{
     let Some(scheme) = text_in(dictionary, pair.scheme) else {
         return false;
     };

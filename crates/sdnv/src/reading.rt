@@ -9,7 +9,6 @@ use crate::fault::SdnvFault;
 
 /// Reads the number at the front, and how many octets spell it (RFC 5050, section 4.1). More may
 /// follow. No memory is taken.
-#[inline(always)]
 pub fn read(bytes: &[u8]) -> Result<(u64, usize), SdnvFault>
     // What is read is spelled so.
     ensures found { IfOk result (λ x. (x.1 ≤ length bytes.now) × Spells (take x.1 bytes.now) x.0) }
@@ -26,21 +25,8 @@ pub fn read(bytes: &[u8]) -> Result<(u64, usize), SdnvFault>
     first_number(bytes)
 }
 
-/// The number at the front. One octet is enough for most, so it is looked at where the number is read,
-/// and the loop is called for others alone.
-#[inline(always)]
-fn first_number(bytes: &[u8]) -> Result<(u64, usize), SdnvFault>
-    ensures { result ≡ read_of bytes.now }
-{
-    match bytes.split_first() {
-        Some((octet, _)) if *octet < 128 => Ok((*octet as u64, 1)),
-        _ => long_number(bytes),
-    }
-}
-
 /// Adds up the groups until an octet ends the number. Nine of them stay below 2^63.
-#[inline(never)]
-fn long_number(bytes: &[u8]) -> Result<(u64, usize), SdnvFault>
+fn first_number(bytes: &[u8]) -> Result<(u64, usize), SdnvFault>
     ensures { result ≡ read_of bytes.now }
 {
     let most = bytes.len().min(MOST - 1);

@@ -1,13 +1,13 @@
 -- What a field of a kind is at the front of a text is what the table of kinds says.
-use Rattle.std.proofs.Common.{◌≡◌, ℕ, ◌<◌, ◌≤◌, Bool, true, false, ◌/◌, ◌%◌, ◌==◌, ◌≢◌, ◌⊎◌, eqb-true, slice_index, cond, List, [], ◌∷◌, ◌++◌, length, take, drop, Result, Ok, Err, refl, sym, ap, ◌∙◌, subst, inl, inr, arith, length-append, append_assoc, take-append-drop}
+use Rattle.std.proofs.Common.{◌≡◌, ℕ, ◌+◌, get_or, ◌<◌, ◌≤◌, Bool, true, false, ◌/◌, ◌%◌, ◌==◌, ◌≢◌, ◌⊎◌, eqb-true, slice_index, cond, List, [], ◌∷◌, ◌++◌, length, take, drop, Result, Ok, Err, refl, sym, ap, ◌∙◌, subst, inl, inr, arith, length-append, append_assoc, take-append-drop}
 use Rattle.std.proofs.lemmas.Bool.{cases_lt, lt-ltb, le-ltb}
-use Rattle.std.proofs.lemmas.List.{length-take-le, take-append-le}
+use Rattle.std.proofs.lemmas.List.{length-take-le, take-append-le, drop_more}
 use Rattle.std.proofs.Math.Seq.{take-append_seam}
 use Rattle.sdnv.specs.declared.fault.SdnvFault.{SdnvFault}
 use Rattle.sdnv.specs.declared.fault.SdnvFault.TheVariants as sdnv_faults
 use Rattle.sdnv.specs.Spelling.{Spells}
 use Rattle.sdnv.specs.Reading.{read_of, IsTooLong, IsTooLarge}
-use Rattle.sdnv.proofs.ReadingLemmas.{read_of-found, read_of-only, short-is, is-short, too_long-is, is-too_long, too_large-is, is-too_large}
+use Rattle.sdnv.proofs.ReadingLemmas.{read_of-one, read_of-found, read_of-only, short-is, is-short, too_long-is, is-too_long, too_large-is, is-too_large}
 use Rattle.cbor_lite.specs.declared.fault.CborFault.{CborFault}
 use Rattle.cbor_lite.specs.declared.fault.CborFault.TheVariants as cbor_faults
 use Rattle.cbor_lite.specs.Head.{SpellsHead, EndsInsideHead, head_at, number_at}
@@ -19,7 +19,7 @@ use Rattle.wire_fields.specs.declared.miss.Miss.{Miss}
 use Rattle.wire_fields.specs.declared.miss.Miss.TheVariants as misses
 use Rattle.wire_fields.specs.Kind.{Kind, octet, octets, number, head, unsigned_or_text, ValueOf, SpellsKind, SpellsLead, EndsInside}
 use Rattle.wire_fields.specs.Refusal.{IsAbsent}
-use Rattle.wire_fields.specs.Reading.{look, look_number, look_head, look_lead, IsOctets}
+use Rattle.wire_fields.specs.Reading.{look, look_at, look_number, look_head, look_lead, IsOctets}
 use Rattle.wire_fields.proofs.TextLemmas.{octets-drop}
 use Rattle.wire_fields.proofs.ResultLemmas.{found, found_is, ok_is}
 
@@ -278,3 +278,10 @@ look-found-more k w more x n fits is =
 pub head-within : (text rest : List ℕ) (at kind n k : ℕ) → IsOctets text → rest ≡ drop at text → found n k ≡ head_at kind rest → k ≤ length rest
 head-within text rest at kind n k fits is there =
     (head_at-found kind rest n k (subst IsOctets (sym is) (octets-drop at text fits)) (sym there)).0
+
+-- a number of one octet
+pub number-one : (text : List ℕ) (at : ℕ) → at < length text → get_or text at 0 < 128
+    → Ok (get_or text at 0, at + 1) ≡ look_at number text at
+number-one text at there low =
+    let here : drop at text ≡ get_or text at 0 ∷ drop (at + 1) text = drop_more text at 0 there in
+    rw (here, read_of-one (get_or text at 0) (drop (at + 1) text) low) refl

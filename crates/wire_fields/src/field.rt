@@ -55,6 +55,20 @@ pub fn number_at(text: &[u8], at: usize) -> Result<(u64, usize), Miss>
     ensures within { IfOk result (λ x. IsOn at text.now x.1) }
     ensures exact { result ≡ look_at number text.now at }
 {
+    // Most numbers have one octet: only others are left to a call.
+    if at < text.len() && text[at] < 128 {
+        return Ok((u64::from(text[at]), at + 1));
+    }
+    long_number_at(text, at)
+}
+
+/// The same, of however many octets.
+#[inline(never)]
+fn long_number_at(text: &[u8], at: usize) -> Result<(u64, usize), Miss>
+    requires { at ≤ length text.now }
+    ensures within { IfOk result (λ x. IsOn at text.now x.1) }
+    ensures exact { result ≡ look_at number text.now at }
+{
     let (_, rest) = text.split_at(at);
     match sdnv::read(rest) {
         Ok((value, count)) => Ok((value, at + count)),

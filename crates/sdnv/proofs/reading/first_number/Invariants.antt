@@ -1,6 +1,6 @@
 use Rattle.std.proofs.Common.{◌≡◌, ◌≤◌, take}
 use Rattle.sdnv.specs.Spelling.{high_count, sum_of}
-use Rattle.sdnv.proofs.reading.long_number.Given as goal
+use Rattle.sdnv.proofs.reading.first_number.Given as goal
 
 abbrev pub invariant-loop-i : goal.invariant-loop-i
 invariant-loop-i l = record {

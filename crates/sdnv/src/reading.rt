@@ -26,6 +26,7 @@ pub fn read(bytes: &[u8]) -> Result<(u64, usize), SdnvFault>
 }
 
 /// Adds up the groups until an octet ends the number. Nine of them stay below 2^63.
+#[inline(never)]
 fn first_number(bytes: &[u8]) -> Result<(u64, usize), SdnvFault>
     ensures { result ≡ read_of bytes.now }
 {

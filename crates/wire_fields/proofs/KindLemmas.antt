@@ -19,7 +19,7 @@ use Rattle.wire_fields.specs.declared.miss.Miss.{Miss}
 use Rattle.wire_fields.specs.declared.miss.Miss.TheVariants as misses
 use Rattle.wire_fields.specs.Kind.{Kind, octet, octets, number, head, unsigned_or_text, ValueOf, SpellsKind, SpellsLead, EndsInside}
 use Rattle.wire_fields.specs.Refusal.{IsAbsent}
-use Rattle.wire_fields.specs.Reading.{look, look_at, look_number, look_head, look_lead, IsOctets}
+use Rattle.wire_fields.specs.Reading.{look, look_number, look_head, look_lead, IsOctets}
 use Rattle.wire_fields.proofs.TextLemmas.{octets-drop}
 use Rattle.wire_fields.proofs.ResultLemmas.{found, found_is, ok_is}
 
@@ -281,7 +281,7 @@ head-within text rest at kind n k fits is there =
 
 -- a number of one octet
 pub number-one : (text : List ℕ) (at : ℕ) → at < length text → get_or text at 0 < 128
-    → Ok (get_or text at 0, at + 1) ≡ look_at number text at
+    → Ok (get_or text at 0, 1) ≡ read_of (drop at text)
 number-one text at there low =
     let here : drop at text ≡ get_or text at 0 ∷ drop (at + 1) text = drop_more text at 0 there in
-    rw (here, read_of-one (get_or text at 0) (drop (at + 1) text) low) refl
+    rw here (sym (read_of-one (get_or text at 0) (drop (at + 1) text) low))

@@ -1,6 +1,7 @@
 //! One field at a place in a text: its value and the place after it.
 
-ghost use Rattle.std.specs.Prelude.{◌≡◌, ◌≤◌, length, IfOk};
+ghost use Rattle.std.specs.Prelude.{◌≡◌, ◌+◌, ◌≤◌, length, drop, IfOk};
+ghost use Rattle.sdnv.specs.Reading.{read_of};
 ghost use Rattle.wire_fields.specs.Kind.{octet, octets, number, head, unsigned_or_text};
 ghost use Rattle.wire_fields.specs.Reading.{look_at};
 ghost use Rattle.wire_fields.specs.Gives.{Finds, IsOn};
@@ -55,26 +56,26 @@ pub fn number_at(text: &[u8], at: usize) -> Result<(u64, usize), Miss>
     ensures within { IfOk result (λ x. IsOn at text.now x.1) }
     ensures exact { result ≡ look_at number text.now at }
 {
-    // Most numbers have one octet: only others are left to a call.
-    if at < text.len() && text[at] < 128 {
-        return Ok((u64::from(text[at]), at + 1));
-    }
-    long_number_at(text, at)
-}
-
-/// The same, of however many octets.
-#[inline(never)]
-fn long_number_at(text: &[u8], at: usize) -> Result<(u64, usize), Miss>
-    requires { at ≤ length text.now }
-    ensures within { IfOk result (λ x. IsOn at text.now x.1) }
-    ensures exact { result ≡ look_at number text.now at }
-{
-    let (_, rest) = text.split_at(at);
-    match sdnv::read(rest) {
+    match number_ahead(text, at) {
         Ok((value, count)) => Ok((value, at + count)),
         Err(SdnvFault::Short) => Err(Miss::Truncated),
         Err(SdnvFault::TooLong | SdnvFault::TooLarge) => Err(Miss::Absent),
     }
+}
+
+/// The number at a place, and how many octets spell it. Most have one octet: only others are left to a
+/// call.
+#[inline(always)]
+fn number_ahead(text: &[u8], at: usize) -> Result<(u64, usize), SdnvFault>
+    requires { at ≤ length text.now }
+    ensures within { IfOk result (λ x. at + x.1 ≤ length text.now) }
+    ensures exact { result ≡ read_of (drop at text.now) }
+{
+    if at < text.len() && text[at] < 128 {
+        return Ok((u64::from(text[at]), 1));
+    }
+    let (_, rest) = text.split_at(at);
+    sdnv::read(rest)
 }
 
 /// The head of a CBOR item of this kind, 0 to 7, and the number that it says.

@@ -1,5 +1,5 @@
 use Rattle.wire_fields.proofs.KindLemmas.{number-one}
-use Rattle.wire_fields.proofs.field.number_at.Goals as goal
+use Rattle.wire_fields.proofs.field.number_ahead.Goals as goal
 
 pub returns-then-text-at-lt128-clause-exact : goal.returns-then-text-at-lt128-clause-exact
 returns-then-text-at-lt128-clause-exact c =

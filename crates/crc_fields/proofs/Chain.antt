@@ -1,8 +1,8 @@
--- From bits to octets to words of eight octets and pairs of words: what the register is after each,
--- by sums without carries. A kernel that takes still more octets at a time needs `take_text-met` alone.
+-- From bits to octets, words of four octets and quads of words: what the register is after each, by
+-- sums without carries. A kernel that takes still more octets at a time needs `take_text-met` alone.
 use Rattle.std.proofs.Common.{◌≡◌, ◌⊎◌, inl, inr, ℕ, zero, suc, ◌+◌, ◌*◌, ◌/◌, ◌%◌, ◌^◌, ◌<◌, List, [], ◌∷◌, ◌++◌, length, get_or, take, drop, replicate, refl, sym, ap, ◌∙◌, arith, append_assoc, pow-suc}
 use Rattle.std.specs.Int.Bits.{bit_xor, xor_assoc, xor_shifted, xor_zero_r, xor_self}
-use Rattle.std.specs.Int.{w64, w128, to_le_bytes, from_le_bytes, byte_at, byte_worth, bytes_low_first, sum_through}
+use Rattle.std.specs.Int.{w32, w128, to_le_bytes, from_le_bytes, byte_at, byte_worth, bytes_low_first, sum_through}
 use Rattle.std.proofs.Math.Nat.{div-eq_of_lt, div-div-eq-div-mul}
 use Rattle.std.proofs.lemmas.Nat.{xor_comm, xor_lt, xor_shr, xor_mod}
 use Rattle.std.proofs.lemmas.List.{take-append-drop, take_more}
@@ -153,7 +153,7 @@ bits_of-append (o ∷ u) v = ap (λ (x : List ℕ). octet_bits o ++ x) (bits_of-
 pub take_text-append : (p r : ℕ) (u v : List ℕ) → take_text p r (u ++ v) ≡ take_text p (take_text p r u) v
 take_text-append p r u v = ap (take_bits p r) (bits_of-append u v) ∙ take_bits-append p r (bits_of u) (bits_of v)
 
--- ---- eight octets, or as many as there are
+-- ---- as many octets as there are
 
 -- each item of a text is an octet
 pub data AreOctets : List ℕ → Type 0 where
@@ -283,43 +283,38 @@ octets_value-sum (o ∷ w) (suc k) size =
     sum-scaled (λ i. byte_worth (suc i) (get_or w i 0)) (λ i. byte_worth i (get_or w i 0)) k (λ i. worth-more i (get_or w i 0)) in
     omega (arith, rest, scaled, sum-first (λ i. byte_worth i (get_or (o ∷ w) i 0)) k)
 
-joined-word : (a b c d e f g h : ℕ)
-    → bit_xor (bit_xor (bit_xor (bit_xor (bit_xor (bit_xor (bit_xor e f) g) h) a) b) c) d
-    ≡ bit_xor a (bit_xor b (bit_xor c (bit_xor d (bit_xor e (bit_xor f (bit_xor g (bit_xor h 0)))))))
-joined-word a b c d e f g h =
-    let front : ℕ = bit_xor a (bit_xor b (bit_xor c d)) in
-    let back : ℕ = bit_xor e (bit_xor f (bit_xor g h)) in
-    let later : bit_xor (bit_xor (bit_xor (bit_xor (bit_xor (bit_xor (bit_xor e f) g) h) a) b) c) d ≡ bit_xor back front = simp xor_assoc in
-    later ∙ (xor_comm back front ∙ simp (xor_assoc, xor_zero_r))
+joined-word : (a b c d : ℕ)
+    → bit_xor (bit_xor (bit_xor a b) c) d
+    ≡ bit_xor a (bit_xor b (bit_xor c (bit_xor d 0)))
+joined-word a b c d = simp (xor_assoc, xor_zero_r)
 
--- eight entries of a table give the register after a word
-pub word : (p r number wide : ℕ) (w os : List ℕ) (a b c d e f g h : ℕ) → r < 2 ^ 32 → length w ≡ 8 → ((i : ℕ) → get_or w i 0 < 256)
-    → number ≡ from_le_bytes w64 w → number < 2 ^ 64 → wide ≡ r → os ≡ to_le_bytes w64 (bit_xor number wide)
-    → e ≡ after_zeros p 32 (get_or os 4 0) → f ≡ after_zeros p 24 (get_or os 5 0) → g ≡ after_zeros p 16 (get_or os 6 0) → h ≡ after_zeros p 8 (get_or os 7 0)
-    → a ≡ after_zeros p 64 (get_or os 0 0) → b ≡ after_zeros p 56 (get_or os 1 0) → c ≡ after_zeros p 48 (get_or os 2 0) → d ≡ after_zeros p 40 (get_or os 3 0)
-    → bit_xor (bit_xor (bit_xor (bit_xor (bit_xor (bit_xor (bit_xor e f) g) h) a) b) c) d ≡ take_text p r w
+-- four entries of a table give the register after a word
+pub word : (p r number wide : ℕ) (w os : List ℕ) (a b c d : ℕ) → r < 2 ^ 32 → length w ≡ 4 → ((i : ℕ) → get_or w i 0 < 256)
+    → number ≡ from_le_bytes w32 w → number < 2 ^ 32 → wide ≡ r → os ≡ to_le_bytes w32 (bit_xor number wide)
+    → a ≡ after_zeros p 32 (get_or os 0 0) → b ≡ after_zeros p 24 (get_or os 1 0) → c ≡ after_zeros p 16 (get_or os 2 0) → d ≡ after_zeros p 8 (get_or os 3 0)
+    → bit_xor (bit_xor (bit_xor a b) c) d ≡ take_text p r w
 unfolding sliced
-word p r number wide w os a b c d e f g h small_r size small is fits same octets he hf hg hh ha hb hc hd =
-    let value : octets_value w ≡ number = octets_value-sum w 7 size ∙ sym is in
-    let fitting : bit_xor number wide < 2 ^ 64 = xor_lt 64 number wide fits (omega arith) in
+word p r number wide w os a b c d small_r size small is fits same octets ha hb hc hd =
+    let value : octets_value w ≡ number = octets_value-sum w 3 size ∙ sym is in
+    let fitting : bit_xor number wide < 2 ^ 32 = xor_lt 32 number wide fits (omega arith) in
     let whole : bit_xor number wide / 256 ^ 0 ≡ bit_xor number wide = omega arith in
-    let met : octets_value (bytes_low_first 0 8 (bit_xor number wide)) ≡ bit_xor r (octets_value w) =
-    octets_value-low 0 8 (bit_xor number wide) (omega arith) ∙ (whole ∙ rw (value, same) (xor_comm number r)) in
-    let taken : take_text p r w ≡ sliced p (bytes_low_first 0 8 (bit_xor number wide)) =
-    take_text-met p r w (bytes_low_first 0 8 (bit_xor number wide)) (AreOctets-each w small) (bytes-are 0 8 (bit_xor number wide)) (sym size) met in
-    joined-word a b c d e f g h ∙ rw (he, hf, hg, hh, ha, hb, hc, hd, octets) (sym taken)
+    let met : octets_value (bytes_low_first 0 4 (bit_xor number wide)) ≡ bit_xor r (octets_value w) =
+    octets_value-low 0 4 (bit_xor number wide) (omega arith) ∙ (whole ∙ rw (value, same) (xor_comm number r)) in
+    let taken : take_text p r w ≡ sliced p (bytes_low_first 0 4 (bit_xor number wide)) =
+    take_text-met p r w (bytes_low_first 0 4 (bit_xor number wide)) (AreOctets-each w small) (bytes-are 0 4 (bit_xor number wide)) (sym size) met in
+    joined-word a b c d ∙ rw (ha, hb, hc, hd, octets) (sym taken)
 
-joined-pair : (a b c d e f g h i j k l m n o q : ℕ)
+joined-quad : (a b c d e f g h i j k l m n o q : ℕ)
     → bit_xor (bit_xor (bit_xor (bit_xor (bit_xor (bit_xor (bit_xor (bit_xor (bit_xor (bit_xor (bit_xor (bit_xor (bit_xor (bit_xor (bit_xor e f) g) h) i) j) k) l) m) n) o) q) a) b) c) d
     ≡ bit_xor a (bit_xor b (bit_xor c (bit_xor d (bit_xor e (bit_xor f (bit_xor g (bit_xor h (bit_xor i (bit_xor j (bit_xor k (bit_xor l (bit_xor m (bit_xor n (bit_xor o (bit_xor q 0)))))))))))))))
-joined-pair a b c d e f g h i j k l m n o q =
+joined-quad a b c d e f g h i j k l m n o q =
     let front : ℕ = bit_xor a (bit_xor b (bit_xor c d)) in
     let back : ℕ = bit_xor e (bit_xor f (bit_xor g (bit_xor h (bit_xor i (bit_xor j (bit_xor k (bit_xor l (bit_xor m (bit_xor n (bit_xor o q)))))))))) in
     let later : bit_xor (bit_xor (bit_xor (bit_xor (bit_xor (bit_xor (bit_xor (bit_xor (bit_xor (bit_xor (bit_xor (bit_xor (bit_xor (bit_xor (bit_xor e f) g) h) i) j) k) l) m) n) o) q) a) b) c) d ≡ bit_xor back front = simp xor_assoc in
     later ∙ (xor_comm back front ∙ simp (xor_assoc, xor_zero_r))
 
--- and sixteen the register after two words
-pub pair : (p r number wide : ℕ) (w os : List ℕ) (a b c d e f g h i j k l m n o q : ℕ) → r < 2 ^ 32 → length w ≡ 16 → ((i : ℕ) → get_or w i 0 < 256)
+-- and sixteen the register after four words
+pub quad : (p r number wide : ℕ) (w os : List ℕ) (a b c d e f g h i j k l m n o q : ℕ) → r < 2 ^ 32 → length w ≡ 16 → ((i : ℕ) → get_or w i 0 < 256)
     → number ≡ from_le_bytes w128 w → number < 2 ^ 128 → wide ≡ r → os ≡ to_le_bytes w128 (bit_xor number wide)
     → e ≡ after_zeros p 96 (get_or os 4 0) → f ≡ after_zeros p 88 (get_or os 5 0) → g ≡ after_zeros p 80 (get_or os 6 0) → h ≡ after_zeros p 72 (get_or os 7 0)
     → i ≡ after_zeros p 64 (get_or os 8 0) → j ≡ after_zeros p 56 (get_or os 9 0) → k ≡ after_zeros p 48 (get_or os 10 0) → l ≡ after_zeros p 40 (get_or os 11 0)
@@ -327,7 +322,7 @@ pub pair : (p r number wide : ℕ) (w os : List ℕ) (a b c d e f g h i j k l m 
     → a ≡ after_zeros p 128 (get_or os 0 0) → b ≡ after_zeros p 120 (get_or os 1 0) → c ≡ after_zeros p 112 (get_or os 2 0) → d ≡ after_zeros p 104 (get_or os 3 0)
     → bit_xor (bit_xor (bit_xor (bit_xor (bit_xor (bit_xor (bit_xor (bit_xor (bit_xor (bit_xor (bit_xor (bit_xor (bit_xor (bit_xor (bit_xor e f) g) h) i) j) k) l) m) n) o) q) a) b) c) d ≡ take_text p r w
 unfolding sliced
-pair p r number wide w os a b c d e f g h i j k l m n o q small_r size small is fits same octets he hf hg hh hi hj hk hl hm hn ho hq ha hb hc hd =
+quad p r number wide w os a b c d e f g h i j k l m n o q small_r size small is fits same octets he hf hg hh hi hj hk hl hm hn ho hq ha hb hc hd =
     let value : octets_value w ≡ number = octets_value-sum w 15 size ∙ sym is in
     let fitting : bit_xor number wide < 2 ^ 128 = xor_lt 128 number wide fits (omega arith) in
     let whole : bit_xor number wide / 256 ^ 0 ≡ bit_xor number wide = omega arith in
@@ -335,7 +330,7 @@ pair p r number wide w os a b c d e f g h i j k l m n o q small_r size small is 
     octets_value-low 0 16 (bit_xor number wide) (omega arith) ∙ (whole ∙ rw (value, same) (xor_comm number r)) in
     let taken : take_text p r w ≡ sliced p (bytes_low_first 0 16 (bit_xor number wide)) =
     take_text-met p r w (bytes_low_first 0 16 (bit_xor number wide)) (AreOctets-each w small) (bytes-are 0 16 (bit_xor number wide)) (sym size) met in
-    joined-pair a b c d e f g h i j k l m n o q ∙ rw (he, hf, hg, hh, hi, hj, hk, hl, hm, hn, ho, hq, ha, hb, hc, hd, octets) (sym taken)
+    joined-quad a b c d e f g h i j k l m n o q ∙ rw (he, hf, hg, hh, hi, hj, hk, hl, hm, hn, ho, hq, ha, hb, hc, hd, octets) (sym taken)
 
 -- ---- steps of the loops
 

@@ -53,7 +53,7 @@ impl Register32 {
     pub fn update(self, bytes: &[u8]) -> Register32
         ensures { result ≡ take_text 0x82F63B78 self bytes.now }
     {
-        let (register, rest) = take_pairs(self.register, bytes);
+        let (register, rest) = take_quads(self.register, bytes);
         let (register, rest) = take_words(register, rest);
         Register32 {
             register: take_octets(register, rest),
@@ -68,26 +68,27 @@ impl Register32 {
     }
 }
 
-/// Takes two words at a time, as long as there are two, and gives the octets that are left.
-fn take_pairs(start: u32, bytes: &[u8]) -> (u32, &[u8])
+/// Takes four words at a time, as long as there are four, and gives the octets that are left.
+fn take_quads(start: u32, bytes: &[u8]) -> (u32, &[u8])
     ensures { take_text 0x82F63B78 result.0 result.1.now ≡ take_text 0x82F63B78 start bytes.now }
 {
     let mut register = start;
     let mut rest = bytes;
-    'pairs: while let Some((pair, after)) = rest.split_first_chunk::<16>() {
-        register = take_pair(register, pair);
+    'quads: while let Some((quad, after)) = rest.split_first_chunk::<16>() {
+        register = take_quad(register, quad);
         rest = after;
     }
     (register, rest)
 }
 
-/// Takes eight octets at a time, as long as there are eight, and gives those that are left.
+/// Takes a word of four octets at a time, as long as there is one, and gives the octets that are
+/// left.
 fn take_words(start: u32, bytes: &[u8]) -> (u32, &[u8])
     ensures { take_text 0x82F63B78 result.0 result.1.now ≡ take_text 0x82F63B78 start bytes.now }
 {
     let mut register = start;
     let mut rest = bytes;
-    'words: while let Some((word, after)) = rest.split_first_chunk::<8>() {
+    'words: while let Some((word, after)) = rest.split_first_chunk::<4>() {
         register = take_word(register, word);
         rest = after;
     }
@@ -107,11 +108,11 @@ fn take_octets(start: u32, bytes: &[u8]) -> u32
 
 /// Takes sixteen octets at once: the register meets the first of them, and then each acts by the
 /// row of the table that has as many zeros as octets follow it.
-fn take_pair(register: u32, pair: &[u8; 16]) -> u32
-    ensures { result ≡ take_text 0x82F63B78 register pair.now }
+fn take_quad(register: u32, quad: &[u8; 16]) -> u32
+    ensures { result ≡ take_text 0x82F63B78 register quad.now }
 {
     // As a number the octets take two loads, and one by one as many as the tables do.
-    let met = u128::from_le_bytes(*pair) ^ u128::from(register);
+    let met = u128::from_le_bytes(*quad) ^ u128::from(register);
     let [a, b, c, d, e, f, g, h, i, j, k, l, m, n, o, p] = met.to_le_bytes();
     // The first come last, since they alone wait for the register.
     entry(11, e)
@@ -132,20 +133,13 @@ fn take_pair(register: u32, pair: &[u8; 16]) -> u32
         ^ entry(12, d)
 }
 
-/// The same of eight octets.
-fn take_word(register: u32, word: &[u8; 8]) -> u32
+/// The same of four octets.
+fn take_word(register: u32, word: &[u8; 4]) -> u32
     ensures { result ≡ take_text 0x82F63B78 register word.now }
 {
-    let met = u64::from_le_bytes(*word) ^ u64::from(register);
-    let [s, t, u, v, w, x, y, z] = met.to_le_bytes();
-    entry(3, w)
-        ^ entry(2, x)
-        ^ entry(1, y)
-        ^ entry(0, z)
-        ^ entry(7, s)
-        ^ entry(6, t)
-        ^ entry(5, u)
-        ^ entry(4, v)
+    let met = u32::from_le_bytes(*word) ^ register;
+    let [a, b, c, d] = met.to_le_bytes();
+    entry(3, a) ^ entry(2, b) ^ entry(1, c) ^ entry(0, d)
 }
 
 /// Takes one octet.

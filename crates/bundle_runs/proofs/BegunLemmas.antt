@@ -2,7 +2,6 @@
 use Rattle.std.proofs.Common.{◌≡◌, ℕ, zero, suc, ◌+◌, ◌<◌, List, [], ◌∷◌, ◌++◌, length, drop, slice_index, Option, None, Some, Result, Ok, Err, IfOk, refl, sym, ◌∙◌, ap, arith, length-append}
 use Rattle.std.proofs.lemmas.Bool.{ne_eqb}
 use Rattle.std.specs.declared.alloc.AllocError.{AllocError}
-use Rattle.edge_traits.specs.Settled.{goes_on}
 use Rattle.wire_fields.specs.Reading.{IsOctets}
 use Rattle.bundle_runs.specs.declared.front.Bundle.{Bundle}
 use Rattle.bundle_runs.specs.declared.front.Cause.TheVariants.{Version}

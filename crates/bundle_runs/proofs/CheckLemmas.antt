@@ -1,7 +1,6 @@
 -- What a judge of the bundle under way gives, beside a reading that keeps all octets.
 use Rattle.std.proofs.Common.{false, ◌≡◌, ℕ, ◌+◌, ◌<◌, ◌≤◌, List, [], length, slice_index, Option, None, Some, Result, Ok, Err, IfOk, IsSomeAnd, refl, ◌∙◌, ap, arith}
 use Rattle.std.specs.declared.alloc.AllocError.{AllocError}
-use Rattle.command_frame.specs.Task.{Finishes}
 use Rattle.wire_fields.specs.Reading.{IsOctets}
 use Rattle.bundle6.specs.declared.fault.Cause6.{Cause6}
 use Rattle.bundle6.specs.declared.fault.Fail6.TheVariants as fails6

@@ -1,5 +1,5 @@
 -- Where the reading of `show` stands.
-use Rattle.std.proofs.Common.{false, true, ◌≡◌, ℕ, ◌+◌, ◌<◌, ◌≤◌, Bool, eqb, List, [], ◌∷◌, ◌++◌, length, codes, slice_index, None, Some, Result, Ok, Err, if◌then◌else◌, refl, sym, ◌∙◌, ap, arith, append_assoc}
+use Rattle.std.proofs.Common.{false, true, ◌≡◌, ℕ, ◌<◌, ◌≤◌, Bool, eqb, List, [], ◌∷◌, ◌++◌, length, codes, slice_index, None, Some, Result, Ok, Err, if◌then◌else◌, refl, sym, ◌∙◌, ap, arith, append_assoc}
 use Rattle.std.proofs.lemmas.List.{append-nil, take_all}
 use Rattle.command_frame.specs.Task.{over}
 use Rattle.wire_fields.specs.Format.{Format}
@@ -18,9 +18,7 @@ use Rattle.bundle_runs.specs.declared.front.Bundle.{Bundle}
 use Rattle.bundle_runs.specs.declared.front.Bundle.TheVariants as bundles
 use Rattle.bundle_runs.specs.declared.front.Cause.{Cause}
 use Rattle.bundle_runs.specs.declared.front.Cause.TheVariants as causes
-use Rattle.bundle_runs.specs.Front.{Front, whole, refused, front_of, front_by, front6, front7, front_read, version_of}
-use Rattle.bundle_runs.specs.Given.{Finds, IsRead}
-use Rattle.bundle_runs.specs.declared.given.Given.TheVariants.{Whole}
+use Rattle.bundle_runs.specs.Front.{whole, refused, front_of, front_by, front6, front7, front_read, version_of}
 use Rattle.bundle_runs.specs.WrittenLines.{show_line}
 use Rattle.bundle_runs.specs.Showing.{OwesLine, BeginsLine}
 use Rattle.bundle_runs.proofs.FrontsLemmas.{front-within}

@@ -4,7 +4,7 @@ use Rattle.bundle_runs.specs.declared.front.Bundle.{Bundle}
 use Rattle.bundle_runs.specs.declared.given.Given.{Given}
 use Rattle.bundle_runs.specs.declared.given.Given.TheVariants.{Whole, Part, Refused}
 use Rattle.bundle_runs.specs.declared.unfinished.Unfinished.{Unfinished}
-use Rattle.bundle_runs.specs.declared.unfinished.Unfinished.TheVariants.{Six, Seven}
+use Rattle.bundle_runs.specs.declared.unfinished.Unfinished.TheVariants.{Seven}
 use Rattle.bundle_runs.specs.declared.begun.Begun.TheVariants as begins
 use Rattle.bundle_runs.specs.declared.coming.Coming.{Coming}
 use Rattle.bundle_runs.specs.declared.coming.Coming.TheVariants as comings

@@ -1,13 +1,15 @@
 //! `check`, which wants no bundle and keeps none, as the octets of its input come.
-ghost use Rattle.std.specs.Prelude.{◌≡◌, ◌+◌, ◌<◌, ◌≤◌, ◌++◌, None, [], length, slice_index, IfOk, OnErr};
+ghost use Rattle.std.specs.Prelude.{◌≡◌, ◌+◌, ◌<◌, ◌≤◌, ◌++◌, None, Some, [], length, slice_index, IfOk, OnOk, OnErr, IsSomeAnd};
 ghost use Rattle.std.specs.String.{string_bytes};
 ghost use Rattle.edge_traits.specs.Outcome.{IsAnswer};
 ghost use Rattle.command_frame.specs.Task.{Feeds, Finishes};
 ghost use Rattle.bundle_runs.specs.declared.commands.command.Command.TheVariants.{Check};
 ghost use Rattle.bundle_runs.specs.declared.bundle_reader.Standing.{Standing};
 ghost use Rattle.bundle_runs.specs.Answering.{settles_from};
-ghost use Rattle.bundle_runs.specs.Taking.{settling_of};
-ghost use Rattle.bundle_runs.specs.Checking.{IsNew, Shadows, IsShadowed, StandsChecking, with_judges, JudgedOn, ChecksOn};
+ghost use Rattle.bundle_runs.specs.declared.unfinished.Unfinished.{Unfinished};
+ghost use Rattle.bundle_runs.specs.Front.{front6};
+ghost use Rattle.bundle_runs.specs.Taking.{settling_of, IsCut, HasBegunWith};
+ghost use Rattle.bundle_runs.specs.Checking.{StandsFor, IsNew, Shadows, IsShadowed, StandsChecking, with_judges, JudgedOn, ChecksOn};
 
 use crate::begun::{Begun, begin6, judge7};
 use crate::bundle_reader::Next;
@@ -86,7 +88,7 @@ impl Task for CheckReader {
         match ends {
             Ok(None) => {}
             // The run has ended: nothing is kept any more.
-            _ => self.standing = Checking::new(self.alloc),
+            _ => self.standing.reset(self.alloc),
         }
         ends
     }
@@ -96,6 +98,8 @@ impl Task for CheckReader {
     }
 }
 
+// A judge has much room, and only a bundle that a piece's end cuts needs one made, moved or dropped. What
+// does that is in functions that aren't put in line: else the room is cleared for every bundle.
 impl Checking {
     /// No octet came.
     fn new(alloc: Global) -> Checking
@@ -109,6 +113,16 @@ impl Checking {
             begun: None,
             seven: Judge7::new(alloc),
         }
+    }
+
+    /// Forgets all that came.
+    #[cold]
+    #[inline(never)]
+    fn reset(&mut self, alloc: Global)
+        ensures is { self.new ≡ record { number = 1; at = 0; taken = 0; begun = None; seven = self.new.seven } }
+        ensures seven { IsNew self.new.seven }
+    {
+        *self = Checking::new(alloc);
     }
 
     /// Takes the next octets: `Refused` where they settle the run's end.
@@ -149,9 +163,8 @@ impl Checking {
                 self.number += 1;
                 self.at += self.taken + used;
                 self.taken = 0;
-                // To write none is to clear the room for a judge, so it isn't done for each bundle.
                 if self.begun.is_some() {
-                    self.begun = None;
+                    self.let_go();
                 }
                 Ok(Next::After(used))
             }
@@ -194,7 +207,7 @@ impl Checking {
         match left[0] {
             SIX => match judged6(left) {
                 Given::Part => {
-                    self.begun = Some(Begun::Six(begin6(alloc, left)?));
+                    self.keep6(alloc, left)?;
                     Ok(Given::Part)
                 }
                 given => Ok(given),
@@ -218,13 +231,46 @@ impl Checking {
         let given = judge7(&mut self.seven, left)?;
         match &given {
             Given::Whole(..) => self.seven.restart(),
-            Given::Part => {
-                let judge = mem::replace(&mut self.seven, Judge7::new(alloc));
-                self.begun = Some(Begun::Seven(judge));
-            }
+            Given::Part => self.keep7(alloc),
             Given::Refused(..) => {}
         }
         Ok(given)
+    }
+
+    /// Keeps the judge of the bundle of version 6 that some octets begin and don't end.
+    #[cold]
+    #[inline(never)]
+    fn keep6(&mut self, alloc: Global, octets: &[u8]) -> Result<(), AllocError>
+        requires some { 0 < length octets.now }
+        requires few { length octets.now ≤ 67108864 }
+        requires first { slice_index octets.now 0 ≡ 0x06 }
+        requires cut { IsCut (front6 octets.now) }
+        ensures same { OnOk result (self.new ≡ with_judges self.old self.new.begun self.old.seven) }
+        ensures begun { OnOk result (IsSomeAnd self.new.begun (λ begun. (bundle : Unfinished)
+            × StandsFor begun bundle × HasBegunWith octets.now bundle)) }
+    {
+        self.begun = Some(Begun::Six(begin6(alloc, octets)?));
+        Ok(())
+    }
+
+    /// Keeps the judge of the bundle of version 7 that it has begun, and makes another for the next.
+    #[cold]
+    #[inline(never)]
+    fn keep7(&mut self, alloc: Global)
+        ensures same { self.new ≡ with_judges self.old (Some (Begun.Seven self.old.seven)) self.new.seven }
+        ensures fresh { IsNew self.new.seven }
+    {
+        let judge = mem::replace(&mut self.seven, Judge7::new(alloc));
+        self.begun = Some(Begun::Seven(judge));
+    }
+
+    /// Lets go of the judge of the bundle that has ended.
+    #[cold]
+    #[inline(never)]
+    fn let_go(&mut self)
+        ensures { self.new ≡ with_judges self.old None self.old.seven }
+    {
+        self.begun = None;
     }
 
     /// The input ended.

@@ -1,5 +1,5 @@
-use Rattle.std.proofs.Common.{None, Some, false, [], ap, arith}
-use Rattle.bundle_runs.specs.declared.begun.Begun.TheVariants as begins
+use Rattle.std.proofs.Common.{None, false, [], ap, arith}
+use Rattle.bundle_runs.specs.declared.check_reader.Checking.{Checking}
 use Rattle.bundle_runs.proofs.CheckLemmas.{may-begin, judged-first}
 use Rattle.bundle_runs.proofs.check_reader.Checking.begin_seven.Goals as goal
 
@@ -23,8 +23,7 @@ returns-in-Part-clause-judged c = λ old shadows.
     judged-first c.args.self.now _ old c.judge7.new.judge c.args.left.now c.in_ok-given.given c.requires.none shadows
     (λ i. omega (arith, c.type_inv.left i)) c.requires.some c.requires.first
     (c.in_ok-given.ensures.judges _ (may-begin c.args.self.now old c.args.left.now shadows c.requires.few))
-    (rw c.in-Part.is (ap (λ j. Some (begins.Seven j)) c.replace-judge.ensures.value))
-    (rw (c.in-Part.is, c.replace-judge.ensures.after) (record { fresh = c.new.ensures.fresh; whole = c.new.ensures.whole; taken = c.new.ensures.taken }))
+    (rw c.in-Part.is (ap (λ (t : Checking). t.begun) c.keep7.ensures.same)) (rw c.in-Part.is c.keep7.ensures.fresh)
 
 pub returns-in-Refused-clause-judged : goal.returns-in-Refused-clause-judged
 returns-in-Refused-clause-judged c = λ old shadows.

@@ -38,7 +38,7 @@ pub returns-then-is_some : goal.returns-then-is_some
 returns-then-is_some c = λ old shadows.
     check-whole-of c.args.self.now old c.args.left.now shadows (λ i. omega (arith, c.type_inv.left i))
     c.requires.some c.requires.room c.judged.new.self _ c.in-Whole.version c.in-Whole.used _ _ c.in_ok-version.ensures.same
-    ((rw c.in-Whole.is at c.in_ok-version.ensures.judged) old shadows) c.in_ok-write_check-in-Whole.ensures refl
+    ((rw c.in-Whole.is at c.in_ok-version.ensures.judged) old shadows) c.in_ok-write_check-in-Whole.ensures c.let_go.ensures
 
 pub returns-else-is_some : goal.returns-else-is_some
 returns-else-is_some c = λ old shadows.

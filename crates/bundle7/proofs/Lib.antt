@@ -14,3 +14,4 @@ pub mod CuttingLemmas
 pub mod KeepingLemmas
 pub mod PassLemmas
 pub mod SumLemmas
+pub mod FieldLemmas

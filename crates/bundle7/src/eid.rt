@@ -161,6 +161,7 @@ fn scheme_at(text: &[u8], at: usize) -> Result<(u64, usize), Refused7>
 }
 
 /// What the scheme dtn has: 0 for nobody, or a text.
+#[inline(always)]
 #[tactic(auto, unfolding(crate::specs::Eid::dtn_name))]
 fn dtn_name_at(text: &[u8], at: usize) -> Result<(LentEndpoint<'_>, usize), Refused7>
     requires { at ≤ length text.now }

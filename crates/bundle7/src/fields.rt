@@ -1,12 +1,13 @@
 //! Single fields: their values, and the refusals of those that aren't there.
 
-ghost use Rattle.std.specs.Prelude.{◌≡◌, ◌≤◌, ◌==◌, length, IfOk};
+ghost use Rattle.std.specs.Prelude.{◌≡◌, ◌+◌, ◌*◌, ◌<◌, ◌≤◌, ◌==◌, length, slice_index, true, IfOk};
 ghost use Rattle.wire_fields.specs.Kind.{head};
 ghost use Rattle.wire_fields.specs.Format.{field, such_that};
 ghost use Rattle.wire_fields.specs.Refusal.{because};
 ghost use Rattle.wire_fields.specs.Reading.{read};
 ghost use Rattle.wire_fields.specs.Words.{needs, any_octets, any_unsigned, exact_octet};
 ghost use Rattle.wire_fields.specs.Gives.{Gives, IsOn};
+ghost use Rattle.bundle7.specs.Calls.{EndsAs};
 ghost use Rattle.bundle7.specs.Cause.{why, refused};
 
 use crate::fault::{Cause7, Refused7};
@@ -57,11 +58,42 @@ pub(crate) fn exactly(
     ensures exact { Gives (λ n. n) refused result
         (read (such_that (field (head major) cause) (λ n. needs (n == value) cause)) text.now at) }
 {
+    let after = after_exactly(text, at, major, value, cause)?;
+    Ok((value, after))
+}
+
+/// The place after the same head. One that is spelled in one octet is looked for as that octet.
+#[inline(always)]
+fn after_exactly(
+    text: &[u8],
+    at: usize,
+    major: u8,
+    value: u64,
+    cause: Cause7,
+) -> Result<usize, Refused7>
+    requires place { at ≤ length text.now }
+    requires cause { why cause ≡ because cause }
+    ensures within { IfOk result (IsOn at text.now) }
+    ensures exact { EndsAs refused value result
+        (read (such_that (field (head major) cause) (λ n. needs (n == value) cause)) text.now at) }
+{
+    if is_short(text, at, major, value) {
+        return Ok(at + 1);
+    }
     let (found, after) = item(text, at, major, cause)?;
     if found != value {
         return Err(cause.at(at));
     }
-    Ok((found, after))
+    Ok(after)
+}
+
+/// Whether the octet at a place is a head of this major type that says this number.
+#[inline(always)]
+fn is_short(text: &[u8], at: usize, major: u8, value: u64) -> bool
+    ensures { result ≡ true → (at < length text.now) × (value < 24)
+        × (slice_index text.now at ≡ 32 * major + value) }
+{
+    at < text.len() && value < 24 && u64::from(text[at]) == 32 * u64::from(major) + value
 }
 
 /// So many octets, lent out of the text.

@@ -84,9 +84,19 @@ fn number(information: u8, rest: &[u8]) -> Result<(u64, usize), CborFault>
     }
 }
 
-/// The same of a number that stands in the octets after the first.
-#[inline(never)]
+/// The same of a number that stands in the octets after the first. Room for a call's result is cleared
+/// where its caller begins: here that is on this way alone.
+#[inline(always)]
 fn number_behind(information: u8, rest: &[u8]) -> Result<(u64, usize), CborFault>
+    requires { 24 ≤ information }
+    ensures { result ≡ number_at information rest.now }
+{
+    wide_number(information, rest)
+}
+
+/// The same, called.
+#[inline(never)]
+fn wide_number(information: u8, rest: &[u8]) -> Result<(u64, usize), CborFault>
     requires { 24 ≤ information }
     ensures { result ≡ number_at information rest.now }
 {

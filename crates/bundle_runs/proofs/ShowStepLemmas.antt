@@ -9,6 +9,7 @@ use Rattle.command_frame.specs.Task.{Settling, Finishes}
 use Rattle.command_frame.specs.PartTask.{FeedsPart, LeavesFewer, TellsPart, IsDue}
 use Rattle.command_frame.proofs.WithinLemmas.{GoesOnTo-more}
 use Rattle.wire_fields.specs.Reading.{IsOctets}
+use Rattle.bundle7.specs.Streaming.{Reading}
 use Rattle.bundle_judges.specs.Judging6 as judging6
 use Rattle.bundle_json.specs.declared.telling6.Telling6.{Telling6}
 use Rattle.bundle_runs.specs.declared.commands.command.Command.TheVariants.{Show}
@@ -28,8 +29,8 @@ use Rattle.bundle_runs.specs.Answering.{settles_from}
 use Rattle.bundle_runs.specs.WrittenLines.{refused_line}
 use Rattle.bundle_runs.specs.Taking.{kept_of, kept_by, settling_of, IsReady, IsCut, HasBegun, IsSound, IsCutAt}
 use Rattle.bundle_runs.specs.Legal.{IsLegal}
-use Rattle.bundle_runs.specs.Coming.{ComesFor, ComesForAny, JudgedSo}
-use Rattle.bundle_runs.specs.Showing.{Owes, OwesLine, steps_due, ShowsAs, IsShowing, StandsShowing, KeepsOctets, KeepsOneBundle, parts_due, IsBundle, BeginsLine, ShowsStep, ShowsSoFar}
+use Rattle.bundle_runs.specs.Coming.{TookNone, ComesFor, ComesForAny, JudgedSo}
+use Rattle.bundle_runs.specs.Showing.{octets_of_six, Owes, OwesLine, steps_due, ShowsAs, IsShowing, StandsShowing, KeepsOctets, KeepsOneBundle, parts_due, IsBundle, BeginsLine, ShowsStep, ShowsSoFar}
 use Rattle.bundle_runs.proofs.TakingLemmas.{quiet, finish-none, finish-cut, cut-inside}
 use Rattle.bundle_runs.proofs.BegunLemmas.{front-kept}
 use Rattle.bundle_runs.proofs.ComingLemmas.{coming-some, coming-none}
@@ -41,69 +42,63 @@ pub some-old : (s : Showing) → s.telling ≡ None → IsShowing s → (old : S
 some-old s none (due, old, shows) = (old, no-due s due old none shows)
 
 -- octets of one bundle were judged, whatever reading it stands for
-abbrev Judges : Showing → List ℕ → Option Coming → Given (Option Bundle) → Type 0
-Judges s left begun given = (old : Standing) → ComesForAny s.begun old.unfinished → IsSound old → old.at + old.taken + length left ≤ 67108864
-    → JudgedSo old left begun given
+abbrev Judges : Showing → List ℕ → Option Coming → Reading → Given (Option Bundle) → Type 0
+Judges s left begun seven given = (old : Standing) → ComesForAny s.begun s.seven old.unfinished → IsSound old
+    → old.at + old.taken + length left ≤ 67108864 → JudgedSo old left begun seven given
 
 module _ (s : Showing) (left : List ℕ) (fits : IsOctets left) (some : 0 < length left) (none : s.telling ≡ None)
-    (room : s.at + length s.octets.items + length left ≤ 67108864) where
-  pub judged-for : (begun : Option Coming) (given : Given (Option Bundle)) → Judges s left begun given → (old : Standing) → ShowsAs s [] old → JudgedSo old left begun given
-  judged-for begun given judges old shows = judges old shows.bundle shows.sound (old-room s left fits some none room old shows)
+    (room : s.at + s.taken + length left ≤ 67108864) where
+  pub judged-for : (begun : Option Coming) (seven : Reading) (given : Given (Option Bundle)) → Judges s left begun seven given
+      → (old : Standing) → ShowsAs s [] old → JudgedSo old left begun seven given
+  judged-for begun seven given judges old shows = judges old shows.bundle shows.sound (old-room s left fits some none room old shows)
 
-  module _ (showing : IsShowing s) (begun : Option Coming) where
-    pub whole-inside-of : (found : Option Bundle) (used : ℕ) → Judges s left begun (Whole found used) → used ≤ length left
+  module _ (showing : IsShowing s) (begun : Option Coming) (seven : Reading) where
+    pub whole-inside-of : (found : Option Bundle) (used : ℕ) → Judges s left begun seven (Whole found used) → used ≤ length left
     whole-inside-of found used judges =
         let (old, shows) = some-old s none showing in
-        (inside-whole s left fits some none room old shows begun found used (judged-for begun (Whole found used) judges old shows)).1
+        (inside-whole s left fits some none room old shows begun seven found used (judged-for begun seven (Whole found used) judges old shows)).1
 
-    pub whole-room-of : (found : Option Bundle) (used : ℕ) → Judges s left begun (Whole found used)
-        → (s.at + length (s.octets.items ++ take used left) ≤ 67108864) × (s.number ≤ 67108864)
+    pub whole-room-of : (found : Option Bundle) (used : ℕ) → Judges s left begun seven (Whole found used)
+        → (s.at + (s.taken + used) ≤ 67108864) × (s.number ≤ 67108864)
     whole-room-of found used judges =
         let (old, shows) = some-old s none showing in
-        room-whole s left fits some none room old shows begun found used (judged-for begun (Whole found used) judges old shows)
+        room-whole s left fits some none room old shows begun seven found used (judged-for begun seven (Whole found used) judges old shows)
 
-    -- of a bundle that was read
-    pub read-room-of : (b : Bundle) (used : ℕ) → Judges s left begun (Whole (Some b) used) → s.at + (length s.octets.items + used) ≤ 67108864
-    read-room-of b used judges =
-        let there = whole-room-of (Some b) used judges in
-        let inside = whole-inside-of (Some b) used judges in
-        omega (arith, there.0, length-append s.octets.items (take used left), length-take-le used left inside)
-
-    pub read-legal-of : (b : Bundle) (used : ℕ) → Judges s left begun (Whole (Some b) used) → IsLegal b
+    pub read-legal-of : (b : Bundle) (used : ℕ) → Judges s left begun seven (Whole (Some b) used) → IsLegal b
     read-legal-of b used judges =
         let (old, shows) = some-old s none showing in
-        read-legal s left fits some none room old shows begun (Some b) used (judged-for begun (Whole (Some b) used) judges old shows) b refl
+        read-legal s left fits some none room old shows begun seven (Some b) used (judged-for begun seven (Whole (Some b) used) judges old shows) b refl
 
-    pub whole-bundle-of : (used : ℕ) → Judges s left begun (Whole None used) → (octets : List ℕ) → octets ≡ s.octets.items ++ take used left
+    pub whole-bundle-of : (used : ℕ) → Judges s left begun seven (Whole None used) → (octets : List ℕ) → octets ≡ s.octets.items ++ take used left
         → (b : Bundle) × IsBundle octets b
     whole-bundle-of used judges octets is =
         let (old, shows) = some-old s none showing in
-        let judged = judged-for begun (Whole None used) judges old shows in
-        (judged.took.finds.0, bundle-whole s left fits some none room old shows begun None used judged octets refl is)
+        let judged = judged-for begun seven (Whole None used) judges old shows in
+        (judged.took.finds.0, bundle-whole s left fits some none room old shows begun seven None used judged octets refl is)
 
-    pub refused-room-of : (at : ℕ) (cause : Cause) → Judges s left begun (Refused at cause) → s.at + at ≤ 67108864
+    pub refused-room-of : (at : ℕ) (cause : Cause) → Judges s left begun seven (Refused at cause) → s.at + at ≤ 67108864
     refused-room-of at cause judges =
         let (old, shows) = some-old s none showing in
-        room-refused s left fits some none room old shows begun at cause (judged-for begun (Refused at cause) judges old shows)
+        room-refused s left fits some none room old shows begun seven at cause (judged-for begun seven (Refused at cause) judges old shows)
 
 pub shows-kept : (s new : Showing) (left : List ℕ) (used : ℕ) (before now : List ℕ) → s.telling ≡ None → IsShowing s
-    → s.at + length s.octets.items + length left ≤ 67108864
+    → s.at + s.taken + length left ≤ 67108864
     → ((old : Standing) → ShowsAs s [] old → ShowsStep old left before new now (After used))
-    → IsShowing new × (new.telling ≡ None → new.at + length new.octets.items + length (drop used left) ≤ 67108864) × (0 < used) × (used ≤ length left)
+    → IsShowing new × (new.at + new.taken + length (drop used left) ≤ 67108864) × (0 < used) × (used ≤ length left)
 shows-kept s new left used before now none showing room step =
     let (old, shows) = some-old s none showing in
     let (some, inside, on) = step old shows in (
       (on.due, on.later, on.shows),
-      λ now_none. omega (
+      omega (
         arith,
         room,
         on.passed,
         length-take-le used left inside,
         inside,
         on.shows.place,
-        (kept-is new on.due on.later now_none on.shows).2,
+        on.shows.took,
         shows.place,
-        (kept-is s [] old none shows).2,
+        shows.took,
         length-drop used left,
       ),
       some,
@@ -175,23 +170,24 @@ so-far-due old s piece left before text used is so_far =
 
 -- ---- the start and the end
 
-pub shows-fresh : (s : Showing) → s.begun ≡ None → s.telling ≡ None → s.octets.items ≡ [] → s.at ≤ 67108864 → s.number ≤ s.at + 1
-    → ShowsAs s [] (record { command = Show; joiner = record { joins = []; spent = false }; number = s.number; at = s.at; taken = 0; unfinished = None })
-shows-fresh s none_begun none_told none_kept low counted = record {
+pub shows-fresh : (s : Showing) → s.taken ≡ 0 → s.begun ≡ None → s.telling ≡ None → s.octets.items ≡ [] → TookNone s.seven → s.at ≤ 67108864
+    → s.number ≤ s.at + 1 → ShowsAs s [] (record { command = Show; joiner = record { joins = []; spent = false }; number = s.number; at = s.at; taken = 0; unfinished = None })
+shows-fresh s none_taken none_begun none_told none_kept rests low counted = record {
   command = refl;
   number = refl;
   place = refl;
-  bundle = rw none_begun tt;
+  took = none_taken;
+  bundle = rw none_begun rests;
   kept = rw none_told none_kept;
   owes = rw none_told refl;
   sound = record { begun = tt; held = refl; within = omega (arith, low); counted = counted; memory = refl };
 }
 
-pub stands-start : (s : Showing) → s.number ≡ 1 → s.at ≡ 0 → s.begun ≡ None → s.telling ≡ None → s.octets.items ≡ []
-    → StandsShowing s [] (settles_from Show [] 1 0)
-stands-start s number place none_begun none_told none_kept = (
+pub stands-start : (s : Showing) → s.number ≡ 1 → s.at ≡ 0 → s.taken ≡ 0 → s.begun ≡ None → s.telling ≡ None → s.octets.items ≡ []
+    → TookNone s.seven → StandsShowing s [] (settles_from Show [] 1 0)
+stands-start s number place none_taken none_begun none_told none_kept rests = (
   record { command = Show; joiner = record { joins = []; spent = false }; number = s.number; at = s.at; taken = 0; unfinished = None },
-  shows-fresh s none_begun none_told none_kept (omega (arith, place)) (omega (arith, place, number)),
+  shows-fresh s none_taken none_begun none_told none_kept rests (omega (arith, place)) (omega (arith, place, number)),
   rw (number, place) refl,
 )
 
@@ -202,30 +198,31 @@ showing-counts s (due, old, shows) = (
 )
 
 -- places and counts stay, and nothing is kept any more
-pub showing-after : (s new : Showing) → IsShowing s → new.number ≡ s.number → new.at ≡ s.at → new.begun ≡ None → new.telling ≡ None → new.octets.items ≡ []
-    → IsShowing new
-showing-after s new showing number place none_begun none_told none_kept =
+pub showing-after : (s new : Showing) → IsShowing s → new.number ≡ s.number → new.at ≡ s.at → new.taken ≡ 0 → new.begun ≡ None
+    → new.telling ≡ None → new.octets.items ≡ [] → TookNone new.seven → IsShowing new
+showing-after s new showing number place none_taken none_begun none_told none_kept rests =
     let counts = showing-counts s showing in (
       [],
       record { command = Show; joiner = record { joins = []; spent = false }; number = new.number; at = new.at; taken = 0; unfinished = None },
-      shows-fresh new none_begun none_told none_kept (omega (arith, place, counts.0)) (omega (arith, place, number, counts.1)),
+      shows-fresh new none_taken none_begun none_told none_kept rests (omega (arith, place, counts.0)) (omega (arith, place, number, counts.1)),
     )
 
 -- a part was told, and the reading stands where it did
-showing-told : (s new : Showing) → new.number ≡ s.number → new.at ≡ s.at → new.begun ≡ s.begun → 0 < parts_due s
-    → (before now : List ℕ) → {due : List ℕ} → (line : BeginsLine due before new.telling new.octets.items now)
+showing-told : (s new : Showing) → new.number ≡ s.number → new.at ≡ s.at → new.taken ≡ s.taken → new.begun ≡ s.begun → new.seven ≡ s.seven
+    → 0 < parts_due s → (before now : List ℕ) → {due : List ℕ} → (line : BeginsLine due before new.telling new.octets.items now)
     → (old : Standing) → ShowsAs s due old → ShowsAs new line.due old
-showing-told s new number place same_begun some before now line old shows = record {
+showing-told s new number place took same_begun same_seven some before now line old shows = record {
   command = shows.command;
   number = number ∙ shows.number;
   place = place ∙ shows.place;
-  bundle = rw same_begun shows.bundle;
-  kept = line.none_begun ∙ nothing s.telling refl;
+  took = took ∙ shows.took;
+  bundle = rw (same_begun, same_seven) shows.bundle;
+  kept = rw (nothing s.telling refl) line.none_begun;
   owes = line.owes;
   sound = shows.sound;
 }
   where
-    nothing : (telling : Option Telling6) → s.telling ≡ telling → [] ≡ kept_by old.unfinished
+    nothing : (telling : Option Telling6) → s.telling ≡ telling → old.unfinished ≡ None
     nothing None none =
         let zero : 0 < 0 = rw none at some in
         absurd (omega (arith, zero))
@@ -238,9 +235,26 @@ nothing-due : (telling : Option Telling6) (octets due : List ℕ) → steps_due 
 nothing-due None octets due none owes = owes
 nothing-due (Some telling) octets due none owes = absurd (omega (arith, none, owes.some))
 
+-- nothing but the line that is told and its octets differ
+abbrev pub with_line_of : Showing → Showing → Showing
+with_line_of new s = record {
+  number = s.number;
+  at = s.at;
+  taken = s.taken;
+  begun = s.begun;
+  telling = new.telling;
+  octets = new.octets;
+  seven = s.seven;
+}
+
 module _ (s new : Showing) (before now : List ℕ) (some : 0 < parts_due s) where
+  told-on : new ≡ with_line_of new s → {due : List ℕ} → (line : BeginsLine due before new.telling new.octets.items now)
+      → (old : Standing) → ShowsAs s due old → ShowsAs new line.due old
+  told-on same = showing-told s new (ap (λ (t : Showing). t.number) same) (ap (λ (t : Showing). t.at) same) (ap (λ (t : Showing). t.taken) same)
+      (ap (λ (t : Showing). t.begun) same) (ap (λ (t : Showing). t.seven) same) some before now
+
   pub tells-part : (result : Result Bool AllocError)
-      → IfOk result (λ more. new ≡ record { number = s.number; at = s.at; begun = s.begun; telling = new.telling; octets = new.octets })
+      → IfOk result (λ more. new ≡ with_line_of new s)
       → ((due : List ℕ) → Owes s.telling s.octets.items due → IfOk result (λ more. BeginsLine due before new.telling new.octets.items now))
       → IfOk result (LeavesFewer (parts_due s) (parts_due new))
       → (due : List ℕ) (settles : Settling) → StandsShowing s due settles → IfOk result (TellsPart (StandsShowing new) settles due before now)
@@ -254,8 +268,7 @@ module _ (s new : Showing) (before now : List ℕ) (some : 0 < parts_due s) wher
         parts = line.parts;
         stands = (
           old,
-          (showing-told s new (ap (λ (t : Showing). t.number) same) (ap (λ (t : Showing). t.at) same) (ap (λ (t : Showing). t.begun) same) some
-              before now line old shows),
+          told-on same line old shows,
           is,
         );
         last = λ none.
@@ -264,7 +277,7 @@ module _ (s new : Showing) (before now : List ℕ) (some : 0 < parts_due s) wher
       }
 
   pub showing-tell : (result : Result Bool AllocError) → is_err result ≡ false → IsShowing s
-      → IfOk result (λ more. new ≡ record { number = s.number; at = s.at; begun = s.begun; telling = new.telling; octets = new.octets })
+      → IfOk result (λ more. new ≡ with_line_of new s)
       → ((due : List ℕ) → Owes s.telling s.octets.items due → IfOk result (λ more. BeginsLine due before new.telling new.octets.items now))
       → IsShowing new
   showing-tell (Err e) ok showing same told = absurd (cc)
@@ -272,22 +285,21 @@ module _ (s new : Showing) (before now : List ℕ) (some : 0 < parts_due s) wher
       let line = told due shows.owes in (
         line.due,
         old,
-        showing-told s new (ap (λ (t : Showing). t.number) same) (ap (λ (t : Showing). t.at) same) (ap (λ (t : Showing). t.begun) same) some
-            before now line old shows,
+        told-on same line old shows,
       )
 
 pub show-finish-none : (s : Showing) (old : Standing) (text : List ℕ) → s.begun ≡ None → ShowsAs s [] old → Finishes (settling_of old) text text statuses.Done
-show-finish-none s old text is shows = finish-none old text (ap kept_by (coming-none old.unfinished (rw is at shows.bundle)))
+show-finish-none s old text is shows = finish-none old text (ap kept_by (coming-none s.seven old.unfinished (rw is at shows.bundle)).0)
 
 begun-bundle : (s : Showing) (old : Standing) (begun : Coming) → s.begun ≡ Some begun → ShowsAs s [] old
-    → (bundle : Unfinished) × (old.unfinished ≡ Some bundle) × ComesFor begun bundle × IsReady bundle
+    → (bundle : Unfinished) × (old.unfinished ≡ Some bundle) × ComesFor begun s.seven bundle × IsReady bundle
 begun-bundle s old begun is shows =
-    let (bundle, some, stands) = coming-some begun old.unfinished (rw is at shows.bundle) in
+    let (bundle, some, stands) = coming-some s.seven begun old.unfinished (rw is at shows.bundle) in
     let has : HasBegun bundle = rw some at shows.sound.begun in
     (bundle, some, stands, has.ready)
 
 pub show-finish-room : (s : Showing) (begun : Coming) (at : ℕ) → s.telling ≡ None → IsShowing s → s.begun ≡ Some begun
-    → ((bundle : Unfinished) → ComesFor begun bundle → IsReady bundle → IsCutAt bundle (Some at)) → s.at + at ≤ 67108864
+    → ((bundle : Unfinished) → ComesFor begun s.seven bundle → IsReady bundle → IsCutAt bundle (Some at)) → s.at + at ≤ 67108864
 show-finish-room s begun at none showing is cut =
     let (old, shows) = some-old s none showing in
     let (bundle, some, stands, ready) = begun-bundle s old begun is shows in
@@ -297,7 +309,7 @@ show-finish-room s begun at none showing is cut =
     omega (arith, inside, held, shows.sound.within, shows.place)
 
 pub show-finish-cut : (s : Showing) (old : Standing) (begun : Coming) (at : ℕ) (before now : List ℕ) → s.begun ≡ Some begun → ShowsAs s [] old
-    → ((bundle : Unfinished) → ComesFor begun bundle → IsReady bundle → IsCutAt bundle (Some at))
+    → ((bundle : Unfinished) → ComesFor begun s.seven bundle → IsReady bundle → IsCutAt bundle (Some at))
     → now ≡ before ++ refused_line s.number (s.at + at) (codes "Truncated") → Finishes (settling_of old) before now statuses.Refused
 show-finish-cut s old begun at before now is shows cut added =
     let (bundle, some, stands, ready) = begun-bundle s old begun is shows in
@@ -311,38 +323,43 @@ show-finish-cut s old begun at before now is shows cut added =
 pub keeps-one : (s : Showing) → IsShowing s → KeepsOneBundle s
 keeps-one s (due, old, shows) = by_telling s.telling s.begun refl refl
   where
-    by_bundle : (bundle : Unfinished) → old.unfinished ≡ Some bundle → s.octets.items ≡ kept_by old.unfinished → IsCut (front_of s.octets.items)
-    by_bundle bundle is kept =
+    -- where nothing has begun
+    none-begun : old.unfinished ≡ None → (begun : Option Coming) → s.begun ≡ begun → (begun ≡ None) × (s.seven.stream.kept ≡ [])
+    none-begun none None began =
+        let (same, rests) = coming-none s.seven old.unfinished (rw began at shows.bundle) in
+        (refl, ap (λ (r : Reading). r.stream.kept) rests)
+    none-begun none (Some coming) began =
+        let (bundle, is, comes) = coming-some s.seven coming old.unfinished (rw began at shows.bundle) in
+        absurd (cc)
+
+    cut : (bundle : Unfinished) → old.unfinished ≡ Some bundle → IsCut (front_of (kept_of bundle))
+    cut bundle is =
         let has : HasBegun bundle = rw is at shows.sound.begun in
-        let same : s.octets.items ≡ kept_of bundle = kept ∙ ap kept_by is in
-        rw same (rw (front-kept bundle has) has.cut)
+        rw (front-kept bundle has) has.cut
 
-    -- of a bundle that has begun octets came
-    none-begun : (begun : Option Coming) → s.begun ≡ begun → [] ≡ kept_by old.unfinished → begun ≡ None
-    none-begun None began none = refl
-    none-begun (Some coming) began none =
-        let (bundle, is, comes) = coming-some coming old.unfinished (rw began at shows.bundle) in
-        let has : HasBegun bundle = rw is at shows.sound.begun in
-        let nothing : [] ≡ kept_of bundle = none ∙ ap kept_by is in
-        absurd (omega (arith, has.some, ap length nothing))
+    six : (judge : judging6.Judging) (bundle : Unfinished) → old.unfinished ≡ Some bundle → ComesFor (comings.Six judge) s.seven bundle
+        → s.octets.items ≡ octets_of_six old.unfinished → IsCut (front_of s.octets.items) × judging6.KeepsLittle judge.stand × (s.seven.stream.kept ≡ [])
+    six judge (Six reader) is comes kept =
+        let same : s.octets.items ≡ reader.stream.kept = kept ∙ ap octets_of_six is in
+        (rw same (cut (Six reader) is), comes.0.2.keeps, ap (λ (r : Reading). r.stream.kept) comes.1)
+    six judge (Seven reader) is comes kept = absurd comes.0
 
-    little : (judge : judging6.Judging) (bundle : Unfinished) → ComesFor (comings.Six judge) bundle → judging6.KeepsLittle judge.stand
-    little judge (Six reader) comes = comes.2.keeps
-    little judge (Seven reader) comes = absurd comes
-
-    by_telling : (telling : Option Telling6) (begun : Option Coming) → s.telling ≡ telling → s.begun ≡ begun → KeepsOctets telling begun s.octets.items
+    by_telling : (telling : Option Telling6) (begun : Option Coming) → s.telling ≡ telling → s.begun ≡ begun
+        → KeepsOctets telling begun s.octets.items s.seven.stream.kept
     by_telling (Some telling) begun told began =
         let owes : OwesLine s.octets.items telling due = rw told at shows.owes in
-        let kept : [] ≡ kept_by old.unfinished = rw told at shows.kept in
-        (owes.bundle, owes.spells, none-begun begun began kept)
+        let none : old.unfinished ≡ None = rw told at shows.kept in
+        let nothing = none-begun none begun began in
+        ((owes.bundle, owes.spells), nothing.0, nothing.1)
     by_telling None None told began =
-        let kept : s.octets.items ≡ kept_by old.unfinished = rw told at shows.kept in
-        kept ∙ ap kept_by (coming-none old.unfinished (rw began at shows.bundle))
+        let kept : s.octets.items ≡ octets_of_six old.unfinished = rw told at shows.kept in
+        let (none, rests) = coming-none s.seven old.unfinished (rw began at shows.bundle) in
+        (kept ∙ ap octets_of_six none, ap (λ (r : Reading). r.stream.kept) rests)
     by_telling None (Some (comings.Six judge)) told began =
-        let kept : s.octets.items ≡ kept_by old.unfinished = rw told at shows.kept in
-        let (bundle, is, comes) = coming-some (comings.Six judge) old.unfinished (rw began at shows.bundle) in
-        (by_bundle bundle is kept, little judge bundle comes)
-    by_telling None (Some (comings.Seven reader)) told began =
-        let kept : s.octets.items ≡ kept_by old.unfinished = rw told at shows.kept in
-        let (bundle, is, comes) = coming-some (comings.Seven reader) old.unfinished (rw began at shows.bundle) in
-        (by_bundle bundle is kept, sym (kept ∙ ap kept_by is ∙ ap kept_of comes))
+        let kept : s.octets.items ≡ octets_of_six old.unfinished = rw told at shows.kept in
+        let (bundle, is, comes) = coming-some s.seven (comings.Six judge) old.unfinished (rw began at shows.bundle) in
+        six judge bundle is comes kept
+    by_telling None (Some comings.Seven) told began =
+        let kept : s.octets.items ≡ octets_of_six old.unfinished = rw told at shows.kept in
+        let (bundle, is, comes) = coming-some s.seven comings.Seven old.unfinished (rw began at shows.bundle) in
+        (kept ∙ ap octets_of_six (is ∙ ap Some comes), cut (Seven s.seven) (is ∙ ap Some comes))

@@ -13,12 +13,14 @@ use Rattle.bundle_runs.specs.declared.commands.command.Command.TheVariants.{Show
 use Rattle.bundle_runs.specs.declared.front.Bundle.{Bundle}
 use Rattle.bundle_runs.specs.declared.coming.Coming.{Coming}
 use Rattle.bundle_runs.specs.declared.coming.Coming.TheVariants as comings
+use Rattle.bundle_runs.specs.declared.unfinished.Unfinished.{Unfinished}
+use Rattle.bundle_runs.specs.declared.unfinished.Unfinished.TheVariants.{Six, Seven}
 use Rattle.bundle_runs.specs.declared.bundle_reader.Standing.{Standing}
 use Rattle.bundle_runs.specs.declared.bundle_reader.Next.{Next}
 use Rattle.bundle_runs.specs.declared.bundle_reader.Next.TheVariants.{After, End}
 use Rattle.bundle_runs.specs.declared.show_reader.Showing.{Showing}
 use Rattle.bundle_runs.specs.Front.{whole, front_of, version_of}
-use Rattle.bundle_runs.specs.Taking.{kept_by, settling_of, IsCut, IsSound, EndsWith}
+use Rattle.bundle_runs.specs.Taking.{settling_of, IsCut, IsSound, EndsWith}
 use Rattle.bundle_runs.specs.Coming.{ComesForAny}
 
 -- ---- the line of a bundle
@@ -42,22 +44,31 @@ abbrev pub steps_due : Option Telling6 → List ℕ → ℕ
 steps_due None octets = 0
 steps_due (Some telling) octets = steps_left octets telling
 
--- the octets that are kept of the bundle that has begun: none while the one before it is told
-abbrev pub begun_octets : Option Telling6 → List ℕ → List ℕ
-begun_octets None octets = octets
-begun_octets (Some telling) octets = []
+-- the octets of a bundle that has begun, if it is of version 6
+abbrev pub octets_of_six : Option Unfinished → List ℕ
+octets_of_six None = []
+octets_of_six (Some (Six reader)) = reader.stream.kept
+octets_of_six (Some (Seven reader)) = []
 
--- The octets that are kept are those of the bundle of version 6 that is told, and nothing has begun. Or
--- else they are those that came of the bundle that has begun: beside them a judge of version 6 keeps the
--- primary block and a few octets, and a reader of version 7 the same octets. Or there are none.
-abbrev pub KeepsOctets : Option Telling6 → Option Coming → List ℕ → Type 0
-KeepsOctets (Some telling) begun octets = (bundle : Bundle6) × Spells6 bundle octets × (begun ≡ None)
-KeepsOctets None (Some (comings.Six judge)) octets = IsCut (front_of octets) × KeepsLittle judge.stand
-KeepsOctets None (Some (comings.Seven reader)) octets = IsCut (front_of octets) × (reader.stream.kept ≡ octets)
-KeepsOctets None None octets = octets ≡ []
+-- they are kept where no bundle is told, and while one is, none has begun
+abbrev pub HoldsBegun : Option Telling6 → List ℕ → Option Unfinished → Type 0
+HoldsBegun None octets unfinished = octets ≡ octets_of_six unfinished
+HoldsBegun (Some telling) octets unfinished = unfinished ≡ None
+
+-- The octets that are kept, and those that the reader of version 7 keeps. They are those of the bundle
+-- of version 6 that is told, and nothing has begun. Or they are those that came of the bundle that has
+-- begun: of version 6, beside which a judge keeps the primary block and a few octets, or of version 7,
+-- which the reader alone keeps. Or there are none.
+abbrev pub KeepsOctets : Option Telling6 → Option Coming → List ℕ → List ℕ → Type 0
+KeepsOctets (Some telling) begun octets read =
+    ((bundle : Bundle6) × Spells6 bundle octets) × (begun ≡ None) × (read ≡ [])
+KeepsOctets None (Some (comings.Six judge)) octets read =
+    IsCut (front_of octets) × KeepsLittle judge.stand × (read ≡ [])
+KeepsOctets None (Some comings.Seven) octets read = (octets ≡ []) × IsCut (front_of read)
+KeepsOctets None None octets read = (octets ≡ []) × (read ≡ [])
 
 abbrev pub KeepsOneBundle : Showing → Type 0
-KeepsOneBundle s = KeepsOctets s.telling s.begun s.octets.items
+KeepsOneBundle s = KeepsOctets s.telling s.begun s.octets.items s.seven.stream.kept
 
 -- ---- the input
 
@@ -66,8 +77,9 @@ pub record ShowsAs (s : Showing) (due : List ℕ) (standing : Standing) : Type 0
   pub command : standing.command ≡ Show
   pub number : s.number ≡ standing.number
   pub place : s.at ≡ standing.at
-  pub bundle : ComesForAny s.begun standing.unfinished
-  pub kept : begun_octets s.telling s.octets.items ≡ kept_by standing.unfinished
+  pub took : s.taken ≡ standing.taken
+  pub bundle : ComesForAny s.begun s.seven standing.unfinished
+  pub kept : HoldsBegun s.telling s.octets.items standing.unfinished
   pub owes : Owes s.telling s.octets.items due
   pub sound : IsSound standing
 
@@ -84,6 +96,12 @@ parts_due s = steps_due s.telling s.octets.items
 
 -- ---- a step
 
+-- the octets that are kept once more came of the bundle that has begun
+abbrev pub octets_with : Option Coming → List ℕ → List ℕ → List ℕ
+octets_with (Some (comings.Six judge)) octets more = octets ++ more
+octets_with (Some comings.Seven) octets more = octets
+octets_with None octets more = octets
+
 -- the octets that are kept are those of a bundle of version 6
 pub record IsBundle (octets : List ℕ) (b : Bundle) : Type 0 where
   pub named : 6 ≡ version_of b
@@ -97,7 +115,7 @@ pub record BeginsLine (line before : List ℕ) (telling : Option Telling6) (octe
   pub added : now ≡ before ++ text
   pub parts : line ≡ text ++ due
   pub owes : Owes telling octets due
-  pub none_begun : begun_octets telling octets ≡ []
+  pub none_begun : HoldsBegun telling octets None
 
 -- octets were taken, and text that they settle was added to the text before
 pub record ShowsOn (old : Standing) (taken before : List ℕ) (new : Showing) (now : List ℕ) : Type 0 where

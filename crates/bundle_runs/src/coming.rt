@@ -1,9 +1,10 @@
 //! The bundle that has begun, and is to be shown.
-ghost use Rattle.std.specs.Prelude.{◌≡◌, ◌+◌, ◌<◌, ◌≤◌, None, length, slice_index, IfOk};
+ghost use Rattle.std.specs.Prelude.{◌≡◌, ◌+◌, ◌<◌, ◌≤◌, None, Some, length, slice_index, IfOk, OnOk, IsSomeAnd};
 ghost use Rattle.bundle_runs.specs.declared.unfinished.Unfinished.{Unfinished};
 ghost use Rattle.bundle_runs.specs.declared.bundle_reader.Standing.{Standing};
-ghost use Rattle.bundle_runs.specs.Taking.{IsReady, IsSound, IsCutAt};
-ghost use Rattle.bundle_runs.specs.Coming.{ComesFor, ComesForAny, MayCome, ComesMore, JudgedSo, shown6, shown7};
+ghost use Rattle.bundle_runs.specs.Front.{front6};
+ghost use Rattle.bundle_runs.specs.Taking.{kept_of, IsReady, IsCut, IsSound, IsCutAt};
+ghost use Rattle.bundle_runs.specs.Coming.{TookNone, ComesFor, ComesForAny, BeginsSix, MayCome, ReadsOn, ComesMore, JudgedSo, shown6, shown7};
 
 use crate::begun::{begin6, judge6};
 use crate::front::{Bundle, Cause};
@@ -19,34 +20,39 @@ use std::alloc::{AllocError, Global};
 pub enum Coming {
     /// The judge of one of version 6, which is told out of its octets.
     Six(Judge6),
-    /// The reader of one of version 7.
-    Seven(Reader7),
+    /// The reader of those of version 7.
+    Seven,
 }
 
 impl Coming {
     /// Takes a piece, up to the end of the bundle where it has that. One of version 7 is built then.
-    pub fn feed(&mut self, piece: &[u8]) -> Result<Given<Option<Bundle>>, AllocError>
-        requires { (bundle : Unfinished) × MayCome self.old piece.now bundle }
-        ensures { (bundle : Unfinished) → MayCome self.old piece.now bundle
-            → IfOk result (ComesMore bundle piece.now self.new) }
+    pub fn feed(
+        &mut self,
+        reader: &mut Reader7,
+        piece: &[u8],
+    ) -> Result<Given<Option<Bundle>>, AllocError>
+        requires { (bundle : Unfinished) × MayCome self.old reader.old piece.now bundle }
+        ensures { (bundle : Unfinished) → MayCome self.old reader.old piece.now bundle
+            → IfOk result (ComesMore bundle piece.now self.new reader.new) }
     {
         match self {
             Coming::Six(judge) => {
                 let given = judge6(judge, piece)?;
                 Ok(shown6(given))
             }
-            Coming::Seven(reader) => {
-                let given = feed7(reader, piece)?;
+            Coming::Seven => {
+                let given = feed_seven(reader, piece)?;
                 Ok(shown7(given))
             }
         }
     }
 
-    /// The place of the field in which the octets end, where there are any.
-    pub fn finish(&mut self) -> Option<usize>
-        requires { (bundle : Unfinished) × ComesFor self.old bundle × IsReady bundle }
-        ensures { (bundle : Unfinished) → ComesFor self.old bundle → IsReady bundle
+    /// The place of the field in which the octets end, where there are any. The reader lets go of them.
+    pub fn finish(&mut self, reader: &mut Reader7) -> Option<usize>
+        requires { (bundle : Unfinished) × ComesFor self.old reader.old bundle × IsReady bundle }
+        ensures cut { (bundle : Unfinished) → ComesFor self.old reader.old bundle → IsReady bundle
             → IsCutAt bundle result }
+        ensures rests { TookNone reader.new }
     {
         match self {
             Coming::Six(judge) => match judge.finish() {
@@ -54,78 +60,128 @@ impl Coming {
                 Err(Fail6::Refused { at, .. }) => Some(at),
                 Err(Fail6::Memory) => None,
             },
-            Coming::Seven(reader) => match reader.finish() {
-                Err(Fail7::Refused { at, .. }) => Some(at),
-                _ => None,
-            },
+            Coming::Seven => finish_seven(reader),
         }
     }
 }
 
-/// Takes octets of one bundle, which has begun or begins with them.
+/// Takes a piece of a bundle of version 7, up to its end where it has that: then the reader lets go of it.
+fn feed_seven(reader: &mut Reader7, piece: &[u8]) -> Result<Given<Bundle>, AllocError>
+    requires ready { IsReady (Unfinished.Seven reader.old) }
+    requires few { length (kept_of (Unfinished.Seven reader.old)) + length piece.now ≤ 67108864 }
+    ensures { IfOk result (ReadsOn reader.old piece.now reader.new) }
+{
+    let given = feed7(reader, piece)?;
+    match &given {
+        Given::Whole(..) => reader.restart(),
+        Given::Part => {}
+        Given::Refused(..) => {}
+    }
+    Ok(given)
+}
+
+/// The place of the field of a bundle of version 7 in which the octets end, where there are any.
+fn finish_seven(reader: &mut Reader7) -> Option<usize>
+    requires { IsReady (Unfinished.Seven reader.old) }
+    ensures cut { IsCutAt (Unfinished.Seven reader.old) result }
+    ensures rests { TookNone reader.new }
+{
+    let ends = reader.finish();
+    reader.restart();
+    match ends {
+        Err(Fail7::Refused { at, .. }) => Some(at),
+        _ => None,
+    }
+}
+
+/// Takes octets of one bundle, which has begun or begins with them. The reader is that of bundles of
+/// version 7.
 pub fn come(
     coming: &mut Option<Coming>,
+    reader: &mut Reader7,
     alloc: Global,
     left: &[u8],
 ) -> Result<Given<Option<Bundle>>, AllocError>
     requires some { 0 < length left.now }
-    requires sound { (old : Standing) × ComesForAny coming.old old.unfinished × IsSound old
+    requires sound { (old : Standing) × ComesForAny coming.old reader.old old.unfinished × IsSound old
         × (old.at + old.taken + length left.now ≤ 67108864) }
-    ensures { (old : Standing) → ComesForAny coming.old old.unfinished → IsSound old
-        → old.at + old.taken + length left.now ≤ 67108864 → IfOk result (JudgedSo old left.now coming.new) }
+    ensures { (old : Standing) → ComesForAny coming.old reader.old old.unfinished → IsSound old
+        → old.at + old.taken + length left.now ≤ 67108864
+        → IfOk result (JudgedSo old left.now coming.new reader.new) }
 {
     match coming {
-        Some(bundle) => bundle.feed(left),
-        None => begin(coming, alloc, left),
+        Some(bundle) => bundle.feed(reader, left),
+        None => begin(coming, reader, alloc, left),
     }
 }
 
-/// The same, where none has begun. What takes it is kept where they don't end it; one of version 6 that
-/// they end is judged where it lies.
+/// The same, where none has begun. One of version 6 that the octets end is judged where it lies.
 fn begin(
     coming: &mut Option<Coming>,
+    reader: &mut Reader7,
     alloc: Global,
     left: &[u8],
 ) -> Result<Given<Option<Bundle>>, AllocError>
     requires none { coming.old ≡ None }
+    requires rests { TookNone reader.old }
     requires some { 0 < length left.now }
     requires few { length left.now ≤ 67108864 }
-    ensures { (old : Standing) → old.unfinished ≡ None → IfOk result (JudgedSo old left.now coming.new) }
+    ensures { (old : Standing) → old.unfinished ≡ None
+        → IfOk result (JudgedSo old left.now coming.new reader.new) }
 {
     match left[0] {
         SIX => match judged6(left) {
             Given::Part => {
-                *coming = Some(Coming::Six(begin6(alloc, left)?));
+                begin_six(coming, alloc, left)?;
                 Ok(Given::Part)
             }
             given => Ok(shown6(given)),
         },
-        SEVEN => begin_seven(coming, alloc, left),
+        SEVEN => {
+            let given = feed_seven(reader, left)?;
+            match &given {
+                Given::Part => begin_seven(coming),
+                _ => {}
+            }
+            Ok(shown7(given))
+        }
         _ => Ok(Given::Refused(0, Cause::Version)),
     }
 }
 
-/// The same of a bundle of version 7: its reader takes it from its first octet on, so that a block is
-/// summed once.
-fn begin_seven(
-    coming: &mut Option<Coming>,
-    alloc: Global,
-    left: &[u8],
-) -> Result<Given<Option<Bundle>>, AllocError>
-    requires some { 0 < length left.now }
-    requires few { length left.now ≤ 67108864 }
-    requires first { slice_index left.now 0 ≡ 0x9F }
-    ensures { (old : Standing) → old.unfinished ≡ None → IfOk result (JudgedSo old left.now coming.new) }
+// A judge has much room. What makes, writes or drops one is in functions that aren't put in line: else
+// the room is cleared for every bundle, also for one that lies in a piece as a whole.
+
+/// Keeps the judge of the bundle of version 6 that some octets begin and don't end.
+#[cold]
+#[inline(never)]
+fn begin_six(coming: &mut Option<Coming>, alloc: Global, octets: &[u8]) -> Result<(), AllocError>
+    requires some { 0 < length octets.now }
+    requires few { length octets.now ≤ 67108864 }
+    requires first { slice_index octets.now 0 ≡ 0x06 }
+    requires cut { IsCut (front6 octets.now) }
+    ensures { OnOk result (IsSomeAnd coming.new (BeginsSix octets.now)) }
 {
-    let mut reader = Reader7::new(alloc);
-    let given = feed7(&mut reader, left)?;
-    match given {
-        Given::Part => {
-            *coming = Some(Coming::Seven(reader));
-            Ok(Given::Part)
-        }
-        given => Ok(shown7(given)),
-    }
+    *coming = Some(Coming::Six(begin6(alloc, octets)?));
+    Ok(())
+}
+
+/// The reader has begun a bundle.
+#[cold]
+#[inline(never)]
+fn begin_seven(coming: &mut Option<Coming>)
+    ensures { coming.new ≡ Some Coming.Seven }
+{
+    *coming = Some(Coming::Seven);
+}
+
+/// The bundle has ended.
+#[cold]
+#[inline(never)]
+pub fn end(coming: &mut Option<Coming>)
+    ensures { coming.new ≡ None }
+{
+    *coming = None;
 }
 
 /// Of a bundle of version 6 nothing but its end is wanted.

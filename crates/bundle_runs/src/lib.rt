@@ -15,7 +15,7 @@
 //! bundle, a `CheckReader` keeps of one that has begun what a judge keeps: the octets of its primary
 //! block, and a few of another field. A [`ShowReader`] keeps the octets of at most one bundle, and tells
 //! one of version 6 out of them part by part. Each has one judge or reader for a bundle of version 7 from
-//! its first octet on, so that a block is summed once.
+//! its first octet on, so that a block is summed once; the reader of `show` takes all of them.
 //! `command_frame` drives all three, and writes what is settled before it reads on.
 #![tactic(auto)]
 

@@ -10,21 +10,24 @@ ghost use Rattle.bundle_runs.specs.declared.front.Bundle.{Bundle};
 ghost use Rattle.bundle_runs.specs.Answering.{settles_from};
 ghost use Rattle.bundle_runs.specs.WrittenLines.{show_line};
 ghost use Rattle.bundle_runs.specs.Taking.{settling_of};
-ghost use Rattle.bundle_runs.specs.Showing.{IsOn, Owes, OwesLine, ShowsAs, IsShowing, StandsShowing, KeepsOneBundle, parts_due, IsBundle, BeginsLine, ShowsStep};
+ghost use Rattle.bundle_runs.specs.Showing.{IsOn, Owes, OwesLine, ShowsAs, IsShowing, StandsShowing, KeepsOneBundle, parts_due, IsBundle, BeginsLine, octets_with, ShowsStep};
 
 use crate::bundle_reader::Next;
-use crate::coming::{Coming, come};
+use crate::coming::{Coming, come, end};
 use crate::given::Given;
 use crate::written_lines::{write_refused, write_show};
 use bundle_json::Telling6;
+use bundle7::Reader7;
 use command_frame::{PartTask, Taken};
 use edge_traits::{MOST_INPUT, Status};
 use std::alloc::{AllocError, Global};
 use std::marker::Model;
 
 /// The command `show` on the octets of its input as they come. It keeps the octets of at most one
-/// bundle: of one that has begun, or of one of version 6 that is told. While one of version 7 comes, its
-/// reader keeps them too, until the bundle is built.
+/// bundle: of one of version 6 that has begun or is told, beside which a judge keeps a few of them; or of
+/// one of version 7 that has begun, which the reader alone keeps until the bundle is built.
+///
+/// The reader and the octets keep their room from one bundle to the next.
 #[derive(Drop)]
 pub struct ShowReader {
     standing: Showing,
@@ -49,12 +52,16 @@ pub struct Showing {
     number: u64,
     /// The place of its first octet in the input.
     at: usize,
+    /// How many octets of it came.
+    taken: usize,
     /// What takes it, where it has begun.
     begun: Option<Coming>,
     /// What is told of the bundle before it, where that isn't told to its end.
     telling: Option<Telling6>,
-    /// The octets of the one that is told, or else those that came of the one that has begun.
+    /// The octets of the one that is told, or else those that came of one of version 6 that has begun.
     octets: Vec<u8>,
+    /// The reader of bundles of version 7. It took those octets that came of one that has begun.
+    seven: Reader7,
 }
 
 impl ShowReader {
@@ -87,14 +94,14 @@ impl PartTask for ShowReader {
 
     fn take(&mut self, piece: &[u8], text: &mut String) -> Result<Taken, AllocError> {
         // No place past this has a number: the driver feeds no more.
-        if piece.len() > MOST_INPUT - (self.standing.at + self.standing.octets.len()) {
+        if piece.len() > MOST_INPUT - (self.standing.at + self.standing.taken) {
             return Err(AllocError);
         }
         let taken = self.standing.take(self.alloc, piece, text);
         match taken {
             Ok(Taken::All | Taken::Due(_)) => {}
             // The run has ended: nothing is kept any more.
-            _ => self.standing = Showing::new(self.alloc),
+            _ => self.standing.reset(self.alloc),
         }
         taken
     }
@@ -102,7 +109,7 @@ impl PartTask for ShowReader {
     fn tell(&mut self, text: &mut String) -> Result<bool, AllocError> {
         let more = self.standing.tell(text);
         if more.is_err() {
-            self.standing = Showing::new(self.alloc);
+            self.standing.reset(self.alloc);
         }
         more
     }
@@ -122,10 +129,23 @@ impl Showing {
         Showing {
             number: 1,
             at: 0,
+            taken: 0,
             begun: None,
             telling: None,
             octets: Vec::new(alloc),
+            seven: Reader7::new(alloc),
         }
+    }
+
+    /// Forgets all that came.
+    #[cold]
+    #[inline(never)]
+    fn reset(&mut self, alloc: Global)
+        ensures stands { StandsShowing self.new [] (settles_from Show [] 1 0) }
+        ensures none_due { self.new.telling ≡ None }
+        ensures fresh { self.new.begun ≡ None }
+    {
+        *self = Showing::new(alloc);
     }
 
     /// The octets of at most one bundle are kept.
@@ -139,7 +159,7 @@ impl Showing {
     fn take(&mut self, alloc: Global, piece: &[u8], text: &mut String) -> Result<Taken, AllocError>
         requires showing { IsShowing self.old }
         requires none_due { self.old.telling ≡ None }
-        requires room { self.old.at + length self.old.octets.items + length piece.now ≤ 67108864 }
+        requires room { self.old.at + self.old.taken + length piece.now ≤ 67108864 }
         ensures showing { IfOk result (λ taken. IsOn taken → IsShowing self.new) }
         ensures leaves { IfOk result (LeavesDue piece.now (parts_due self.new)) }
         ensures fed { (old : Standing) → ShowsAs self.old [] old → IfOk result
@@ -163,28 +183,27 @@ impl Showing {
         requires showing { IsShowing self.old }
         requires none_due { self.old.telling ≡ None }
         requires some { 0 < length left.now }
-        requires room { self.old.at + length self.old.octets.items + length left.now ≤ 67108864 }
+        requires room { self.old.at + self.old.taken + length left.now ≤ 67108864 }
         ensures { (old : Standing) → ShowsAs self.old [] old → IfOk result
             (ShowsStep old left.now (string_bytes text.old) self.new (string_bytes text.new)) }
     {
-        let given = come(&mut self.begun, alloc, left)?;
+        let given = come(&mut self.begun, &mut self.seven, alloc, left)?;
         match given {
             Given::Whole(found, used) => match found {
                 None => {
                     self.octets.extend_from_slice(&left[..used])?;
-                    self.pass(0);
+                    self.pass(used);
                     self.begin(text)?;
                     Ok(Next::After(used))
                 }
                 Some(bundle) => {
                     self.pass(used);
-                    self.octets = Vec::new(alloc);
                     write_show(text, &bundle)?;
                     Ok(Next::After(used))
                 }
             },
             Given::Part => {
-                self.octets.extend_from_slice(left)?;
+                self.wait(left)?;
                 Ok(Next::After(left.len()))
             }
             Given::Refused(at, cause) => {
@@ -194,24 +213,49 @@ impl Showing {
         }
     }
 
-    /// The bundle has ended after so many octets more than are kept.
-    fn pass(&mut self, more: usize)
-        requires few { self.old.at + (length self.old.octets.items + more) ≤ 67108864 }
+    /// The bundle has ended after so many octets more.
+    fn pass(&mut self, used: usize)
+        requires few { self.old.at + (self.old.taken + used) ≤ 67108864 }
         requires counted { self.old.number ≤ 67108864 }
         ensures { self.new ≡ record {
           number = self.old.number + 1;
-          at = self.old.at + (length self.old.octets.items + more);
+          at = self.old.at + (self.old.taken + used);
+          taken = 0;
           begun = None;
           telling = self.old.telling;
           octets = self.old.octets;
+          seven = self.old.seven;
         } }
     {
         self.number += 1;
-        self.at += self.octets.len() + more;
-        // To write none is to clear the room for a reader, so it isn't done for each bundle.
+        self.at += self.taken + used;
+        self.taken = 0;
         if self.begun.is_some() {
-            self.begun = None;
+            end(&mut self.begun);
         }
+    }
+
+    /// These octets don't end the bundle: they are counted, and kept where it is of version 6.
+    fn wait(&mut self, left: &[u8]) -> Result<(), AllocError>
+        requires few { self.old.taken + length left.now ≤ 67108864 }
+        ensures same { OnOk result (self.new ≡ record {
+          number = self.old.number;
+          at = self.old.at;
+          taken = self.old.taken + length left.now;
+          begun = self.old.begun;
+          telling = self.old.telling;
+          octets = self.new.octets;
+          seven = self.old.seven;
+        }) }
+        ensures kept { OnOk result (self.new.octets.items
+            ≡ octets_with self.old.begun self.old.octets.items left.now) }
+    {
+        match &self.begun {
+            Some(Coming::Six(_)) => self.octets.extend_from_slice(left)?,
+            _ => {}
+        }
+        self.taken += left.len();
+        Ok(())
     }
 
     /// Begins the line of the bundle of version 6 whose octets are kept.
@@ -220,9 +264,11 @@ impl Showing {
         ensures same { OnOk result (self.new ≡ record {
           number = self.old.number;
           at = self.old.at;
+          taken = self.old.taken;
           begun = self.old.begun;
           telling = self.new.telling;
           octets = self.new.octets;
+          seven = self.old.seven;
         }) }
         ensures line { (b : Bundle) → IsBundle self.old.octets.items b → OnOk result
             (BeginsLine (show_line b) (string_bytes text.old) self.new.telling self.new.octets.items (string_bytes text.new)) }
@@ -238,9 +284,11 @@ impl Showing {
         ensures same { IfOk result (λ more. self.new ≡ record {
           number = self.old.number;
           at = self.old.at;
+          taken = self.old.taken;
           begun = self.old.begun;
           telling = self.new.telling;
           octets = self.new.octets;
+          seven = self.old.seven;
         }) }
         ensures told { (due : List ℕ) → Owes self.old.telling self.old.octets.items due → IfOk result (λ more.
             BeginsLine due (string_bytes text.old) self.new.telling self.new.octets.items (string_bytes text.new)) }
@@ -270,9 +318,10 @@ impl Showing {
         ensures memory { OnErr result (self.old.begun ≡ None → ⊥) }
     {
         self.octets.clear();
+        self.taken = 0;
         match self.begun.take() {
             None => Ok(Status::Done),
-            Some(mut begun) => match begun.finish() {
+            Some(mut begun) => match begun.finish(&mut self.seven) {
                 None => Ok(Status::Done),
                 Some(at) => {
                     write_refused(text, self.number, self.at + at, "Truncated")?;

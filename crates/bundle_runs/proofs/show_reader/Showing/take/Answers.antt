@@ -27,7 +27,7 @@ bundles-preserved c =
       showing = kept.0;
       none_due = none;
       inside = omega (arith, c.bundles.invariant.inside, length-drop c.in-After.used c.bundles.left.now);
-      room = kept.1 none;
+      room = kept.1;
       so_far = λ old shows.
           so-far-more old c.bundles.self c.show.new.self c.args.piece.now c.bundles.left.now c.in-After.used _ _ _ c.bundles.invariant.none_due
           (c.bundles.invariant.so_far old shows) step;

@@ -9,7 +9,7 @@ invariant-bundles l = record {
   showing : IsShowing l.self;
   none_due : l.self.telling ≡ None;
   inside : length l.left ≤ length l.piece;
-  room : l.self.at + length l.self.octets.items + length l.left ≤ 67108864;
+  room : l.self.at + l.self.taken + length l.left ≤ 67108864;
   so_far : (old : Standing) → ShowsAs l.initial.self [] old
       → ShowsSoFar old l.piece l.left (string_bytes l.initial.text) l.self (string_bytes l.text);
 }

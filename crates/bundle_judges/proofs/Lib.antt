@@ -12,5 +12,6 @@ pub mod StepLemmas7
 pub mod FewLemmas7
 pub mod StartLemmas7
 pub mod HereLemmas7
+pub mod StraightLemmas7
 pub mod RunLemmas7
 pub mod FeedLemmas7

@@ -238,6 +238,16 @@ pub record Starts (text : List ℕ) (s : Stand) (part : Option Fragment) (more :
   pub main : s.main.items ≡ []
   pub reads : read judged_start text 0 ≡ Ok (part, s.came + more)
 
+-- The stand in which this stage is entered, after so many of the octets that follow those that came, is reached.
+pub record Reaches (text : List ℕ) (s : Stand) (rest : List ℕ) (stage : Stage) (more : ℕ) : Type 0 where
+  pub moves : Moves text s more (entered s stage (s.came + more))
+  pub is : rest ≡ drop s.came text
+
+-- The primary block is there up to its end, with so many of the octets that follow those that came.
+pub record StartsOn (text : List ℕ) (s : Stand) (rest : List ℕ) (part : Option Fragment) (more : ℕ) : Type 0 where
+  pub starts : Starts text s part more
+  pub is : rest ≡ drop s.came text
+
 -- ---- a part of a piece, after which no more may follow where it is cut
 
 -- so many octets of it were taken, and the judge stands after them

@@ -15,6 +15,7 @@ use wire_fields::octets_at;
 
 /// The block at the front of some octets, where it is there as a whole and is as it should be, and how many
 /// octets it has. Where it isn't there up to its end, none of it is summed.
+#[inline(always)]
 pub(crate) fn block_here(rest: &[u8], part: Option<Fragment>, seen: &Seen) -> Option<(Lead, usize)>
     requires { length seen.now.kinds ≤ 64 }
     ensures { IfSome result (λ x. HasBlock part seen.now rest.now x.0 x.1) }
@@ -39,6 +40,7 @@ pub(crate) fn block_here(rest: &[u8], part: Option<Fragment>, seen: &Seen) -> Op
 }
 
 /// How many octets the check of a block with this sum has, where it is as it should be.
+#[inline(always)]
 fn check_here(sum: Sum, tail: &[u8]) -> Option<usize>
     ensures { IfSome result (HasCheck sum tail.now) }
 {
@@ -52,6 +54,7 @@ fn check_here(sum: Sum, tail: &[u8]) -> Option<usize>
 }
 
 /// The same after its head.
+#[inline(always)]
 fn octets_here(sum: Sum, tail: &[u8]) -> Option<usize>
     ensures { IfSome result (λ more. (read (check_octets sum) tail.now 0 ≡ Ok (tt, more)) × (more ≤ length tail.now)) }
 {
@@ -62,6 +65,7 @@ fn octets_here(sum: Sum, tail: &[u8]) -> Option<usize>
 }
 
 /// How many octets a check of this type has, with its head.
+#[inline(always)]
 fn check_size(crc: u8) -> usize
     ensures { result ≤ 5 }
 {
@@ -73,6 +77,7 @@ fn check_size(crc: u8) -> usize
 }
 
 /// A body of one item at the front of some octets.
+#[inline(always)]
 pub(crate) fn item_of(text: &[u8], front: Front) -> Result<(&[u8], usize), Refused7>
     ensures within { IfOk result (λ x. x.1 ≤ length text.now) }
     ensures exact { Gives (λ lent. lent.now) refused result

@@ -22,6 +22,7 @@ mod judge6;
 mod judge7;
 mod stand6;
 mod stand7;
+mod straight7;
 mod sum7;
 #[cfg(test)]
 mod tests;

@@ -112,7 +112,7 @@ impl Stand {
         ensures { StepsOn self.old rest.now result self.new }
     {
         match start_judged(rest, 0) {
-            Ok((part, end)) => Ok(self.started(part, end)),
+            Ok((part, end)) => Ok(self.started_here(part, rest, end)),
             Err(refused) => match refused.cause {
                 Cause7::Truncated => {
                     self.main.extend_from_slice(rest)?;
@@ -172,6 +172,7 @@ impl Stand {
     }
 
     /// A block: one that is there as a whole is judged where it lies, and its octets are summed at once.
+    #[inline(never)]
     fn block(&mut self, rest: &[u8]) -> Result<Step, Fail7>
         requires there { IsThere self.old rest.now }
         requires counted { self.old.came + length rest.now < 2 ^ 64 }
@@ -338,7 +339,7 @@ impl Stand {
     }
 
     /// After so many octets more this stands next.
-    fn go(&mut self, stage: Stage, more: usize) -> Step
+    pub(crate) fn go(&mut self, stage: Stage, more: usize) -> Step
         requires { self.old.came + more < 2 ^ 64 }
         ensures stand { self.new ≡ entered self.old stage (self.old.came + more) }
         ensures step { result ≡ Step.After more }
@@ -407,14 +408,14 @@ fn is_single(kind: u64) -> bool
 }
 
 /// Whether no block follows one of this type after so many extension blocks.
-fn is_last(kind: u64, count: u64) -> bool
+pub(crate) fn is_last(kind: u64, count: u64) -> bool
     ensures { result ≡ (kind == 1 || count == 64) }
 {
     kind == 1 || count == MOST_EXTENSIONS
 }
 
 /// The mark that ends a bundle.
-fn end_of(text: &[u8]) -> Result<(u8, usize), Refused7>
+pub(crate) fn end_of(text: &[u8]) -> Result<(u8, usize), Refused7>
     ensures within { IfOk result (λ x. x.1 ≤ length text.now) }
     ensures exact { Gives (λ b. b) refused result (read (exact_octet 0xFF Break) text.now 0) }
 {

@@ -37,6 +37,7 @@ impl Sum {
     }
 
     /// These octets too.
+    #[inline(always)]
     pub(crate) fn with(self, octets: &[u8]) -> Sum
         ensures { result ≡ with_octets self octets.now }
     {
@@ -48,6 +49,7 @@ impl Sum {
     }
 
     /// The head of the check at the front of some octets.
+    #[inline(always)]
     pub(crate) fn head(&self, text: &[u8]) -> Result<((), usize), Refused7>
         ensures within { IfOk result (λ x. x.1 ≤ length text.now) }
         ensures exact { Gives (λ _. tt) refused result (read (check_head self.now) text.now 0) }
@@ -66,6 +68,7 @@ impl Sum {
     }
 
     /// The check itself there, of a block that is summed up to it.
+    #[inline(always)]
     pub(crate) fn octets(self, text: &[u8]) -> Result<((), usize), Refused7>
         ensures within { IfOk result (λ x. x.1 ≤ length text.now) }
         ensures exact { Gives (λ _. tt) refused result (read (check_octets self) text.now 0) }
@@ -87,6 +90,7 @@ impl Sum {
 }
 
 /// The head of a byte string of so many octets.
+#[inline(always)]
 fn length_of(text: &[u8], count: u64) -> Result<(u64, usize), Refused7>
     ensures within { IfOk result (λ x. x.1 ≤ length text.now) }
     ensures exact { Gives (λ n. n) refused result (read (exact_byte_string count Crc) text.now 0) }
@@ -99,6 +103,7 @@ fn length_of(text: &[u8], count: u64) -> Result<(u64, usize), Refused7>
 }
 
 /// These octets.
+#[inline(always)]
 fn exactly(text: &[u8], check: &[u8]) -> Result<((), usize), Refused7>
     ensures within { IfOk result (λ x. x.1 ≤ length text.now) }
     ensures exact { Gives (λ _. check.now) refused result

@@ -4,10 +4,23 @@ use Rattle.bundle_judges.proofs.StepLemmas7.{wants-room}
 use Rattle.bundle_judges.proofs.StartLemmas7.{starts-here, stays-here, refused-here, open-here}
 use Rattle.bundle_judges.proofs.stand7.Stand.start.Goals as goal
 
+pub started_here-requires-clause-starts : goal.started_here-requires-clause-starts
+started_here-requires-clause-starts c = (
+  c.requires.there.0,
+  record {
+    starts = starts-here c.requires.there.0 c.args.rest.now c.args.self.now c.in-Ok.end c.in-Ok.part c.requires.there.1 c.requires.stage c.requires.fresh
+        c.requires.there.2 c.in-Ok.ensures.within.within c.in-Ok.ensures.exact;
+    is = c.requires.there.2;
+  },
+)
+
 pub returns-in-Ok : goal.returns-in-Ok
 returns-in-Ok c = λ text stands is.
-    c.started.ensures text (starts-here text c.args.rest.now c.args.self.now c.in-Ok.end c.in-Ok.part stands c.requires.stage c.requires.fresh is
-    c.in-Ok.ensures.within.within c.in-Ok.ensures.exact)
+    c.started_here.ensures text (record {
+      starts = starts-here text c.args.rest.now c.args.self.now c.in-Ok.end c.in-Ok.part stands c.requires.stage c.requires.fresh is
+          c.in-Ok.ensures.within.within c.in-Ok.ensures.exact;
+      is = is;
+    })
 
 pub returns-in_ok-extend_from_slice-in-Truncated : goal.returns-in_ok-extend_from_slice-in-Truncated
 returns-in_ok-extend_from_slice-in-Truncated c = λ text stands is.

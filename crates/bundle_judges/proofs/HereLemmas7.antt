@@ -2,6 +2,7 @@
 
 use Rattle.std.proofs.Common.{◌≡◌, ℕ, ◌+◌, ◌-◌, ◌<◌, ◌≤◌, ◌==◌, true, eqb-true, List, [], ◌++◌, length, take, drop, Option, Some, refl, sym, ap, ◌∙◌, subst, arith, append-nil}
 use Rattle.std.proofs.lemmas.List.{length-take-le, length-drop, drop-drop, nil_from_length}
+use Rattle.std.proofs.Math.Seq.{take-add}
 use Rattle.endpoint.specs.declared.extent.Fragment.{Fragment}
 use Rattle.wire_fields.specs.Format.{Format, give}
 use Rattle.wire_fields.specs.Words.{exact_octet}
@@ -20,6 +21,7 @@ use Rattle.bundle7.specs.Judging.{judged_front, judged_end, judged_bundle}
 use Rattle.bundle7.specs.Passing.{between, blocks_left, judged_on}
 use Rattle.bundle7.proofs.PassLemmas.{front-continues, body-continues}
 use Rattle.bundle_judges.specs.declared.sum7.Sum.{Sum}
+use Rattle.bundle_judges.specs.declared.sum7.Sum.TheVariants.{Unchecked, Short, Long}
 use Rattle.bundle_judges.specs.declared.stand7.Small.{Small}
 use Rattle.bundle_judges.specs.declared.stand7.Small.TheVariants.{Block, Item, Check, Octets, End}
 use Rattle.bundle_judges.specs.declared.stand7.Stage.TheVariants.{Field}
@@ -29,7 +31,7 @@ use Rattle.bundle_judges.specs.Field7.{small_field, left_for}
 use Rattle.bundle_judges.specs.Here7.{HasCheck, HasBlock}
 use Rattle.bundle_judges.specs.Stand7.{Keeps, IsAt, Ends, Checks}
 use Rattle.bundle_judges.proofs.MovedLemmas.{NoPlace, moved, read-from, ends-late}
-use Rattle.bundle_judges.proofs.SumLemmas7.{check-continues}
+use Rattle.bundle_judges.proofs.SumLemmas7.{with-append, check-continues}
 use Rattle.bundle_judges.proofs.FieldLemmas7.{small-free}
 use Rattle.bundle_judges.proofs.FewLemmas7.{small-begun}
 
@@ -66,14 +68,39 @@ end-ends text rest s mark end stands stage none is reads =
       before = refl;
     }
 
--- a block by its parts
-pub block-by : (part : Option Fragment) (seen : Seen) (rest body after last : List ℕ) (front : Front) (count from size tail : ℕ) (none sum : Sum)
+-- ---- a block by its parts
+
+-- the head of a check is read alike before and after octets are summed
+head-same : (sum : Sum) (w t : List ℕ) → read (check_head (with_octets sum w)) t 0 ≡ read (check_head sum) t 0
+head-same Unchecked w t = refl
+head-same (Short r) w t = refl
+head-same (Long r) w t = refl
+
+-- a block is summed at once with the head of its check
+pub check-by : (rest tail last : List ℕ) (none sum : Sum) (to head octets : ℕ) → tail ≡ drop to rest → read (check_head none) tail 0 ≡ found tt head
+    → head ≤ length tail → sum ≡ with_octets none (take (to + head) rest) → last ≡ drop head tail
+    → read (check_octets sum) last 0 ≡ found tt octets → octets ≤ length last
+    → HasCheck (with_octets none (take to rest)) (drop to rest) (head + octets)
+check-by rest tail last none sum to head octets there begins inside is after ends within =
+    let joined : take (to + head) rest ≡ take to rest ++ take head (drop to rest) = take-add to head rest in
+    let same : sum ≡ with_octets (with_octets none (take to rest)) (take head (drop to rest)) =
+    is ∙ ap (with_octets none) joined ∙ sym (with-append none (take to rest) (take head (drop to rest))) in
+    let left : last ≡ drop head (drop to rest) = after ∙ ap (drop head) there in
+    record {
+      head = head;
+      octets = octets;
+      begins = head-same none (take to rest) (drop to rest) ∙ ap (λ t. read (check_head none) t 0) (sym there) ∙ begins;
+      ends = rw (same, left) at ends;
+      is = refl;
+      within = omega (arith, inside, within, ap length after, length-drop head tail, ap length there);
+    }
+
+pub block-by : (part : Option Fragment) (seen : Seen) (rest body after : List ℕ) (front : Front) (count from size tail : ℕ) (none : Sum)
     → count ≡ length seen.kinds → read (judged_front part (64 - count) seen) rest 0 ≡ found front from → from ≤ length rest
     → after ≡ drop from rest → read (body_field front.lead.kind front.size) after 0 ≡ found body size → size ≤ length after
-    → last ≡ drop (from + size) rest
-    → none ≡ no_octets front.lead.crc → sum ≡ with_octets none (take (from + size) rest) → HasCheck sum last tail
+    → none ≡ no_octets front.lead.crc → HasCheck (with_octets none (take (from + size) rest)) (drop (from + size) rest) tail
     → HasBlock part seen rest front.lead (from + size + tail)
-block-by part seen rest body after last front count from size tail none sum many begins first second goes_on inside third is also ends = record {
+block-by part seen rest body after front count from size tail none many begins first second goes_on inside is ends = record {
   front = front;
   from = from;
   body = body;
@@ -81,19 +108,10 @@ block-by part seen rest body after last front count from size tail none sum many
   tail = tail;
   begins = rw many at begins;
   goes_on = rw second at goes_on;
-  ends = rw (also, is, third) at ends;
+  ends = rw is at ends;
   named = refl;
   is = refl;
-  within = omega (
-    arith,
-    first,
-    inside,
-    ends.within,
-    ap length second,
-    ap length third,
-    length-drop from rest,
-    length-drop (from + size) rest,
-  );
+  within = omega (arith, first, inside, ends.within, ap length second, length-drop from rest, length-drop (from + size) rest);
 }
 
 module _ (text rest : List ℕ) (s : Stand) (lead : Lead) (more : ℕ) (stands : IsAt text s) (stage : s.stage ≡ Field Block) (none : s.head ≡ [])

@@ -43,7 +43,7 @@ with-none Unchecked = refl
 with-none (Short r) = ap (λ n. Short n) (take_text-none 0x8408 r)
 with-none (Long r) = ap (λ n. Long n) (take_text-none 0x82F63B78 r)
 
-with-append : (sum : Sum) (u v : List ℕ) → with_octets (with_octets sum u) v ≡ with_octets sum (u ++ v)
+pub with-append : (sum : Sum) (u v : List ℕ) → with_octets (with_octets sum u) v ≡ with_octets sum (u ++ v)
 with-append Unchecked u v = refl
 with-append (Short r) u v = ap (λ n. Short n) (sym (take_text-append 0x8408 r u v))
 with-append (Long r) u v = ap (λ n. Long n) (sym (take_text-append 0x82F63B78 r u v))

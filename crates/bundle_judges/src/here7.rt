@@ -1,13 +1,14 @@
 //! A block of version 7 where it lies.
 
-ghost use Rattle.std.specs.Prelude.{◌≡◌, ◌≤◌, length, Ok, IfOk, IfSome};
+ghost use Rattle.std.specs.Prelude.{◌≡◌, ◌≤◌, length, take, drop, Ok, IfOk, IfSome};
 ghost use Rattle.wire_fields.specs.Reading.{read};
 ghost use Rattle.wire_fields.specs.Gives.{Gives};
 ghost use Rattle.bundle7.specs.Cause.{refused};
 ghost use Rattle.bundle7.specs.Table.{body_field};
-ghost use Rattle.bundle_judges.specs.Sum7.{check_octets};
+ghost use Rattle.bundle_judges.specs.Sum7.{with_octets, check_octets};
 ghost use Rattle.bundle_judges.specs.Here7.{HasCheck, HasBlock};
 
+use crate::stand7::is_single;
 use crate::sum7::{Sum, absent, missed};
 use bundle7::{Cause7, Front, Lead, MOST_EXTENSIONS, Refused7, Seen, front_judged, is_body};
 use endpoint::Fragment;
@@ -29,23 +30,25 @@ pub(crate) fn block_here(rest: &[u8], part: Option<Fragment>, seen: &Seen) -> Op
         return None;
     };
     let to = from + size;
-    let tail = &rest[to..];
-    if tail.len() < check_size(lead.crc) {
+    if rest.len() - to < check_size(lead.crc) {
         return None;
     }
-    match check_here(Sum::new(lead.crc).with(&rest[..to]), tail) {
+    match check_here(Sum::new(lead.crc), rest, to) {
         Some(more) => Some((lead, to + more)),
         None => None,
     }
 }
 
-/// How many octets the check of a block with this sum has, where it is as it should be.
+/// How many octets the check has that stands at a place, where it is as it should be. The octets before it
+/// are summed at once with its head, from the sum of none.
 #[inline(always)]
-fn check_here(sum: Sum, tail: &[u8]) -> Option<usize>
-    ensures { IfSome result (HasCheck sum tail.now) }
+fn check_here(none: Sum, rest: &[u8], to: usize) -> Option<usize>
+    requires { to ≤ length rest.now }
+    ensures { IfSome result (HasCheck (with_octets none (take to rest.now)) (drop to rest.now)) }
 {
-    match sum.head(tail) {
-        Ok((_, head)) => match octets_here(sum.with(&tail[..head]), &tail[head..]) {
+    let tail = &rest[to..];
+    match none.head(tail) {
+        Ok((_, head)) => match octets_here(none.with(&rest[..to + head]), &tail[head..]) {
             Some(octets) => Some(head + octets),
             None => None,
         },
@@ -85,7 +88,7 @@ pub(crate) fn item_of(text: &[u8], front: Front) -> Result<(&[u8], usize), Refus
 {
     match octets_at(text, 0, front.size) {
         Ok((body, end)) => {
-            if !is_body(front.lead.kind, body) {
+            if is_single(front.lead.kind) && !is_body(front.lead.kind, body) {
                 return Err(absent(Cause7::ExtensionBody));
             }
             Ok((body, end))

@@ -401,7 +401,7 @@ fn is_kept(front: Front) -> bool
 }
 
 /// Whether the body of a block of this type is one item: a previous node, a bundle age, a hop count.
-fn is_single(kind: u64) -> bool
+pub(crate) fn is_single(kind: u64) -> bool
     ensures { result ≡ is_single kind }
 {
     kind == 6 || kind == 7 || kind == 10

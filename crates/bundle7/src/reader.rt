@@ -18,6 +18,9 @@ use std::marker::Model;
 /// The most octets of a bundle of a stream. Own rule.
 pub const LONGEST: usize = 67_108_864;
 
+/// The most octets for which a reader that is restarted keeps room.
+const MOST_ROOM: usize = 1 << 20;
+
 /// What a piece gave.
 #[derive(Debug, Drop)]
 pub struct Fed7 {
@@ -90,14 +93,15 @@ impl Reader7 {
         }
     }
 
-    /// Lets go of the stream that was taken so far, and keeps its room for another: places count anew, and
-    /// an earlier refusal or want of memory is forgotten. It takes no memory.
+    /// Lets go of the stream that was taken so far, and keeps its room for another, but of more than a
+    /// mebibyte: places count anew, and an earlier refusal or want of memory is forgotten. It takes no
+    /// memory.
     pub fn restart(&mut self)
         ensures stream { self.new.stream ≡ record { before = 0; kept = [] } }
         ensures fresh { self.new.refused ≡ None }
         ensures whole { self.new.spent ≡ false }
     {
-        self.held.restart();
+        self.held.restart(self.alloc);
         self.refused = None;
         self.spent = false;
     }
@@ -355,12 +359,12 @@ impl Held {
     }
 
     /// Lets go of the stream.
-    fn restart(&mut self)
+    fn restart(&mut self, alloc: Global)
         ensures held { IsHeld self.new }
         ensures empty { stream_of self.new ≡ record { before = 0; kept = [] } }
     {
         self.before = 0;
-        self.kept.clear();
+        empty(&mut self.kept, alloc);
         self.pass.restart();
     }
 
@@ -378,6 +382,16 @@ impl Held {
             None => None,
             Some(refused) => Some(refused.after(self.before)),
         }
+    }
+}
+
+/// Takes out all octets, and gives back room for more than [`MOST_ROOM`].
+fn empty(kept: &mut Vec<u8>, alloc: Global)
+    ensures { kept.new.items ≡ [] }
+{
+    kept.clear();
+    if kept.capacity() > MOST_ROOM {
+        *kept = Vec::new(alloc);
     }
 }
 

@@ -1,6 +1,6 @@
 //! Endpoints as a bundle spells them (RFC 9171, section 4.2.5).
 
-ghost use Rattle.std.specs.Prelude.{◌≡◌, ◌≤◌, ◌++◌, [], ℕ, length, take, IfOk, OnOk, OnErr, Ok, Err};
+ghost use Rattle.std.specs.Prelude.{◌≡◌, ◌≤◌, ◌++◌, [], ℕ, length, take, true, IfOk, OnOk, OnErr, Ok, Err};
 ghost use Rattle.endpoint.specs.declared.name.Endpoint.{Endpoint};
 ghost use Rattle.wire_fields.specs.Format.{Spells};
 ghost use Rattle.wire_fields.specs.Refusal.{Begins};
@@ -10,7 +10,7 @@ ghost use Rattle.wire_fields.specs.Gives.{Gives, IsOn};
 ghost use Rattle.bundle7.specs.Cause.{refused};
 ghost use Rattle.bundle7.specs.Eid.{may_lead, dtn_lead, ssp, dtn_rest, dtn_name, ipn_name, scheme, eid};
 ghost use Rattle.bundle7.specs.Spelling.{eid_octets};
-ghost use Rattle.bundle7.specs.Calls.{GivesEid};
+ghost use Rattle.bundle7.specs.Calls.{GivesEid, IsShortIpn};
 ghost use Rattle.bundle7.specs.Lent.{endpoint_of};
 
 use crate::fault::{Cause7, EidFault, Refused7};
@@ -130,10 +130,38 @@ impl LentEndpoint<'_> {
     }
 }
 
-/// An endpoint.
+/// An endpoint. Most have the scheme ipn and numbers of one octet each, and are told by their five octets.
 #[inline(always)]
-#[tactic(auto, unfolding(crate::specs::Eid::eid))]
 pub(crate) fn eid_at(text: &[u8], at: usize) -> Result<(LentEndpoint<'_>, usize), Refused7>
+    requires { at ≤ length text.now }
+    ensures within { IfOk result (λ x. IsOn at text.now x.1) }
+    ensures exact { Gives endpoint_of refused result (read eid text.now at) }
+{
+    if is_short_ipn(text, at) {
+        let node = u64::from(text[at + 3]);
+        let service = u64::from(text[at + 4]);
+        return Ok((LentEndpoint::Ipn { node, service }, at + 5));
+    }
+    any_eid_at(text, at)
+}
+
+/// Whether five octets at a place are an endpoint of the scheme ipn whose numbers have one octet each.
+#[inline(always)]
+fn is_short_ipn(text: &[u8], at: usize) -> bool
+    requires { at ≤ length text.now }
+    ensures { result ≡ true → IsShortIpn text.now at }
+{
+    text.len() - at >= 5
+        && text[at] == 0x82
+        && text[at + 1] == 2
+        && text[at + 2] == 0x82
+        && text[at + 3] < 24
+        && text[at + 4] < 24
+}
+
+/// An endpoint, however it is spelled.
+#[tactic(auto, unfolding(crate::specs::Eid::eid))]
+fn any_eid_at(text: &[u8], at: usize) -> Result<(LentEndpoint<'_>, usize), Refused7>
     requires { at ≤ length text.now }
     ensures within { IfOk result (λ x. IsOn at text.now x.1) }
     ensures exact { Gives endpoint_of refused result (read eid text.now at) }

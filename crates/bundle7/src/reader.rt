@@ -54,7 +54,7 @@ pub(crate) struct Held {
 /// How the stream is cut into pieces makes no difference, and judging a piece costs what its octets
 /// cost: no body is looked at before it is whole, none is looked at twice, and a block after the primary
 /// block is summed for its check once, as its octets come. The primary block is read from its start with
-/// each piece until it is whole; it is summed once all its octets before the check are there.
+/// each piece until it is whole, and summed again where the end of a piece cuts its check.
 /// [`Reader7::feed`] besides builds a bundle when it is whole, and sums none of its blocks again. Places
 /// count from the first octet that was taken, or that was taken after [`Reader7::restart`].
 #[derive(Drop)]

@@ -27,7 +27,8 @@ use std::marker::Model;
 /// bundle: of one of version 6 that has begun or is told, beside which a judge keeps a few of them; or of
 /// one of version 7 that has begun, which the reader alone keeps until the bundle is built.
 ///
-/// The reader and the octets keep their room from one bundle to the next.
+/// The reader and the octets keep their room from one bundle to the next, the reader a mebibyte of it at
+/// most.
 #[derive(Drop)]
 pub struct ShowReader {
     standing: Showing,

@@ -9,8 +9,6 @@ mod body;
 mod list;
 mod name;
 mod telling6;
-#[cfg(test)]
-mod tests;
 mod value;
 mod version6;
 mod version7;

@@ -24,8 +24,6 @@ mod stand6;
 mod stand7;
 mod straight7;
 mod sum7;
-#[cfg(test)]
-mod tests;
 
 pub use judge6::Judge6;
 pub use judge7::Judge7;

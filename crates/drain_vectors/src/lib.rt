@@ -1,4 +1,5 @@
-//! The tables of tests of a world of one link: what each event has the ends do, and drains.
+//! The tables of tests of worlds: of one link, what each event has the ends do, and drains; of a whole
+//! path, drains event by event.
 //!
 //! What is wanted comes from RFC 5326 and the table of its segments, worked out by hand, never from
 //! what the program answered; docs/vectors.md says for each table where its values come from.
@@ -15,5 +16,9 @@ mod greatest;
 mod late;
 #[cfg(test)]
 mod links;
+#[cfg(test)]
+mod paths;
+#[cfg(test)]
+mod stories;
 #[cfg(test)]
 mod told;

@@ -14,8 +14,6 @@ mod cutting;
 mod joining;
 mod lines;
 mod reading;
-#[cfg(test)]
-mod tests;
 mod turned_down;
 mod views;
 

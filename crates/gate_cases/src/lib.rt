@@ -21,8 +21,6 @@ mod reading;
 mod report;
 mod sending;
 mod spelling;
-#[cfg(test)]
-mod tests;
 
 pub use case::{BLOCK_MAX, GateCase, NUMBERS, Room, SENDING_MAX};
 pub use cause::BadCause;

@@ -20,6 +20,3 @@ mod stop;
 mod summing;
 
 pub use run::make;
-
-#[cfg(test)]
-mod tests;

@@ -19,11 +19,7 @@ mod joining;
 mod node;
 mod parts;
 mod sent;
-#[cfg(test)]
-mod stories;
 mod telling;
-#[cfg(test)]
-mod tests;
 mod world;
 
 pub use drained::{PathDrained, PathSteps};

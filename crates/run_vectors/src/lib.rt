@@ -20,4 +20,6 @@ mod recorded;
 #[cfg(test)]
 mod runs;
 #[cfg(test)]
+mod script_end;
+#[cfg(test)]
 mod world;

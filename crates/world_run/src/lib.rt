@@ -17,8 +17,6 @@
 pub mod laws;
 mod script;
 mod telling;
-#[cfg(test)]
-mod tests;
 mod world;
 mod written_lines;
 

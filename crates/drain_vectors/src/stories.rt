@@ -2,12 +2,12 @@
 
 ghost use Rattle.std.specs.Prelude.{◌≡◌, false, IfOk, OnOk};
 
-use crate::PathWorld;
 use endpoint::Endpoint;
 use gateway_core::{GateConfig, GateNote};
 use ltp_segment::{Note, Policy};
 use ltp_world::DrainRefused;
 use path_laws::{EndJoin, JoinAt, NoteAt, PathEffects, PathEnd, Place, SentAt, UpAt};
+use path_world::PathWorld;
 use std::alloc::{AllocError, Global};
 use std::fmt::Write;
 use std::test::Fail;

@@ -4,9 +4,9 @@ ghost use Rattle.std.specs.Prelude.{◌<◌, IfOk};
 ghost use Rattle.bundle6.specs.Legal.{IsLegal};
 ghost use Rattle.bundle7.specs.Legal.{IsLegal7};
 
-use crate::{BundleJoiner, TurnedDown, cut6, cut7};
 use bundle6::{Bundle6, decode6};
 use bundle7::{Bundle7, decode7};
+use fragment_lines::{BundleJoiner, TurnedDown, cut6, cut7};
 use std::alloc::Global;
 use std::test::Fail;
 use translate::Refused;

@@ -5,7 +5,7 @@ ghost use Rattle.std.specs.Prelude.{IfOk};
 ghost use Rattle.bundle6.specs.Legal.{IsLegal};
 ghost use Rattle.bundle7.specs.Legal.{IsLegal7};
 
-use crate::{Telling6, write6, write7};
+use bundle_json::{Telling6, write6, write7};
 use bundle6::{Bundle6, decode6};
 use bundle7::{Bundle7, decode7};
 use std::alloc::Global;

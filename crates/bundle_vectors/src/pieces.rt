@@ -1,6 +1,6 @@
 //! Bundles in pieces.
 
-use crate::{Judge6, Judge7};
+use bundle_judges::{Judge6, Judge7};
 use bundle6::Judged6;
 use bundle7::Judged7;
 use std::test::Fail;

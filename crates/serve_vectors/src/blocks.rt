@@ -3,12 +3,12 @@
 ghost use Rattle.std.specs.Prelude.{◌<◌, IfOk};
 ghost use Rattle.gate_cases.specs.Promises.{AreAskable, IsAskable};
 
-use crate::{
-    AskedReport, BLOCK_MAX, BadCause, Face, GateCase, Judged, NUMBERS, Room, SENDING_MAX, judge,
-};
 use bundle6::Cause6;
 use bundle7::Cause7;
 use endpoint::{Endpoint, Octets};
+use gate_cases::{
+    AskedReport, BLOCK_MAX, BadCause, Face, GateCase, Judged, NUMBERS, Room, SENDING_MAX, judge,
+};
 use std::alloc::Global;
 use std::test::Fail;
 use translate::Refused;

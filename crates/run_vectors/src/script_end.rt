@@ -1,10 +1,10 @@
 //! A script that ends with a drain.
 
-use crate::World;
 use command_frame::{PartLineReader, drive_parts};
 use edge_traits::{Status, SureSink, SureSource};
 use std::alloc::{AllocError, Global};
 use std::test::Fail;
+use world_run::World;
 
 /// The datagram that is sent is lost, and the drain sends it again once its timer is due.
 const SCRIPT: &str = "path ipn:9.0 1024 10000 10 65536 1010000\n\

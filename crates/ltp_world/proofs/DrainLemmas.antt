@@ -43,31 +43,31 @@ use Rattle.ltp_world.proofs.WorldLemmas.{read-back}
 
 -- ---- events after events
 
-run-append : (parties : Party × Party) (w : World) (xs ys : List Event) → run parties w (xs ++ ys) ≡ run parties (run parties w xs) ys
+pub run-append : (parties : Party × Party) (w : World) (xs ys : List Event) → run parties w (xs ++ ys) ≡ run parties (run parties w xs) ys
 run-append parties w [] ys = refl
 run-append parties w (x ∷ xs) ys = run-append parties (happens parties w x) xs ys
 
-clean-append : (parties : Party × Party) (w : World) (c : ℕ) (xs ys : List Event) → AreClean parties w c xs
+pub clean-append : (parties : Party × Party) (w : World) (c : ℕ) (xs ys : List Event) → AreClean parties w c xs
     → AreClean parties (run parties w xs) (passed c xs) ys → AreClean parties w c (xs ++ ys)
 clean-append parties w c [] ys first second = second
 clean-append parties w c (x ∷ xs) ys first second = (first.0, clean-append parties (happens parties w x) (passed_after c x) xs ys first.1 second)
 
-passed-append : (c : ℕ) (xs ys : List Event) → passed c (xs ++ ys) ≡ passed (passed c xs) ys
+pub passed-append : (c : ℕ) (xs ys : List Event) → passed c (xs ++ ys) ≡ passed (passed c xs) ys
 passed-append c [] ys = refl
 passed-append c (x ∷ xs) ys = passed-append (passed_after c x) xs ys
 
-done-append : (parties : Party × Party) (w : World) (xs ys : List Event) → done_in parties w (xs ++ ys) ≡ done_in parties w xs ++ done_in parties (run parties w xs) ys
+pub done-append : (parties : Party × Party) (w : World) (xs ys : List Event) → done_in parties w (xs ++ ys) ≡ done_in parties w xs ++ done_in parties (run parties w xs) ys
 unfolding done_in
 done-append parties w [] ys = refl
 done-append parties w (x ∷ xs) ys = ap (λ rest. map told_of (effects_at parties w x) ∷ rest) (done-append parties (happens parties w x) xs ys)
 
-length-done : (parties : Party × Party) (w : World) (xs : List Event) → length (done_in parties w xs) ≡ length xs
+pub length-done : (parties : Party × Party) (w : World) (xs : List Event) → length (done_in parties w xs) ≡ length xs
 unfolding done_in
 length-done parties w [] = refl
 length-done parties w (x ∷ xs) = ap suc (length-done parties (happens parties w x) xs)
 
 -- where a world stands after more events
-link-on : (old new : WorldValue) (events made : List Event) → parties_of new ≡ parties_of old
+pub link-on : (old new : WorldValue) (events made : List Event) → parties_of new ≡ parties_of old
     → link_after new (events ++ made) ≡ run (parties_of old) (link_after old events) made
 link-on old new events made same =
     ap (λ (ps : Party × Party). run ps (starts_world ps) (events ++ made)) same ∙ run-append (parties_of old) (starts_world (parties_of old)) events made
@@ -129,17 +129,17 @@ advance-more u v w c d e xs ys zs first second = record {
             shows = subst (ShowsRun w) (append_assoc events one.made two.made) two.shows;
           }
 
-hears-told : (parties : Party × Party) (w : World) (told : EndEffects) (got : Option LinkSent) → AreEffectsOf parties w told got → told ∷ [] ≡ map told_of (deliver_effects parties w got)
+pub hears-told : (parties : Party × Party) (w : World) (told : EndEffects) (got : Option LinkSent) → AreEffectsOf parties w told got → told ∷ [] ≡ map told_of (deliver_effects parties w got)
 hears-told parties w told None are = absurd are
 hears-told parties w told (Some d) are = rw (← are.0, ← are.1) refl
 
-less : (a b : ℕ) → a < b → nat_lt a b ≡ true
+pub less : (a b : ℕ) → a < b → nat_lt a b ≡ true
 less a b is = grind (arith, nat_tests)
 
-not-less : (a b : ℕ) → b ≤ a → nat_lt a b ≡ false
+pub not-less : (a b : ℕ) → b ≤ a → nat_lt a b ≡ false
 not-less a b is = grind (arith, nat_tests)
 
-ticks-told : (parties : Party × Party) (w : World) (now : ℕ) → nat_lt now w.now ≡ false → ticks_of parties w now ≡ map told_of (effects_at parties w (clock now))
+pub ticks-told : (parties : Party × Party) (w : World) (now : ℕ) → nat_lt now w.now ≡ false → ticks_of parties w now ≡ map told_of (effects_at parties w (clock now))
 ticks-told parties w now later = rw later refl
 
 pub advance-deliver : (old new : WorldValue) (k : ℕ) (told : EndEffects) (steps : List (List EndEffects)) → Delivers old new k (Ok told)
@@ -264,7 +264,7 @@ is-told parties w (event ∷ events) of among =
       | inr later ↦ (let rest = is-told parties (happens parties w event) events of later in record { step = rest.step; among = inr rest.among; does = rest.does })
     ]
 
-tells-note : (parties : Party × Party) (w : World) (events : List Event) (o : End) (note : Note) → IsNoted (effects_in parties w events) o note
+pub tells-note : (parties : Party × Party) (w : World) (events : List Event) (o : End) (note : Note) → IsNoted (effects_in parties w events) o note
     → TellsNote (done_in parties w events) (named o) note
 tells-note parties w events o note noted = record {
   told = told_of noted.of;
@@ -273,7 +273,7 @@ tells-note parties w events o note noted = record {
   noted = noted.noted;
 }
 
-tells-up : (parties : Party × Party) (w : World) (events : List Event) (o : End) (n : ℕ) → IsHandedUp (effects_in parties w events) o n → TellsUp (done_in parties w events) (named o) n
+pub tells-up : (parties : Party × Party) (w : World) (events : List Event) (o : End) (n : ℕ) → IsHandedUp (effects_in parties w events) o n → TellsUp (done_in parties w events) (named o) n
 tells-up parties w events o n handed = record {
   told = told_of handed.of;
   tells = is-told parties w events handed.of handed.among;

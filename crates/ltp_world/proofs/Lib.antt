@@ -1,5 +1,5 @@
 mod LinkLemmas
 mod FrontLemmas
 mod WorldLemmas
-mod DrainLemmas
-mod DrainFrontLemmas
+pub mod DrainLemmas
+pub mod DrainFrontLemmas

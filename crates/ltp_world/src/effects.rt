@@ -36,7 +36,7 @@ impl Model for WorldEffects {
 
 impl WorldEffects {
     /// What one end does.
-    pub(crate) fn one(alloc: Global, told: EndEffects) -> Result<WorldEffects, AllocError>
+    pub fn one(alloc: Global, told: EndEffects) -> Result<WorldEffects, AllocError>
         ensures { IfOk result (λ one. one ≡ told ∷ []) }
     {
         let mut items = Vec::new(alloc);

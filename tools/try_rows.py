@@ -1,0 +1,111 @@
+"""Runs rows on the unproved program: `rt try --cases` compiles it with checks, and runs it once for each row.
+
+A run takes half a second beside the program's own time, so there are as many `rt try` side by side as processors and
+memory allow, each with its share of the rows. What such a run can't be given, or can't answer, is told with its
+reason: it is for the built program alone.
+"""
+import os
+import re
+import subprocess
+import tempfile
+from concurrent.futures import ThreadPoolExecutor
+
+from machine import free_memory, processors
+from rows import ROOT, departs
+
+MOST_SIDE_BY_SIDE = 4
+MEMORY = 2_500_000_000     # of one `rt try`, most of it while the program is compiled
+SECONDS = 300              # of one run: on a machine that others use too some take more than a minute
+
+MOST_OUTPUT = 1 << 20
+ENDED = re.compile(rb"case=(\w+) run=ended status=(\d+) ")
+CASE = re.compile(rb"case=(\w+) ")
+
+
+def reason(row):
+    """Why the unproved program can't be run on a row, or None."""
+    if row.source:
+        return f"standard input is from {row.source.split()[0]}"
+    if row.sink:
+        return f"standard output goes to {row.sink}"
+    if len(row.wanted()) > MOST_OUTPUT:
+        return "the answer is longer than 1 MiB"
+    if any(b"\n" in word or word == b"{}" for word in row.words):
+        return "a word stands on no line"
+    return None
+
+
+def write_case(folder, name, row):
+    """Writes a row as a case: with the output that is wanted beside it, standard error wouldn't be shown."""
+    for ending, octets in (("", row.given()), (".args", b"".join(word + b"\n" for word in row.words))):
+        with open(os.path.join(folder, name + ending), "wb") as file:
+            file.write(octets)
+
+
+def outputs_in(octets, names):
+    """What each case wrote, from the output of `rt try`: a line with its name, and then its output."""
+    found, parts = {}, re.split(rb"^== (\w+)\n", octets, flags=re.M)
+    for name, output in zip(parts[1::2], parts[2::2]):
+        found[name.decode()] = output
+    return {name: found.get(name, b"") for name in names}
+
+
+def said_of(row, case, output):
+    """What a run of a row did that it shouldn't, from the line of its case, what came before it, and its output."""
+    line, errors = case
+    ended = ENDED.match(line)
+    if ended:
+        return departs(row, int(ended[2]), output, errors)
+    told = (errors + line).decode("utf-8", "replace")[-600:]
+    return [f"    {part}" for part in told.splitlines()]
+
+
+def cases_of(run, names, ran):
+    """The line of each case, and what standard error has before it, by the case's name."""
+    found, said = {}, b""
+    for line in run.stderr:
+        case = CASE.match(line)
+        if case and case[1].decode() in names:
+            found[case[1].decode()] = line, said
+            said = b""
+            ran()
+        else:
+            said += line
+    return found, said
+
+
+def tried(folder, rows, runs, ran):
+    """Each row of the cases in a folder, and what its run does that it shouldn't, in lines."""
+    words = ["rt", "try", "--steps", "1", "--seconds", str(SECONDS), "--cases", folder]
+    with tempfile.TemporaryFile() as output:
+        run = subprocess.Popen(words, cwd=os.path.join(ROOT, "crates", "bundle_cli"), stdin=subprocess.DEVNULL,
+                               stdout=output, stderr=subprocess.PIPE)
+        runs.append(run)
+        cases, rest = cases_of(run, rows, ran)
+        run.wait()
+        output.seek(0)
+        outputs = outputs_in(output.read(), rows)
+    last = [f"    {part}" for part in rest.decode("utf-8", "replace").splitlines()[-5:]]
+    for name, row in rows.items():
+        yield row, said_of(row, cases[name], outputs[name]) if name in cases else ["    it wasn't run:", *last]
+
+
+def answers(rows, ran):
+    """Each row, and what its run does that it shouldn't, in lines. Each time that a row was run, ran is called."""
+    count = max(1, min(MOST_SIDE_BY_SIDE, processors(), free_memory() // MEMORY, len(rows)))
+    runs = []
+    with tempfile.TemporaryDirectory(prefix="fimdahol-rows-") as folder, ThreadPoolExecutor(count) as pool:
+        folders = [os.path.join(folder, str(at)) for at in range(count)]
+        shares = [{f"row{at:05}": rows[at] for at in range(first, len(rows), count)} for first in range(count)]
+        for it, share in zip(folders, shares):
+            os.mkdir(it)
+            for name, row in share.items():
+                write_case(it, name, row)
+        try:
+            found = [pool.submit(lambda *given: [*tried(*given)], it, share, runs, ran)
+                     for it, share in zip(folders, shares)]
+            for answered in found:
+                yield from answered.result()
+        finally:
+            for run in runs:
+                run.terminate()

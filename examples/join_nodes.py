@@ -9,6 +9,8 @@ import sys
 
 HERE = os.path.dirname(os.path.abspath(__file__))
 PROGRAM = sys.argv[1] if sys.argv[1:] else os.path.join(HERE, "..", "crates", "bundle_cli", "out", "bundle_cli")
+if not os.access(PROGRAM, os.X_OK):
+    sys.exit("join_nodes: the program isn't built: run ./fimdahol --build first")
 BLOCK = bytes(range(100)) * 25     # in three segments, of 1,024, 1,024 and 452 octets
 LOST = {1, 2, 7}                   # of the datagrams, which are counted from 0
 

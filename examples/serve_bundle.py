@@ -18,6 +18,8 @@ from make_bundles import block6
 from make_bundles import bundle6 as spelled6
 
 PROGRAM = sys.argv[1] if sys.argv[1:] else os.path.join(HERE, "..", "crates", "bundle_cli", "out", "bundle_cli")
+if not os.access(PROGRAM, os.X_OK):
+    sys.exit("serve_bundle: the program isn't built: run ./fimdahol --build first")
 TURNS = 1500                       # some seconds: a turn in which nothing comes takes a millisecond or two
 RECEPTION_REPORTED, NORMAL, ONE_RECEIVER = 1 << 14, 0x80, 0x10
 RED_END_BLOCK, REPORT, REPORT_ACK = 3, 8, 9

@@ -139,7 +139,7 @@ submissions-append parties w (x ∷ xs) ys =
 
 -- ---- a drain
 
-clean-fronts : (v : WorldValue) (events made : List Event) (c : ℕ) → ShowsRun v events
+pub clean-fronts : (v : WorldValue) (events made : List Event) (c : ℕ) → ShowsRun v events
     → AreClean (parties_of v) (link_after v events) c made
     → HandsUpFrontsIn v events (done_in (parties_of v) (link_after v events) made)
 clean-fronts v events made c shows clean = record {

@@ -1,0 +1,3 @@
+pub mod ContactLemmas
+mod KeptLemmas
+mod FaultLemmas

@@ -51,7 +51,10 @@ begins (lines.JoinWhole site body) = record { first = codes "join"; rest = _; is
 begins (lines.Note site name first second word) = record { first = codes "note"; rest = _; is = refl }
 begins (lines.RefusedSend site cause) = record { first = codes "refused"; rest = _; is = refl }
 begins lines.RefusedDeliver = record { first = codes "refused"; rest = _; is = refl }
+begins lines.RefusedClosed = record { first = codes "refused"; rest = _; is = refl }
+begins (lines.At now) = record { first = codes "at"; rest = _; is = refl }
 begins (lines.End events) = record { first = codes "end"; rest = _; is = refl }
+begins (lines.Stop events) = record { first = codes "stop"; rest = _; is = refl }
 begins (lines.Out datagram) = record { first = codes "out"; rest = _; is = refl }
 begins (lines.Green session offset last body) = record { first = codes "green"; rest = _; is = refl }
 begins (lines.LinkNote old send) = record { first = codes "note"; rest = _; is = refl }

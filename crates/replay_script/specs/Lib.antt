@@ -2,7 +2,9 @@
 pub mod Words
 pub mod Lines
 pub mod Events
+pub mod LinkEvents
 pub mod Fault
 pub mod Laws
 -- What only ties code to it.
 pub mod Ties
+pub mod LinkTies

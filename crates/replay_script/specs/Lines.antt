@@ -18,12 +18,16 @@ route_word routes.OldGate = codes "o>g"
 route_word routes.GateOld = codes "g>o"
 route_word routes.GateNew = codes "g>n"
 route_word routes.NewGate = codes "n>g"
+route_word routes.FirstSecond = codes "f>s"
+route_word routes.SecondFirst = codes "s>f"
 
 abbrev pub site_word : Site → List ℕ
 site_word sites.OldNode = codes "o"
 site_word sites.GateOld = codes "g.o"
 site_word sites.GateNew = codes "g.n"
 site_word sites.NewNode = codes "n"
+site_word sites.First = codes "f"
+site_word sites.Second = codes "s"
 
 -- the side of the gate that has this link
 abbrev pub side_word : Bool → List ℕ
@@ -69,7 +73,10 @@ head_of (lines.Note site name first second word) =
     codes "note" ∷ (if_site site ++ name.now ∷ (numbers first second ++ if_word word))
 head_of (lines.RefusedSend site cause) = codes "refused" ∷ (if_site site ++ cause.now ∷ [])
 head_of lines.RefusedDeliver = codes "refused" ∷ codes "deliver" ∷ []
+head_of lines.RefusedClosed = codes "refused" ∷ codes "closed" ∷ []
+head_of (lines.At now) = codes "at" ∷ decimal now ∷ []
 head_of (lines.End events) = codes "end" ∷ decimal events ∷ []
+head_of (lines.Stop events) = codes "stop" ∷ decimal events ∷ []
 head_of (lines.Out datagram) = codes "out" ∷ []
 head_of (lines.Green session offset last body) =
     codes "green" ∷ decimal session ∷ decimal offset ∷ bit_word last ∷ []
@@ -86,7 +93,10 @@ octets_of (lines.JoinWhole site body) = Some body
 octets_of (lines.Note site name first second word) = None
 octets_of (lines.RefusedSend site cause) = None
 octets_of lines.RefusedDeliver = None
+octets_of lines.RefusedClosed = None
+octets_of (lines.At now) = None
 octets_of (lines.End events) = None
+octets_of (lines.Stop events) = None
 octets_of (lines.Out datagram) = Some datagram
 octets_of (lines.Green session offset last body) = Some body
 octets_of (lines.LinkNote old send) = None

@@ -1,8 +1,8 @@
 //! The lines of scripts and transcripts: what a script makes happen, and what happened.
 //!
 //! [`read_line`] reads a line of a script for two engines and a gate between them, and
-//! [`read_node_line`] one for a single engine; [`is_path_line`] says which line of a script is to be
-//! the first. A line is words separated by single spaces: numbers
+//! [`read_node_line`] one for a single engine, and [`read_link_line`] one for two engines on a link;
+//! [`is_path_line`] and [`is_link_line`] say which line of a script is to be the first. A line is words separated by single spaces: numbers
 //! are decimal without leading zeros and below 2^64, octets are hex of either case. A line is
 //! judged before memory is taken for it, so that a refusal costs none.
 //!
@@ -20,6 +20,8 @@ mod hexadecimal;
 mod judging;
 pub mod laws;
 mod line;
+mod link;
+mod link_judging;
 mod numeral;
 mod path;
 mod reading;
@@ -29,6 +31,7 @@ mod writing;
 pub use event::{Event, NodeEvent};
 pub use fault::LineFault;
 pub use line::{Line, Route, Site};
+pub use link::{LinkEvent, is_link_line, read_link_line};
 pub use numeral::number_in;
 pub use path::is_gate;
 pub use reading::{gate_in, is_path_line, read_line, read_node_line};

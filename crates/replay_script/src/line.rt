@@ -16,6 +16,10 @@ pub enum Route {
     GateNew,
     /// From the new node to the gate.
     NewGate,
+    /// From the first end of a link to the second.
+    FirstSecond,
+    /// From the second end of a link to the first.
+    SecondFirst,
 }
 
 /// Which engine something happened at.
@@ -29,6 +33,10 @@ pub enum Site {
     GateNew,
     /// The new node's.
     NewNode,
+    /// The first one of a link.
+    First,
+    /// The second one of a link.
+    Second,
 }
 
 /// A line of a transcript. Where a site may be left out, the line is one of a single engine.
@@ -72,8 +80,18 @@ pub enum Line {
     },
     /// There is no datagram that has the number of a delivery.
     RefusedDeliver,
+    /// Nothing is delivered while a link is closed.
+    RefusedClosed,
+    /// What follows happens at this moment, at which a link is open.
+    At {
+        now: u64,
+    },
     /// A drain ended after so many events.
     End {
+        events: u64,
+    },
+    /// The plan of a link's windows ended a drain after so many events.
+    Stop {
         events: u64,
     },
     /// A single engine sends a datagram.
@@ -110,6 +128,8 @@ impl Route {
             Route::GateOld => "g>o",
             Route::GateNew => "g>n",
             Route::NewGate => "n>g",
+            Route::FirstSecond => "f>s",
+            Route::SecondFirst => "s>f",
         }
     }
 }
@@ -124,6 +144,8 @@ impl Site {
             Site::GateOld => "g.o",
             Site::GateNew => "g.n",
             Site::NewNode => "n",
+            Site::First => "f",
+            Site::Second => "s",
         }
     }
 }

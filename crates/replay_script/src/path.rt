@@ -33,13 +33,13 @@ pub(crate) struct PathNumbers {
 }
 
 /// The fewest octets of a segment's data.
-const LEAST_SEGMENT: u64 = 512;
+pub(crate) const LEAST_SEGMENT: u64 = 512;
 /// The most.
-const MOST_SEGMENT: u64 = 8_192;
+pub(crate) const MOST_SEGMENT: u64 = 8_192;
 /// The longest wait in ms.
-const WAIT: u64 = 3_600_000;
+pub(crate) const WAIT: u64 = 3_600_000;
 /// The most times that a segment may be sent.
-const LIMIT: u64 = 100;
+pub(crate) const LIMIT: u64 = 100;
 /// The most octets of a payload that a gate may leave uncut.
 const CUT: u64 = 4_000_000;
 

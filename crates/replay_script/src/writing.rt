@@ -103,7 +103,10 @@ fn write_head(text: &mut String, line: &Line) -> Result<(), AllocError>
         }
         Line::RefusedSend { site, cause } => write_named(text, "refused", *site, cause),
         Line::RefusedDeliver => text.push_str("refused deliver"),
+        Line::RefusedClosed => text.push_str("refused closed"),
+        Line::At { now } => write!(text, "at {now}"),
         Line::End { events } => write!(text, "end {events}"),
+        Line::Stop { events } => write!(text, "stop {events}"),
         Line::Out { .. } => text.push_str("out"),
         Line::Green {
             session,

@@ -1,12 +1,11 @@
 -- Contact time, over any windows and over windows in order.
 
-use Rattle.std.proofs.Common.{◌≡◌, ℕ, zero, suc, ◌+◌, ◌-◌, ◌<◌, ◌≤◌, ◌^◌, true, false, List, [], ◌∷◌, length, nat_lt, nat_le, refl, sym, ap, ◌∙◌, arith, subst, inl, inr, ◌⊎◌}
+use Rattle.std.proofs.Common.{◌≡◌, ℕ, zero, suc, ◌+◌, ◌-◌, ◌<◌, ◌≤◌, ◌^◌, true, false, List, [], ◌∷◌, refl, sym, ◌∙◌, arith, subst, inl, inr, ◌⊎◌}
 use Rattle.std.proofs.lemmas.Bool.Decides.{nat_tests}
 use Rattle.std.proofs.lemmas.Bool.{cases_lt}
-use Rattle.std.specs.List.{list_any}
 use Rattle.contact_plan.specs.declared.window.Window.{Window}
 use Rattle.contact_plan.specs.Laws.{ContactGoesOn, ContactHasMoments, ContactIsBounded, HasMoment, MomentsAreApart}
-use Rattle.contact_plan.specs.Windows.{AreInOrder, IsMoment, IsPlan, elapsed, is_open, lies_in, total}
+use Rattle.contact_plan.specs.Windows.{AreInOrder, IsMoment, elapsed, is_open, lies_in, total}
 
 -- ---- step by step
 
@@ -208,7 +207,7 @@ open-early end (w ∷ ws) t order is = elim (bool-cases (is_open (w ∷ []) t)) 
 
 -- ---- each contact time below the sum of the windows has a moment
 
-in-first : (end : ℕ) (w : Window) (ws : List Window) (contact : ℕ) → AreInOrder end (w ∷ ws) → contact < w.to - w.from → IsMoment (w ∷ ws) contact (w.from + contact)
+pub in-first : (end : ℕ) (w : Window) (ws : List Window) (contact : ℕ) → AreInOrder end (w ∷ ws) → contact < w.to - w.from → IsMoment (w ∷ ws) contact (w.from + contact)
 in-first end w ws contact order low =
     let before : w.from + contact < w.to = omega (arith, low) in record {
       is_in = open-in-first w ws (w.from + contact) (within w (w.from + contact) (omega arith) before);
@@ -219,7 +218,7 @@ in-first end w ws contact order low =
           omega (arith, cons, one, none);
     }
 
-in-others : (end : ℕ) (w : Window) (ws : List Window) (contact t : ℕ) → AreInOrder end (w ∷ ws) → IsMoment ws contact t → IsMoment (w ∷ ws) ((w.to - w.from) + contact) t
+pub in-others : (end : ℕ) (w : Window) (ws : List Window) (contact t : ℕ) → AreInOrder end (w ∷ ws) → IsMoment ws contact t → IsMoment (w ∷ ws) ((w.to - w.from) + contact) t
 in-others end w ws contact t order is =
     let low = order.1 in
     let past : w.to ≤ t = elim (cases_lt t w.to) [

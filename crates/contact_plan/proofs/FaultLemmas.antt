@@ -1,11 +1,10 @@
 -- Which windows have no fault, and what a window more makes of them.
 
-use Rattle.std.proofs.Common.{◌≡◌, ℕ, zero, suc, ◌+◌, ◌-◌, ◌<◌, ◌≤◌, ◌^◌, true, false, ◌&&◌, List, [], ◌∷◌, ◌++◌, length, map, nat_lt, nat_le, Option, None, Some, if◌then◌else◌, refl, sym, ap, ◌∙◌, arith, subst, inl, inr, ◌⊎◌}
+use Rattle.std.proofs.Common.{◌≡◌, ℕ, ◌+◌, ◌-◌, ◌<◌, ◌≤◌, ◌^◌, true, false, List, [], ◌∷◌, ◌++◌, length, nat_lt, Option, None, Some, if◌then◌else◌, refl, sym, ap, ◌∙◌, arith, inl, inr}
 use Rattle.std.proofs.lemmas.Bool.Decides.{nat_tests}
 use Rattle.std.proofs.lemmas.Bool.{and_parts, cases_lt, leb-true, ltb-true, le-leb, lt-ltb}
 use Rattle.std.proofs.lemmas.List.{length-append, length-map}
 use Rattle.std.specs.Option.{option_map}
-use Rattle.contact_plan.specs.declared.fault.PlanFault.{PlanFault}
 use Rattle.contact_plan.specs.declared.fault.PlanFault.TheVariants as causes
 use Rattle.contact_plan.specs.declared.kept.Kept.{Kept}
 use Rattle.contact_plan.specs.declared.window.Window.{Window}
@@ -13,7 +12,6 @@ use Rattle.contact_plan.specs.Fault.{first_misplaced, may_follow, plan_fault}
 use Rattle.contact_plan.specs.Kept.{AreKept, IsKept, last_from, windows_of}
 use Rattle.contact_plan.specs.Laws.{FaultlessIsPlan}
 use Rattle.contact_plan.specs.Windows.{AreInOrder, IsPlan}
-use Rattle.contact_plan.proofs.ContactLemmas.{bool-cases}
 
 -- ---- a window after others
 

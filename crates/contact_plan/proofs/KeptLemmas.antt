@@ -1,14 +1,13 @@
 -- What the searches of a plan find.
 
-use Rattle.std.proofs.Common.{◌≡◌, ℕ, zero, suc, ◌+◌, ◌-◌, ◌<◌, ◌≤◌, ◌^◌, true, false, ◌&&◌, List, [], ◌∷◌, ◌++◌, length, map, get_or, nat_lt, nat_le, Option, None, Some, if◌then◌else◌, refl, sym, ap, ◌∙◌, arith, subst, inl, inr, ◌⊎◌}
+use Rattle.std.proofs.Common.{◌≡◌, ℕ, zero, suc, ◌+◌, ◌-◌, ◌<◌, ◌≤◌, ◌^◌, true, false, List, [], ◌∷◌, length, get_or, nat_lt, nat_le, Some, if◌then◌else◌, refl, sym, ap, ◌∙◌, arith, subst, inl, inr}
 use Rattle.std.proofs.lemmas.Bool.Decides.{nat_tests}
 use Rattle.std.proofs.lemmas.Bool.{cases_lt, leb-true, leb-false}
-use Rattle.std.proofs.lemmas.List.{length-append, length-map}
+use Rattle.std.proofs.lemmas.List.{length-map}
 use Rattle.std.proofs.lemmas.List.Sorted.{IsPartitionedBy-leb}
 use Rattle.std.specs.List.Sorted.{IsNonDecreasingBy, IsPartitionedBy, IsPartitionPoint}
 use Rattle.std.specs.List.{slice_get}
 use Rattle.contact_plan.specs.declared.kept.Kept.{Kept}
-use Rattle.contact_plan.specs.declared.window.Window.{Window}
 use Rattle.contact_plan.specs.Kept.{AreKept, IsKept, Parts, last_from, windows_of}
 use Rattle.contact_plan.specs.Windows.{AreInOrder, IsMoment, IsPlan, elapsed, is_open, total}
 use Rattle.contact_plan.proofs.ContactLemmas.{closed-before, elapsed-cons, none-until, one-before, one-in, one-after, outside-after, outside-before, within, open-in-first, open-in-rest}

@@ -1,7 +1,7 @@
 -- Why some windows are no plan.
 
 use Rattle.std.specs.Option.{option_map}
-use Rattle.std.specs.Prelude.{◌≡◌, ℕ, ◌+◌, ◌<◌, ◌≤◌, ◌^◌, Bool, ◌&&◌, List, [], ◌∷◌, ◌++◌, length}
+use Rattle.std.specs.Prelude.{◌≡◌, ℕ, ◌+◌, ◌<◌, ◌^◌, Bool, ◌&&◌, List, [], ◌∷◌, ◌++◌, length}
 use Rattle.std.specs.Prelude.{Option, None, Some, Result, Ok, Err, nat_lt, nat_le, codes}
 use Rattle.std.specs.Prelude.{if◌then◌else◌}
 use Rattle.contact_plan.specs.declared.fault.PlanFault.{PlanFault}

@@ -1,4 +1,4 @@
-use Rattle.std.proofs.Common.{ℕ, sym, ◌∙◌, ap, arith}
+use Rattle.std.proofs.Common.{ℕ, ap, arith}
 use Rattle.contact_plan.proofs.KeptLemmas.{elapsed-at, elapsed-past, kept-at}
 use Rattle.contact_plan.proofs.kept.elapsed.Goals as goal
 

@@ -1,4 +1,3 @@
-use Rattle.std.proofs.Common.{◌≡◌, ◌∙◌}
 use Rattle.contact_plan.proofs.KeptLemmas.{last-read}
 use Rattle.contact_plan.proofs.kept.last.Goals as goal
 

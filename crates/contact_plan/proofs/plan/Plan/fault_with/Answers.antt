@@ -1,11 +1,11 @@
-use Rattle.std.proofs.Common.{◌≡◌, ℕ, ◌<◌, true, false, List, ◌++◌, ◌∷◌, [], length, Some, None, sym, ap, ◌∙◌, subst, arith}
+use Rattle.std.proofs.Common.{◌≡◌, ℕ, ◌<◌, true, false, List, ◌++◌, ◌∷◌, [], length, Some, sym, ap, ◌∙◌, subst, arith}
 use Rattle.contact_plan.specs.declared.fault.PlanFault.TheVariants as causes
 use Rattle.contact_plan.specs.declared.kept.Kept.{Kept}
 use Rattle.contact_plan.specs.declared.window.Window.{Window}
 use Rattle.contact_plan.specs.Fault.{may_follow, plan_fault}
 use Rattle.contact_plan.specs.Kept.{last_from}
 use Rattle.contact_plan.specs.Windows.{IsPlan}
-use Rattle.contact_plan.proofs.FaultLemmas.{many-more, none-more, order-more}
+use Rattle.contact_plan.proofs.FaultLemmas.{none-more, order-more}
 use Rattle.contact_plan.proofs.KeptLemmas.{plan-of}
 use Rattle.contact_plan.proofs.plan.Plan.fault_with.Goals as goal
 

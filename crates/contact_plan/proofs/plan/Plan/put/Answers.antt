@@ -1,9 +1,9 @@
-use Rattle.std.proofs.Common.{◌≡◌, ℕ, ◌+◌, ◌-◌, true, List, ◌++◌, ◌∷◌, [], length, None, sym, ap, ◌∙◌, subst, arith}
+use Rattle.std.proofs.Common.{◌≡◌, ℕ, ◌+◌, ◌-◌, true, List, ◌++◌, ◌∷◌, [], None, sym, ap, ◌∙◌, subst, arith}
 use Rattle.contact_plan.specs.declared.kept.Kept.{Kept}
 use Rattle.contact_plan.specs.declared.window.Window.{Window}
 use Rattle.contact_plan.specs.Fault.{may_follow, plan_fault}
 use Rattle.contact_plan.specs.Kept.{IsKept, last_from}
-use Rattle.contact_plan.proofs.FaultLemmas.{Joins, follows, is-kept-more, joins, joins-room}
+use Rattle.contact_plan.proofs.FaultLemmas.{follows, is-kept-more, joins, joins-room}
 use Rattle.contact_plan.proofs.KeptLemmas.{plan-of}
 use Rattle.contact_plan.proofs.plan.Plan.put.Goals as goal
 

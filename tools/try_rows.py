@@ -1,8 +1,9 @@
-"""Runs rows on the unproved program: `rt try --cases` compiles it with checks, and runs it once for each row.
+"""Runs rows on the unproved program: `rt try --cases` compiles it with checks, and runs it once for
+each row.
 
-A run takes half a second beside the program's own time, so there are as many `rt try` side by side as processors and
-memory allow, each with its share of the rows. What such a run can't be given, or can't answer, is told with its
-reason: it is for the built program alone.
+A run takes half a second beside the program's own time, so there are as many `rt try` side by side
+as processors and memory allow, each with its share of the rows. What such a run can't be given, or
+can't answer, is told with its reason: it is for the built program alone.
 """
 import os
 import re
@@ -13,11 +14,12 @@ from concurrent.futures import ThreadPoolExecutor
 from machine import free_memory, processors
 from rows import ROOT, departs
 
+CRATE = os.path.join(ROOT, "crates", "bundle_cli")
 MOST_SIDE_BY_SIDE = 4
 MEMORY = 2_500_000_000     # of one `rt try`, most of it while the program is compiled
-SECONDS = 300              # of one run: on a machine that others use too some take more than a minute
-
+SECONDS = 300              # of one run: beside other work some take more than a minute
 MOST_OUTPUT = 1 << 20
+MOST_LINES = 100_000       # of input: a million take a minute of processor time
 ENDED = re.compile(rb"case=(\w+) run=ended status=(\d+) ")
 CASE = re.compile(rb"case=(\w+) ")
 
@@ -30,20 +32,23 @@ def reason(row):
         return f"standard output goes to {row.sink}"
     if len(row.wanted()) > MOST_OUTPUT:
         return "the answer is longer than 1 MiB"
+    if row.given().count(b"\n") > MOST_LINES:
+        return "the input has more than 100,000 lines"
     if any(b"\n" in word or word == b"{}" for word in row.words):
         return "a word stands on no line"
     return None
 
 
 def write_case(folder, name, row):
-    """Writes a row as a case: with the output that is wanted beside it, standard error wouldn't be shown."""
-    for ending, octets in (("", row.given()), (".args", b"".join(word + b"\n" for word in row.words))):
+    """Writes a row as a case. With the wanted output beside it standard error wouldn't be shown."""
+    words = b"".join(word + b"\n" for word in row.words)
+    for ending, octets in (("", row.given()), (".args", words)):
         with open(os.path.join(folder, name + ending), "wb") as file:
             file.write(octets)
 
 
 def outputs_in(octets, names):
-    """What each case wrote, from the output of `rt try`: a line with its name, and then its output."""
+    """What each case wrote, from the output of `rt try`: its name on a line, and then its output."""
     found, parts = {}, re.split(rb"^== (\w+)\n", octets, flags=re.M)
     for name, output in zip(parts[1::2], parts[2::2]):
         found[name.decode()] = output
@@ -51,7 +56,8 @@ def outputs_in(octets, names):
 
 
 def said_of(row, case, output):
-    """What a run of a row did that it shouldn't, from the line of its case, what came before it, and its output."""
+    """What a run of a row did that it shouldn't, from the line of its case, what standard error has
+    before it, and its output."""
     line, errors = case
     ended = ENDED.match(line)
     if ended:
@@ -78,8 +84,8 @@ def tried(folder, rows, runs, ran):
     """Each row of the cases in a folder, and what its run does that it shouldn't, in lines."""
     words = ["rt", "try", "--steps", "1", "--seconds", str(SECONDS), "--cases", folder]
     with tempfile.TemporaryFile() as output:
-        run = subprocess.Popen(words, cwd=os.path.join(ROOT, "crates", "bundle_cli"), stdin=subprocess.DEVNULL,
-                               stdout=output, stderr=subprocess.PIPE)
+        run = subprocess.Popen(words, cwd=CRATE, stdin=subprocess.DEVNULL, stdout=output,
+                               stderr=subprocess.PIPE)
         runs.append(run)
         cases, rest = cases_of(run, rows, ran)
         run.wait()
@@ -87,16 +93,20 @@ def tried(folder, rows, runs, ran):
         outputs = outputs_in(output.read(), rows)
     last = [f"    {part}" for part in rest.decode("utf-8", "replace").splitlines()[-5:]]
     for name, row in rows.items():
-        yield row, said_of(row, cases[name], outputs[name]) if name in cases else ["    it wasn't run:", *last]
+        if name in cases:
+            yield row, said_of(row, cases[name], outputs[name])
+        else:
+            yield row, ["    it wasn't run:", *last]
 
 
 def answers(rows, ran):
-    """Each row, and what its run does that it shouldn't, in lines. Each time that a row was run, ran is called."""
+    """Each row, and what its run does that it shouldn't, in lines. It calls ran for each run."""
     count = max(1, min(MOST_SIDE_BY_SIDE, processors(), free_memory() // MEMORY, len(rows)))
-    runs = []
-    with tempfile.TemporaryDirectory(prefix="fimdahol-rows-") as folder, ThreadPoolExecutor(count) as pool:
+    runs, room = [], tempfile.TemporaryDirectory(prefix="fimdahol-rows-")
+    with room as folder, ThreadPoolExecutor(count) as pool:
         folders = [os.path.join(folder, str(at)) for at in range(count)]
-        shares = [{f"row{at:05}": rows[at] for at in range(first, len(rows), count)} for first in range(count)]
+        shares = [{f"row{at:05}": rows[at] for at in range(first, len(rows), count)}
+                  for first in range(count)]
         for it, share in zip(folders, shares):
             os.mkdir(it)
             for name, row in share.items():

@@ -58,7 +58,7 @@ def files_of(name):
 
 
 def lines_of(name):
-    """A crate's lines of code: its functions are what takes time, and definitions and lemmas little."""
+    """A crate's lines of code: its functions take the time, and definitions and lemmas little."""
     total = EACH
     for path in files_of(name):
         if path.endswith(".rt"):
@@ -102,8 +102,9 @@ class Crates:
         return found
 
     def memory(self, name, jobs):
-        """What the proof of a crate takes at most, in bytes, as it was seen: it loads the libraries. (rt alone
-        reckons 1.2 MB for each of their lines, and so gives the crates at the top one job each.)"""
+        """What the proof of a crate takes at most, in bytes, as it was seen: it loads the libraries.
+        (rt alone reckons 1.2 MB for each of their lines, and so gives the crates at the top one
+        job each.)"""
         under = sum(self.lines[it] for it in self.below[name])
         each = 900_000_000 + 80_000 * under + 200_000 * self.lines[name]
         return each * (1 + 0.6 * (jobs - 1))
@@ -257,7 +258,8 @@ class Progress:
         return pace * max(lines / self.lanes, chain * 0.6)
 
     def add(self, name, seconds, jobs):
-        """Counts a crate. One that took no time, since rt found it in another clone, says nothing of the pace."""
+        """Counts a crate. One that took no time, since rt found it in another clone, says nothing
+        of the pace."""
         self.done.add(name)
         if 3 * seconds * jobs > PACE * self.crates.lines[name]:
             self.lines += self.crates.lines[name]
@@ -339,8 +341,9 @@ def link_program(room, progress, jobs):
     log = os.path.join(room, "log")
     words = ["rt", "run", "--jobs", str(jobs), "--", "--version"]
     with open(log, "wb") as file:
-        run = subprocess.Popen(words, cwd=os.path.join(ROOT, "crates", PROGRAM), stdout=file, stderr=file,
-                               stdin=subprocess.DEVNULL, start_new_session=True)
+        run = subprocess.Popen(
+            words, cwd=os.path.join(ROOT, "crates", PROGRAM), stdin=subprocess.DEVNULL,
+            stdout=file, stderr=file, start_new_session=True)
     try:
         while run.poll() is None:
             progress.show([PROGRAM])
@@ -362,13 +365,14 @@ def build(crates):
     if len(done) == len(crates.below):
         return tell("the program is built")
     progress = Progress(crates, done, lanes)
-    tell(f"proves {len(crates.below) - len(done)} of {len(crates.below)} crates, {lanes} at a time at most, "
-         f"in about {minutes(progress.left())}; an interrupted build goes on where it was")
+    tell(f"proves {len(crates.below) - len(done)} of {len(crates.below)} crates, at most {lanes} "
+         f"at a time, in about {minutes(progress.left())}; an interrupted build goes on where it was")
     with room_for_lanes() as room:
         idle = [Lane(tempfile.mkdtemp(prefix="lane-", dir=room)) for _ in range(lanes)]
         prove(crates, progress, idle, 0.85 * free_memory())
         link_program(room, progress, min(lanes, MOST_JOBS))
-    return tell(f"the program is proved and built, after {minutes(time.monotonic() - progress.began)}")
+    past = time.monotonic() - progress.began
+    return tell(f"the program is proved and built, after {minutes(past)}")
 
 
 def main(words):

@@ -1,11 +1,12 @@
 #!/usr/bin/env python3
-"""Copies the built program, its manual page and its completions for bash to a prefix, or takes them away.
+"""Copies the built program, its manual page and its completions for bash to a prefix, or takes them
+away.
 
 usage: tools/install_program.py --install [PREFIX]       /usr/local where no PREFIX is given
        tools/install_program.py --uninstall [PREFIX]
        tools/install_program.py --page                   writes the manual page to standard output
 
-The page and the completions are made from the program's help, which stands in crates/bundle_cli/src/help.rt alone.
+The page and the completions are made from the program's help, in crates/bundle_cli/src/help.rt.
 """
 import os
 import re
@@ -64,9 +65,10 @@ def page():
     text, version = constant("HELP"), constant("VERSION").split()[-1]
     head, usage, *rest = text.rstrip("\n").split("\n\n")
     name, _, purpose = head.partition(": ")
-    made = [f'.TH FIMDAHOL 1 "" "{name} {version}" "User Commands"', ".SH NAME", rf"{name} \- {purpose}",
-            ".SH SYNOPSIS", ".nf", *(roff(line[len("usage: "):]) for line in usage.split("\n")), ".fi",
-            ".SH DESCRIPTION"]
+    made = [f'.TH FIMDAHOL 1 "" "{name} {version}" "User Commands"',
+            ".SH NAME", rf"{name} \- {purpose}",
+            ".SH SYNOPSIS", ".nf", *(roff(line[len("usage: "):]) for line in usage.split("\n")),
+            ".fi", ".SH DESCRIPTION"]
     for block in rest:
         word, _, first = block.partition(": ")
         if word in SECTIONS:
@@ -126,7 +128,8 @@ def main(words):
     if len(words) not in (1, 2) or words[0] not in ("--install", "--uninstall"):
         sys.exit("usage: tools/install_program.py --install | --uninstall [PREFIX]")
     try:
-        (install if words[0] == "--install" else uninstall)(os.path.abspath((words + ["/usr/local"])[1]))
+        prefix = os.path.abspath((words + ["/usr/local"])[1])
+        (install if words[0] == "--install" else uninstall)(prefix)
     except OSError as fault:
         sys.exit(f"fimdahol: {fault.filename}: {fault.strerror}")
     return 0

@@ -1,4 +1,4 @@
-"""How many processors and how much memory there are to use, within the limits of a control group."""
+"""How many processors and how much memory there are, within the limits of a control group."""
 import contextlib
 import os
 import re

@@ -13,7 +13,7 @@ open-counts : (windows : List Window) (t : ℕ) → is_open windows t ≡ true �
 unfolding elapsed
 open-counts windows t is = rw is refl
 
-closed-stands : (windows : List Window) (t : ℕ) → is_open windows t ≡ false → elapsed windows (suc t) ≡ elapsed windows t
+pub closed-stands : (windows : List Window) (t : ℕ) → is_open windows t ≡ false → elapsed windows (suc t) ≡ elapsed windows t
 unfolding elapsed
 closed-stands windows t is = rw is (omega arith)
 

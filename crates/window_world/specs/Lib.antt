@@ -4,6 +4,7 @@ pub mod Refused
 pub mod Steps
 pub mod Drain
 pub mod Made
+pub mod Quiet
 -- What only ties code to it.
 pub mod Ties
 pub mod Leads

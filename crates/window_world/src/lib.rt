@@ -14,6 +14,7 @@
 
 mod drain;
 mod effects;
+pub mod laws;
 mod refused;
 mod world;
 

@@ -6,7 +6,8 @@ ghost use Rattle.drain_laws.specs.Hopeful.{AreAlike};
 ghost use Rattle.ltp_world.specs.RedParts.{HandsUpFronts};
 ghost use Rattle.ltp_world.specs.Shows.{AreBounded, IsNew, ShowsRun};
 ghost use Rattle.ltp_world.specs.Values.{parties_of};
-ghost use Rattle.contact_plan.specs.Windows.{is_open};
+ghost use Rattle.contact_plan.specs.Windows.{elapsed, is_open};
+ghost use Rattle.window_world.specs.Quiet.{both_quiet};
 ghost use Rattle.window_world.specs.Steps.{Delivers, Submits, Ticks};
 ghost use Rattle.window_world.specs.Values.{RunsOnContact, begins_on, later_of};
 
@@ -143,6 +144,9 @@ impl WindowWorld {
         requires whole { self.old.spent ≡ false }
         requires moment { now < 2 ^ 62 }
         ensures done { IfOk result (Ticks self.old self.new now) }
+        // Where contact time stood still, no timer fires.
+        ensures quiet { elapsed self.old.plan now ≡ elapsed self.old.plan self.old.moment
+            → IfOk result (λ told. told ≡ both_quiet) }
         ensures contact { RunsOnContact self.new }
         ensures bounds { AreBounded self.old.link.engines
             → OnOk result (AreBounded self.new.link.engines) }

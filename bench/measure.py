@@ -20,7 +20,7 @@ def program_of(words):
     """The first argument, or the program as this repository builds it."""
     path = os.path.abspath(words[0]) if words else PROGRAM
     if not os.access(path, os.X_OK):
-        sys.exit(f"{path} isn't there: build it by './fimdahol --version', or name a program as the first argument")
+        sys.exit(f"{path} isn't there: run ./fimdahol --build first, or name a program as the first argument")
     return path
 
 

@@ -198,22 +198,35 @@ def give_back(lane, name):
     shutil.rmtree(made, ignore_errors=True)
 
 
-@contextlib.contextmanager
-def room_for_lanes():
-    """A folder for lanes, on the clone's own disk. Only one build at a time has it."""
+def git_folder():
+    """The folder of git, in a worktree too; out/ where the sources came without it."""
     git = os.path.join(ROOT, ".git")
-    if not os.path.isdir(git):
-        with tempfile.TemporaryDirectory(prefix="fimdahol-build-") as room:
-            yield room
-        return
-    room = os.path.join(git, "fimdahol-build")
-    os.makedirs(room, exist_ok=True)
-    held = os.open(room, os.O_RDONLY)
+    if os.path.isfile(git):
+        with open(git, encoding="utf-8") as file:
+            git = os.path.join(ROOT, file.read().partition("gitdir: ")[2].strip())
+    return git if os.path.isdir(git) else os.path.join(ROOT, "out")
+
+
+@contextlib.contextmanager
+def alone():
+    """Waits till no other build is under way in this clone."""
+    held = os.open(os.path.join(ROOT, "crates"), os.O_RDONLY)
     try:
         fcntl.flock(held, fcntl.LOCK_EX | fcntl.LOCK_NB)
     except BlockingIOError:
         tell("waits for another build in this clone")
         fcntl.flock(held, fcntl.LOCK_EX)
+    try:
+        yield
+    finally:
+        os.close(held)
+
+
+@contextlib.contextmanager
+def room_for_lanes():
+    """A folder for lanes, on the clone's own disk, which it is removed from again."""
+    room = os.path.join(git_folder(), "fimdahol-build")
+    os.makedirs(room, exist_ok=True)
     try:
         # What a build left that was killed.
         for lane in os.listdir(room):
@@ -225,7 +238,6 @@ def room_for_lanes():
         yield room
     finally:
         shutil.rmtree(room, ignore_errors=True)
-        os.close(held)
 
 
 # ---- progress ----
@@ -384,10 +396,12 @@ def main(words):
     elif words:
         sys.exit("usage: tools/build_program.py [--say]")
     else:
+        # Where a build is told to end, it ends what it began.
         signal.signal(signal.SIGTERM, lambda number, _: sys.exit(128 + number))
         signal.signal(signal.SIGHUP, lambda number, _: sys.exit(128 + number))
         try:
-            build(crates)
+            with alone():
+                build(crates)
         except KeyboardInterrupt:
             tell("interrupted; what is proved is kept, and the next build goes on there")
             sys.exit(130)

@@ -316,7 +316,7 @@ def program_of(words):
     """The program that is named first, or the one that this repository builds; and the words after it."""
     path = os.path.abspath(words[0]) if words and not words[0].startswith("--") else PROGRAM
     if not os.access(path, os.X_OK):
-        sys.exit(f"{path} isn't there: build it by './fimdahol --version', or name a program as the first argument")
+        sys.exit(f"{path} isn't there: run ./fimdahol --build first, or name a program as the first argument")
     return path, words[1:] if words and not words[0].startswith("--") else words
 
 

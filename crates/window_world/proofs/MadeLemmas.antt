@@ -1,11 +1,11 @@
 -- Every drain of a link ends, and its events are one list.
 
-use Rattle.std.proofs.Common.{◌≡◌, ℕ, zero, suc, ◌+◌, ◌-◌, ◌<◌, ◌≤◌, Bool, true, false, List, [], ◌∷◌, ◌++◌, Option, None, Some, refl, sym, ◌∙◌, ap, arith, subst, nat_lt, if◌then◌else◌}
+use Rattle.std.proofs.Common.{◌≡◌, ℕ, zero, suc, ◌+◌, ◌-◌, ◌<◌, Bool, true, false, List, [], ◌∷◌, ◌++◌, Option, None, Some, refl, sym, ◌∙◌, ap, arith, subst, nat_lt, if◌then◌else◌}
 use Rattle.std.proofs.lemmas.Bool.{ltb-true, ltb-false}
 use Rattle.std.proofs.lemmas.Bool.Decides.{nat_tests}
-use Rattle.std.specs.List.{AllByRecursion, slice_get}
+use Rattle.std.specs.List.{slice_get}
 use Rattle.ltp_session.specs.Engine.{Party}
-use Rattle.ltp_session.specs.World.{Event, Sent, World, clock, deliver, delivered, happens, other, replies, run, starts_world, submit, ticks}
+use Rattle.ltp_session.specs.World.{Event, World, clock, deliver, happens, starts_world, submit}
 use Rattle.drain_laws.specs.Clean.{clean_event, passed_after}
 use Rattle.drain_laws.specs.Hopeful.{IsReached}
 use Rattle.drain_laws.specs.Left.{AreTimed, link_left}

@@ -1,6 +1,6 @@
 -- A clock that is set to the contact time that it shows does nothing.
 
-use Rattle.std.proofs.Common.{◌≡◌, ℕ, zero, suc, ◌+◌, ◌<◌, ◌≤◌, false, List, [], ◌∷◌, Option, None, Some, refl, sym, ◌∙◌, ap, arith, subst, nat_le, nat_lt, inl, inr}
+use Rattle.std.proofs.Common.{◌≡◌, ℕ, zero, suc, ◌<◌, false, List, [], ◌∷◌, Option, None, Some, refl, sym, ◌∙◌, arith, subst, nat_le, nat_lt, inl, inr}
 use Rattle.std.proofs.lemmas.Bool.{cases_lt}
 use Rattle.std.proofs.lemmas.Bool.Decides.{nat_tests}
 use Rattle.std.specs.Option.{option_map}
@@ -17,10 +17,8 @@ use Rattle.ltp_world.specs.Clean.{deadline_in}
 use Rattle.ltp_world.specs.Shows.{Stands, link_after}
 use Rattle.ltp_world.specs.Steps.{ticks_of}
 use Rattle.ltp_world.specs.Steps.{Ticks as LinkTicks}
-use Rattle.ltp_world.specs.Values.{WorldValue, both_ends, parties_of}
+use Rattle.ltp_world.specs.Values.{WorldValue, parties_of}
 use Rattle.ltp_world.proofs.DrainLemmas.{due-ahead, link-deadline}
-use Rattle.contact_plan.specs.declared.window.Window.{Window}
-use Rattle.contact_plan.specs.Windows.{elapsed, is_open}
 use Rattle.contact_plan.proofs.ContactLemmas.{closed-stands}
 use Rattle.window_world.specs.Quiet.{GapsStandStill, both_quiet}
 

@@ -1,29 +1,26 @@
 -- A link world's calls at contact time, and clean events one after the other, each at its moment.
 
-use Rattle.std.proofs.Common.{◌≡◌, ℕ, zero, suc, ◌+◌, ◌-◌, ◌<◌, ◌≤◌, ◌^◌, Bool, true, false, ◌||◌, List, [], ◌∷◌, ◌++◌, length, map, Option, None, Some, Result, Ok, Err, if◌then◌else◌, refl, sym, ◌∙◌, ap, arith, subst, nat_lt, nat_le, IfSome, inl, inr, ◌⊎◌}
+use Rattle.std.proofs.Common.{◌≡◌, ℕ, suc, ◌+◌, ◌<◌, ◌≤◌, ◌^◌, Bool, true, false, ◌||◌, List, [], ◌∷◌, ◌++◌, length, map, Option, None, Some, Result, Ok, Err, refl, sym, ◌∙◌, ap, arith, subst, nat_lt, nat_le}
 use Rattle.std.specs.List.{AllByRecursion, slice_get}
 use Rattle.std.specs.Option.{option_map}
-use Rattle.std.proofs.lemmas.Bool.{cases_lt, ltb-true, ltb-false}
-use Rattle.std.proofs.lemmas.List.{append-nil, append_assoc, length-append}
+use Rattle.std.proofs.lemmas.Bool.{ltb-true, ltb-false}
+use Rattle.std.proofs.lemmas.List.{append-nil, append_assoc}
 use Rattle.ltp_session.specs.declared.name.SessionName.{SessionName}
 use Rattle.ltp_session.specs.Engine.{Party, Reply, arrives}
 use Rattle.ltp_session.specs.World.{Sent as LinkSent}
 use Rattle.ltp_session.specs.World.{End, Event, World, at_end, clock, deliver, delivered, happens, other, replies, run, starts_world, submit, submit_reply, submitted, ticks}
-use Rattle.drain_laws.specs.Clean.{AreClean, AreCleanFrom, link_deadline, passed, passed_after}
+use Rattle.drain_laws.specs.Clean.{AreClean, link_deadline, passed}
 use Rattle.drain_laws.specs.Completion.{IsReady}
 use Rattle.drain_laws.specs.Effects.{effects_at}
-use Rattle.drain_laws.specs.Hopeful.{Hopeful, Room, cost}
 use Rattle.drain_laws.proofs.CompletionLemmas.{clean-few}
 use Rattle.ltp_engine.specs.declared.effects.Effects.{Effects}
 use Rattle.ltp_engine.specs.declared.refused.SubmitRefused.{SubmitRefused}
 use Rattle.ltp_engine.specs.declared.refused.SubmitRefused.TheVariants as causes
-use Rattle.ltp_world.specs.declared.effects.Drained.{Drained}
 use Rattle.ltp_world.specs.declared.effects.EndEffects.{EndEffects}
-use Rattle.ltp_world.specs.declared.ends.End.TheVariants as ends
 use Rattle.ltp_world.specs.declared.refused.DeliverRefused.{DeliverRefused}
 use Rattle.ltp_world.specs.declared.refused.DeliverRefused.TheVariants as refused
 use Rattle.ltp_world.specs.Clean.{deadline_in}
-use Rattle.ltp_world.specs.Drain.{Completed, DrainsAll, InEveryRun, IsEarly, done_in, told_of}
+use Rattle.ltp_world.specs.Drain.{DrainsAll, IsEarly, done_in, told_of}
 use Rattle.ltp_world.specs.Drain.{Drains as LinkDrains}
 use Rattle.ltp_world.specs.Ends.{link_end}
 use Rattle.ltp_world.specs.RedParts.{DrainHandsUpFronts, HandsUpFrontsIn}
@@ -34,16 +31,16 @@ use Rattle.ltp_world.specs.Steps.{Ticks as LinkTicks}
 use Rattle.ltp_world.specs.Steps.{Happens}
 use Rattle.ltp_world.specs.Values.{WorldValue, parties_of}
 use Rattle.ltp_world.proofs.DrainFrontLemmas.{clean-fronts}
-use Rattle.ltp_world.proofs.DrainLemmas.{clean-append, deliver-clock, drain-completes, hears-told, length-sent, less, link-deadline, link-on, not-less, passed-append, run-append, tick-clock, ticks-told}
+use Rattle.ltp_world.proofs.DrainLemmas.{clean-append, deliver-clock, drain-completes, hears-told, length-sent, less, link-deadline, link-on, not-less, passed-append, tick-clock, ticks-told}
 use Rattle.contact_plan.specs.declared.window.Window.{Window}
 use Rattle.contact_plan.specs.Windows.{IsMoment, IsPlan, elapsed, is_open, total}
 use Rattle.contact_plan.proofs.ContactLemmas.{elapsed-le, elapsed-up, moment-after, moments-are-apart, open-early}
 use Rattle.window_world.specs.declared.effects.At.{At}
 use Rattle.window_world.specs.declared.effects.WindowDrained.{WindowDrained}
-use Rattle.window_world.specs.Drain.{Completes, CostsAtMost, Drains, DrainsAt, EndsAt, GoOn, HappenAt, HasNoMoment, contact_of, untimed, without_moments}
+use Rattle.window_world.specs.Drain.{Completes, CostsAtMost, Drains, DrainsAt, EndsAt, GoOn, HappenAt, HasNoMoment, untimed, without_moments}
 use Rattle.window_world.specs.Leads.{LeadsAt, LeadsOn}
 use Rattle.window_world.specs.Ties.{IsSound, made_world}
-use Rattle.window_world.specs.Values.{RunsOnContact, WindowValue, later_of}
+use Rattle.window_world.specs.Values.{WindowValue, later_of}
 
 -- ---- memory
 

@@ -33,6 +33,16 @@ impl WindowSubmit {
     }
 }
 
+impl From<SubmitRefused> for WindowSubmit {
+    ghost use Rattle.window_world.specs.declared.refused.WindowSubmit.TheVariants.{Refused};
+
+    ghost from_gives = { λ cause e. e ≡ Refused cause };
+
+    fn from(cause: SubmitRefused) -> WindowSubmit {
+        WindowSubmit::Refused { cause }
+    }
+}
+
 /// Why a datagram isn't delivered, in the order in which it is tested.
 #[derive(Clone, Copy, Debug, PartialEq, Eq, Error)]
 pub enum WindowDeliver {
@@ -56,5 +66,15 @@ impl WindowDeliver {
             WindowDeliver::Closed => "Closed",
             WindowDeliver::Refused { cause } => cause.word(),
         }
+    }
+}
+
+impl From<DeliverRefused> for WindowDeliver {
+    ghost use Rattle.window_world.specs.declared.refused.WindowDeliver.TheVariants.{Refused};
+
+    ghost from_gives = { λ cause e. e ≡ Refused cause };
+
+    fn from(cause: DeliverRefused) -> WindowDeliver {
+        WindowDeliver::Refused { cause }
     }
 }

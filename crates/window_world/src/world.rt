@@ -109,10 +109,8 @@ impl WindowWorld {
         if !self.plan.is_open(self.moment) {
             return Err(WindowSubmit::Closed);
         }
-        match self.link.submit(end, block, red) {
-            Ok(effects) => Ok(effects),
-            Err(cause) => Err(WindowSubmit::Refused { cause }),
-        }
+        let effects = self.link.submit(end, block, red)?;
+        Ok(effects)
     }
 
     /// Datagram `k` of all that were ever sent comes to the end that didn't send it, where the link
@@ -132,10 +130,8 @@ impl WindowWorld {
         if !self.plan.is_open(self.moment) {
             return Err(WindowDeliver::Closed);
         }
-        match self.link.deliver(k) {
-            Ok(told) => Ok(told),
-            Err(cause) => Err(WindowDeliver::Refused { cause }),
-        }
+        let told = self.link.deliver(k)?;
+        Ok(told)
     }
 
     /// The clock is set to a moment below 2^62, and both ends tick at its contact time, the first

@@ -8,5 +8,10 @@ invariant_of-self c =
     delivers-sound c.self.inside.broken c.self.inside.link c.deliver.new.self c.self.inside.plan c.self.inside.moment c.args.k c.deliver.result
     c.self.invariant (ap (λ (v : WindowValue). v.spent) c.self.view_is ∙ c.requires.whole) c.deliver.ensures.does
 
+pub invariant_of-self-2 : goal.invariant_of-self-2
+invariant_of-self-2 c =
+    delivers-sound c.self.inside.broken c.self.inside.link c.deliver.new.self c.self.inside.plan c.self.inside.moment c.args.k c.deliver.result
+    c.self.invariant (ap (λ (v : WindowValue). v.spent) c.self.view_is ∙ c.requires.whole) c.deliver.ensures.does
+
 pub returns-clause-contact : goal.returns-clause-contact
-returns-clause-contact c = (invariant_of-self c).contact
+returns-clause-contact c = (invariant_of-self-2 c).contact

@@ -1,6 +1,5 @@
-use Rattle.std.proofs.Common.{false, ◌≡◌, ◌<◌, ◌+◌, true, length, arith, sym, ◌∙◌, ap, subst}
+use Rattle.std.proofs.Common.{false, ◌≡◌, ◌<◌, ◌+◌, true, arith, sym, ◌∙◌, ap, subst}
 use Rattle.contact_plan.specs.Windows.{is_open}
-use Rattle.ltp_world.specs.Values.{WorldValue}
 use Rattle.ltp_world.specs.Work.{left_of}
 use Rattle.ltp_world.proofs.DrainLemmas.{deliver-clock, step-falls}
 use Rattle.window_world.specs.Leads.{LeadsOn}

@@ -1,15 +1,15 @@
 -- What the searches of a plan find.
 
-use Rattle.std.proofs.Common.{◌≡◌, ℕ, zero, suc, ◌+◌, ◌-◌, ◌<◌, ◌≤◌, ◌^◌, true, false, List, [], ◌∷◌, length, get_or, nat_lt, nat_le, Some, if◌then◌else◌, refl, sym, ap, ◌∙◌, arith, subst, inl, inr}
+use Rattle.std.proofs.Common.{Bool, ◌≡◌, ℕ, zero, suc, ◌+◌, ◌-◌, ◌<◌, ◌≤◌, ◌^◌, true, false, ◌&&◌, List, [], ◌∷◌, length, get_or, nat_lt, nat_le, Option, None, Some, if◌then◌else◌, refl, sym, ap, ◌∙◌, arith, subst, inl, inr}
 use Rattle.std.proofs.lemmas.Bool.Decides.{nat_tests}
 use Rattle.std.proofs.lemmas.Bool.{cases_lt, leb-true, leb-false}
 use Rattle.std.proofs.lemmas.List.{length-map}
 use Rattle.std.proofs.lemmas.List.Sorted.{IsPartitionedBy-leb}
 use Rattle.std.specs.List.Sorted.{IsNonDecreasingBy, IsPartitionedBy, IsPartitionPoint}
-use Rattle.std.specs.List.{slice_get}
+use Rattle.std.specs.List.{position_from, slice_get}
 use Rattle.contact_plan.specs.declared.kept.Kept.{Kept}
 use Rattle.contact_plan.specs.Kept.{AreKept, IsKept, Parts, last_from, windows_of}
-use Rattle.contact_plan.specs.Windows.{AreInOrder, IsMoment, IsPlan, elapsed, is_open, total}
+use Rattle.contact_plan.specs.Windows.{AreInOrder, IsMoment, IsPlan, elapsed, is_open, lies_in, next_from, total}
 use Rattle.contact_plan.proofs.ContactLemmas.{closed-before, elapsed-cons, none-until, one-before, one-in, one-after, outside-after, outside-before, within, open-in-first, open-in-rest}
 
 -- ---- kept windows are in order
@@ -46,6 +46,21 @@ tos-rise end contact (p ∷ ps) kept zero zero d le low = omega arith
 tos-rise end contact (p ∷ ps) kept zero (suc j) d le low = le-to (p.window).to p.contact ps j d kept.4 (omega arith)
 tos-rise end contact (p ∷ ps) kept (suc i) zero d le low = absurd (omega arith)
 tos-rise end contact (p ∷ ps) kept (suc i) (suc j) d le low = tos-rise (p.window).to p.contact ps kept.4 i j d (omega arith) (omega arith)
+
+le-from : (end contact : ℕ) (ps : List Kept) (j : ℕ) (d : Kept) → AreKept end contact ps → j < length ps → end ≤ ((get_or ps j d).window).from
+le-from end contact [] j d kept low = absurd (omega arith)
+le-from end contact (p ∷ ps) zero d kept low = kept.0
+le-from end contact (p ∷ ps) (suc j) d kept low =
+    let rest = le-from (p.window).to p.contact ps j d kept.4 (omega arith) in
+    let a = kept.0 in let b = kept.1 in omega (arith, a, b, rest)
+
+froms-rise : (end contact : ℕ) (ps : List Kept) → AreKept end contact ps → IsNonDecreasingBy (λ k. (k.window).from) ps
+froms-rise end contact [] kept i j d le low = absurd (omega arith)
+froms-rise end contact (p ∷ ps) kept zero zero d le low = omega arith
+froms-rise end contact (p ∷ ps) kept zero (suc j) d le low =
+    let rest = le-from (p.window).to p.contact ps j d kept.4 (omega arith) in let b = kept.1 in omega (arith, rest, b)
+froms-rise end contact (p ∷ ps) kept (suc i) zero d le low = absurd (omega arith)
+froms-rise end contact (p ∷ ps) kept (suc i) (suc j) d le low = froms-rise (p.window).to p.contact ps kept.4 i j d (omega arith) (omega arith)
 
 contacts-rise : (end contact : ℕ) (ps : List Kept) → AreKept end contact ps → IsNonDecreasingBy (λ k. k.contact) ps
 contacts-rise end contact [] kept i j d le low = absurd (omega arith)
@@ -184,6 +199,96 @@ open-past (p ∷ ps) t zero parts high = absurd (omega (arith, high))
 open-past (p ∷ ps) t (suc i) parts high =
     open-past-first p ps t (parts.before 0 p (omega arith))
     ∙ open-past ps t i (parts-rest (λ k. (k.window).to) t p ps i parts) (omega (arith, high))
+
+-- ---- the window that a moment lies in
+
+-- an index where a moment has come so far as that window's beginning
+abbrev pub from_then : ℕ → Kept → ℕ → Option ℕ
+from_then t k i = if nat_le (k.window).from t then Some i else None
+
+-- the index i, where a moment has come so far as the beginning of what is kept there
+pub then-from : (t : ℕ) (ps : List Kept) (i : ℕ) (d : Kept) → ((get_or ps i d).window).from ≤ t → from_then t (get_or ps i d) (0 + i) ≡ Some i
+then-from t ps i d since =
+    let is : nat_le ((get_or ps i d).window).from t ≡ true = grind (arith, nat_tests) in
+    let same : 0 + i ≡ i = omega arith in
+    rw is (ap Some same)
+
+pub then-none : (t : ℕ) (ps : List Kept) (i : ℕ) (d : Kept) → t < ((get_or ps i d).window).from → from_then t (get_or ps i d) (0 + i) ≡ None
+then-none t ps i d early =
+    let is : nat_le ((get_or ps i d).window).from t ≡ false = grind (arith, nat_tests) in
+    rw is refl
+
+lies-first : (p : Kept) (t : ℕ) → t < (p.window).to → lies_in p.window t ≡ nat_le (p.window).from t
+lies-first p t low = let ends : nat_lt t (p.window).to ≡ true = grind (arith, nat_tests) in rw ends (and-true (nat_le (p.window).from t)) where
+  and-true : (b : Bool) → (b && true) ≡ b
+  and-true true = refl
+  and-true false = refl
+
+lies-early : (p : Kept) (t : ℕ) → t < (p.window).from → lies_in p.window t ≡ false
+lies-early p t low = let begins : nat_le (p.window).from t ≡ false = grind (arith, nat_tests) in rw begins refl
+
+lies-past : (p : Kept) (t : ℕ) → (p.window).to ≤ t → lies_in p.window t ≡ false
+lies-past p t high = let ends : nat_lt t (p.window).to ≡ false = grind (arith, nat_tests) in rw ends (and-false (nat_le (p.window).from t)) where
+  and-false : (b : Bool) → (b && false) ≡ false
+  and-false true = refl
+  and-false false = refl
+
+-- no window that begins after a moment has it
+none-later : (end contact n : ℕ) (ps : List Kept) (t : ℕ) → AreKept end contact ps → t < end
+    → position_from (λ w. lies_in w t) n (windows_of ps) ≡ None
+none-later end contact n [] t kept low = refl
+none-later end contact n (p ∷ ps) t kept low =
+    let a = kept.0 in
+    let b = kept.1 in
+    let out : lies_in p.window t ≡ false = lies-early p t (omega (arith, a, low)) in
+    rw out (none-later (p.window).to p.contact (n + 1) ps t kept.4 (omega (arith, a, b, low)))
+
+pub index-at : (end contact n : ℕ) (ps : List Kept) (t i : ℕ) (d : Kept) → AreKept end contact ps → Parts (λ k. (k.window).to) t ps i → i < length ps
+    → position_from (λ w. lies_in w t) n (windows_of ps) ≡ from_then t (get_or ps i d) (n + i)
+index-at end contact n [] t i d kept parts low = absurd (omega arith)
+index-at end contact n (p ∷ ps) t zero d kept parts low =
+    let before = parts.after d low in
+    rw (lies-first p t before) (first (nat_le (p.window).from t)) where
+      first : (b : Bool) → (if b then Some n else position_from (λ w. lies_in w t) (n + 1) (windows_of ps)) ≡ (if b then Some (n + 0) else None)
+      first true = let same : n ≡ n + 0 = omega arith in ap Some same
+      first false = none-later (p.window).to p.contact (n + 1) ps t kept.4 (parts.after d low)
+index-at end contact n (p ∷ ps) t (suc i) d kept parts low =
+    let out : lies_in p.window t ≡ false = lies-past p t (parts.before 0 d (omega arith)) in
+    let rest = index-at (p.window).to p.contact (n + 1) ps t i d kept.4 (parts-rest (λ k. (k.window).to) t p ps i parts) (omega (arith, low)) in
+    let same : n + 1 + i ≡ n + suc i = omega arith in
+    rw out (rest ∙ ap (from_then t (get_or ps i d)) same)
+
+pub index-past : (n : ℕ) (ps : List Kept) (t i : ℕ) → Parts (λ k. (k.window).to) t ps i → length ps ≤ i → position_from (λ w. lies_in w t) n (windows_of ps) ≡ None
+index-past n [] t i parts high = refl
+index-past n (p ∷ ps) t zero parts high = absurd (omega (arith, high))
+index-past n (p ∷ ps) t (suc i) parts high =
+    let out : lies_in p.window t ≡ false = lies-past p t (parts.before 0 p (omega arith)) in
+    rw out (index-past (n + 1) ps t i (parts-rest (λ k. (k.window).to) t p ps i parts) (omega (arith, high)))
+
+-- ---- the next beginning
+
+pub froms-part : (t : ℕ) (ps : List Kept) → AreKept 0 0 ps → IsPartitionedBy (λ k. nat_le (k.window).from t) ps
+froms-part t ps kept = IsPartitionedBy-leb (λ k. (k.window).from) ps t (froms-rise 0 0 ps kept)
+
+pub next-at : (ps : List Kept) (t i : ℕ) (d : Kept) → Parts (λ k. (k.window).from) t ps i → i < length ps
+    → next_from (windows_of ps) t ≡ Some ((get_or ps i d).window).from
+next-at [] t i d parts low = absurd (omega arith)
+next-at (p ∷ ps) t zero d parts low =
+    let after = parts.after d low in
+    let later : nat_lt t (p.window).from ≡ true = grind (arith, nat_tests) in
+    rw later refl
+next-at (p ∷ ps) t (suc i) d parts low =
+    let before = parts.before 0 d (omega arith) in
+    let begun : nat_lt t (p.window).from ≡ false = grind (arith, nat_tests) in
+    rw begun (next-at ps t i d (parts-rest (λ k. (k.window).from) t p ps i parts) (omega (arith, low)))
+
+pub next-past : (ps : List Kept) (t i : ℕ) → Parts (λ k. (k.window).from) t ps i → length ps ≤ i → next_from (windows_of ps) t ≡ None
+next-past [] t i parts high = refl
+next-past (p ∷ ps) t zero parts high = absurd (omega (arith, high))
+next-past (p ∷ ps) t (suc i) parts high =
+    let before = parts.before 0 p (omega arith) in
+    let begun : nat_lt t (p.window).from ≡ false = grind (arith, nat_tests) in
+    rw begun (next-past ps t i (parts-rest (λ k. (k.window).from) t p ps i parts) (omega (arith, high)))
 
 -- ---- the moment at a contact time
 

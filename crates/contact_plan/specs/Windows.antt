@@ -1,8 +1,8 @@
 -- Contact windows: when a link is open, and contact time, which stands still while it is closed.
 
 use Rattle.std.specs.Prelude.{◌≡◌, ℕ, zero, suc, ◌+◌, ◌-◌, ◌<◌, ◌≤◌, ◌^◌, Bool, true, ◌&&◌, List}
-use Rattle.std.specs.Prelude.{[], ◌∷◌, length, nat_lt, nat_le, if◌then◌else◌}
-use Rattle.std.specs.List.{list_any}
+use Rattle.std.specs.Prelude.{[], ◌∷◌, length, nat_lt, nat_le, if◌then◌else◌, Option, None, Some}
+use Rattle.std.specs.List.{list_any, position_from}
 use Rattle.contact_plan.specs.declared.window.Window.{Window}
 
 -- ---- when a link is open
@@ -13,6 +13,16 @@ lies_in window moment = nat_le window.from moment && nat_lt moment window.to
 
 abbrev pub is_open : List Window → ℕ → Bool
 is_open windows moment = list_any (λ window. lies_in window moment) windows
+
+-- the index of the window that a moment lies in
+abbrev pub index_at : List Window → ℕ → Option ℕ
+index_at windows moment = position_from (λ window. lies_in window moment) 0 windows
+
+-- the first beginning of a window after a moment
+abbrev pub next_from : List Window → ℕ → Option ℕ
+next_from [] moment = None
+next_from (window ∷ windows) moment =
+    if nat_lt moment window.from then Some window.from else next_from windows moment
 
 -- ---- contact time
 

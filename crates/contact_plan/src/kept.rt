@@ -3,7 +3,7 @@
 ghost use Rattle.std.specs.Prelude.{◌≡◌, ◌≤◌, ◌<◌, ◌-◌, ◌+◌, ◌^◌, MatchOption, nat_lt};
 ghost use Rattle.std.specs.Prelude.{if◌then◌else◌};
 ghost use Rattle.contact_plan.specs.Kept.{AreKept, Parts, last_from, windows_of};
-ghost use Rattle.contact_plan.specs.Windows.{IsMoment, elapsed, is_open, total};
+ghost use Rattle.contact_plan.specs.Windows.{IsMoment, elapsed, index_at, is_open, next_from, total};
 
 use crate::window::Window;
 
@@ -58,6 +58,14 @@ fn passed_by(kept: &[Kept], contact: u64) -> usize
     kept.partition_point(|one| one.contact <= contact)
 }
 
+/// How many windows have begun by a moment.
+fn begun_by(kept: &[Kept], now: u64) -> usize
+    requires { AreKept 0 0 kept.now }
+    ensures { Parts (λ k. (k.window).from) now kept.now result }
+{
+    kept.partition_point(|one| one.window.from <= now)
+}
+
 /// Where the last window ends, and the contact time there.
 pub(crate) fn last(kept: &[Kept]) -> (u64, u64)
     ensures { result ≡ last_from 0 0 kept.now }
@@ -88,6 +96,32 @@ pub(crate) fn is_open(kept: &[Kept], now: u64) -> bool
 {
     let ended = ended_by(kept, now);
     ended < kept.len() && kept[ended].window.from <= now
+}
+
+/// The index of the window that a moment lies in.
+pub(crate) fn at(kept: &[Kept], now: u64) -> Option<usize>
+    requires { AreKept 0 0 kept.now }
+    ensures { result ≡ index_at (windows_of kept.now) now }
+{
+    let ended = ended_by(kept, now);
+    if ended < kept.len() && kept[ended].window.from <= now {
+        Some(ended)
+    } else {
+        None
+    }
+}
+
+/// The first beginning of a window after a moment.
+pub(crate) fn next(kept: &[Kept], now: u64) -> Option<u64>
+    requires { AreKept 0 0 kept.now }
+    ensures { result ≡ next_from (windows_of kept.now) now }
+{
+    let begun = begun_by(kept, now);
+    if begun < kept.len() {
+        Some(kept[begun].window.from)
+    } else {
+        None
+    }
 }
 
 /// How many moments below this one lie in a window.

@@ -1,9 +1,10 @@
 //! A plan of contact windows.
 
 ghost use Rattle.std.specs.Prelude.{◌≡◌, ◌≤◌, ◌<◌, ◌++◌, ◌∷◌, IfOk, OnOk, OnErr, None, MatchOption, []};
-ghost use Rattle.std.specs.Prelude.{length};
+ghost use Rattle.std.specs.Prelude.{length, IsTrue, ◌↔◌};
 ghost use Rattle.contact_plan.specs.Fault.{Extends, Plans, plan_fault};
-ghost use Rattle.contact_plan.specs.Windows.{IsMoment, IsPlan, elapsed, is_open, total};
+ghost use Rattle.contact_plan.specs.Windows.{IsMoment, IsPlan, elapsed, index_at, is_open};
+ghost use Rattle.contact_plan.specs.Windows.{next_from, total};
 
 use crate::fault::PlanFault;
 use crate::judging::{WINDOWS_MOST, fault_of, may_follow};
@@ -112,12 +113,35 @@ impl Plan {
         Ok(())
     }
 
+    /// Whether the plan has no window: the link is never open.
+    pub fn is_empty(&self) -> bool
+        ensures { IsTrue result ↔ (self.now ≡ []) }
+    {
+        self.kept.is_empty()
+    }
+
     /// Whether the link is open at a moment. It takes no memory.
     pub fn is_open(&self, now: u64) -> bool
         ensures open { result ≡ is_open self.now now }
         ensures plan { IsPlan self.now }
     {
         kept::is_open(&self.kept, now)
+    }
+
+    /// The index of the window that a moment lies in, from 0. It takes no memory.
+    pub fn at(&self, now: u64) -> Option<usize>
+        ensures at { result ≡ index_at self.now now }
+        ensures plan { IsPlan self.now }
+    {
+        kept::at(&self.kept, now)
+    }
+
+    /// The first moment after this one at which a window begins. It takes no memory.
+    pub fn next(&self, now: u64) -> Option<u64>
+        ensures next { result ≡ next_from self.now now }
+        ensures plan { IsPlan self.now }
+    {
+        kept::next(&self.kept, now)
     }
 
     /// The contact time at a moment: at how many moments before it the link was open. It takes no

@@ -1,0 +1,5 @@
+mod OrderLemmas
+mod ContactLemmas
+mod PaceLemmas
+mod TimeLemmas
+mod OutboxLemmas

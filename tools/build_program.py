@@ -109,6 +109,14 @@ class Crates:
         each = 900_000_000 + 80_000 * under + 200_000 * self.lines[name]
         return each * (1 + 0.6 * (jobs - 1))
 
+    def jobs(self, name, spare, memory):
+        """The jobs for a crate, at least one, where so many processors and so much memory are
+        to spare."""
+        jobs = max(1, min(MOST_JOBS, spare))
+        while jobs > 1 and self.memory(name, jobs) > memory:
+            jobs -= 1
+        return jobs
+
 
 # ---- lanes ----
 
@@ -316,9 +324,7 @@ def begin_ready(crates, idle, busy, done, memory):
     for at, name in enumerate(ready):
         spare = len(idle) + len(busy) - sum(lane.jobs for lane in busy)
         room = memory - sum(crates.memory(lane.crate, lane.jobs) for lane in busy)
-        jobs = max(1, min(MOST_JOBS, spare // (len(ready) - at)))
-        while jobs > 1 and crates.memory(name, jobs) > room:
-            jobs -= 1
+        jobs = crates.jobs(name, spare // (len(ready) - at), room)
         if spare < 1 or busy and crates.memory(name, jobs) > room:
             return
         lane = idle.pop()
@@ -382,7 +388,7 @@ def build(crates):
     with room_for_lanes() as room:
         idle = [Lane(tempfile.mkdtemp(prefix="lane-", dir=room)) for _ in range(lanes)]
         prove(crates, progress, idle, 0.85 * free_memory())
-        link_program(room, progress, min(lanes, MOST_JOBS))
+        link_program(room, progress, crates.jobs(PROGRAM, lanes, 0.85 * free_memory()))
     past = time.monotonic() - progress.began
     return tell(f"the program is proved and built, after {minutes(past)}")
 

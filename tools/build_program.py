@@ -102,7 +102,7 @@ class Crates:
         return found
 
     def memory(self, name, jobs):
-        """What the proof of a crate takes at most, in bytes, as it was seen: it loads the libraries.
+        """What the proof of a crate takes at most, in bytes, as seen: it loads the libraries.
         (rt alone reckons 1.2 MB for each of their lines, and so gives the crates at the top one
         job each.)"""
         under = sum(self.lines[it] for it in self.below[name])
@@ -384,7 +384,8 @@ def build(crates):
         return tell("the program is built")
     progress = Progress(crates, done, lanes)
     tell(f"proves {len(crates.below) - len(done)} of {len(crates.below)} crates, at most {lanes} "
-         f"at a time, in about {minutes(progress.left())}; an interrupted build goes on where it was")
+         f"at a time, in about {minutes(progress.left())}; an interrupted build goes on where it "
+         "was")
     with room_for_lanes() as room:
         idle = [Lane(tempfile.mkdtemp(prefix="lane-", dir=room)) for _ in range(lanes)]
         prove(crates, progress, idle, 0.85 * free_memory())

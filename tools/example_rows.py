@@ -1,7 +1,7 @@
 """Rows of what README shows: the examples, each with what it has to give.
 
-What is wanted comes from README's lines, from the models, from the tables that the bundles were made of, and from the
-transcripts beside the scripts, and never from what the program printed.
+What is wanted comes from README's lines, from the models, from the tables that the bundles were
+made of, and from the transcripts beside the scripts, and never from what the program printed.
 """
 import os
 import struct
@@ -43,7 +43,8 @@ def payloads(name):
 
 def received(name, wanted):
     """The row of `receive` on a capture."""
-    return row_of(f"receive of {name}", ["receive"], "".join(payloads(name)).encode(), wanted.encode())
+    given = "".join(payloads(name)).encode()
+    return row_of(f"receive of {name}", ["receive"], given, wanted.encode())
 
 
 def of_bundles(name):
@@ -52,7 +53,8 @@ def of_bundles(name):
     for word in ("check", "show"):
         yield row_of(f"{word} of {name}", [word], octets, *format_model.answer(word, octets))
     lines, status = translate_model.answer(octets, translate_model.translated)
-    yield row_of(f"convert of {name}", ["convert"], octets, "".join(f"{line}\n" for line in lines).encode(), status)
+    text = "".join(f"{line}\n" for line in lines).encode()
+    yield row_of(f"convert of {name}", ["convert"], octets, text, status)
 
 
 def of_worlds():
@@ -60,15 +62,17 @@ def of_worlds():
     for name in sorted(os.listdir(os.path.join(EXAMPLES, "worlds"))):
         story, kind = os.path.splitext(f"worlds/{name}")
         if kind == ".script":
-            yield row_of(f"world of {story}", ["world"], octets_in(story + kind), octets_in(f"{story}.transcript"))
+            given, wanted = octets_in(story + kind), octets_in(f"{story}.transcript")
+            yield row_of(f"world of {story}", ["world"], given, wanted)
 
 
 def example_rows():
     """All rows of the examples."""
     yield row_of("receive of first.hex", ["receive"], octets_in("first.hex"), FIRST.encode())
     yield received("red-parts.pcap", RED_PARTS)
-    bundles = enumerate(BUNDLES_6 + BUNDLES_7, 1)
-    yield received("bundles.pcap", "".join(f"up 1 {session} {bundle.hex()}\n" for session, bundle in bundles))
+    ups = (f"up 1 {session} {bundle.hex()}\n"
+           for session, bundle in enumerate(BUNDLES_6 + BUNDLES_7, 1))
+    yield received("bundles.pcap", "".join(ups))
     yield from of_bundles("bundles-6.bin")
     yield from of_bundles("bundles-7.bin")
     yield from of_worlds()

@@ -48,7 +48,7 @@ def write_case(folder, name, row):
 
 
 def outputs_in(octets, names):
-    """What each case wrote, from the output of `rt try`: its name on a line, and then its output."""
+    """What each case wrote, from the output of `rt try`: its name on a line, then its output."""
     found, parts = {}, re.split(rb"^== (\w+)\n", octets, flags=re.M)
     for name, output in zip(parts[1::2], parts[2::2]):
         found[name.decode()] = output

@@ -1,0 +1,11 @@
+-- What public clauses cite, in reading order.
+pub mod Sides
+pub mod Recorded
+pub mod Rules
+pub mod Words
+pub mod Adding
+pub mod Laws
+-- What only ties code to it.
+pub mod Pages
+pub mod Held
+pub mod Shows

@@ -1,0 +1,2 @@
+pub mod TwoWordLemmas
+pub mod AuditedLemmas

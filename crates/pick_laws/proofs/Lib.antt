@@ -1,0 +1,4 @@
+pub mod EffectLemmas
+pub mod CrossingLemmas
+pub mod CrossingSteps
+pub mod CrossingRuns

@@ -1,0 +1,4 @@
+-- a drain in which the two directions cross as picks say
+pub mod Picks
+-- how such a drain goes to its end, and what that promises
+pub mod PickedRuns

@@ -4,7 +4,7 @@ ghost use Rattle.std.specs.Prelude.{◌≡◌, false, OnOk};
 
 use crate::links::{deliver, link};
 use crate::told::{write_all, write_outs, write_told};
-use ltp_world::{DrainRefused, Drained, End, LinkWorld};
+use ltp_world::{DrainRefused, Drained, End, LinkWorld, Pick};
 use std::alloc::Global;
 use std::fmt::Write;
 use std::test::Fail;
@@ -29,6 +29,8 @@ enum Event {
     Clock(u64),
     /// The link stops losing.
     Drain,
+    /// The same, and picks say what is delivered next.
+    DrainBy(&'static [Pick]),
 }
 
 /// An event, and the lines of what the ends do. Of a drain each event's lines come after a line
@@ -88,6 +90,26 @@ fn drain(alloc: Global, world: &mut LinkWorld, text: &mut String) -> Result<(), 
     }
 }
 
+/// The link stops losing, and picks say what is delivered next.
+fn drain_by(
+    alloc: Global,
+    world: &mut LinkWorld,
+    picks: &[Pick],
+    text: &mut String,
+) -> Result<(), Fail>
+    requires { world.old.spent ≡ false }
+    ensures { OnOk result (world.new.spent ≡ false) }
+{
+    match world.drain_by(picks) {
+        Ok(drained) => write_drained(alloc, text, &drained),
+        Err(DrainRefused::TooLate) => {
+            write!(text, "TooLate\n")?;
+            Ok(())
+        }
+        Err(DrainRefused::Memory) => Err(Fail::new("memory ran out")),
+    }
+}
+
 /// An event happens, and the lines of it are appended.
 fn happens(
     alloc: Global,
@@ -107,6 +129,7 @@ fn happens(
         }
         Event::Clock(now) => set_clock(alloc, world, now, text),
         Event::Drain => drain(alloc, world, text),
+        Event::DrainBy(picks) => drain_by(alloc, world, picks, text),
     }
 }
 
@@ -222,5 +245,43 @@ const TOO_LATE: &[Row] = &[
 #[test]
 fn a_deadline_of_two_to_the_62_is_too_late(rt: HostRuntime) -> Result<(), Fail> {
     assert!(rt; goes(rt.alloc(), 10, TOO_LATE, LATE, 1)?);
+    Ok(())
+}
+
+/// The lost segment comes twice after all: a report on each time, and the second one after the
+/// session is over at its sender, which acknowledges it all the same.
+const TWICE: &[Row] = &[
+    SENT,
+    (
+        Event::DrainBy(&[Pick::Old { k: 0 }, Pick::Old { k: 0 }]),
+        "event\nsecond out 0801010002021700010017\nsecond up 1 0681100d02010101000000008768053c00010803616263\nevent\nsecond out 0801010003021700010017\nevent\nfirst out 0901010002\nfirst note Sent 1\nevent\nfirst out 0901010003\nevent\nevent\nevents 6\n",
+    ),
+];
+
+#[test]
+fn an_old_segment_comes_twice(rt: HostRuntime) -> Result<(), Fail> {
+    assert!(rt; goes(rt.alloc(), 10, TWICE, 0, 5)?);
+    Ok(())
+}
+
+/// Neither end has anything new: the pick of an end sets the clock. A datagram that there isn't, and
+/// one that is new, don't come, and an end that has nothing new waits for the other.
+const PICKED: &[Row] = &[
+    SENT,
+    (
+        Event::DrainBy(&[
+            Pick::Old { k: 9 },
+            Pick::Second,
+            Pick::Old { k: 1 },
+            Pick::Second,
+            Pick::First,
+        ]),
+        "event\nfirst out 0301010001001702000681100d02010101000000008768053c00010803616263\nevent\nsecond out 0801010002021700010017\nsecond up 1 0681100d02010101000000008768053c00010803616263\nevent\nfirst out 0901010002\nfirst note Sent 1\nevent\nevents 4\n",
+    ),
+];
+
+#[test]
+fn picks_that_do_nothing_count_no_event(rt: HostRuntime) -> Result<(), Fail> {
+    assert!(rt; goes(rt.alloc(), 10, PICKED, 10_000, 4)?);
     Ok(())
 }

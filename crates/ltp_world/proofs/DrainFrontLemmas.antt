@@ -24,7 +24,7 @@ use Rattle.ltp_world.proofs.FrontLemmas.{all-right}
 
 -- ---- a clean event submits nothing
 
-abbrev NoSubmit : Event → Type 0
+abbrev pub NoSubmit : Event → Type 0
 NoSubmit (submit end block red) = ⊥
 NoSubmit (deliver k) = Unit {0}
 NoSubmit (clock now) = Unit {0}
@@ -45,15 +45,23 @@ none-submitted parties w (submit end block red) none = absurd none
 none-submitted parties w (deliver k) none = refl
 none-submitted parties w (clock now) none = refl
 
-clean-submissions : (parties : Party × Party) (w : World) (c : ℕ) (events : List Event)
-    → AreClean parties w c events → submissions parties w events ≡ []
+no-submissions : (parties : Party × Party) (w : World) (events : List Event)
+    → AllByRecursion NoSubmit events → submissions parties w events ≡ []
 unfolding submissions
-clean-submissions parties w c [] clean = refl
-clean-submissions parties w c (event ∷ events) clean =
+no-submissions parties w [] none = refl
+no-submissions parties w (event ∷ events) none =
     rw (
-      none-submitted parties w event (clean-no-submit w c event clean.0),
-      clean-submissions parties (happens parties w event) (passed_after c event) events clean.1,
+      none-submitted parties w event none.0,
+      no-submissions parties (happens parties w event) events none.1,
     ) refl
+
+clean-none : (parties : Party × Party) (w : World) (c : ℕ) (events : List Event)
+    → AreClean parties w c events → AllByRecursion NoSubmit events
+clean-none parties w c [] clean = tt
+clean-none parties w c (event ∷ events) clean = (
+  clean-no-submit w c event clean.0,
+  clean-none parties (happens parties w event) (passed_after c event) events clean.1,
+)
 
 -- ---- what is told of an event
 
@@ -101,15 +109,15 @@ event-ups parties w (clock now) none = by_test (nat_lt now w.now)
     by_test true = refl
     by_test false = refl
 
-done-ups : (parties : Party × Party) (w : World) (c : ℕ) (events : List Event)
-    → AreClean parties w c events
+done-ups : (parties : Party × Party) (w : World) (events : List Event)
+    → AllByRecursion NoSubmit events
     → ups_in (done_in parties w events) ≡ map as_told (hand_ups parties w events)
 unfolding done_in hand_ups
-done-ups parties w c [] clean = refl
-done-ups parties w c (event ∷ events) clean =
+done-ups parties w [] none = refl
+done-ups parties w (event ∷ events) none =
     rw (
-      event-ups parties w event (clean-no-submit w c event clean.0),
-      done-ups parties (happens parties w event) (passed_after c event) events clean.1,
+      event-ups parties w event none.0,
+      done-ups parties (happens parties w event) events none.1,
     )
     (sym (map-append as_told (hand_ups_at parties w event)
     (hand_ups parties (happens parties w event) events)))
@@ -139,12 +147,12 @@ submissions-append parties w (x ∷ xs) ys =
 
 -- ---- a drain
 
-pub clean-fronts : (v : WorldValue) (events made : List Event) (c : ℕ) → ShowsRun v events
-    → AreClean (parties_of v) (link_after v events) c made
+pub made-fronts : (v : WorldValue) (events made : List Event) → ShowsRun v events
+    → AllByRecursion NoSubmit made
     → HandsUpFrontsIn v events (done_in (parties_of v) (link_after v events) made)
-clean-fronts v events made c shows clean = record {
+made-fronts v events made shows none = record {
   handed = hand_ups (parties_of v) (link_after v events) made;
-  told = done-ups (parties_of v) (link_after v events) c made clean;
+  told = done-ups (parties_of v) (link_after v events) made none;
   fronts = all-right (IsFront (parties_of v) (submissions (parties_of v) (starts_world (parties_of v)) events))
       (hand_ups (parties_of v) (starts_world (parties_of v)) events)
       (hand_ups (parties_of v) (link_after v events) made) fronts;
@@ -164,7 +172,7 @@ clean-fronts v events made c shows clean = record {
         ≡ submissions (parties_of v) (starts_world (parties_of v)) events
     same = submissions-append (parties_of v) (starts_world (parties_of v)) events made
         ∙ (ap (λ more. submissions (parties_of v) (starts_world (parties_of v)) events ++ more)
-        (clean-submissions (parties_of v) (link_after v events) c made clean)
+        (no-submissions (parties_of v) (link_after v events) made none)
         ∙ append-nil (submissions (parties_of v) (starts_world (parties_of v)) events))
 
     fronts : AllByRecursion
@@ -174,6 +182,12 @@ clean-fronts v events made c shows clean = record {
     fronts = subst (λ s. AllByRecursion (IsFront (parties_of v) s)
         (hand_ups (parties_of v) (starts_world (parties_of v)) events
         ++ hand_ups (parties_of v) (link_after v events) made)) same law.fronts
+
+pub clean-fronts : (v : WorldValue) (events made : List Event) (c : ℕ) → ShowsRun v events
+    → AreClean (parties_of v) (link_after v events) c made
+    → HandsUpFrontsIn v events (done_in (parties_of v) (link_after v events) made)
+clean-fronts v events made c shows clean = made-fronts v events made shows
+    (clean-none (parties_of v) (link_after v events) c made clean)
 
 pub drain-fronts : (old new : WorldValue) (drained : Drained) → Drains old new (Ok drained)
     → DrainHandsUpFronts old drained.effects

@@ -32,7 +32,8 @@ use Rattle.ltp_engine.specs.Values.{EngineValue}
 use Rattle.ltp_world.specs.declared.effects.Drained.{Drained}
 use Rattle.ltp_world.specs.declared.effects.EndEffects.{EndEffects}
 use Rattle.ltp_world.specs.declared.refused.DrainRefused.TheVariants as causes
-use Rattle.ltp_world.specs.Clean.{deadline_in, LeadsIn, LeadsOn}
+use Rattle.ltp_world.specs.declared.refused.DrainRefused.{DrainRefused}
+use Rattle.ltp_world.specs.Clean.{deadline_in, DrainsOn, LeadsIn, LeadsOn}
 use Rattle.ltp_world.specs.Ends.{named}
 use Rattle.ltp_world.specs.Drain.{told_of, done_in, IsTold, TellsNote, TellsUp, Completed, Completes, IsEarly, IsLate, DrainsAll, DrainsUntilLate, Drains}
 use Rattle.ltp_world.specs.Shows.{spelled, ShowsLink, ShowsRun, Stands, link_after}
@@ -242,6 +243,24 @@ drain-late old new deadline told advances due late = record {
       is-late w n all next =
           let is : clean_event w n ≡ Some (clock deadline) = rw (not-less n (length w.sent) (omega (arith, all))) (ap (option_map clock) next) in
           subst IsLate (sym is) late
+
+-- the steps of a drain from all that was sent
+pub drain-ends : (old new : WorldValue) (from : ℕ) (before now : List (List EndEffects)) (drained : Drained) → DrainsOn old new from before now (Ok tt)
+    → from ≡ length old.sent → before ≡ [] → drained.effects ≡ now → drained.events ≡ length now → Drains old new (Ok drained)
+drain-ends old new from before now drained on is none effects count =
+    drain-done old new drained
+    (subst (λ (steps : List (List EndEffects)). LeadsOn old new (length old.sent) (length new.sent) [] steps) (sym effects)
+    (subst (λ (first : List (List EndEffects)). LeadsOn old new (length old.sent) (length new.sent) first now) none
+    (subst (λ (c : ℕ). LeadsOn old new c (length new.sent) before now) is on.0)))
+    (count ∙ ap length (sym effects)) on.1
+
+pub drain-stops : (old new : WorldValue) (from : ℕ) (before now : List (List EndEffects)) (refused : DrainRefused) → DrainsOn old new from before now (Err refused)
+    → from ≡ length old.sent → before ≡ [] → Drains old new (Err refused)
+drain-stops old new from before now causes.TooLate late is none =
+    drain-late old new late.deadline late.now
+    (subst (λ (first : List (List EndEffects)). LeadsOn old new (length old.sent) (length new.sent) first late.now) none
+    (subst (λ (c : ℕ). LeadsOn old new c (length new.sent) before late.now) is late.leads)) late.due late.late
+drain-stops old new from before now causes.Memory spent is none = spent
 
 -- ---- sessions are completed
 

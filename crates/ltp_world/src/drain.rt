@@ -5,7 +5,8 @@ ghost use Rattle.std.specs.Prelude.{◌≡◌, ◌<◌, ◌≤◌, ◌^◌, ◌+
 ghost use Rattle.ltp_session.specs.Engine.{earlier};
 ghost use Rattle.ltp_world.specs.Shows.{AreBounded};
 ghost use Rattle.ltp_world.specs.Drain.{Drains, Completes};
-ghost use Rattle.ltp_world.specs.Clean.{LeadsOn, deadline_in};
+ghost use Rattle.ltp_session.specs.World.{clock, deliver};
+ghost use Rattle.ltp_world.specs.Clean.{DrainsOn, LeadsOn, TakesEvent, deadline_in};
 ghost use Rattle.ltp_world.specs.RedParts.{DrainHandsUpFronts};
 ghost use Rattle.ltp_world.specs.Work.{left_of};
 
@@ -15,7 +16,7 @@ use crate::world::LinkWorld;
 use std::alloc::AllocError;
 
 /// A drain sets the clock to no moment from this one on.
-const LATE: u64 = 1 << 62;
+pub(crate) const LATE: u64 = 1 << 62;
 
 impl LinkWorld {
     /// The link stops losing. Every datagram that is sent from now on comes to its end, once and in
@@ -36,9 +37,29 @@ impl LinkWorld {
             → AreBounded self.new.engines }
     {
         let mut steps = Vec::new(self.alloc);
-        let mut from = self.sent();
+        let from = self.sent();
+        match self.drain_from(from, &mut steps) {
+            Ok(()) => Ok(drained(steps)),
+            Err(refused) => Err(refused),
+        }
+    }
+
+    /// The datagrams from number `from` on come to their ends, and the clock is set where none is
+    /// left, until no timer runs either.
+    pub(crate) fn drain_from(
+        &mut self,
+        from: usize,
+        steps: &mut Vec<WorldEffects>,
+    ) -> Result<(), DrainRefused>
+        requires whole { self.old.spent ≡ false }
+        requires there { from ≤ length self.old.sent }
+        ensures does { DrainsOn self.old self.new from steps.old.items steps.new.items result }
+        ensures bounds { AreBounded self.old.engines → self.new.spent ≡ false
+            → AreBounded self.new.engines }
+    {
+        let mut from = from;
         'ticking: loop {
-            self.deliver_from(from, &mut steps)?;
+            self.deliver_from(from, steps)?;
             from = self.sent();
             let Some(deadline) = self.next_deadline() else {
                 break;
@@ -46,11 +67,9 @@ impl LinkWorld {
             if deadline >= LATE {
                 return Err(DrainRefused::TooLate);
             }
-            self.tick_to(deadline, &mut steps)?;
+            self.tick_to(deadline, steps)?;
         }
-        let effects = WorldSteps::from_vec(steps);
-        let events = effects.len() as u64;
-        Ok(Drained { events, effects })
+        Ok(())
     }
 
     /// The datagrams from number `from` on come to their ends, and those that are sent meanwhile.
@@ -72,15 +91,22 @@ impl LinkWorld {
     }
 
     /// Datagram `k` comes to its end.
-    fn deliver_step(&mut self, k: usize, steps: &mut Vec<WorldEffects>) -> Result<(), AllocError>
+    pub(crate) fn deliver_step(
+        &mut self,
+        k: usize,
+        steps: &mut Vec<WorldEffects>,
+    ) -> Result<(), AllocError>
         requires whole { self.old.spent ≡ false }
         requires there { k < length self.old.sent }
         ensures done { OnOk result (LeadsOn self.old self.new k (k + 1)
             steps.old.items steps.new.items) }
         ensures clock { OnOk result (self.new.moment ≡ self.old.moment) }
+        ensures takes { OnOk result (TakesEvent self.old self.new (deliver k)
+            steps.old.items steps.new.items) }
         // Less is left to deliver.
         ensures falls { OnOk result (left_of self.new (k + 1) < left_of self.old k) }
         ensures there { OnOk result (k < length self.new.sent) }
+        ensures grows { OnOk result (length self.old.sent ≤ length self.new.sent) }
         ensures bounds { AreBounded self.old.engines → OnOk result (AreBounded self.new.engines) }
         ensures err { OnErr result (self.new.spent ≡ true) }
     {
@@ -93,13 +119,19 @@ impl LinkWorld {
     }
 
     /// The clock is set to the least deadline, where nothing is left to deliver.
-    fn tick_to(&mut self, deadline: u64, steps: &mut Vec<WorldEffects>) -> Result<(), AllocError>
+    pub(crate) fn tick_to(
+        &mut self,
+        deadline: u64,
+        steps: &mut Vec<WorldEffects>,
+    ) -> Result<(), AllocError>
         requires whole { self.old.spent ≡ false }
         requires moment { deadline < 2 ^ 62 }
         requires due { deadline_in self.old ≡ Some deadline }
         requires later { self.old.moment < deadline }
         ensures done { OnOk result (LeadsOn self.old self.new (length self.old.sent)
             (length self.old.sent) steps.old.items steps.new.items) }
+        ensures takes { OnOk result (TakesEvent self.old self.new (clock deadline)
+            steps.old.items steps.new.items) }
         ensures clock { OnOk result (self.new.moment ≡ deadline) }
         ensures there { OnOk result (length self.old.sent ≤ length self.new.sent) }
         ensures bounds { AreBounded self.old.engines → OnOk result (AreBounded self.new.engines) }
@@ -121,6 +153,16 @@ impl LinkWorld {
     {
         earlier_of(self.first.next_deadline(), self.second.next_deadline())
     }
+}
+
+/// What a drain did, by its steps.
+pub(crate) fn drained(steps: Vec<WorldEffects>) -> Drained
+    ensures effects { result.effects ≡ steps.items }
+    ensures events { result.events ≡ length steps.items }
+{
+    let effects = WorldSteps::from_vec(steps);
+    let events = effects.len() as u64;
+    Drained { events, effects }
 }
 
 /// The earlier of two moments, where there are any.

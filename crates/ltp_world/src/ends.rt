@@ -12,7 +12,7 @@ pub enum End {
 }
 
 impl End {
-    ghost use Rattle.ltp_world.specs.Ends.{other_end};
+    ghost use Rattle.ltp_world.specs.Ends.{is_end, other_end};
 
     /// The other end.
     pub fn other(self) -> End
@@ -21,6 +21,16 @@ impl End {
         match self {
             End::First => End::Second,
             End::Second => End::First,
+        }
+    }
+
+    /// Whether this is that end.
+    pub(crate) fn is(self, end: End) -> bool
+        ensures { result ≡ is_end self end }
+    {
+        match (self, end) {
+            (End::First, End::First) | (End::Second, End::Second) => true,
+            (End::First, End::Second) | (End::Second, End::First) => false,
         }
     }
 }

@@ -14,12 +14,14 @@
 mod drain;
 mod effects;
 mod ends;
+mod picks;
 mod refused;
 mod sent;
 mod world;
 
 pub use effects::{Drained, EndEffects, WorldEffects, WorldSteps};
 pub use ends::End;
+pub use picks::Pick;
 pub use refused::{DeliverRefused, DrainRefused};
 pub use sent::Sent;
 pub use world::LinkWorld;

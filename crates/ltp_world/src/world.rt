@@ -1,7 +1,8 @@
 //! Two engines, everything that was ever sent, and a clock.
 
 ghost use Rattle.std.specs.Prelude.{◌≡◌, ◌<◌, ◌≤◌, ◌^◌, false, [], ◌∷◌, length, IfOk, OnOk, OnErr};
-ghost use Rattle.std.specs.Prelude.{List, true, ◌||◌, Ok};
+ghost use Rattle.std.specs.Prelude.{List, true, ◌||◌, Ok, IfSome};
+ghost use Rattle.std.specs.List.{slice_get};
 ghost use Rattle.ltp_session.specs.World.{ArePeers, Event, clock, deliver};
 ghost use Rattle.drain_laws.specs.Hopeful.{AreAlike};
 ghost use Rattle.ltp_world.specs.Ends.{link_end};
@@ -86,6 +87,14 @@ impl LinkWorld {
         ensures { result ≡ length self.now.sent }
     {
         self.sent.len()
+    }
+
+    /// The end that sent datagram `k`.
+    pub(crate) fn sent_by(&self, k: usize) -> End
+        requires there { k < length self.now.sent }
+        ensures { IfSome (slice_get self.now.sent k) (λ sent. result ≡ sent.from) }
+    {
+        self.sent[k].from
     }
 
     /// An end submits a block, of which the first `red` octets are its red part.

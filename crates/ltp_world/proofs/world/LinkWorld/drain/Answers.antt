@@ -1,43 +1,19 @@
-use Rattle.std.proofs.Common.{◌≡◌, [], length, Some, None, sym, arith, subst, rules}
-use Rattle.ltp_world.specs.Clean.{LeadsOn, deadline_in}
-use Rattle.ltp_world.proofs.DrainLemmas.{advance-none, advance-more, drain-done, drain-late, drain-completes}
+use Rattle.ltp_world.proofs.DrainLemmas.{drain-ends, drain-stops, drain-completes}
 use Rattle.ltp_world.proofs.DrainFrontLemmas.{drain-fronts}
 use Rattle.ltp_world.proofs.world.LinkWorld.drain.Goals as goal
 
-pub ticking-init : goal.ticking-init
-ticking-init c = record {
-  whole = c.requires.whole;
-  there = omega (arith, c.sent-from.ensures);
-  made = subst (λ n. LeadsOn c.args.self.now c.args.self.now (length c.args.self.now.sent) n [] c.new-steps.result.items) (sym c.sent-from.ensures)
-      (subst (λ steps. LeadsOn c.args.self.now c.args.self.now (length c.args.self.now.sent) (length c.args.self.now.sent) [] steps) (sym c.new-steps.ensures.items)
-      (advance-none c.args.self.now (length c.args.self.now.sent) [] c.requires.whole));
-  bounds = λ b. b;
-}
+pub returns-in-Ok-clause-does : goal.returns-in-Ok-clause-does
+returns-in-Ok-clause-does c =
+    drain-ends c.args.self.now c.drain_from.new.self c.sent-from.result c.new-steps.result.items c.drain_from.new.steps.items c.drained.result c.in-Ok.ensures.does
+    c.sent-from.ensures c.new-steps.ensures.items c.drained.ensures.effects c.drained.ensures.events
 
-pub ticking-preserved : goal.ticking-preserved
-ticking-preserved c = record {
-  whole = c.in_ok-tick_to.ensures.done.whole;
-  there = omega (arith, c.sent-from-in-ticking.ensures, c.in_ok-tick_to.ensures.there);
-  made = subst (λ n. LeadsOn c.args.self.now c.tick_to.new.self (length c.args.self.now.sent) n [] c.tick_to.new.steps.items) (sym c.sent-from-in-ticking.ensures)
-      (advance-more _ _ _ _ _ _ _ _ _ c.ticking.invariant.made (advance-more _ _ _ _ _ _ _ _ _ c.in_ok-deliver_from.ensures.done c.in_ok-tick_to.ensures.done));
-  bounds = λ b. c.in_ok-tick_to.ensures.bounds (c.in_ok-deliver_from.ensures.bounds (c.ticking.invariant.bounds b));
-}
+pub returns-in-Ok-clause-fronts : goal.returns-in-Ok-clause-fronts
+returns-in-Ok-clause-fronts c = drain-fronts c.args.self.now c.drain_from.new.self c.drained.result (returns-in-Ok-clause-does c)
 
-pub returns-then-deadline-ge-LATE-clause-does : goal.returns-then-deadline-ge-LATE-clause-does
-returns-then-deadline-ge-LATE-clause-does c =
-    let due : deadline_in c.deliver_from.new.self ≡ Some c.in-Some.deadline = search rules in
-    drain-late c.args.self.now c.deliver_from.new.self c.in-Some.deadline c.deliver_from.new.steps.items
-    (advance-more _ _ _ _ _ _ _ _ _ c.ticking.invariant.made c.in_ok-deliver_from.ensures.done) due (omega (arith, c.if-deadline-ge-LATE.true))
+pub returns-in-Ok-clause-completes : goal.returns-in-Ok-clause-completes
+returns-in-Ok-clause-completes c = drain-completes c.args.self.now c.drain_from.new.self c.drained.result (returns-in-Ok-clause-does c)
 
-pub returns-clause-does : goal.returns-clause-does
-returns-clause-does c =
-    let none : deadline_in c.deliver_from.new.self ≡ None = search rules in
-    drain-done c.args.self.now c.deliver_from.new.self (record { events = c.len-events.result; effects = c.from_vec-effects.result })
-    (subst (λ steps. LeadsOn c.args.self.now c.deliver_from.new.self (length c.args.self.now.sent) (length c.deliver_from.new.self.sent) [] steps) (sym c.from_vec-effects.ensures)
-    (advance-more _ _ _ _ _ _ _ _ _ c.ticking.invariant.made c.in_ok-deliver_from.ensures.done)) c.len-events.ensures none
-
-pub returns-clause-completes : goal.returns-clause-completes
-returns-clause-completes c = drain-completes c.args.self.now c.deliver_from.new.self (record { events = c.len-events.result; effects = c.from_vec-effects.result }) (returns-clause-does c)
-
-pub returns-clause-fronts : goal.returns-clause-fronts
-returns-clause-fronts c = drain-fronts c.args.self.now c.deliver_from.new.self (record { events = c.len-events.result; effects = c.from_vec-effects.result }) (returns-clause-does c)
+pub returns-in-Err-clause-does : goal.returns-in-Err-clause-does
+returns-in-Err-clause-does c =
+    drain-stops c.args.self.now c.drain_from.new.self c.sent-from.result c.new-steps.result.items c.drain_from.new.steps.items c.in-Err.refused c.in-Err.ensures.does
+    c.sent-from.ensures c.new-steps.ensures.items

@@ -6,10 +6,11 @@ usage: tools/install_program.py --install [PREFIX]       /usr/local where no PRE
        tools/install_program.py --uninstall [PREFIX]
        tools/install_program.py --page                   writes the manual page to standard output
 
-The page and the completions are made from the program's help, in crates/bundle_cli/src/help.rt.
+The page and the completions are made from the program's help, as the script fimdahol says it.
 """
 import os
 import re
+import subprocess
 import sys
 
 sys.dont_write_bytecode = True
@@ -27,9 +28,16 @@ def constant(name):
     return re.sub(r'\\(["\\])', r"\1", found[1])
 
 
+def help_text():
+    """The help of the program, without that of the script, which makes it of help.rt and table.rt."""
+    made = subprocess.run(["bash", os.path.join(ROOT, "fimdahol"), "--help"], stdout=subprocess.PIPE,
+                          check=True, encoding="utf-8")
+    return made.stdout.split("\n\nwords of the script")[0] + "\n"
+
+
 def commands(text):
     """The words that a call may begin with."""
-    return re.findall(r"^(?:usage:|      ) fimdahol ([a-z]+)", text, re.M) + ["--help", "--version"]
+    return re.findall(r"^  fimdahol ([a-z]+)", text, re.M) + ["--help", "--version"]
 
 
 # ---- the manual page ----
@@ -62,18 +70,19 @@ def paragraph(lines):
 
 def page():
     """The manual page."""
-    text, version = constant("HELP"), constant("VERSION").split()[-1]
+    text, version = help_text(), constant("VERSION").split()[-1]
     head, usage, *rest = text.rstrip("\n").split("\n\n")
     name, _, purpose = head.partition(": ")
     made = [f'.TH FIMDAHOL 1 "" "{name} {version}" "User Commands"',
             ".SH NAME", rf"{name} \- {purpose}",
-            ".SH SYNOPSIS", ".nf", *(roff(line[len("usage: "):]) for line in usage.split("\n")),
+            ".SH SYNOPSIS", ".nf", *(roff(line[2:]) for line in usage.split("\n")[1:]),
             ".fi", ".SH DESCRIPTION"]
     for block in rest:
         word, _, first = block.partition(": ")
         if word in SECTIONS:
             made.append(f".SH {SECTIONS[word]}")
-            made += [roff(line.strip()) for line in first.split("\n")]
+            made += paragraph(first.split("\n"))[1:] if word == "limits" else [
+                roff(line.strip()) for line in first.split("\n")]
         else:
             made += paragraph(block.split("\n"))
     return "\n".join(made) + "\n"
@@ -85,7 +94,7 @@ def completions():
 _fimdahol() {{
   COMPREPLY=()
   if [ "$COMP_CWORD" = 1 ]; then
-    mapfile -t COMPREPLY < <(compgen -W '{' '.join(commands(constant("HELP")))}' -- "$2")
+    mapfile -t COMPREPLY < <(compgen -W '{' '.join(commands(help_text()))}' -- "$2")
   fi
 }}
 complete -o default -F _fimdahol fimdahol

@@ -2,7 +2,7 @@
 use Rattle.std.specs.Prelude.{Bool, true, false, not, ℕ, List, ◌++◌, codes}
 use Rattle.std.specs.Fmt.{decimal}
 use Rattle.gateway_run.specs.declared.commands.passed.Passed.{Passed}
-use Rattle.gateway_run.specs.declared.commands.passed.Passed.TheVariants.{Size, Lines, LineLength, Sessions, Clock, World, Made}
+use Rattle.gateway_run.specs.declared.commands.passed.Passed.TheVariants.{Size, Lines, LineLength, Own, Script}
 use Rattle.edge_traits.specs.declared.status.Status.{Status}
 use Rattle.edge_traits.specs.declared.status.Status.TheVariants.{Done, Refused, Usage, ReadFault, WriteFault, Limit, Memory}
 
@@ -16,15 +16,13 @@ wants_line WriteFault reader_gone = not reader_gone
 wants_line Limit reader_gone = true
 wants_line Memory reader_gone = true
 
--- the line that names the limit that was passed, and where
-abbrev pub limit_text : Passed → List ℕ
-limit_text Size = codes "fimdahol: the input has more than 67108864 octets\n"
-limit_text Lines = codes "fimdahol: the input has more than 1000000 lines\n"
-limit_text (LineLength line) = codes "fimdahol: line " ++ (decimal line ++ codes " has more than 9000000 octets\n")
-limit_text (Sessions line) = codes "fimdahol: line " ++ (decimal line ++ codes " leaves more than 64 sessions unfinished\n")
-limit_text (Clock line) = codes "fimdahol: line " ++ (decimal line ++ codes " sets the clock past 4611686018427387903\n")
-limit_text (World line) =
-    codes "fimdahol: line "
-    ++ (decimal line ++ codes " sets the clock past 4611686018427387903, or leaves more than 268435456 octets of datagrams\n")
-limit_text Made =
-    codes "fimdahol: the script sets the clock past 4611686018427387903, or leaves more than 268435456 octets of datagrams\n"
+-- the line that names the limit that was passed, and where; of a limit of the command's own it says
+-- what passes it
+abbrev pub limit_text : (passes : List ℕ) → Passed → List ℕ
+limit_text passes Size = codes "fimdahol: the input has more than 67108864 octets\n"
+limit_text passes Lines = codes "fimdahol: the input has more than 1000000 lines\n"
+limit_text passes (LineLength line) =
+    codes "fimdahol: line " ++ (decimal line ++ codes " has more than 9000000 octets\n")
+limit_text passes (Own line) =
+    codes "fimdahol: line " ++ (decimal line ++ (codes " " ++ (passes ++ codes "\n")))
+limit_text passes Script = codes "fimdahol: the script " ++ (passes ++ codes "\n")

@@ -1,32 +1,41 @@
--- What a run wrote, by its command.
-use Rattle.std.proofs.Common.{◌≡◌, ℕ, ◌+◌, ◌-◌, ◌<◌, ◌^◌, min, inl, inr, List, [], ◌++◌, Option, None, Some, IfSome, refl, sym, ◌∙◌, arith}
+-- How a run went, by its command.
+use Rattle.std.proofs.Common.{◌≡◌, ◌↔◌, ℕ, ◌+◌, ◌-◌, ◌<◌, ◌^◌, min, inl, inr, true, false, List, [], ◌++◌, Option, None, Some, IfSome, refl, sym, subst, ◌∙◌, arith}
 use Rattle.std.proofs.lemmas.List.{append-nil}
 use Rattle.edge_traits.specs.declared.status.Status.{Status}
 use Rattle.edge_traits.specs.declared.status.Status.TheVariants as statuses
 use Rattle.edge_traits.specs.Content.{GainsFront, most_input}
-use Rattle.edge_traits.specs.Faults.{Calls}
-use Rattle.edge_traits.specs.Outcome.{SourceTells, SinkTells, EndsAs, Wrote, WentReading, WentWriting, Ran, IsAnswer}
-use Rattle.gateway_run.specs.declared.commands.command.Command.{Command}
-use Rattle.gateway_run.specs.declared.commands.command.Command.TheVariants as commands
-use Rattle.gateway_run.specs.Receive.{Limits, the_limits, receive_rules}
-use Rattle.gateway_run.specs.Receive as receive
-use Rattle.node_run.specs.Node.{node_rules, begins, node_party}
-use Rattle.node_run.specs.Node as node
-use Rattle.node_run.specs.RedParts.{AnswersLines}
-use Rattle.node_run.proofs.RunLemmas.{answers_lines}
-use Rattle.world_run.specs.World.{world_rules, no_path}
-use Rattle.world_run.specs.World as world
-use Rattle.world_run.specs.Headline.{KeepsHeadline, WorldsKeepHeadline}
+use Rattle.edge_traits.specs.Outcome.{SinkTells, EndsAs, Wrote, WentReading, WentWriting, IsAnswer}
+use Rattle.edge_traits.specs.Settled.{at_end, Settled, EarliestDecides}
 use Rattle.command_frame.specs.Task.{Settling}
-use Rattle.gateway_run.specs.ReceiverLaw.{KeepsReceiverLaw}
-use Rattle.gateway_run.specs.Words.{settles, CompletesCommand, KeepsLaw, WritesLawfully, IsLawful}
-use Rattle.edge_traits.specs.Settled.{at_end, EarliestDecides}
 use Rattle.command_frame.specs.Within.{within}
+use Rattle.command_frame.specs.declared.part_lines.LinePassed.{LinePassed}
+use Rattle.command_frame.specs.declared.part_lines.LinePassed.TheVariants as lines
 use Rattle.command_frame.proofs.WithinLemmas.{within-front}
 use Rattle.command_frame.proofs.FrontLemmas.{lines_from-front}
 use Rattle.command_frame.proofs.DriveLemmas.{fault-front}
-use Rattle.bundle_runs.specs.Laws.{EarliestOctetDecides}
 use Rattle.bundle_runs.proofs.LawLemmas.{earliest_decides}
+use Rattle.node_run.specs.Node.{node_rules, begins, node_party}
+use Rattle.node_run.specs.Node as node
+use Rattle.node_run.proofs.RunLemmas.{answers_lines}
+use Rattle.node_run.specs.RedParts.{AnswersLines}
+use Rattle.world_run.specs.World.{world_rules, no_path}
+use Rattle.world_run.specs.World as world
+use Rattle.world_run.specs.Headline.{KeepsHeadline, WorldsKeepHeadline}
+use Rattle.make_run.specs.Runs.{WroteMade}
+use Rattle.serve_run.specs.Serve.{Serving}
+use Rattle.serve_run.specs.Turns.{Act}
+use Rattle.serve_run.specs.Tells.{OutsideTells, RanTurns}
+use Rattle.gateway_run.specs.declared.commands.command.Command.{Command}
+use Rattle.gateway_run.specs.declared.commands.command.Command.TheVariants as commands
+use Rattle.gateway_run.specs.declared.commands.passed.Passed.{Passed}
+use Rattle.gateway_run.specs.Receive.{Limits, the_limits, receive_rules}
+use Rattle.gateway_run.specs.Receive as receive
+use Rattle.gateway_run.specs.ReceiverLaw.{KeepsReceiverLaw}
+use Rattle.gateway_run.specs.Rules.{Rules, reads, writes, acts}
+use Rattle.gateway_run.specs.Commands.{keeps, rules_of, law_of}
+use Rattle.gateway_run.specs.Edge.{Edge, HasNoFault}
+use Rattle.gateway_run.specs.Passed.{is_limit, named_by, passed_on_lines}
+use Rattle.gateway_run.specs.Runs.{RanBy, RanNamed, EndsDue, CompletesBy, Completes, KeepsLaw, WritesLawfully, IsLawful, DecidesEarliest, may_pass, NamesLimit}
 use Rattle.gateway_run.proofs.TranscriptLemmas.{received-law}
 
 -- ---- fronts
@@ -40,6 +49,14 @@ node-front own peer =
 
 world-front : EarliestDecides (within most_input world.settles)
 world-front = within-front most_input world.settles (lines_from-front world_rules 1 no_path)
+
+pub command-front : (command : Command) → DecidesEarliest (rules_of command)
+command-front commands.Receive = λ ends taken more octets. receive-front the_limits most_input ends taken more
+command-front (commands.Bundles command) = earliest_decides command
+command-front (commands.Node own peer) = λ ends taken more octets. node-front own peer ends taken more
+command-front commands.World = λ ends taken more octets. world-front ends taken more
+command-front (commands.Make seed count) = tt
+command-front (commands.Serve gate count) = tt
 
 -- ---- the laws
 
@@ -73,119 +90,174 @@ module _ (settling : Settling) (decides : EarliestDecides settling) (input : Lis
   }
 
   whole_gains : (status : Status) (before now : Option (List ℕ)) → EndsAs (settling at_end input) status before now
-      → IsLawful Law status before now
+      → IsLawful (keeps Law) status before now
   whole_gains status before None ends = tt
   whole_gains status None (Some after) ends = absurd ends.1
   whole_gains status (Some held) (Some after) ends = whole_text status held after ends.0 ends.1
 
   front_gains : (status : Status) (before now : Option (List ℕ)) → (IsAnswer status → ⊥) → GainsFront before now (settling at_end input).text
-      → IsLawful Law status before now
+      → IsLawful (keeps Law) status before now
   front_gains status before None early gains = tt
   front_gains status None (Some after) early gains = absurd gains
   front_gains status (Some held) (Some after) early gains =
       let (written, rest, parts, gained) = gains in front_text status held after written rest early parts gained
 
-  keeps : (status : Status) (left before now : Option (List ℕ)) → Wrote settling status input left before now → IsLawful Law status before now
-  keeps statuses.Done left before now wrote = whole_gains statuses.Done before now wrote
-  keeps statuses.Refused left before now wrote = whole_gains statuses.Refused before now wrote
-  keeps statuses.Limit left before now wrote = whole_gains statuses.Limit before now wrote
-  keeps statuses.Usage left before now wrote = absurd wrote
-  keeps statuses.ReadFault left before now wrote =
+  lawful : (status : Status) (left before now : Option (List ℕ)) → Wrote settling status input left before now → IsLawful (keeps Law) status before now
+  lawful statuses.Done left before now wrote = whole_gains statuses.Done before now wrote
+  lawful statuses.Refused left before now wrote = whole_gains statuses.Refused before now wrote
+  lawful statuses.Limit left before now wrote = whole_gains statuses.Limit before now wrote
+  lawful statuses.Usage left before now wrote = absurd wrote
+  lawful statuses.ReadFault left before now wrote =
       front_gains statuses.ReadFault before now (λ no_answer. no_answer) (fault-front settling decides input left before now wrote)
-  keeps statuses.WriteFault left before now wrote = front_gains statuses.WriteFault before now (λ no_answer. no_answer) wrote
-  keeps statuses.Memory left before now wrote = front_gains statuses.Memory before now (λ no_answer. no_answer) wrote.1
+  lawful statuses.WriteFault left before now wrote = front_gains statuses.WriteFault before now (λ no_answer. no_answer) wrote
+  lawful statuses.Memory left before now wrote = front_gains statuses.Memory before now (λ no_answer. no_answer) wrote.1
 
-receive-keeps : (input : List ℕ) (status : Status) (left before now : Option (List ℕ)) → Wrote (settles commands.Receive) status input left before now
-    → IsLawful (KeepsReceiverLaw the_limits most_input input) status before now
-receive-keeps input =
-    let lawful = received-law the_limits most_input input in
-    keeps (settles commands.Receive) (receive-front the_limits most_input) input (KeepsReceiverLaw the_limits most_input input) lawful.status lawful.is lawful.law
+-- what is said of every text is said of one that is told
+on-told : (told : Option (List ℕ)) (P Q : List ℕ → Type 0) → ((text : List ℕ) → P text → Q text) → IfSome told P → IfSome told Q
+on-told None P Q step holds = tt
+on-told (Some text) P Q step holds = step text holds
 
-node-keeps : (own peer : ℕ) (input : List ℕ) (status : Status) (left before now : Option (List ℕ))
-    → Wrote (settles (commands.Node own peer)) status input left before now
-    → IsLawful (λ text ending. AnswersLines (node_party own peer) most_input input text) status before now
-node-keeps own peer input =
-    let lawful = answers_lines own peer most_input input in
-    keeps (settles (commands.Node own peer)) (node-front own peer) input (λ text ending. AnswersLines (node_party own peer) most_input input text)
-    lawful.status lawful.is lawful.law
+nothing-told : (told : Option (List ℕ)) → IfSome told (λ text. Unit {0})
+nothing-told None = tt
+nothing-told (Some text) = tt
 
-world-keeps : WorldsKeepHeadline → (input : List ℕ) (status : Status) (left before now : Option (List ℕ))
-    → Wrote (settles commands.World) status input left before now → IsLawful (KeepsHeadline most_input input) status before now
-world-keeps headline input =
-    let lawful = headline most_input input in
-    keeps (settles commands.World) world-front input (KeepsHeadline most_input input) lawful.ending lawful.ends lawful.law
+receive-keeps : (status : Status) (left before now : Option (List ℕ)) (input : List ℕ)
+    → Wrote (within most_input (receive.settles the_limits)) status input left before now
+    → IsLawful (law_of commands.Receive input) status before now
+receive-keeps status left before now input =
+    let received = received-law the_limits most_input input in
+    lawful (within most_input (receive.settles the_limits)) (receive-front the_limits most_input) input
+    (KeepsReceiverLaw the_limits most_input input) received.status received.is received.law status left before now
 
-pub keeps_law : WorldsKeepHeadline → (input : Option (List ℕ)) (named : Option Command) (command : Command) (status : Status) (left before now : Option (List ℕ))
-    → named ≡ Some command → IfSome input (λ all. Wrote (settles command) status all left before now)
-    → IfSome input (λ all. KeepsLaw named all status before now)
-keeps_law headline None named command status left before now is wrote = tt
-keeps_law headline (Some input) named (commands.Bundles command) status left before now is wrote = rw is tt
-keeps_law headline (Some input) named (commands.Node own peer) status left before now is wrote =
-    rw is (node-keeps own peer input status left before now wrote)
-keeps_law headline (Some input) named commands.World status left before now is wrote =
-    rw is (world-keeps headline input status left before now wrote)
-keeps_law headline (Some input) named commands.Receive status left before now is wrote =
-    rw is (receive-keeps input status left before now wrote)
+node-keeps : (own peer : ℕ) (status : Status) (left before now : Option (List ℕ)) (input : List ℕ)
+    → Wrote (within most_input (node.settles own peer)) status input left before now
+    → IsLawful (law_of (commands.Node own peer) input) status before now
+node-keeps own peer status left before now input =
+    let answered = answers_lines own peer most_input input in
+    lawful (within most_input (node.settles own peer)) (node-front own peer) input
+    (λ text ending. AnswersLines (node_party own peer) most_input input text) answered.status answered.is answered.law
+    status left before now
 
--- ---- fronts
+world-keeps : WorldsKeepHeadline → (status : Status) (left before now : Option (List ℕ)) (input : List ℕ)
+    → Wrote (within most_input world.settles) status input left before now → IsLawful (law_of commands.World input) status before now
+world-keeps headline status left before now input =
+    let played = headline most_input input in
+    lawful (within most_input world.settles) world-front input (KeepsHeadline most_input input) played.ending played.ends played.law
+    status left before now
 
-pub command-front : (command : Command) → EarliestOctetDecides (settles command)
-command-front commands.Receive = λ ends taken more octets. receive-front the_limits most_input ends taken more
-command-front (commands.Bundles command) = earliest_decides command
-command-front (commands.Node own peer) = λ ends taken more octets. node-front own peer ends taken more
-command-front commands.World = λ ends taken more octets. world-front ends taken more
+command-keeps : {S K L C : Type 0} → WorldsKeepHeadline → (command : Command) (status : Status) (before now : Edge S K L C)
+    → RanBy (rules_of command) status before now → KeepsLaw (Some command) status before now
+command-keeps headline commands.Receive status before now ran =
+    on-told before.reads.left _ _ (receive-keeps status now.reads.left before.writes.held now.writes.held) ran.ran.wrote
+command-keeps headline (commands.Bundles command) status before now ran = nothing-told before.reads.left
+command-keeps headline (commands.Node own peer) status before now ran =
+    on-told before.reads.left _ _ (node-keeps own peer status now.reads.left before.writes.held now.writes.held) ran.ran.wrote
+command-keeps headline commands.World status before now ran =
+    on-told before.reads.left _ _ (world-keeps headline status now.reads.left before.writes.held now.writes.held) ran.ran.wrote
+command-keeps headline (commands.Make seed count) status before now ran = nothing-told before.reads.left
+command-keeps headline (commands.Serve gate count) status before now ran = nothing-told before.reads.left
 
--- ---- by how a run went
+pub named-keeps : {S K L C : Type 0} → WorldsKeepHeadline → (named : Option Command) (status : Status) (before now : Edge S K L C)
+    → RanNamed named status before now → KeepsLaw named status before now
+named-keeps headline None status before now ran = tt
+named-keeps headline (Some command) status before now ran = command-keeps headline command status before now ran
 
-pub keeps_ran : WorldsKeepHeadline → (named : Option Command) (status : Status) (source source_now : SourceTells) (sink sink_now : SinkTells)
-    → IfSome named (λ command. Ran (settles command) status source source_now sink sink_now)
-    → IfSome source.left (λ input. KeepsLaw named input status sink.held sink_now.held)
-keeps_ran headline None status source source_now sink sink_now ran = nothing source.left
-  where
-    nothing : (left : Option (List ℕ)) → IfSome left (λ input. KeepsLaw None input status sink.held sink_now.held)
-    nothing None = tt
-    nothing (Some input) = tt
-keeps_ran headline (Some command) status source source_now sink sink_now ran =
-    keeps_law headline source.left (Some command) command status source_now.left sink.held sink_now.held refl ran.wrote
+-- ---- how a run ends where nothing failed
 
 -- a count that rose isn't what it was
 rises : (n most : ℕ) → n < most → n ≡ min (n + 1) most → ⊥
 rises n most below is = omega arith
 
--- a run in which no count rose ends as its input has it, or for want of memory
-module _ (command : Command) (source source_now sink sink_now : Calls)
-    (reads : source.faults < 2 ^ 64 - 1) (writes : sink.faults < 2 ^ 64 - 1)
-    (read : source_now.faults ≡ source.faults) (written : sink_now.faults ≡ sink.faults) where
-  ends_so : (status : Status) (input : List ℕ) (left held after : Option (List ℕ))
-      → Wrote (settles command) status input left held after → WentReading status source source_now → WentWriting status sink sink_now
-      → CompletesCommand (Some command) input status
-  ends_so statuses.Done input left held after wrote went gone = inl wrote.0
-  ends_so statuses.Refused input left held after wrote went gone = inl wrote.0
-  ends_so statuses.Limit input left held after wrote went gone = inl wrote.0
-  ends_so statuses.Usage input left held after wrote went gone = absurd wrote
-  ends_so statuses.ReadFault input left held after wrote went gone =
-      absurd (rises source.faults (2 ^ 64 - 1) reads (sym read ∙ went.count))
-  ends_so statuses.WriteFault input left held after wrote went gone =
-      absurd (rises sink.faults (2 ^ 64 - 1) writes (sym written ∙ gone.count))
-  ends_so statuses.Memory input left held after wrote went gone = inr refl
+module _ {S K L C : Type 0} (before now : Edge S K L C) (fault : HasNoFault before now) where
+  no_read_failed : before.reads.calls.faults ≡ min (before.reads.calls.faults + 1) (2 ^ 64 - 1) → ⊥
+  no_read_failed = rises before.reads.calls.faults (2 ^ 64 - 1) fault.reads_may
 
-  ends_told : (status : Status) (told left held after : Option (List ℕ))
-      → IfSome told (λ input. Wrote (settles command) status input left held after)
-      → WentReading status source source_now → WentWriting status sink sink_now
-      → IfSome told (λ input. CompletesCommand (Some command) input status)
-  ends_told status None left held after wrote went gone = tt
-  ends_told status (Some input) left held after wrote went gone = ends_so status input left held after wrote went gone
+  no_write_failed : before.writes.calls.faults ≡ min (before.writes.calls.faults + 1) (2 ^ 64 - 1) → ⊥
+  no_write_failed = rises before.writes.calls.faults (2 ^ 64 - 1) fault.writes_may
 
-pub completes_ran : (named : Option Command) (status : Status) (source source_now : SourceTells) (sink sink_now : SinkTells)
-    → IfSome named (λ command. Ran (settles command) status source source_now sink sink_now)
-    → source.calls.faults < 2 ^ 64 - 1 → sink.calls.faults < 2 ^ 64 - 1
-    → source_now.calls.faults ≡ source.calls.faults → sink_now.calls.faults ≡ sink.calls.faults
-    → IfSome source.left (λ input. CompletesCommand named input status)
-completes_ran None status source source_now sink sink_now ran reads writes read written = nothing source.left
-  where
-    nothing : (left : Option (List ℕ)) → IfSome left (λ input. CompletesCommand None input status)
-    nothing None = tt
-    nothing (Some input) = tt
-completes_ran (Some command) status source source_now sink sink_now ran reads writes read written =
-    ends_told command source.calls source_now.calls sink.calls sink_now.calls reads writes read written
-    status source.left source_now.left sink.held sink_now.held ran.wrote ran.reads ran.writes
+  reading-ends : (settles : Settling) (status : Status) (left held after : Option (List ℕ)) (input : List ℕ)
+      → WentReading status before.reads.calls now.reads.calls → WentWriting status before.writes.calls now.writes.calls
+      → Wrote settles status input left held after → EndsDue (settles at_end input) status
+  reading-ends settles statuses.Done left held after input went gone wrote = inl wrote.0
+  reading-ends settles statuses.Refused left held after input went gone wrote = inl wrote.0
+  reading-ends settles statuses.Limit left held after input went gone wrote = inl wrote.0
+  reading-ends settles statuses.Usage left held after input went gone wrote = absurd wrote
+  reading-ends settles statuses.ReadFault left held after input went gone wrote =
+      absurd (no_read_failed (sym fault.reads ∙ went.count))
+  reading-ends settles statuses.WriteFault left held after input went gone wrote =
+      absurd (no_write_failed (sym fault.writes ∙ gone.count))
+  reading-ends settles statuses.Memory left held after input went gone wrote = inr refl
+
+  writing-ends : (due : Settled) (status : Status) → WroteMade due status before.writes.held now.writes.held
+      → WentWriting status before.writes.calls now.writes.calls → EndsDue due status
+  writing-ends due statuses.Done wrote gone = inl wrote.0
+  writing-ends due statuses.Limit wrote gone = inl wrote.0
+  writing-ends due statuses.WriteFault wrote gone = absurd (no_write_failed (sym fault.writes ∙ gone.count))
+  writing-ends due statuses.Memory wrote gone = inr refl
+  writing-ends due statuses.Refused wrote gone = absurd wrote
+  writing-ends due statuses.Usage wrote gone = absurd wrote
+  writing-ends due statuses.ReadFault wrote gone = absurd wrote
+
+  acting-ends : (act : Act Serving) (status : Status) (links links_now : OutsideTells)
+      → RanTurns act status links links_now before.writes now.writes → CompletesBy (acts act) before.reads.left status
+  acting-ends act statuses.Done links links_now ran = inl refl
+  acting-ends act statuses.WriteFault links links_now ran = absurd (no_write_failed (sym fault.writes ∙ ran.writes.count))
+  acting-ends act statuses.Memory links links_now ran = inr refl
+  acting-ends act statuses.Refused links links_now ran = absurd ran.went
+  acting-ends act statuses.Usage links links_now ran = absurd ran.went
+  acting-ends act statuses.ReadFault links links_now ran = absurd ran.went
+  acting-ends act statuses.Limit links links_now ran = absurd ran.went
+
+  rules-complete : (rules : Rules) (status : Status) → RanBy rules status before now → CompletesBy rules before.reads.left status
+  rules-complete (reads settles) status ran =
+      on-told before.reads.left _ _ (λ input.
+      reading-ends settles status now.reads.left before.writes.held now.writes.held input ran.ran.reads ran.ran.writes) ran.ran.wrote
+  rules-complete (writes due) status ran = writing-ends due status ran.made.wrote ran.made.writes
+  rules-complete (acts act) status ran = acting-ends act status before.links now.links ran.acted
+
+pub named-completes : {S K L C : Type 0} → (named : Option Command) (status : Status) (before now : Edge S K L C)
+    → RanNamed named status before now → Completes named status before now
+named-completes None status before now ran = λ fault. tt
+named-completes (Some command) status before now ran = λ fault. rules-complete before now fault (rules_of command) status ran
+
+-- ---- wrong usage, and limits
+
+-- the run of a command doesn't end as wrong usage
+rules-usage : {S K L C : Type 0} → (rules : Rules) (before now : Edge S K L C) → RanBy rules statuses.Usage before now → ⊥
+rules-usage (reads settles) before now ran = ran.ran.reads
+rules-usage (writes due) before now ran = ran.made.wrote
+rules-usage (acts act) before now ran = ran.acted.went
+
+pub named-usage : {S K L C : Type 0} → (named : Option Command) (status : Status) (before now : Edge S K L C)
+    → RanNamed named status before now → (status ≡ statuses.Usage) ↔ (named ≡ None)
+named-usage None status before now ran = (λ is. refl, λ is. ran.0)
+named-usage (Some command) status before now ran =
+    (λ is. absurd (rules-usage (rules_of command) before now (subst (λ (s : Status). RanBy (rules_of command) s before now) is ran)), λ is. absurd (cc))
+
+-- a limit that a command may pass is named as is due
+pub names-limit : (command : Command) (status : Status) (limit : Passed) → may_pass (rules_of command) limit ≡ true
+    → NamesLimit (Some command) status (named_by status limit)
+names-limit command statuses.Done limit may = refl
+names-limit command statuses.Refused limit may = refl
+names-limit command statuses.Usage limit may = refl
+names-limit command statuses.ReadFault limit may = refl
+names-limit command statuses.WriteFault limit may = refl
+names-limit command statuses.Limit limit may = (refl, may)
+names-limit command statuses.Memory limit may = refl
+
+pub may-pass-lines : (settles : Settling) (told : Option LinePassed) → may_pass (reads settles) (passed_on_lines told) ≡ true
+may-pass-lines settles None = refl
+may-pass-lines settles (Some lines.Lines) = refl
+may-pass-lines settles (Some (lines.Length line)) = refl
+may-pass-lines settles (Some (lines.Own line)) = refl
+
+-- a run that acts passes none
+pub acting-limit : (act : Act Serving) (status : Status) (links links_now : OutsideTells) (sink sink_now : SinkTells)
+    → RanTurns act status links links_now sink sink_now → is_limit status ≡ false
+acting-limit act statuses.Done links links_now sink sink_now ran = refl
+acting-limit act statuses.WriteFault links links_now sink sink_now ran = refl
+acting-limit act statuses.Memory links links_now sink sink_now ran = refl
+acting-limit act statuses.Refused links links_now sink sink_now ran = refl
+acting-limit act statuses.Usage links links_now sink sink_now ran = refl
+acting-limit act statuses.ReadFault links links_now sink sink_now ran = refl
+acting-limit act statuses.Limit links links_now sink sink_now ran = absurd ran.went

@@ -1,5 +1,3 @@
-pub mod ServeLemmas
-pub mod MakeLemmas
 pub mod BlockLemmas
 pub mod CellLemmas
 pub mod LawLemmas
@@ -8,5 +6,6 @@ pub mod CountLemmas
 pub mod TranscriptLemmas
 pub mod OpenPartLemmas
 pub mod SessionsLemmas
+pub mod WordLemmas
 pub mod CommandLemmas
 pub mod HexLemmas

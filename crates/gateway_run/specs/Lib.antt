@@ -1,6 +1,9 @@
-pub mod Words
-pub mod ServeWords
-pub mod MakeWords
+pub mod Rules
+pub mod GateName
+pub mod Commands
+pub mod Edge
+pub mod Passed
+pub mod Runs
 pub mod LineContent
 pub mod Session
 pub mod KeptSessions

@@ -1,9 +1,10 @@
 //! The commands, and the words that name them.
 
 pub mod command;
-pub mod making;
+pub mod gate_name;
+pub mod lines;
 pub mod passed;
 pub mod receive;
 pub mod run;
-pub mod serving;
+pub mod serve;
 pub mod word;

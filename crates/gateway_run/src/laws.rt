@@ -2,13 +2,12 @@
 
 ghost use Rattle.std.specs.Prelude.{ℕ, List};
 ghost use Rattle.gateway_run.specs.LineContent.{RedPiece};
-ghost use Rattle.command_frame.specs.Within.{within};
 ghost use Rattle.gateway_run.specs.ReceiverLaw.{IsFrontOfBlock};
 ghost use Rattle.edge_traits.specs.Settled.{EarliestDecides};
-ghost use Rattle.bundle_runs.specs.Laws.{EarliestOctetDecides};
 ghost use Rattle.command_frame.specs.Within.{within};
 ghost use Rattle.gateway_run.specs.Receive.{Limits, settles};
-ghost use Rattle.gateway_run.specs.Words.{settles as command_settles};
+ghost use Rattle.gateway_run.specs.Commands.{rules_of};
+ghost use Rattle.gateway_run.specs.Runs.{DecidesEarliest};
 ghost use Rattle.gateway_run.specs.declared.commands.command.Command.{Command};
 
 /// Where every piece of a session is of one block, its red part is the front of that block: it
@@ -22,5 +21,5 @@ pub fn red_part_is_front_of_block()
 /// `receive` keeps this of any numbers, and commands on bundles of octets.
 pub fn earliest_place_decides()
     ensures receive { (limits : Limits) (most : ℕ) → EarliestDecides (within most (settles limits)) }
-    ensures commands { (command : Command) → EarliestOctetDecides (command_settles command) }
+    ensures commands { (command : Command) → DecidesEarliest (rules_of command) }
 {}

@@ -1,13 +1,26 @@
-//! Which command the words name.
-ghost use Rattle.std.specs.Prelude.{◌≡◌, IfSome};
-ghost use Rattle.gateway_run.specs.Words.{command_of, cut_of, node_of, IsSound};
+//! The commands: which of them the words name, and the run of each.
+ghost use Rattle.std.specs.Prelude.{◌≡◌, Some, IfSome};
+ghost use Rattle.gateway_run.specs.Edge.{edge_of};
+ghost use Rattle.gateway_run.specs.Runs.{RanNamed, NamesLimit};
+ghost use Rattle.gateway_run.specs.Commands.{command_of, one_word, three_words, cut_of, node_of, make_of, serve_of, is_address, IsSound};
 
+use crate::commands::gate_name::GateName;
+use crate::commands::lines::{run_lines, run_part_lines};
+use crate::commands::passed::{Ended, Passed, ended_with};
+use crate::commands::receive::Receive;
+use crate::commands::serve::run_serve;
 use crate::commands::word::Word;
+use bundle_runs::bundles;
+use edge_traits::{Clock, Link, Sink, Source};
+use make_run::make;
+use node_run::Node;
 use replay_script::number_in;
+use std::alloc::Global;
+use world_run::World;
 
 /// A command of the program.
-#[derive(Clone, Copy, Debug, PartialEq, Eq, Drop)]
-pub enum Command {
+#[derive(Debug, Drop)]
+pub enum Command<'w> {
     /// `receive`: hands up the red parts of recorded datagrams.
     Receive,
     /// `check`, `show`, `convert`, `cut SIZE` and `join`: what is said of recorded bundles.
@@ -16,6 +29,11 @@ pub enum Command {
     Node { own: u64, peer: u64 },
     /// `world`: a script on a whole path, from an old node over the gate to a new one.
     World,
+    /// `make SEED COUNT`: a script of so many bundles that is drawn, and played.
+    Make { seed: u64, count: u64 },
+    /// `serve GATE OLD_BIND OLD_PEER NEW_BIND NEW_PEER TURNS`: a gateway of this name between two
+    /// links, for so many turns. Its addresses are those of the links that a run is given.
+    Serve { gate: GateName<'w>, count: u64 },
 }
 
 /// The most octets of a piece that words name.
@@ -24,36 +42,101 @@ const MOST_SIZE: u64 = 4_194_304;
 /// The greatest number of an engine that words name.
 const MOST_NUMBER: u64 = 4_294_967_295;
 
-/// The command that the words name.
-pub fn command_named(words: &[Word]) -> Option<Command>
+/// The most bundles that words name.
+const MOST_SENDS: u64 = 1_000;
+
+/// The most turns that words name.
+const MOST_TURNS: u64 = 1_000_000_000;
+
+/// The most octets of an address.
+const MOST_ADDRESS: usize = 64;
+
+/// The command that the words name. It takes no memory.
+pub fn command_named(words: &[Word]) -> Option<Command<'_>>
     ensures exact { result ≡ command_of words.now }
     ensures sound { IfSome result IsSound }
 {
     match words {
-        [word] if word.octets() == b"receive".as_slice() => Some(Command::Receive),
-        [word] if word.octets() == b"check".as_slice() => {
-            Some(Command::Bundles(bundle_runs::Command::Check))
-        }
-        [word] if word.octets() == b"show".as_slice() => {
-            Some(Command::Bundles(bundle_runs::Command::Show))
-        }
-        [word] if word.octets() == b"convert".as_slice() => {
-            Some(Command::Bundles(bundle_runs::Command::Convert))
-        }
-        [word] if word.octets() == b"join".as_slice() => {
-            Some(Command::Bundles(bundle_runs::Command::Join))
-        }
-        [word] if word.octets() == b"world".as_slice() => Some(Command::World),
+        [word] => one_word(word.octets()),
         [word, size] if word.octets() == b"cut".as_slice() => cut_named(size.octets()),
-        [word, own, peer] if word.octets() == b"node".as_slice() => {
-            node_named(own.octets(), peer.octets())
+        [word, a, b] => three_words(word.octets(), a.octets(), b.octets()),
+        [word, gate, old_bind, old_peer, new_bind, new_peer, count]
+            if word.octets() == b"serve".as_slice() => serve_named(
+            gate.octets(),
+            old_bind.octets(),
+            old_peer.octets(),
+            new_bind.octets(),
+            new_peer.octets(),
+            count.octets(),
+        ),
+        _ => None,
+    }
+}
+
+/// Runs a command: an arm for each.
+pub fn run_command<S: Source, K: Sink, L: Link, C: Clock>(
+    alloc: Global,
+    command: &Command<'_>,
+    source: &mut S,
+    sink: &mut K,
+    old_link: &mut L,
+    new_link: &mut L,
+    clock: &mut C,
+) -> Ended
+    requires { IsSound command.now }
+    ensures ran { RanNamed (Some command.now) result.status
+        (edge_of S.Source K.Sink L.Link C.Clock source.old sink.old old_link.old new_link.old clock.old)
+        (edge_of S.Source K.Sink L.Link C.Clock source.new sink.new old_link.new new_link.new clock.new) }
+    ensures named { NamesLimit (Some command.now) result.status result.passed }
+{
+    match command {
+        Command::Receive => run_lines(alloc, Receive::new(alloc), source, sink),
+        Command::Bundles(command) => {
+            ended_with(bundles(alloc, *command, source, sink), Passed::Size)
         }
+        Command::Node { own, peer } => {
+            run_lines(alloc, Node::new(alloc, *own, *peer), source, sink)
+        }
+        Command::World => run_part_lines(alloc, World::new(alloc), source, sink),
+        Command::Make { seed, count } => {
+            ended_with(make(alloc, *seed, *count, sink), Passed::Script)
+        }
+        Command::Serve { gate, count } => {
+            run_serve(alloc, gate, *count, sink, old_link, new_link, clock)
+        }
+    }
+}
+
+/// The command of a single word.
+fn one_word<'w>(word: &[u8]) -> Option<Command<'w>>
+    ensures exact { result ≡ one_word word.now }
+    ensures sound { IfSome result IsSound }
+{
+    match word {
+        _ if word == b"receive".as_slice() => Some(Command::Receive),
+        _ if word == b"check".as_slice() => Some(Command::Bundles(bundle_runs::Command::Check)),
+        _ if word == b"show".as_slice() => Some(Command::Bundles(bundle_runs::Command::Show)),
+        _ if word == b"convert".as_slice() => Some(Command::Bundles(bundle_runs::Command::Convert)),
+        _ if word == b"join".as_slice() => Some(Command::Bundles(bundle_runs::Command::Join)),
+        _ if word == b"world".as_slice() => Some(Command::World),
+        _ => None,
+    }
+}
+
+/// The command of three words.
+fn three_words<'w>(word: &[u8], a: &[u8], b: &[u8]) -> Option<Command<'w>>
+    ensures exact { result ≡ three_words word.now a.now b.now }
+    ensures sound { IfSome result IsSound }
+{
+    match word {
+        _ if word == b"node".as_slice() => node_named(a, b),
+        _ if word == b"make".as_slice() => make_named(a, b),
         _ => None,
     }
 }
 
 /// The pieces of this size.
-fn cut_named(size: &[u8]) -> Option<Command>
+fn cut_named<'w>(size: &[u8]) -> Option<Command<'w>>
     ensures exact { result ≡ cut_of size.now }
     ensures sound { IfSome result IsSound }
 {
@@ -62,7 +145,7 @@ fn cut_named(size: &[u8]) -> Option<Command>
 }
 
 /// The end of a link that has these numbers: they are different.
-fn node_named(own: &[u8], peer: &[u8]) -> Option<Command>
+fn node_named<'w>(own: &[u8], peer: &[u8]) -> Option<Command<'w>>
     ensures exact { result ≡ node_of own.now peer.now }
     ensures sound { IfSome result IsSound }
 {
@@ -72,4 +155,45 @@ fn node_named(own: &[u8], peer: &[u8]) -> Option<Command>
         return None;
     }
     Some(Command::Node { own, peer })
+}
+
+/// The script of this seed, and of so many bundles.
+fn make_named<'w>(seed: &[u8], count: &[u8]) -> Option<Command<'w>>
+    ensures exact { result ≡ make_of seed.now count.now }
+    ensures sound { IfSome result IsSound }
+{
+    let seed = number_in(0, u64::MAX, seed)?;
+    let count = number_in(1, MOST_SENDS, count)?;
+    Some(Command::Make { seed, count })
+}
+
+/// The gateway of this name, between links of these addresses, for so many turns.
+fn serve_named<'w>(
+    gate: &'w [u8],
+    old_bind: &[u8],
+    old_peer: &[u8],
+    new_bind: &[u8],
+    new_peer: &[u8],
+    count: &[u8],
+) -> Option<Command<'w>>
+    ensures exact { result ≡ serve_of gate.now old_bind.now old_peer.now new_bind.now new_peer.now count.now }
+    ensures sound { IfSome result IsSound }
+{
+    if !(is_address(old_bind)
+        && is_address(old_peer)
+        && is_address(new_bind)
+        && is_address(new_peer))
+    {
+        return None;
+    }
+    let gate = GateName::of(gate)?;
+    let count = number_in(1, MOST_TURNS, count)?;
+    Some(Command::Serve { gate, count })
+}
+
+/// Whether a word may be an address.
+fn is_address(word: &[u8]) -> bool
+    ensures { result ≡ is_address word.now }
+{
+    !word.is_empty() && word.len() <= MOST_ADDRESS
 }

@@ -1,0 +1,149 @@
+-- The commands: the words that name each, what it does, and the law that it keeps.
+use Rattle.std.specs.Prelude.{ℕ, ◌-◌, ◌^◌, ◌≤◌, ◌≢◌, Bool, ◌&&◌, ◌==◌, nat_eq, nat_lt, nat_le, List, [], ◌∷◌, length, codes, Option, None, Some, if◌then◌else◌}
+use Rattle.std.specs.Cmp.Lexicographic.{pointwise}
+use Rattle.endpoint.specs.declared.name.Endpoint.{Endpoint}
+use Rattle.edge_traits.specs.Content.{most_input}
+use Rattle.edge_traits.specs.declared.status.Status.{Status}
+use Rattle.command_frame.specs.Within.{within}
+use Rattle.replay_script.specs.Events.{gate_of, number_in}
+use Rattle.bundle_runs.specs.declared.commands.command.Command.TheVariants.{Check, Show, Convert, Cut, Join}
+use Rattle.bundle_runs.specs.Answering as bundles
+use Rattle.node_run.specs.Node.{node_party}
+use Rattle.node_run.specs.Node as node
+use Rattle.node_run.specs.RedParts.{AnswersLines}
+use Rattle.world_run.specs.World as world
+use Rattle.world_run.specs.Headline.{KeepsHeadline}
+use Rattle.make_run.specs.Making as make
+use Rattle.serve_run.specs.Serve.{serve_turns}
+use Rattle.gateway_run.specs.declared.commands.command.Command.{Command}
+use Rattle.gateway_run.specs.declared.commands.command.Command.TheVariants as commands
+use Rattle.gateway_run.specs.Receive as receive
+use Rattle.gateway_run.specs.Receive.{the_limits}
+use Rattle.gateway_run.specs.ReceiverLaw.{KeepsReceiverLaw}
+use Rattle.gateway_run.specs.Rules.{Rules, reads, writes, acts}
+
+-- ---- words
+
+abbrev pub is_word : List ℕ → List ℕ → Bool
+is_word word text = pointwise nat_eq word text
+
+-- the command of a single word
+abbrev pub one_word : List ℕ → Option Command
+one_word word =
+    if is_word word (codes "receive") then Some commands.Receive
+    else if is_word word (codes "check") then Some (commands.Bundles Check)
+    else if is_word word (codes "show") then Some (commands.Bundles Show)
+    else if is_word word (codes "convert") then Some (commands.Bundles Convert)
+    else if is_word word (codes "join") then Some (commands.Bundles Join)
+    else if is_word word (codes "world") then Some commands.World
+    else None
+
+-- the sizes of the pieces of `cut` are from 1 to 4,194,304
+abbrev pub pieces_of : Option ℕ → Option Command
+pieces_of None = None
+pieces_of (Some size) = Some (commands.Bundles (Cut size))
+
+abbrev pub cut_of : (size : List ℕ) → Option Command
+cut_of size = pieces_of (number_in 1 4194304 size)
+
+-- the ends of the link of `node` have two different numbers, from 1 to 4,294,967,295
+abbrev pub two_ends : Option ℕ → Option ℕ → Option Command
+two_ends None peer = None
+two_ends (Some own) None = None
+two_ends (Some own) (Some peer) = if own == peer then None else Some (commands.Node own peer)
+
+abbrev pub node_of : (own peer : List ℕ) → Option Command
+node_of own peer = two_ends (number_in 1 4294967295 own) (number_in 1 4294967295 peer)
+
+-- the seed of `make` is a number of 64 bits, and 1 to 1,000 bundles are sent
+abbrev pub seed_and_count : Option ℕ → Option ℕ → Option Command
+seed_and_count None count = None
+seed_and_count (Some seed) None = None
+seed_and_count (Some seed) (Some count) = Some (commands.Make seed count)
+
+abbrev pub make_of : (seed count : List ℕ) → Option Command
+make_of seed count = seed_and_count (number_in 0 (2 ^ 64 - 1) seed) (number_in 1 1000 count)
+
+-- an address of `serve` has 1 to 64 octets; whether it can be used is seen when a socket is bound
+abbrev pub is_address : List ℕ → Bool
+is_address word = nat_lt 0 (length word) && nat_le (length word) 64
+
+-- its gateway has a name other than the null endpoint's, and makes 1 to 1,000,000,000 turns
+abbrev pub gate_and_count : Option Endpoint → Option ℕ → Option Command
+gate_and_count None count = None
+gate_and_count (Some gate) None = None
+gate_and_count (Some gate) (Some count) = Some (commands.Serve gate count)
+
+abbrev pub serve_of : (gate old_bind old_peer new_bind new_peer count : List ℕ) → Option Command
+serve_of gate old_bind old_peer new_bind new_peer count =
+    if is_address old_bind && is_address old_peer && is_address new_bind && is_address new_peer
+    then gate_and_count (gate_of gate) (number_in 1 1000000000 count) else None
+
+-- the commands of two words, of three and of seven
+abbrev pub two_words : (word size : List ℕ) → Option Command
+two_words word size = if is_word word (codes "cut") then cut_of size else None
+
+abbrev pub three_words : (word second third : List ℕ) → Option Command
+three_words word second third =
+    if is_word word (codes "node") then node_of second third
+    else if is_word word (codes "make") then make_of second third
+    else None
+
+abbrev pub seven_words : (word gate old_bind old_peer new_bind new_peer count : List ℕ) → Option Command
+seven_words word gate old_bind old_peer new_bind new_peer count =
+    if is_word word (codes "serve") then serve_of gate old_bind old_peer new_bind new_peer count else None
+
+-- the command that the words name
+abbrev pub command_of : List (List ℕ) → Option Command
+command_of [] = None
+command_of (word ∷ []) = one_word word
+command_of (word ∷ a ∷ []) = two_words word a
+command_of (word ∷ a ∷ b ∷ []) = three_words word a b
+command_of (word ∷ a ∷ b ∷ c ∷ []) = None
+command_of (word ∷ a ∷ b ∷ c ∷ d ∷ []) = None
+command_of (word ∷ a ∷ b ∷ c ∷ d ∷ e ∷ []) = None
+command_of (word ∷ a ∷ b ∷ c ∷ d ∷ e ∷ f ∷ []) = seven_words word a b c d e f
+command_of (word ∷ a ∷ b ∷ c ∷ d ∷ e ∷ f ∷ more ∷ words) = None
+
+-- ---- what a command does
+
+abbrev pub rules_of : Command → Rules
+rules_of commands.Receive = reads (within most_input (receive.settles the_limits))
+rules_of (commands.Bundles command) = reads (bundles.settles command)
+rules_of (commands.Node own peer) = reads (within most_input (node.settles own peer))
+rules_of commands.World = reads (within most_input world.settles)
+rules_of (commands.Make seed count) = writes (make.answer_of seed count)
+rules_of (commands.Serve gate count) = acts (serve_turns gate count)
+
+-- ---- the law of a command
+
+-- what is said, beside its rules, of the text that a command writes of an input and of how its run
+-- ends; or nothing is
+pub data Law : Type 1 where
+  no_law : Law
+  keeps : (List ℕ → Status → Type 0) → Law
+
+-- Of `receive` the receiver's law. Of `node` that the events which its first lines say are
+-- answered; that their red parts keep the receiver's law is a law of `node_run`. Of `world` that
+-- the events of its script are answered, and those of a drain; that its `up` lines are blocks that
+-- came whole, as they were sent, and once; and that a drain from a path that is hopeful and has
+-- room completes the sessions.
+abbrev pub law_of : Command → List ℕ → Law
+law_of commands.Receive input = keeps (KeepsReceiverLaw the_limits most_input input)
+law_of (commands.Bundles command) input = no_law
+law_of (commands.Node own peer) input =
+    keeps (λ text ending. AnswersLines (node_party own peer) most_input input text)
+law_of commands.World input = keeps (KeepsHeadline most_input input)
+law_of (commands.Make seed count) input = no_law
+law_of (commands.Serve gate count) input = no_law
+
+-- ---- what only ties code to these
+
+-- what the words leave of the ranges of numbers, and of a name
+abbrev pub IsSound : Command → Type 0
+IsSound commands.Receive = Unit {0}
+IsSound (commands.Bundles command) = Unit {0}
+IsSound (commands.Node own peer) = own ≢ peer
+IsSound commands.World = Unit {0}
+IsSound (commands.Make seed count) = count ≤ 1000
+IsSound (commands.Serve gate count) = Unit {0}

@@ -1,4 +1,5 @@
-//! The project's tables of tests over the operation of the gateway: moments as texts.
+//! The project's tables of tests over the operation of the gateway: moments as texts, and what a
+//! face sends, and when.
 //!
 //! What is wanted comes from outside, never from what the program printed; docs/vectors.md says for
 //! each table where its values come from. Nothing is offered to other crates.
@@ -6,3 +7,5 @@
 
 #[cfg(test)]
 mod moments;
+#[cfg(test)]
+mod outboxes;

@@ -1,4 +1,5 @@
-//! The tables of tests of the sessions: one of a sender, one of a receiver.
+//! The tables of tests of the sessions: one of a sender, one of a receiver, and exchanges that are
+//! audited.
 //!
 //! A row has a moment, the datagram that comes then or none, and what the session answers: the
 //! datagrams that it sends, in hex, what it hands up, its note, and when its timer is due. What is
@@ -11,6 +12,8 @@
 
 #[cfg(test)]
 mod answers;
+#[cfg(test)]
+mod exchanges;
 #[cfg(test)]
 mod receiving;
 #[cfg(test)]

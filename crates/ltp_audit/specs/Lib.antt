@@ -5,6 +5,7 @@ pub mod Rules
 pub mod Words
 pub mod Adding
 pub mod Laws
+pub mod Recording
 -- What only ties code to it.
 pub mod Pages
 pub mod Held

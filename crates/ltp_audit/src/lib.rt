@@ -10,6 +10,8 @@
 //! What later entries may speak of is kept and no more: the octets of red parts on pages of 64
 //! places, which places have one as ranges, and serial numbers and cancels in ordered sets. A
 //! session of one short checkpoint costs about 850 octets.
+//!
+//! A [`Recorder`] is an engine that keeps its own recording.
 #![tactic(auto)]
 
 mod audit;
@@ -19,8 +21,10 @@ pub mod laws;
 mod marks;
 mod page;
 mod places;
+mod recorder;
 mod red_parts;
 
 pub use audit::Audit;
 pub use entry::Entry;
 pub use fault::{AuditFault, Rule};
+pub use recorder::Recorder;

@@ -1,0 +1,83 @@
+-- The text that shows what a file means: every number that it has, defaults too, in the order of
+-- the keys, but none that is left out for good.
+
+use Rattle.std.specs.Prelude.{ℕ, List, [], ◌∷◌, ◌++◌, codes, Option, Some, None}
+use Rattle.std.specs.Fmt.{decimal}
+use Rattle.endpoint.specs.Endpoints.{text_of}
+use Rattle.moment_text.specs.Text.{moment_text}
+use Rattle.toml_writer.specs.Text.{encoded, basic}
+use Rattle.gate_config.specs.declared.keys.Key.{Key}
+use Rattle.gate_config.specs.declared.keys.Key.TheVariants as keys
+use Rattle.gate_config.specs.declared.keys.Section.{Section}
+use Rattle.gate_config.specs.declared.keys.Section.TheVariants as sections
+use Rattle.gate_config.specs.declared.file.GateFile.{GateFile}
+use Rattle.gate_config.specs.declared.file.GatewayConfig.{GatewayConfig}
+use Rattle.gate_config.specs.declared.file.FaceConfig.{FaceConfig}
+use Rattle.gate_config.specs.declared.file.Contact.{Contact}
+use Rattle.gate_config.specs.Keys.{name_of, key_of}
+
+-- a text as a TOML basic string: quoted, with escapes where one is needed
+unfoldable pub basic_string : List ℕ → List ℕ
+basic_string text = encoded basic text
+
+-- key and value, a line
+unfoldable pub value_line : Key → List ℕ → List ℕ
+value_line key value = name_of key ++ (codes " = " ++ (value ++ codes "\n"))
+
+abbrev pub text_line : Key → List ℕ → List ℕ
+text_line key text = value_line key (basic_string text)
+
+abbrev pub number_line : Key → ℕ → List ℕ
+number_line key number = value_line key (decimal number)
+
+abbrev pub text_if : Key → Option (List ℕ) → List ℕ
+text_if key None = []
+text_if key (Some text) = text_line key text
+
+abbrev pub number_if : Key → Option ℕ → List ℕ
+number_if key None = []
+number_if key (Some number) = number_line key number
+
+unfoldable pub gateway_shown : GatewayConfig → List ℕ
+gateway_shown gateway =
+    codes "[gateway]\n" ++ (text_line keys.Endpoint (text_of gateway.endpoint)
+    ++ (number_line keys.Cut gateway.cut ++ (text_if keys.Journal gateway.journal
+    ++ text_if keys.Metrics gateway.metrics)))
+
+-- each header but the first stands after an empty line
+unfoldable pub face_header : Section → List ℕ
+face_header face = codes "\n[" ++ (name_of (key_of face) ++ codes "]\n")
+
+unfoldable pub contact_header : Section → List ℕ
+contact_header face = codes "\n[[" ++ (name_of (key_of face) ++ codes ".contact]]\n")
+
+unfoldable pub contact_shown : Section → Contact → List ℕ
+contact_shown face contact =
+    contact_header face ++ (value_line keys.From (moment_text contact.from)
+    ++ (value_line keys.To (moment_text contact.to) ++ number_if keys.Rate contact.rate))
+
+unfoldable pub contacts_shown : Section → List Contact → List ℕ
+contacts_shown face [] = []
+contacts_shown face (contact ∷ more) = contact_shown face contact ++ contacts_shown face more
+
+-- the numbers of a face that stand before the ones that may be left out, and after
+unfoldable pub timers_shown : FaceConfig → List ℕ
+timers_shown config =
+    number_line keys.Engine config.engine ++ (number_line keys.PeerEngine config.peer_engine
+    ++ (number_line keys.Segment config.segment ++ (number_line keys.TimeoutMs config.timeout_ms
+    ++ (number_line keys.Limit config.limit ++ number_line keys.CapMs config.cap_ms))))
+
+unfoldable pub rates_shown : FaceConfig → List ℕ
+rates_shown config =
+    number_if keys.FirstSession config.first_session ++ (number_if keys.Rate config.rate
+    ++ number_line keys.Outbox config.outbox)
+
+unfoldable pub face_shown : Section → FaceConfig → List ℕ
+face_shown face config =
+    face_header face ++ (text_line keys.Bind config.bind ++ (text_line keys.Peer config.peer
+    ++ (timers_shown config ++ (rates_shown config ++ contacts_shown face config.contacts))))
+
+unfoldable pub shown : GateFile → List ℕ
+shown file =
+    gateway_shown file.gateway ++ (face_shown sections.Old file.old
+    ++ face_shown sections.New file.new)

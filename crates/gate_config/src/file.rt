@@ -1,0 +1,111 @@
+//! What a file means, defaults filled in.
+
+use endpoint::{Endpoint, Octets};
+use std::alloc::Global;
+use std::marker::Model;
+
+/// What a configuration file means.
+#[derive(Debug, Drop)]
+pub struct GateFile {
+    /// The gateway.
+    pub gateway: GatewayConfig,
+    /// The face towards the nodes of version 6.
+    pub old: FaceConfig,
+    /// The face towards the nodes of version 7.
+    pub new: FaceConfig,
+}
+
+/// What holds for the gateway as a whole.
+#[derive(Debug, Drop)]
+pub struct GatewayConfig {
+    /// Its own endpoint, which is never the null endpoint.
+    pub endpoint: Endpoint,
+    /// The most octets of a piece's payload: 1 to 4,000,000.
+    pub cut: u64,
+    /// The path of the journal, if there is one.
+    pub journal: Option<Octets>,
+    /// The path of the file of metrics, if there is one. It isn't the journal's.
+    pub metrics: Option<Octets>,
+}
+
+/// What holds for one face.
+#[derive(Debug, Drop)]
+pub struct FaceConfig {
+    /// The address that the face listens at, of 1 to 64 octets.
+    pub bind: Octets,
+    /// The address that it sends to, of 1 to 64 octets.
+    pub peer: Octets,
+    /// The gateway's engine number at the face: 1 to 2^32 - 1.
+    pub engine: u64,
+    /// The peer's engine number: 1 to 2^32 - 1, and not the gateway's.
+    pub peer_engine: u64,
+    /// The most octets of a block in one segment: 512 to 8,192.
+    pub segment: u64,
+    /// Milliseconds until a segment that waits for an answer is sent again: 1 to 3,600,000.
+    pub timeout_ms: u64,
+    /// How often such a segment is sent: 1 to 100.
+    pub limit: u64,
+    /// The greatest such wait in milliseconds: `timeout_ms` to 3,600,000.
+    pub cap_ms: u64,
+    /// The number of the first session, 1 to 2^32 - 1, where the file says it.
+    pub first_session: Option<u64>,
+    /// The most octets a second, 1 to 10^10, where the file says it.
+    pub rate: Option<u64>,
+    /// The most octets of datagrams that wait: 65,507 to 2^32 - 1.
+    pub outbox: u64,
+    /// When the link is open. Without a contact it is open always.
+    pub contacts: Contacts,
+}
+
+/// A time in which a face's link is open.
+#[derive(Clone, Copy, Debug, PartialEq, Eq)]
+pub struct Contact {
+    /// The first moment at which it is open, in milliseconds since the year 2000.
+    pub from: u64,
+    /// The first moment at which it is closed again, after `from`.
+    pub to: u64,
+    /// The most octets a second in this contact, where the file says it; else the face's.
+    pub rate: Option<u64>,
+}
+
+/// The contacts of a face, in order. Each begins at or after the end of the one before.
+#[derive(Debug, Drop)]
+pub struct Contacts {
+    items: Vec<Contact>,
+}
+
+impl Model for Contacts {
+    ghost use Rattle.std.specs.Prelude.{List};
+    ghost use Rattle.gate_config.specs.declared.file.Contact.{Contact};
+
+    ghost Value = { List Contact };
+
+    ghost view = { λ contacts. contacts.items.items };
+}
+
+impl Contacts {
+    ghost use Rattle.std.specs.Prelude.{◌≡◌, []};
+
+    /// No contacts: a link that is always open. It takes no memory.
+    pub fn new(alloc: Global) -> Contacts
+        ensures { result ≡ [] }
+    {
+        Contacts {
+            items: Vec::new(alloc),
+        }
+    }
+
+    /// These contacts, moved and not copied.
+    pub fn from_vec(items: Vec<Contact>) -> Contacts
+        ensures { result ≡ items.items }
+    {
+        Contacts { items }
+    }
+
+    /// The contacts, lent.
+    pub fn as_slice(&self) -> &[Contact]
+        ensures { result.now ≡ self.now }
+    {
+        self.items.as_slice()
+    }
+}

@@ -205,7 +205,8 @@ class Program:
 
     def __init__(self, path, words, keep=True):
         self.lines = collections.deque()
-        self.child = subprocess.Popen([path, *words], stdin=subprocess.DEVNULL,
+        # On standard error it says first what it is, which nobody reads here.
+        self.child = subprocess.Popen([path, *words], stdin=subprocess.DEVNULL, stderr=subprocess.DEVNULL,
                                       stdout=subprocess.PIPE if keep else subprocess.DEVNULL)
         self.reader = threading.Thread(target=self.read, daemon=True) if keep else None
         self.used = None

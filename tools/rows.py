@@ -14,7 +14,8 @@ A file holds the rows of one command, its name. A row is a paragraph; a line tha
   out TEXT                    a line that is written
   part TEXT                   a part of a line that is written
   err TEXT                    the one line on standard error; without TEXT any that begins with the program's name.
-                              A row that has no 'err' wants none where the status is 0 or 1, and else at most one such
+                              A row that has no 'err' wants none where the status is 0 and there is input, and else at most
+                              one such: what a refused input looks like is told in rows/mistakes
   status NUMBER               how the run ends, and the end of the row
 
 'repeat COUNT' before an input or an output gives it so many times, and 'count FROM TO' once for each number: '{n}' is
@@ -39,7 +40,7 @@ import make_scripts
 import translate_model
 from make_inputs import made
 
-DONE, REFUSED = 0, 1
+DONE = 0
 
 
 class Row:
@@ -224,7 +225,7 @@ def is_said(row, errors):
     if not errors:
         return row.error is None
     is_line = errors.startswith(b"fimdahol: ") and errors.count(b"\n") == 1 and errors.endswith(b"\n")
-    return is_line and row.status not in (DONE, REFUSED)
+    return is_line and (row.status != DONE or not row.given() or row.error is not None)
 
 
 def first_difference(found, wanted):

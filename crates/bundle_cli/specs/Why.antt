@@ -1,20 +1,20 @@
 -- Which runs end with a line on standard error, and the one that names a limit.
-use Rattle.std.specs.Prelude.{Bool, true, false, not, ℕ, List, ◌++◌, codes}
+use Rattle.std.specs.Prelude.{Bool, true, false, ℕ, List, ◌++◌, codes}
 use Rattle.std.specs.Fmt.{decimal}
 use Rattle.gateway_run.specs.declared.commands.passed.Passed.{Passed}
 use Rattle.gateway_run.specs.declared.commands.passed.Passed.TheVariants.{Size, Lines, LineLength, Own, Script}
 use Rattle.edge_traits.specs.declared.status.Status.{Status}
 use Rattle.edge_traits.specs.declared.status.Status.TheVariants.{Done, Refused, Usage, ReadFault, WriteFault, Limit, Memory}
 
--- the output doesn't say why the run ended so; where nobody reads it any more, nobody asks
-abbrev pub wants_line : Status → Bool → Bool
-wants_line Done reader_gone = false
-wants_line Refused reader_gone = false
-wants_line Usage reader_gone = true
-wants_line ReadFault reader_gone = true
-wants_line WriteFault reader_gone = not reader_gone
-wants_line Limit reader_gone = true
-wants_line Memory reader_gone = true
+-- the output doesn't say why the run ended so
+abbrev pub wants_line : Status → Bool
+wants_line Done = false
+wants_line Refused = false
+wants_line Usage = true
+wants_line ReadFault = true
+wants_line WriteFault = true
+wants_line Limit = true
+wants_line Memory = true
 
 -- the line that names the limit that was passed, and where; of a limit of the command's own it says
 -- what passes it

@@ -3,8 +3,10 @@ ghost use Rattle.std.specs.Prelude.{◌≡◌};
 ghost use Rattle.std.specs.Process.{exit_status};
 ghost use Rattle.edge_traits.specs.Outcome.{code_of};
 
+use crate::advising::slip_of;
+use crate::hint::Hint;
 use crate::limit::limit_line;
-use crate::sockets::Unusable;
+use crate::sockets::{Cause, Unusable};
 use crate::why::{reason, text_of};
 use edge_traits::Status;
 use gateway_run::{Ended, Passed, Word};
@@ -20,12 +22,16 @@ pub fn end<R: Eprint + AllocGlobal>(
     words: &[Word],
     ended: Ended,
     reader_gone: bool,
+    hint: Option<Hint>,
 ) -> ExitCode
     ensures { exit_status result ≡ code_of ended.status }
 {
     match ended.passed {
         Some(passed) => say_limit(rt, words, passed),
         None => say_reason(rt, words, ended.status, reader_gone),
+    }
+    if let Some(hint) = hint {
+        let _ = rt.eprint(hint.line());
     }
     ExitCode::from(ended.status.code())
 }
@@ -47,9 +53,16 @@ fn say_limit<R: Eprint + AllocGlobal>(rt: &R, words: &[Word], passed: Passed) {
 
 /// Says why a run ended so, where its output doesn't.
 fn say_reason<R: Eprint>(rt: &R, words: &[Word], status: Status, reader_gone: bool) {
-    if let Some(line) = reason(words, status, reader_gone) {
-        let _ = eprintln!(rt; "fimdahol: {line}");
-    }
+    let Some(line) = reason(words, status, reader_gone) else {
+        return;
+    };
+    let _ = match slip_of(words) {
+        Some((slip, word)) if status == Status::Usage => {
+            let (name, wanted) = (slip.name(), slip.wanted());
+            eprintln!(rt; "fimdahol: serve: {name} is '{word}', and {wanted}")
+        }
+        _ => eprintln!(rt; "fimdahol: {line}"),
+    };
 }
 
 /// Ends a call that printed a text of the program's own.
@@ -62,7 +75,25 @@ pub fn end_of_print(printed: io::Result<()>) -> ExitCode {
 
 /// Ends a call with an address that can't be used: nothing is run.
 pub fn unusable<R: Eprint>(rt: &R, unusable: Unusable<'_>) -> ExitCode {
-    let Unusable { address, cause } = unusable;
-    let _ = eprintln!(rt; "fimdahol: the address {address} can't be used: {cause}");
+    let Unusable {
+        name,
+        address,
+        cause,
+    } = unusable;
+    let _ = match cause {
+        Cause::System(cause) => {
+            eprintln!(rt;
+                "fimdahol: {name} {address} can't be used: {cause}; an address is such as 192.0.2.1:1113"
+            )
+        }
+        Cause::NoPort => {
+            eprintln!(rt; "fimdahol: {name} {address} can't be used: port 0 is none to be found at")
+        }
+        Cause::Own => {
+            eprintln!(rt;
+                "fimdahol: {name} {address} can't be used: it is the gateway's own address"
+            )
+        }
+    };
     ExitCode::from(UNUSABLE)
 }

@@ -26,7 +26,7 @@ limits: 67108864 octets of input, and
 const STATUSES: &str = "\
 status: 0 done, 1 the input was refused, 2 wrong usage, 3 a read failed, 4 a write failed,
         5 an address can't be used, 6 the input passes a limit, 7 memory ran out; standard error
-        says more of 2 to 7
+        says more of 2 to 7, and what a refused input looks like
 ";
 
 /// What `--version` prints.

@@ -7,21 +7,29 @@
 //! the call (status 7).
 #![tactic(auto)]
 
+mod advising;
 mod end;
+mod given;
 mod help;
+mod hint;
+mod hinting;
 mod limit;
+mod looks;
+mod refusal;
+mod remembering;
+mod slip;
 mod sockets;
 mod table;
-#[cfg(test)]
-mod tests;
 mod unused;
 mod why;
 mod words;
 
+use advising::{announce, are_lines, hint_of_run, reads_of};
 use edge_traits::{Pause, Reading, Status, SystemClock, Writing};
 use end::{end, end_of_print, unusable};
 use gateway_run::run_told;
 use help::{VERSION, print_help};
+use remembering::{Ending, Remembering};
 use sockets::links_over;
 use std::io;
 use std::process::ExitCode;
@@ -33,8 +41,9 @@ fn main(rt: HostRuntime) -> ExitCode {
         Ok(words) => words,
         Err(status) => return ExitCode::from(status.code()),
     };
-    let mut source = Reading::new(rt.reader());
-    let mut sink = Writing::new(io::writer(&rt));
+    let reads = reads_of(&words);
+    let mut source = Remembering::new(Reading::new(rt.reader()), are_lines(reads));
+    let mut sink = Ending::new(Writing::new(io::writer(&rt)));
     let ended = match words.as_slice() {
         [word] if word.octets() == b"--help".as_slice() || word.octets() == b"-h".as_slice() => {
             return end_of_print(print_help(&rt));
@@ -54,14 +63,15 @@ fn main(rt: HostRuntime) -> ExitCode {
                 Ok(links) => links,
                 Err(address) => return unusable(&rt, address),
             };
+            announce(&rt, &words, old.ends, new.ends);
             let mut clock = SystemClock::new(&rt);
             run_told(
                 rt.alloc(),
                 &words,
                 &mut source,
                 &mut sink,
-                &mut old,
-                &mut new,
+                &mut old.link,
+                &mut new.link,
                 &mut clock,
             )
         }
@@ -78,5 +88,6 @@ fn main(rt: HostRuntime) -> ExitCode {
             )
         }
     };
-    end(&rt, &words, ended, sink.is_reader_gone())
+    let hint = hint_of_run(reads, ended.status, source.given(), sink.tail());
+    end(&rt, &words, ended, sink.sink().is_reader_gone(), hint)
 }

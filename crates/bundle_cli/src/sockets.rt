@@ -3,17 +3,48 @@
 use edge_traits::{Pause, UdpLink};
 use gateway_run::Word;
 use std::io;
-use std::net::{Net, UdpSocket};
+use std::net::{Net, SocketAddr, UdpSocket};
 use std::time::Clock as Timer;
 
 /// An address that can't be used, and why. Each is an IP address or a host's name, and a port, as
 /// `127.0.0.1:1113`, `[::1]:1113` or `localhost:1113`.
 #[derive(Drop)]
 pub struct Unusable<'w> {
+    /// Which of the four it is.
+    pub name: &'static str,
     /// The address.
     pub address: &'w str,
     /// Why.
-    pub cause: io::Error,
+    pub cause: Cause,
+}
+
+/// Why an address can't be used.
+#[derive(Drop)]
+pub enum Cause {
+    /// The system says why.
+    System(io::Error),
+    /// Its port is 0, at which nobody can send to it.
+    NoPort,
+    /// A peer's address is one of the gateway's own.
+    Own,
+}
+
+/// The addresses of a link, as the system has them.
+#[derive(Clone, Copy, Drop)]
+pub struct Ends {
+    /// The gateway's own.
+    pub own: SocketAddr,
+    /// Its peer's.
+    pub peer: SocketAddr,
+}
+
+/// A link, and its addresses.
+#[derive(Drop)]
+pub struct Bound<'a, T: Drop> {
+    /// The link.
+    pub link: UdpLink<'a, T>,
+    /// Its addresses.
+    pub ends: Ends,
 }
 
 /// The links of `serve`, to the old node and to the new one: binds both sockets, and gives each its
@@ -23,34 +54,88 @@ pub fn links_over<'a, 'w, R: Net, T: Timer + Drop>(
     net: &R,
     addresses: [&'w Word; 4],
     pause: &'a Pause<T>,
-) -> Result<(UdpLink<'a, T>, UdpLink<'a, T>), Unusable<'w>> {
-    let [old_bind, old_peer, new_bind, new_peer] = addresses;
-    let old = link_over(net, old_bind.text(), old_peer.text(), pause)?;
-    let new = link_over(net, new_bind.text(), new_peer.text(), pause)?;
+) -> Result<(Bound<'a, T>, Bound<'a, T>), Unusable<'w>> {
+    let [old_bind, old_peer, new_bind, new_peer] = addresses.map(Word::text);
+    let old = link_over(net, [("OLD_BIND", old_bind), ("OLD_PEER", old_peer)], pause)?;
+    let new = link_over(net, [("NEW_BIND", new_bind), ("NEW_PEER", new_peer)], pause)?;
+    if old.ends.peer == new.ends.own {
+        return Err(own("OLD_PEER", old_peer));
+    }
+    if new.ends.peer == old.ends.own {
+        return Err(own("NEW_PEER", new_peer));
+    }
     Ok((old, new))
 }
 
 /// A link over a socket that is bound to an address, to a peer at another.
 fn link_over<'a, 'w, R: Net, T: Timer + Drop>(
     net: &R,
-    bind: &'w str,
-    peer: &'w str,
+    addresses: [(&'static str, &'w str); 2],
     pause: &'a Pause<T>,
-) -> Result<UdpLink<'a, T>, Unusable<'w>> {
-    let socket = match UdpSocket::bind(net, bind) {
-        Ok(socket) => socket,
-        Err(cause) => {
-            return Err(Unusable {
-                address: bind,
-                cause,
-            });
-        }
+) -> Result<Bound<'a, T>, Unusable<'w>> {
+    let [(bind_name, bind), (peer_name, peer)] = addresses;
+    let socket = socket_at(net, bind_name, bind)?;
+    has_port(peer_name, peer)?;
+    let ends = match joined(&socket, peer) {
+        Ok(ends) => ends,
+        Err(error) => return Err(refused_by_system(peer_name, peer, error)),
     };
+    if ends.own == ends.peer {
+        return Err(own(peer_name, peer));
+    }
     match UdpLink::new(socket, peer, pause) {
-        Ok(link) => Ok(link),
-        Err(cause) => Err(Unusable {
-            address: peer,
-            cause,
-        }),
+        Ok(link) => Ok(Bound { link, ends }),
+        Err(error) => Err(refused_by_system(peer_name, peer, error)),
+    }
+}
+
+/// A socket at this address.
+fn socket_at<'w, R: Net>(
+    net: &R,
+    name: &'static str,
+    address: &'w str,
+) -> Result<UdpSocket, Unusable<'w>> {
+    has_port(name, address)?;
+    match UdpSocket::bind(net, address) {
+        Ok(socket) => Ok(socket),
+        Err(error) => Err(refused_by_system(name, address, error)),
+    }
+}
+
+/// The addresses of a socket with this peer.
+fn joined(socket: &UdpSocket, peer: &str) -> io::Result<Ends> {
+    socket.connect(peer)?;
+    let own = socket.local_addr()?;
+    let peer = socket.peer_addr()?;
+    Ok(Ends { own, peer })
+}
+
+/// Refuses port 0.
+fn has_port<'w>(name: &'static str, address: &'w str) -> Result<(), Unusable<'w>> {
+    if address.as_bytes().ends_with(b":0".as_slice()) {
+        return Err(Unusable {
+            name,
+            address,
+            cause: Cause::NoPort,
+        });
+    }
+    Ok(())
+}
+
+/// An address that the system refuses.
+fn refused_by_system<'w>(name: &'static str, address: &'w str, error: io::Error) -> Unusable<'w> {
+    Unusable {
+        name,
+        address,
+        cause: Cause::System(error),
+    }
+}
+
+/// A peer's address that is one of the gateway's own.
+fn own<'w>(name: &'static str, address: &'w str) -> Unusable<'w> {
+    Unusable {
+        name,
+        address,
+        cause: Cause::Own,
     }
 }

@@ -12,14 +12,14 @@ const USAGE: &str = "these words are no command; 'fimdahol --help' lists them";
 /// What standard error says of a run that ended so, where it ended otherwise than its output shows.
 /// `reader_gone` says that a write failed since nobody reads any more.
 pub fn reason(words: &[Word], status: Status, reader_gone: bool) -> Option<&'static str>
-    ensures { is_some result ≡ wants_line status reader_gone }
+    ensures { is_some result ≡ wants_line status }
 {
     match status {
         Status::Done => None,
         Status::Refused => None,
         Status::Usage => Some(wanted(words)),
         Status::ReadFault => Some("a read of standard input failed"),
-        Status::WriteFault if reader_gone => None,
+        Status::WriteFault if reader_gone => Some("nobody reads standard output any more"),
         Status::WriteFault => Some("a write to standard output failed"),
         Status::Limit => Some("the input passes a limit; 'fimdahol --help' lists them"),
         Status::Memory => Some("memory ran out"),

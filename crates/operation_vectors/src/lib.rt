@@ -6,6 +6,10 @@
 #![tactic(auto)]
 
 #[cfg(test)]
+mod config;
+#[cfg(test)]
+mod examples;
+#[cfg(test)]
 mod moments;
 #[cfg(test)]
 mod outboxes;

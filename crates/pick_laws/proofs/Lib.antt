@@ -2,3 +2,13 @@ pub mod EffectLemmas
 pub mod CrossingLemmas
 pub mod CrossingSteps
 pub mod CrossingRuns
+pub mod NumberedLemmas
+pub mod AskingLemmas
+pub mod ArrivalFrame
+pub mod SerialLemmas
+pub mod CopyRows
+pub mod CopySessions
+pub mod CopyHears
+pub mod CopyLinks
+pub mod CopyKeeps
+pub mod CopySpread

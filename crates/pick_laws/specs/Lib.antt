@@ -2,3 +2,5 @@
 pub mod Picks
 -- how such a drain goes to its end, and what that promises
 pub mod PickedRuns
+-- What only ties proofs to it.
+pub mod Asking

@@ -1,0 +1,149 @@
+-- An old segment comes once more on a link: one session's rank rises by two at most.
+
+use Rattle.std.proofs.Common.{◌≡◌, ◌≢◌, ℕ, zero, suc, ◌+◌, ◌*◌, ◌<◌, Bool, true, false, ◌==◌}
+use Rattle.std.proofs.Common.{◌&&◌, List, [], ◌∷◌, ◌++◌}
+use Rattle.std.proofs.Common.{refl, ap, arith, subst, if◌then◌else◌}
+use Rattle.std.proofs.lemmas.Bool.{eq-eqb, eqb-false, eqb-true}
+use Rattle.ltp_segment.specs.Values.{ContentValue}
+use Rattle.ltp_session.specs.Engine.{Party}
+use Rattle.ltp_session.specs.World.{End, Sent, World, at_end, first_end, other}
+use Rattle.ltp_session.specs.World.{second_end}
+use Rattle.link_laws.specs.Facts.{SessionFacts}
+use Rattle.link_laws.specs.View.{View, is_of, said, same_end}
+use Rattle.link_laws.proofs.FrameLemmas.{same_self}
+use Rattle.drain_laws.specs.Calm.{HasSerials, is_cancel}
+use Rattle.drain_laws.specs.Hopeful.{sum_below}
+use Rattle.drain_laws.specs.Standing.{Stands, setting}
+use Rattle.drain_laws.specs.Standing.{sum_of}
+use Rattle.drain_laws.proofs.DrainLists.{same_end-true}
+use Rattle.pick_laws.specs.Asking.{AsksLast}
+use Rattle.pick_laws.proofs.CopyHears.{plain}
+
+-- ---- segments that neither cancel nor answer a cancel
+
+unfoldable pub plain_of : List Sent → List Sent
+plain_of [] = []
+plain_of (d ∷ ds) = if is_cancel d.segment.content then plain_of ds else d ∷ plain_of ds
+
+pub plain_of-append : (xs ys : List Sent) → plain_of (xs ++ ys) ≡ plain_of xs ++ plain_of ys
+unfolding plain_of
+plain_of-append [] ys = refl
+plain_of-append (x ∷ xs) ys = by_test (is_cancel x.segment.content) (plain_of-append xs ys)
+  where
+    by_test : (b : Bool) → plain_of (xs ++ ys) ≡ plain_of xs ++ plain_of ys
+        → (if b then plain_of (xs ++ ys) else x ∷ plain_of (xs ++ ys))
+        ≡ (if b then plain_of xs else x ∷ plain_of xs) ++ plain_of ys
+    by_test true rest = rest
+    by_test false rest = ap (λ (ds : List Sent). x ∷ ds) rest
+
+pub said-plain : (who : End) (o n : ℕ) (ds : List Sent)
+    → said who o n (plain_of ds) ≡ plain (said who o n ds)
+unfolding plain_of plain said
+said-plain who o n [] = refl
+said-plain who o n (d ∷ ds) =
+    by_tests (is_cancel d.segment.content) (is_of who o n d) refl refl (said-plain who o n ds)
+  where
+    by_tests : (cancels mine : Bool) → is_cancel d.segment.content ≡ cancels
+        → is_of who o n d ≡ mine → said who o n (plain_of ds) ≡ plain (said who o n ds)
+        → said who o n (if cancels then plain_of ds else d ∷ plain_of ds)
+        ≡ plain (if mine then d.segment.content ∷ said who o n ds else said who o n ds)
+    by_tests true true is of rest = rw is rest
+    by_tests true false is of rest = rest
+    by_tests false true is of rest =
+        rw (of, is) (ap (λ (cs : List ContentValue). d.segment.content ∷ cs) rest)
+    by_tests false false is of rest = rw of rest
+
+-- ---- what a drain keeps of each session
+
+pub record Keeping (parties : Party × Party) (k : ℕ) (Old : End → ℕ → ContentValue → Type 0)
+    (new : List Sent) (rank : End → ℕ → ℕ) (o : End) (n : ℕ) (v : View) : Type 0 where
+  pub stands : Stands SessionFacts (setting parties o n) v (said o (at_end parties o).own n new)
+      (said (other o) (at_end parties o).own n new) (rank o n)
+  pub slack : HasSerials n v (rank o n + 3 * k)
+  pub asks : AsksLast (Old o n) v (said o (at_end parties o).own n new)
+
+-- the rank of one session is this
+unfoldable pub changed_at : (End → ℕ → ℕ) → End → ℕ → ℕ → End → ℕ → ℕ
+changed_at rank o' n' left o n = if same_end o o' && (n' == n) then left else rank o n
+
+pub changed-here : (rank : End → ℕ → ℕ) (o : End) (n left : ℕ)
+    → changed_at rank o n left o n ≡ left
+unfolding changed_at
+changed-here rank o n left = rw (same_self o, eq-eqb n n refl) refl
+
+pub changed-away : (rank : End → ℕ → ℕ) (o' : End) (n' left : ℕ) (o : End) (n : ℕ)
+    → (o ≡ o' → n' ≡ n → ⊥) → changed_at rank o' n' left o n ≡ rank o n
+unfolding changed_at
+changed-away rank o' n' left o n apart = by_tests (same_end o o') (n' == n) refl refl
+  where
+    by_tests : (a b : Bool) → same_end o o' ≡ a → (n' == n) ≡ b
+        → (if a && b then left else rank o n) ≡ rank o n
+    by_tests true true is_o is_n =
+        absurd (apart (same_end-true o o' is_o) (eqb-true n' n is_n))
+    by_tests true false is_o is_n = refl
+    by_tests false b is_o is_n = refl
+
+-- ---- sums
+
+sum-same : (N : ℕ) (f g : ℕ → ℕ) → ((m : ℕ) → m < N → f m ≡ g m) → sum_below N f ≡ sum_below N g
+unfolding sum_below
+sum-same zero f g same = refl
+sum-same (suc N) f g same = omega (
+  arith,
+  same N (omega arith),
+  sum-same N f g (λ m low. same m (omega (arith, low))),
+)
+
+sum-at : (N n left : ℕ) (f g : ℕ → ℕ) → n < N → g n ≡ left → ((m : ℕ) → n ≢ m → g m ≡ f m)
+    → sum_below N g + f n ≡ sum_below N f + left
+unfolding sum_below
+sum-at zero n left f g low here away = absurd (omega (arith, low))
+sum-at (suc N) n left f g low here away = by_test (n == N) refl
+    (λ deeper. sum-at N n left f g deeper here away)
+  where
+    by_test : (same : Bool) → (n == N) ≡ same
+        → (n < N → sum_below N g + f n ≡ sum_below N f + left)
+        → (g N + sum_below N g) + f n ≡ (f N + sum_below N f) + left
+    by_test true is deeper =
+        let one = eqb-true n N is in
+        omega (
+          arith,
+          subst (λ (k : ℕ). g k ≡ left) one here,
+          ap f one,
+          sum-same N g f (λ m low. away m (λ h. absurd (omega (arith, h, low, one)))),
+        )
+    by_test false is deeper =
+        omega (arith, away N (eqb-false n N is), deeper (omega (arith, eqb-false n N is, low)))
+
+pub sum-changed : (w w' : World) (rank : End → ℕ → ℕ) (o' : End) (n' left : ℕ)
+    → ((o : End) → (at_end w'.engines o).next ≡ (at_end w.engines o).next)
+    → n' < (at_end w.engines o').next
+    → sum_of w' (changed_at rank o' n' left) + rank o' n' ≡ sum_of w rank + left
+sum-changed w w' rank first_end n' left next low =
+    omega (
+      arith,
+      sum-at (at_end w.engines first_end).next n' left (rank first_end)
+          (changed_at rank first_end n' left first_end) low
+          (changed-here rank first_end n' left)
+          (λ m apart. changed-away rank first_end n' left first_end m (λ h k. apart k)),
+      sum-same (at_end w.engines second_end).next
+          (changed_at rank first_end n' left second_end) (rank second_end)
+          (λ m below. changed-away rank first_end n' left second_end m (λ h k. absurd (cc))),
+      ap (λ (k : ℕ). sum_below k (changed_at rank first_end n' left first_end)) (next first_end),
+      ap (λ (k : ℕ). sum_below k (changed_at rank first_end n' left second_end))
+          (next second_end),
+    )
+sum-changed w w' rank second_end n' left next low =
+    omega (
+      arith,
+      sum-at (at_end w.engines second_end).next n' left (rank second_end)
+          (changed_at rank second_end n' left second_end) low
+          (changed-here rank second_end n' left)
+          (λ m apart. changed-away rank second_end n' left second_end m (λ h k. apart k)),
+      sum-same (at_end w.engines first_end).next
+          (changed_at rank second_end n' left first_end) (rank first_end)
+          (λ m below. changed-away rank second_end n' left first_end m (λ h k. absurd (cc))),
+      ap (λ (k : ℕ). sum_below k (changed_at rank second_end n' left first_end)) (next first_end),
+      ap (λ (k : ℕ). sum_below k (changed_at rank second_end n' left second_end))
+          (next second_end),
+    )

@@ -129,6 +129,26 @@ node     1000000 lines, 9000000 octets a line, a clock of 4611686018427387903 ms
         passes: "sets the clock past 4611686018427387903",
     },
     CommandText {
+        word: "audit",
+        usage: "\
+fimdahol audit OWN PEER < EXCHANGE  judges what came to an engine and left it
+",
+        writes: "\
+audit reads one datagram a line, in HEX (it came to the engine OWN) or out HEX (it left), and writes
+  ok LINES                       last, where no rule of an exchange is broken
+  refused line LINE AT CAUSE     last, where a datagram is no segment, and where
+  refused line LINE RULE         last, where one breaks a rule: Side, ClaimUnseen,
+                                 CheckpointUnseen, AckUnseen, OctetsDiffer or CancelUnseen
+  refused line LINE CAUSE        last, where a line is no datagram: Word or Hex
+",
+        limits: "\
+audit    1000000 lines, 9000000 octets a line
+",
+        wants: "audit wants two different numbers, from 1 to 4294967295: \
+            fimdahol audit OWN PEER < EXCHANGE",
+        passes: "passes a limit",
+    },
+    CommandText {
         word: "world",
         usage: "\
 fimdahol world < SCRIPT           replays a script on an old node, the gateway and a new node

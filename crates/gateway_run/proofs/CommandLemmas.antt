@@ -17,6 +17,8 @@ use Rattle.bundle_runs.proofs.LawLemmas.{earliest_decides}
 use Rattle.node_run.specs.Node.{node_rules, begins, node_party}
 use Rattle.node_run.specs.Node as node
 use Rattle.node_run.proofs.RunLemmas.{answers_lines}
+use Rattle.audit_run.specs.Audited.{audit_rules}
+use Rattle.audit_run.specs.Audited as audit
 use Rattle.node_run.specs.RedParts.{AnswersLines}
 use Rattle.world_run.specs.World.{world_rules, no_path}
 use Rattle.world_run.specs.World as world
@@ -47,6 +49,10 @@ node-front : (own peer : ℕ) → EarliestDecides (within most_input (node.settl
 node-front own peer =
     within-front most_input (node.settles own peer) (lines_from-front node_rules 1 (begins (node_party own peer)))
 
+audit-front : (own peer : ℕ) → EarliestDecides (within most_input (audit.settles own peer))
+audit-front own peer =
+    within-front most_input (audit.settles own peer) (lines_from-front audit_rules 1 (audit.begins own peer))
+
 world-front : EarliestDecides (within most_input world.settles)
 world-front = within-front most_input world.settles (lines_from-front world_rules 1 no_path)
 
@@ -54,6 +60,7 @@ pub command-front : (command : Command) → DecidesEarliest (rules_of command)
 command-front commands.Receive = λ ends taken more octets. receive-front the_limits most_input ends taken more
 command-front (commands.Bundles command) = earliest_decides command
 command-front (commands.Node own peer) = λ ends taken more octets. node-front own peer ends taken more
+command-front (commands.Audit own peer) = λ ends taken more octets. audit-front own peer ends taken more
 command-front commands.World = λ ends taken more octets. world-front ends taken more
 command-front (commands.Make seed count) = tt
 command-front (commands.Serve gate count) = tt
@@ -152,6 +159,7 @@ command-keeps headline commands.Receive status before now ran =
 command-keeps headline (commands.Bundles command) status before now ran = nothing-told before.reads.left
 command-keeps headline (commands.Node own peer) status before now ran =
     on-told before.reads.left _ _ (node-keeps own peer status now.reads.left before.writes.held now.writes.held) ran.ran.wrote
+command-keeps headline (commands.Audit own peer) status before now ran = nothing-told before.reads.left
 command-keeps headline commands.World status before now ran =
     on-told before.reads.left _ _ (world-keeps headline status now.reads.left before.writes.held now.writes.held) ran.ran.wrote
 command-keeps headline (commands.Make seed count) status before now ran = nothing-told before.reads.left

@@ -11,6 +11,7 @@ use Rattle.bundle_runs.specs.Answering as bundles
 use Rattle.node_run.specs.Node.{node_party}
 use Rattle.node_run.specs.Node as node
 use Rattle.node_run.specs.RedParts.{AnswersLines}
+use Rattle.audit_run.specs.Audited as audit
 use Rattle.world_run.specs.World as world
 use Rattle.world_run.specs.Headline.{KeepsHeadline}
 use Rattle.make_run.specs.Making as make
@@ -55,6 +56,15 @@ two_ends (Some own) (Some peer) = if own == peer then None else Some (commands.N
 abbrev pub node_of : (own peer : List ℕ) → Option Command
 node_of own peer = two_ends (number_in 1 4294967295 own) (number_in 1 4294967295 peer)
 
+-- so have the engines whose exchange `audit` judges
+abbrev pub two_engines : Option ℕ → Option ℕ → Option Command
+two_engines None peer = None
+two_engines (Some own) None = None
+two_engines (Some own) (Some peer) = if own == peer then None else Some (commands.Audit own peer)
+
+abbrev pub audit_of : (own peer : List ℕ) → Option Command
+audit_of own peer = two_engines (number_in 1 4294967295 own) (number_in 1 4294967295 peer)
+
 -- the seed of `make` is a number of 64 bits, and 1 to 1,000 bundles are sent
 abbrev pub seed_and_count : Option ℕ → Option ℕ → Option Command
 seed_and_count None count = None
@@ -86,6 +96,7 @@ two_words word size = if is_word word (codes "cut") then cut_of size else None
 abbrev pub three_words : (word second third : List ℕ) → Option Command
 three_words word second third =
     if is_word word (codes "node") then node_of second third
+    else if is_word word (codes "audit") then audit_of second third
     else if is_word word (codes "make") then make_of second third
     else None
 
@@ -111,6 +122,7 @@ abbrev pub rules_of : Command → Rules
 rules_of commands.Receive = reads (within most_input (receive.settles the_limits))
 rules_of (commands.Bundles command) = reads (bundles.settles command)
 rules_of (commands.Node own peer) = reads (within most_input (node.settles own peer))
+rules_of (commands.Audit own peer) = reads (within most_input (audit.settles own peer))
 rules_of commands.World = reads (within most_input world.settles)
 rules_of (commands.Make seed count) = writes (make.answer_of seed count)
 rules_of (commands.Serve gate count) = acts (serve_turns gate count)
@@ -133,6 +145,7 @@ law_of commands.Receive input = keeps (KeepsReceiverLaw the_limits most_input in
 law_of (commands.Bundles command) input = no_law
 law_of (commands.Node own peer) input =
     keeps (λ text ending. AnswersLines (node_party own peer) most_input input text)
+law_of (commands.Audit own peer) input = no_law
 law_of commands.World input = keeps (KeepsHeadline most_input input)
 law_of (commands.Make seed count) input = no_law
 law_of (commands.Serve gate count) input = no_law
@@ -144,6 +157,7 @@ abbrev pub IsSound : Command → Type 0
 IsSound commands.Receive = Unit {0}
 IsSound (commands.Bundles command) = Unit {0}
 IsSound (commands.Node own peer) = own ≢ peer
+IsSound (commands.Audit own peer) = own ≢ peer
 IsSound commands.World = Unit {0}
 IsSound (commands.Make seed count) = count ≤ 1000
 IsSound (commands.Serve gate count) = Unit {0}

@@ -2,7 +2,7 @@
 ghost use Rattle.std.specs.Prelude.{◌≡◌, Some, IfSome};
 ghost use Rattle.gateway_run.specs.Edge.{edge_of};
 ghost use Rattle.gateway_run.specs.Runs.{RanNamed, NamesLimit};
-ghost use Rattle.gateway_run.specs.Commands.{command_of, one_word, three_words, cut_of, node_of, make_of, serve_of, is_address, IsSound};
+ghost use Rattle.gateway_run.specs.Commands.{command_of, one_word, three_words, cut_of, node_of, audit_of, make_of, serve_of, is_address, IsSound};
 
 use crate::commands::gate_name::GateName;
 use crate::commands::lines::{run_lines, run_part_lines};
@@ -10,6 +10,7 @@ use crate::commands::passed::{Ended, Passed, ended_with};
 use crate::commands::receive::Receive;
 use crate::commands::serve::run_serve;
 use crate::commands::word::Word;
+use audit_run::AuditLines;
 use bundle_runs::bundles;
 use edge_traits::{Clock, Link, Sink, Source};
 use make_run::make;
@@ -27,6 +28,8 @@ pub enum Command<'w> {
     Bundles(bundle_runs::Command),
     /// `node OWN PEER`: one end of a link, by the numbers of its engine and of its peer's.
     Node { own: u64, peer: u64 },
+    /// `audit OWN PEER`: a recorded exchange of an engine with its peer, judged by rules.
+    Audit { own: u64, peer: u64 },
     /// `world`: a script on a whole path, from an old node over the gate to a new one.
     World,
     /// `make SEED COUNT`: a script of so many bundles that is drawn, and played.
@@ -97,6 +100,9 @@ pub fn run_command<S: Source, K: Sink, L: Link, C: Clock>(
         Command::Node { own, peer } => {
             run_lines(alloc, Node::new(alloc, *own, *peer), source, sink)
         }
+        Command::Audit { own, peer } => {
+            run_lines(alloc, AuditLines::new(alloc, *own, *peer), source, sink)
+        }
         Command::World => run_part_lines(alloc, World::new(alloc), source, sink),
         Command::Make { seed, count } => {
             ended_with(make(alloc, *seed, *count, sink), Passed::Script)
@@ -130,6 +136,7 @@ fn three_words<'w>(word: &[u8], a: &[u8], b: &[u8]) -> Option<Command<'w>>
 {
     match word {
         _ if word == b"node".as_slice() => node_named(a, b),
+        _ if word == b"audit".as_slice() => audit_named(a, b),
         _ if word == b"make".as_slice() => make_named(a, b),
         _ => None,
     }
@@ -155,6 +162,19 @@ fn node_named<'w>(own: &[u8], peer: &[u8]) -> Option<Command<'w>>
         return None;
     }
     Some(Command::Node { own, peer })
+}
+
+/// The exchange of an engine of the first number with one of the second: they are different.
+fn audit_named<'w>(own: &[u8], peer: &[u8]) -> Option<Command<'w>>
+    ensures exact { result ≡ audit_of own.now peer.now }
+    ensures sound { IfSome result IsSound }
+{
+    let own = number_in(1, MOST_NUMBER, own)?;
+    let peer = number_in(1, MOST_NUMBER, peer)?;
+    if own == peer {
+        return None;
+    }
+    Some(Command::Audit { own, peer })
 }
 
 /// The script of this seed, and of so many bundles.

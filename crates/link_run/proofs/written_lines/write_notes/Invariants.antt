@@ -1,0 +1,8 @@
+use Rattle.std.proofs.Common.{◌≡◌, ◌++◌, take}
+use Rattle.std.specs.List.{flat_map}
+use Rattle.std.specs.String.{string_bytes}
+use Rattle.link_run.specs.WrittenLines.{note_lines}
+use Rattle.link_run.proofs.written_lines.write_notes.Given as goal
+
+abbrev pub invariant-each : goal.invariant-each
+invariant-each l = string_bytes l.text ≡ string_bytes l.initial.text ++ flat_map note_lines (take l.told-index l.tolds)

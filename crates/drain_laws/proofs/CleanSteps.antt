@@ -311,11 +311,11 @@ kept-at : {S : Type 0} (P : S → Type 0) (o : Option S) (s : S) → o ≡ Some 
 kept-at P o s is holds = subst (IfKept P) is holds
 
 -- the deadline isn't before the clock, and its timer fires
-record IsNext (parties : Party × Party) (w : World) (now : ℕ) : Type 0 where
-  o : End
-  n : ℕ
-  due : IsDueOf parties w now o n
-  low : w.now ≤ now
+pub record IsNext (parties : Party × Party) (w : World) (now : ℕ) : Type 0 where
+  pub o : End
+  pub n : ℕ
+  pub due : IsDueOf parties w now o n
+  pub low : w.now ≤ now
 
 ahead-at : (parties : Party × Party) (w : World) → ArePeers parties → AreAlike parties
     → IsReached parties w → (o : End) (n : ℕ) → AreAhead w.now w.now (view parties w o n)
@@ -358,7 +358,7 @@ receiver-next parties w now o n r ahead kept listens is = by_phase r.phase refl 
           low = omega (arith, at, later);
         }
 
-next-is : (parties : Party × Party) (w : World) (rank : End → ℕ → ℕ) (now : ℕ) → ArePeers parties
+pub next-is : (parties : Party × Party) (w : World) (rank : End → ℕ → ℕ) (now : ℕ) → ArePeers parties
     → AreAlike parties
     → DrainHolds SessionFacts parties (record { world = w; new = [] }) rank → IsReached parties w
     → link_deadline w ≡ Some now → IsNext parties w now

@@ -113,9 +113,6 @@ note-there n t note is = subst (λ (x : Option NoteValue).
 
 -- ---- one end
 
-abbrev Before : View → View → Type 0
-Before v v' = v' ≡ v
-
 -- what every session was before is V, and after a reply each is as it moves
 abbrev Moved : End → End → Party → Party → Engine → Engine → SegmentValue → ℕ → List EndEffects
     → (End → ℕ → View) → List Sent → Engine → List Sent → Type 1

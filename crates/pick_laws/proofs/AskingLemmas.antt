@@ -56,12 +56,6 @@ none-only : (c : PieceValue) (out : List ContentValue) → NoPieces out → IsOn
 none-only c out none q among red_kind = absurd (none q among)
 
 -- a piece that is a checkpoint with a serial
-pub record IsPieceWith (serial : ℕ) (e : ContentValue) : Type 0 where
-  pub piece : PieceValue
-  pub is : e ≡ a_piece piece
-  pub asks : is_checkpoint piece.kind ≡ true
-  pub named : piece.checkpoint ≡ serial
-
 pub piece-with : (serial : ℕ) (q : PieceValue) → is_checkpoint_of serial (a_piece q) ≡ true
     → (is_checkpoint q.kind ≡ true) × (q.checkpoint ≡ serial)
 piece-with serial q is =

@@ -1,8 +1,8 @@
--- An old segment comes once more to a session's end.
+-- A segment comes to a session's end: with what it brings about, the session takes one event less.
 
 use Rattle.std.proofs.Common.{◌≡◌, ℕ, ◌+◌, ◌<◌, ◌≤◌, Bool, true, false, List, []}
 use Rattle.std.proofs.Common.{◌∷◌, ◌++◌, length, Option, None, Some, inl, inr, refl, sym, ◌∙◌}
-use Rattle.std.proofs.Common.{ap, arith, subst, nat_lt, if◌then◌else◌}
+use Rattle.std.proofs.Common.{ap, arith, subst, nat_lt}
 use Rattle.std.proofs.lemmas.Bool.{eq-eqb, ne_eqb}
 use Rattle.std.proofs.lemmas.Bool.Decides.{nat_tests}
 use Rattle.std.proofs.lemmas.List.{append-nil}
@@ -17,8 +17,7 @@ use Rattle.ltp_session.specs.Receiver.{on_receiver_cancel_ack, on_sender_cancel}
 use Rattle.ltp_session.specs.Receiver.{piece_stop, receiver_answers}
 use Rattle.ltp_session.specs.Sender.{Sending, ends_cancelling, on_receiver_cancel}
 use Rattle.ltp_session.specs.Sender.{on_sender_cancel_ack, sender_answers, sender_open}
-use Rattle.ltp_session.specs.Step.{Change, StepValue, after, ends, note_history_full}
-use Rattle.ltp_session.specs.Step.{stays}
+use Rattle.ltp_session.specs.Step.{Change, StepValue, after, ends, note_history_full, stays}
 use Rattle.link_laws.specs.SenderSteps.{NoPieces}
 use Rattle.link_laws.specs.Acknowledgements.{IsSenderCancelling}
 use Rattle.link_laws.specs.Blocks.{IsContentOf, IsPieceOf}
@@ -29,38 +28,22 @@ use Rattle.link_laws.specs.View.{IsIn, View, closed_after, receiver_moves, sende
 use Rattle.link_laws.proofs.FactLemmas.{session-keep}
 use Rattle.link_laws.proofs.ListLemmas.{answered}
 use Rattle.link_laws.proofs.SerialLemmas.{all-among}
-use Rattle.drain_laws.specs.Calm.{Drains, Given, HasSerials, NoCancels, WaitsOn, is_cancel}
+use Rattle.drain_laws.specs.Calm.{AreFit, Drains, Falls, Given, WaitsOn}
 use Rattle.drain_laws.specs.Hopeful.{IsOpen}
 use Rattle.drain_laws.specs.Standing.{Standing, setting_by}
 use Rattle.drain_laws.proofs.ReceiverDrains.{receiver-falls}
-use Rattle.drain_laws.proofs.SenderDrains.{sender-falls}
+use Rattle.drain_laws.proofs.SenderDrains.{EndsWell, sender-advances, sender-falls}
 use Rattle.drain_laws.proofs.StartLemmas.{session-gives}
-use Rattle.pick_laws.specs.Asking.{AreNumbered, AsksLast}
-use Rattle.pick_laws.proofs.AskingLemmas.{settled-before}
-use Rattle.pick_laws.proofs.CopyRows.{fewer-serials, old-fronted, piece-falls}
-use Rattle.pick_laws.proofs.CopySessions.{old-ack, old-report, over-more, said-more}
+use Rattle.pick_laws.proofs.CopyRows.{piece-falls}
+use Rattle.pick_laws.proofs.CopySessions.{over-more, said-more}
+use Rattle.pick_laws.proofs.EchoLemmas.{all-plain, echo, echoes, echoes-none, none-right, plain}
+use Rattle.pick_laws.proofs.FrontRows.{DrainsBeside, FrontsReceiver, FrontsSender}
 
--- ---- what neither cancels nor answers a cancel
-
-unfoldable pub plain : List ContentValue → List ContentValue
-plain [] = []
-plain (c ∷ cs) = if is_cancel c then plain cs else c ∷ plain cs
-
-pub all-plain : (cs : List ContentValue) → NoCancels cs → plain cs ≡ cs
-unfolding plain
-all-plain [] none = refl
-all-plain (c ∷ cs) none =
-    rw (none c (inl refl), all-plain cs (λ d among. none d (inr among))) refl
-
-none-right : (xs ys : List ContentValue) → NoCancels (xs ++ ys) → NoCancels ys
-none-right [] ys none = none
-none-right (x ∷ xs) ys none = none-right xs ys (λ c among. none c (inr among))
-
--- what an old segment leaves of a session
-pub record Copied (p q : Party) (n : ℕ) (v' : View) (new_s new_r : List ContentValue)
+-- what a segment that came leaves of a session, with the echoes that it made
+pub record Heard (p q : Party) (n : ℕ) (v' : View) (new_s new_r out : List ContentValue)
     (m : ℕ) : Type 0 where
   pub left : ℕ
-  pub less : left < m + 3
+  pub less : left + echoes out < m
   pub standing : Standing SessionFacts (setting_by p q n) v' new_s new_r left
 
 -- ---- to the sender
@@ -78,27 +61,47 @@ no-cancel-open block red v s reason facts sent listening unclosed =
     by_kept None is done = cc
     by_kept (Some r) is done = let calm = listening r is in cc
 
+-- where it falls, nothing that it says cancels
+sender-fell : (p q : Party) (n red : ℕ) (block : List ℕ) (v : View) (t : StepValue Sending)
+    (new_s new_r : List ContentValue) (m : ℕ) → SessionFacts block red (sender_moves v t)
+    → Falls (setting_by p q n red) (sender_moves v t) (new_s ++ t.out) new_r m
+    → Heard p q n (sender_moves v t) (new_s ++ plain t.out) new_r t.out m
+sender-fell p q n red block v t new_s new_r m facts falls =
+    let none = none-right new_s t.out falls.drains.calm.none_s in
+    record {
+      left = falls.left;
+      less = omega (arith, falls.less, echoes-none t.out none);
+      standing = record {
+        block = block;
+        red = red;
+        facts = facts;
+        drains = subst (λ (out : List ContentValue). Drains (setting_by p q n red)
+            (sender_moves v t) (new_s ++ out) new_r falls.left)
+            (sym (all-plain t.out none)) falls.drains;
+      };
+    }
+
 -- its sender says so much more, none of it plain, and is as it was
-quiet-sender : (p q : Party) (n : ℕ) (v : View) (t : StepValue Sending)
-    (new_s new_r : List ContentValue) (m : ℕ)
-    (st : Standing SessionFacts (setting_by p q n) v new_s new_r m) (more : List ContentValue)
-    → t.next ≡ stays → t.out ≡ more → NoPieces more → plain more ≡ []
-    → HasSerials n v (m + 3) → SessionFacts st.block st.red (sender_moves v t)
-    → Copied p q n (sender_moves v t) (new_s ++ plain t.out) new_r m
-quiet-sender p q n v t new_s new_r m st more next out none quiet serials facts = record {
-  left = m + 2;
-  less = omega arith;
+quiet-sender : (p q : Party) (n red : ℕ) (block : List ℕ) (v : View) (t : StepValue Sending)
+    (e : ContentValue) (new_s new_r : List ContentValue) (m : ℕ)
+    → DrainsBeside (setting_by p q n red) v e new_s new_r m → (more : List ContentValue)
+    → t.next ≡ stays → t.out ≡ more → NoPieces more → plain more ≡ [] → echoes more < echo e
+    → SessionFacts block red (sender_moves v t)
+    → Heard p q n (sender_moves v t) (new_s ++ plain t.out) new_r t.out m
+quiet-sender p q n red block v t e new_s new_r m front more next out none quiet fewer facts = record {
+  left = front.left;
+  less = omega (arith, front.less, fewer, ap echoes out);
   standing = record {
-    block = st.block;
-    red = st.red;
+    block = block;
+    red = red;
     facts = facts;
-    drains = subst (λ (said : List ContentValue). Drains (setting_by p q n st.red)
-        (sender_moves v t) said new_r (m + 2))
+    drains = subst (λ (said : List ContentValue). Drains (setting_by p q n red)
+        (sender_moves v t) said new_r front.left)
         (sym (append-nil new_s) ∙ ap (λ (out : List ContentValue). new_s ++ out)
         (sym (ap plain out ∙ quiet)))
-        (subst (λ (v' : View). Drains (setting_by p q n st.red) v' new_s new_r (m + 2)) same
-        (said-more (setting_by p q n st.red) v new_s new_r more [] m (m + 2) st.drains
-        (omega arith) (fewer-serials n v (m + 3) (m + 2) (omega arith) serials) none (λ h. refl)));
+        (subst (λ (v' : View). Drains (setting_by p q n red) v' new_s new_r front.left) same
+        (said-more (setting_by p q n red) v new_s new_r more [] front.left front.left front.drains
+        (omega arith) front.drains.serials none (λ h. refl)));
   };
 }
   where
@@ -116,80 +119,93 @@ quiet-sender p q n v t new_s new_r m st more next out none quiet serials facts =
           by_sender = v.by_sender ++ t.out;
         }) (sym next)
 
-pub copy-to-sender : (p q : Party) (n : ℕ) (v : View) (e : ContentValue) (now : ℕ)
-    (new_s new_r : List ContentValue) (m : ℕ) (t : StepValue Sending)
-    → 1 ≤ p.policy.segment → Standing SessionFacts (setting_by p q n) v new_s new_r m
-    → IsIn e v.by_receiver → HasSerials n v (m + 3)
-    → sender_answers p.policy v.sender e now ≡ Some t
-    → Copied p q n (sender_moves v t) (new_s ++ plain t.out) new_r m
-unfolding sender_answers plain
-copy-to-sender p q n v (a_report x) now new_s new_r m t cuts st sent serials hears =
-    let falls = sender-falls (setting_by p q n st.red) st.block p.policy q.most v (a_report x) now
-    new_s new_r (m + 3) t
-    (session-gives.gives st.block st.red q.most v st.drains.fit st.facts) refl cuts
-    (old-report (setting_by p q n st.red) v x new_s new_r m st.drains sent serials) hears in
-    record {
-      left = falls.left;
-      less = falls.less;
-      standing = record {
-        block = st.block;
-        red = st.red;
-        facts = session-keep.sender st.block st.red p.policy v (a_report x) now t sent hears tt tt
-            st.facts;
-        drains = subst (λ (out : List ContentValue). Drains (setting_by p q n st.red)
-            (sender_moves v t) (new_s ++ out) new_r falls.left)
-            (sym (all-plain t.out (none-right new_s t.out falls.drains.calm.none_s))) falls.drains;
-      };
-    }
-copy-to-sender p q n v (a_receiver_cancel reason) now new_s new_r m t cuts st sent serials hears =
-    by_kept v.sender refl hears
-  where
-    by_kept : (o : Option Sending) → v.sender ≡ o → Some (on_receiver_cancel o reason) ≡ Some t
-        → Copied p q n (sender_moves v t) (new_s ++ plain t.out) new_r m
-    by_kept (Some s) is hears = absurd (no-cancel-open st.block st.red v s reason st.facts sent
-        st.drains.calm.receiving (st.drains.calm.unclosed s is))
-    by_kept None is hears = quiet-sender p q n v t new_s new_r m st
-        (a_receiver_cancel_ack ∷ []) (next-is hears) (out-is hears) one-none refl serials
-        (session-keep.sender st.block st.red p.policy v (a_receiver_cancel reason) now t sent
-        (ap (λ (o : Option Sending). Some (on_receiver_cancel o reason)) is ∙ hears) tt tt st.facts)
-      where
-        next-is : Some (on_receiver_cancel None reason) ≡ Some t → t.next ≡ stays
-        next-is hears = answered (λ (t : StepValue Sending). t.next ≡ stays) _ t hears refl
+-- what a calm session's sender answers to a cancel, or to an answer of one
+deaf-ack : (o : Option Sending) (t : StepValue Sending)
+    → ((s : Sending) → o ≡ Some s → WaitsOn s) → Some (on_sender_cancel_ack o) ≡ Some t
+    → (t.next ≡ stays) × (t.out ≡ [])
+deaf-ack None t waiting hears =
+    answered (λ (t : StepValue Sending). (t.next ≡ stays) × (t.out ≡ [])) _ t hears (refl, refl)
+deaf-ack (Some s) t waiting hears =
+    let waits = waiting s refl in
+    let hears' : Some (ends_cancelling (sender_open waits.checkpoint waits.timer)) ≡ Some t =
+    ap (λ phase. Some (ends_cancelling phase)) (sym waits.is) ∙ hears in
+    answered (λ (t : StepValue Sending). (t.next ≡ stays) × (t.out ≡ [])) _ t hears' (refl, refl)
 
-        out-is : Some (on_receiver_cancel None reason) ≡ Some t → t.out ≡ a_receiver_cancel_ack ∷ []
-        out-is hears = answered (λ (t : StepValue Sending). t.out ≡ a_receiver_cancel_ack ∷ []) _ t
-            hears refl
+acks-cancel : (o : Option Sending) (reason : ℕ) (t : StepValue Sending)
+    → ((s : Sending) → o ≡ Some s → ⊥) → Some (on_receiver_cancel o reason) ≡ Some t
+    → (t.next ≡ stays) × (t.out ≡ a_receiver_cancel_ack ∷ [])
+acks-cancel None reason t over hears =
+    answered (λ (t : StepValue Sending). (t.next ≡ stays) × (t.out ≡ a_receiver_cancel_ack ∷ []))
+    _ t hears (refl, refl)
+acks-cancel (Some s) reason t over hears = absurd (over s refl)
 
-        one-none : NoPieces (a_receiver_cancel_ack ∷ [])
-        one-none x (inl here) = cc
-        one-none x (inr none) = none
-copy-to-sender p q n v a_sender_cancel_ack now new_s new_r m t cuts st sent serials hears =
-    by_kept v.sender refl hears
-  where
-    still : (t.next ≡ stays) → t.out ≡ []
-        → Copied p q n (sender_moves v t) (new_s ++ plain t.out) new_r m
-    still next out = quiet-sender p q n v t new_s new_r m st [] next out (λ x none. none) refl serials
-        (session-keep.sender st.block st.red p.policy v a_sender_cancel_ack now t sent hears tt tt
-        st.facts)
+one-none : NoPieces (a_receiver_cancel_ack ∷ [])
+one-none x (inl here) = cc
+one-none x (inr none) = none
 
-    by_kept : (o : Option Sending) → v.sender ≡ o → Some (on_sender_cancel_ack o) ≡ Some t
-        → Copied p q n (sender_moves v t) (new_s ++ plain t.out) new_r m
-    by_kept None is hears = still
-        (answered (λ (t : StepValue Sending). t.next ≡ stays) _ t hears refl)
-        (answered (λ (t : StepValue Sending). t.out ≡ []) _ t hears refl)
-    by_kept (Some s) is hears =
-        let waits = st.drains.calm.sending s is in
-        let hears' : Some (ends_cancelling (sender_open waits.checkpoint waits.timer)) ≡ Some t =
-        ap (λ phase. Some (ends_cancelling phase)) (sym waits.is) ∙ hears in
-        still (answered (λ (t : StepValue Sending). t.next ≡ stays) _ t hears' refl)
-        (answered (λ (t : StepValue Sending). t.out ≡ []) _ t hears' refl)
-copy-to-sender p q n v (a_piece piece) now new_s new_r m t cuts st sent serials hears = absurd (cc)
-copy-to-sender p q n v (a_report_ack serial) now new_s new_r m t cuts st sent serials hears =
+pub sender-heard : (p q : Party) (n red : ℕ) (block : List ℕ) (v : View) (e : ContentValue)
+    (now : ℕ) (new_s new_r : List ContentValue) (m : ℕ) (t : StepValue Sending)
+    → 1 ≤ p.policy.segment → SessionFacts block red v → AreFit q.most v.by_sender
+    → FrontsSender (setting_by p q n red) v e new_s new_r m
+    → IsIn e v.by_receiver → sender_answers p.policy v.sender e now ≡ Some t
+    → Heard p q n (sender_moves v t) (new_s ++ plain t.out) new_r t.out m
+unfolding sender_answers plain echoes
+sender-heard p q n red block v (a_report x) now new_s new_r m t cuts facts fit front sent hears =
+    sender-fell p q n red block v t new_s new_r m
+    (session-keep.sender block red p.policy v (a_report x) now t sent hears tt tt facts)
+    (sender-falls (setting_by p q n red) block p.policy q.most v (a_report x) now new_s new_r m t
+    (session-gives.gives block red q.most v fit facts) refl cuts front hears)
+sender-heard p q n red block v (a_receiver_cancel reason) now new_s new_r m t cuts facts fit front
+    sent hears =
+    let acks = acks-cancel v.sender reason t (λ s is. no-cancel-open block red v s reason facts sent
+    front.drains.calm.receiving (front.drains.calm.unclosed s is)) hears in
+    quiet-sender p q n red block v t (a_receiver_cancel reason) new_s new_r m front
+    (a_receiver_cancel_ack ∷ []) acks.0 acks.1 one-none refl (omega arith)
+    (session-keep.sender block red p.policy v (a_receiver_cancel reason) now t sent hears tt tt facts)
+sender-heard p q n red block v a_sender_cancel_ack now new_s new_r m t cuts facts fit front sent
+    hears =
+    let deaf = deaf-ack v.sender t front.drains.calm.sending hears in
+    quiet-sender p q n red block v t a_sender_cancel_ack new_s new_r m front [] deaf.0 deaf.1
+    (λ x none. none) refl (omega arith)
+    (session-keep.sender block red p.policy v a_sender_cancel_ack now t sent hears tt tt facts)
+sender-heard p q n red block v (a_piece piece) now new_s new_r m t cuts facts fit front sent hears =
     absurd (cc)
-copy-to-sender p q n v (a_sender_cancel reason) now new_s new_r m t cuts st sent serials hears =
-    absurd (cc)
-copy-to-sender p q n v a_receiver_cancel_ack now new_s new_r m t cuts st sent serials hears =
-    absurd (cc)
+sender-heard p q n red block v (a_report_ack serial) now new_s new_r m t cuts facts fit front sent
+    hears = absurd (cc)
+sender-heard p q n red block v (a_sender_cancel reason) now new_s new_r m t cuts facts fit front
+    sent hears = absurd (cc)
+sender-heard p q n red block v a_receiver_cancel_ack now new_s new_r m t cuts facts fit front sent
+    hears = absurd (cc)
+
+-- an open sender stays so, or its red part was handed up and it is noted as sent
+pub sender-ends : (p q : Party) (n red : ℕ) (block : List ℕ) (v : View) (e : ContentValue)
+    (now : ℕ) (new_s new_r : List ContentValue) (m : ℕ) (t : StepValue Sending)
+    → 1 ≤ p.policy.segment → SessionFacts block red v → AreFit q.most v.by_sender
+    → FrontsSender (setting_by p q n red) v e new_s new_r m
+    → IsIn e v.by_receiver → sender_answers p.policy v.sender e now ≡ Some t → IsOpen v.sender
+    → EndsWell v t
+unfolding sender_answers
+sender-ends p q n red block v (a_report x) now new_s new_r m t cuts facts fit front sent hears
+    is_open =
+    sender-advances (setting_by p q n red) block p.policy q.most v (a_report x) now new_s new_r m t
+    (session-gives.gives block red q.most v fit facts) refl cuts front hears is_open
+sender-ends p q n red block v (a_receiver_cancel reason) now new_s new_r m t cuts facts fit front
+    sent hears is_open =
+    let acks = acks-cancel v.sender reason t (λ s is. no-cancel-open block red v s reason facts sent
+    front.drains.calm.receiving (front.drains.calm.unclosed s is)) hears in
+    inl (subst (λ (ch : Change Sending). IsOpen (after ch v.sender)) (sym acks.0) is_open)
+sender-ends p q n red block v a_sender_cancel_ack now new_s new_r m t cuts facts fit front sent hears
+    is_open =
+    let deaf = deaf-ack v.sender t front.drains.calm.sending hears in
+    inl (subst (λ (ch : Change Sending). IsOpen (after ch v.sender)) (sym deaf.0) is_open)
+sender-ends p q n red block v (a_piece piece) now new_s new_r m t cuts facts fit front sent hears
+    is_open = absurd (cc)
+sender-ends p q n red block v (a_report_ack serial) now new_s new_r m t cuts facts fit front sent
+    hears is_open = absurd (cc)
+sender-ends p q n red block v (a_sender_cancel reason) now new_s new_r m t cuts facts fit front sent
+    hears is_open = absurd (cc)
+sender-ends p q n red block v a_receiver_cancel_ack now new_s new_r m t cuts facts fit front sent
+    hears is_open = absurd (cc)
 
 -- ---- to the receiver
 
@@ -232,30 +248,73 @@ rest-of : (r : Receiving) → is_cancelling r.phase ≡ false
     → Some idle-step ≡ Some (on_receiver_cancel_ack (Some r))
 rest-of r calm = rw calm refl
 
--- its receiver says so much more, none of it plain, and is as it was; or it is over
-quiet-receiver : (p q : Party) (n : ℕ) (v : View) (t : StepValue Receiving)
-    (new_s new_r : List ContentValue) (m : ℕ)
-    (st : Standing SessionFacts (setting_by p q n) v new_s new_r m) (more : List ContentValue)
-    → t.next ≡ stays → t.out ≡ more → plain more ≡ [] → (IsOpen v.sender → more ≡ [])
-    → HasSerials n v (m + 3) → SessionFacts st.block st.red (receiver_moves v t)
-    → Copied p q n (receiver_moves v t) new_s (new_r ++ plain t.out) m
-quiet-receiver p q n v t new_s new_r m st more next out quiet none serials facts = record {
-  left = m + 2;
-  less = omega arith;
-  standing = record {
-    block = st.block;
-    red = st.red;
-    facts = facts;
-    drains = subst (λ (said : List ContentValue). Drains (setting_by p q n st.red)
-        (receiver_moves v t) new_s said (m + 2))
-        (sym (append-nil new_r) ∙ ap (λ (out : List ContentValue). new_r ++ out)
-        (sym (ap plain out ∙ quiet)))
-        (subst (λ (v' : View). Drains (setting_by p q n st.red) v' new_s new_r (m + 2)) same
-        (said-more (setting_by p q n st.red) v new_s new_r [] more m (m + 2) st.drains
-        (omega arith) (fewer-serials n v (m + 3) (m + 2) (omega arith) serials) (λ x none. none)
-        none));
-  };
-}
+deaf-receiver : (o : Option Receiving) (t : StepValue Receiving)
+    → ((r : Receiving) → o ≡ Some r → is_cancelling r.phase ≡ false)
+    → Some (on_receiver_cancel_ack o) ≡ Some t → (t.next ≡ stays) × (t.out ≡ [])
+deaf-receiver None t listening hears =
+    answered (λ (t : StepValue Receiving). (t.next ≡ stays) × (t.out ≡ [])) _ t hears (refl, refl)
+deaf-receiver (Some r) t listening hears =
+    answered (λ (t : StepValue Receiving). (t.next ≡ stays) × (t.out ≡ [])) _ t
+    (rest-of r (listening r refl) ∙ hears) (refl, refl)
+
+-- where it falls, nothing that it says cancels
+receiver-fell : (p q : Party) (n red : ℕ) (block : List ℕ) (v : View) (t : StepValue Receiving)
+    (new_s new_r : List ContentValue) (m : ℕ) → SessionFacts block red (receiver_moves v t)
+    → Falls (setting_by p q n red) (receiver_moves v t) new_s (new_r ++ t.out) m
+    → Heard p q n (receiver_moves v t) new_s (new_r ++ plain t.out) t.out m
+receiver-fell p q n red block v t new_s new_r m facts falls =
+    let none = none-right new_r t.out falls.drains.calm.none_r in
+    record {
+      left = falls.left;
+      less = omega (arith, falls.less, echoes-none t.out none);
+      standing = record {
+        block = block;
+        red = red;
+        facts = facts;
+        drains = subst (λ (out : List ContentValue). Drains (setting_by p q n red)
+            (receiver_moves v t) new_s (new_r ++ out) falls.left)
+            (sym (all-plain t.out none)) falls.drains;
+      };
+    }
+
+-- its receiver says so much more, none of it plain; it is as it was, or over where its sender is
+still-receiver : (p q : Party) (n red : ℕ) (block : List ℕ) (v v' : View) (t : StepValue Receiving)
+    (e : ContentValue) (new_s new_r : List ContentValue) (m : ℕ) → v' ≡ receiver_moves v t
+    → (front : DrainsBeside (setting_by p q n red) v e new_s new_r m) → (more : List ContentValue)
+    → t.out ≡ more → plain more ≡ [] → echoes more < echo e
+    → SessionFacts block red (receiver_moves v t)
+    → Drains (setting_by p q n red) v' new_s new_r front.left
+    → Heard p q n (receiver_moves v t) new_s (new_r ++ plain t.out) t.out m
+still-receiver p q n red block v v' t e new_s new_r m same front more out quiet fewer facts drains =
+    record {
+      left = front.left;
+      less = omega (arith, front.less, fewer, ap echoes out);
+      standing = record {
+        block = block;
+        red = red;
+        facts = facts;
+        drains = subst (λ (said : List ContentValue). Drains (setting_by p q n red)
+            (receiver_moves v t) new_s said front.left)
+            (sym (append-nil new_r) ∙ ap (λ (out : List ContentValue). new_r ++ out)
+            (sym (ap plain out ∙ quiet)))
+            (subst (λ (v' : View). Drains (setting_by p q n red) v' new_s new_r front.left) same
+            drains);
+      };
+    }
+
+quiet-receiver : (p q : Party) (n red : ℕ) (block : List ℕ) (v : View) (t : StepValue Receiving)
+    (e : ContentValue) (new_s new_r : List ContentValue) (m : ℕ)
+    → DrainsBeside (setting_by p q n red) v e new_s new_r m → (more : List ContentValue)
+    → t.next ≡ stays → t.out ≡ more → plain more ≡ [] → echoes more < echo e
+    → (IsOpen v.sender → more ≡ []) → SessionFacts block red (receiver_moves v t)
+    → Heard p q n (receiver_moves v t) new_s (new_r ++ plain t.out) t.out m
+quiet-receiver p q n red block v t e new_s new_r m front more next out quiet fewer none facts =
+    still-receiver p q n red block v (record v {
+      by_sender = v.by_sender ++ [];
+      by_receiver = v.by_receiver ++ more;
+    }) t e new_s new_r m same front more out quiet fewer facts
+    (said-more (setting_by p q n red) v new_s new_r [] more front.left front.left front.drains
+    (omega arith) front.drains.serials (λ x none. none) none)
   where
     same : record v {
       by_sender = v.by_sender ++ [];
@@ -272,28 +331,20 @@ quiet-receiver p q n v t new_s new_r m st more next out quiet none serials facts
           by_receiver = v.by_receiver ++ t.out;
         }) (sym next)
 
-over-receiver : (p q : Party) (n : ℕ) (v : View) (t : StepValue Receiving)
-    (new_s new_r : List ContentValue) (m : ℕ)
-    (st : Standing SessionFacts (setting_by p q n) v new_s new_r m) (more : List ContentValue)
-    → t.next ≡ ends → t.out ≡ more → plain more ≡ [] → (IsOpen v.sender → ⊥)
-    → HasSerials n v (m + 3) → SessionFacts st.block st.red (receiver_moves v t)
-    → Copied p q n (receiver_moves v t) new_s (new_r ++ plain t.out) m
-over-receiver p q n v t new_s new_r m st more next out quiet over serials facts = record {
-  left = m + 2;
-  less = omega arith;
-  standing = record {
-    block = st.block;
-    red = st.red;
-    facts = facts;
-    drains = subst (λ (said : List ContentValue). Drains (setting_by p q n st.red)
-        (receiver_moves v t) new_s said (m + 2))
-        (sym (append-nil new_r) ∙ ap (λ (out : List ContentValue). new_r ++ out)
-        (sym (ap plain out ∙ quiet)))
-        (subst (λ (v' : View). Drains (setting_by p q n st.red) v' new_s new_r (m + 2)) same
-        (over-more (setting_by p q n st.red) v new_s new_r more m (m + 2) st.drains
-        (omega arith) (fewer-serials n v (m + 3) (m + 2) (omega arith) serials) over));
-  };
-}
+over-receiver : (p q : Party) (n red : ℕ) (block : List ℕ) (v : View) (t : StepValue Receiving)
+    (e : ContentValue) (new_s new_r : List ContentValue) (m : ℕ)
+    → DrainsBeside (setting_by p q n red) v e new_s new_r m → (more : List ContentValue)
+    → t.next ≡ ends → t.out ≡ more → plain more ≡ [] → echoes more < echo e
+    → (IsOpen v.sender → ⊥) → SessionFacts block red (receiver_moves v t)
+    → Heard p q n (receiver_moves v t) new_s (new_r ++ plain t.out) t.out m
+over-receiver p q n red block v t e new_s new_r m front more next out quiet fewer over facts =
+    still-receiver p q n red block v (record v {
+      receiver = None;
+      closed = true;
+      by_receiver = v.by_receiver ++ more;
+    }) t e new_s new_r m same front more out quiet fewer facts
+    (over-more (setting_by p q n red) v new_s new_r more front.left front.left front.drains
+    (omega arith) front.drains.serials over)
   where
     same : record v {
       receiver = None;
@@ -311,40 +362,26 @@ over-receiver p q n v t new_s new_r m st more next out quiet over serials facts 
           by_receiver = v.by_receiver ++ t.out;
         }) (sym next)
 
-pub copy-to-receiver : (p q : Party) (n : ℕ) (Old : ContentValue → Type 0) (place : Place)
-    (v : View) (e : ContentValue) (now : ℕ) (new_s new_r : List ContentValue) (m : ℕ)
+pub receiver-heard : (p q : Party) (n red : ℕ) (block : List ℕ) (place : Place) (v : View)
+    (e : ContentValue) (now : ℕ) (new_s new_r : List ContentValue) (m : ℕ)
     (t : StepValue Receiving) → place.session ≡ n → place.closed ≡ v.closed → place.most ≡ q.most
     → (t.note ≡ Some note_history_full → ⊥)
-    → Standing SessionFacts (setting_by p q n) v new_s new_r m
-    → IsIn e v.by_sender → Old e → AreNumbered [] 0 v → AsksLast Old v new_s
-    → HasSerials n v (m + 3) → receiver_answers q.policy place v.receiver e now ≡ Some t
-    → Copied p q n (receiver_moves v t) new_s (new_r ++ plain t.out) m
-unfolding receiver_answers plain
-copy-to-receiver p q n Old place v (a_piece x) now new_s new_r m t session closed most unnoted st
-    sent old numbered asks serials hears =
-    let fitting = session-gives.gives st.block st.red q.most v st.drains.fit st.facts in
-    let falls = piece-falls (setting_by p q n st.red) st.block q.policy place v x now new_s new_r
-    (m + 3) t (subst (λ (most : ℕ). Given st.block st.red most v) (sym most) fitting) session closed
-    roomy
-    (old-fronted (setting_by p q n st.red) v x new_s new_r m st.drains sent serials
-    (λ s c timer is waits. settled-before Old st.red v s c timer x new_s numbered
-    st.facts.asks.sender is waits asks old sent)) hears in
-    record {
-      left = falls.left;
-      less = falls.less;
-      standing = record {
-        block = st.block;
-        red = st.red;
-        facts = session-keep.receiver st.block st.red q.policy place v (a_piece x) now t closed sent
-            hears tt tt st.facts;
-        drains = subst (λ (out : List ContentValue). Drains (setting_by p q n st.red)
-            (receiver_moves v t) new_s (new_r ++ out) falls.left)
-            (sym (all-plain t.out (none-right new_r t.out falls.drains.calm.none_r))) falls.drains;
-      };
-    }
+    → SessionFacts block red v → AreFit q.most v.by_sender
+    → FrontsReceiver (setting_by p q n red) v e new_s new_r m
+    → IsIn e v.by_sender → receiver_answers q.policy place v.receiver e now ≡ Some t
+    → Heard p q n (receiver_moves v t) new_s (new_r ++ plain t.out) t.out m
+unfolding receiver_answers plain echoes
+receiver-heard p q n red block place v (a_piece x) now new_s new_r m t session closed most unnoted
+    facts fit front sent hears =
+    receiver-fell p q n red block v t new_s new_r m
+    (session-keep.receiver block red q.policy place v (a_piece x) now t closed sent hears tt tt
+    facts)
+    (piece-falls (setting_by p q n red) block q.policy place v x now new_s new_r m t
+    (subst (λ (most : ℕ). Given block red most v) (sym most)
+    (session-gives.gives block red q.most v fit facts)) session closed roomy front hears)
   where
-    of : IsPieceOf st.block st.red x
-    of = all-among (IsContentOf st.block st.red) (a_piece x) v.by_sender st.facts.basic.said sent
+    of : IsPieceOf block red x
+    of = all-among (IsContentOf block red) (a_piece x) v.by_sender facts.basic.said sent
 
     roomy : v.receiver ≡ None → place.closed ≡ false → is_red x.kind ≡ true → place.full ≡ false
     roomy none open_number red_kind = by_full place.full refl
@@ -354,71 +391,49 @@ copy-to-receiver p q n Old place v (a_piece x) now new_s new_r m t session close
         by_full true is = absurd (unnoted (answered
             (λ (t : StepValue Receiving). t.note ≡ Some note_history_full) _ t
             (ap (λ o. Some (on_piece q.policy place o x now)) (sym none) ∙ hears)
-            (full-noted q.policy place x now of.service (st.drains.fit x sent).0
-            (omega (arith, (st.drains.fit x sent).1, most)) red_kind open_number is)))
-copy-to-receiver p q n Old place v (a_report_ack serial) now new_s new_r m t session closed most
-    unnoted st sent old numbered asks serials hears =
-    let fitting = session-gives.gives st.block st.red q.most v st.drains.fit st.facts in
-    let falls = receiver-falls (setting_by p q n st.red) st.block q.policy
-    (record place { full = false }) v (a_report_ack serial) now new_s new_r (m + 3) t
-    (subst (λ (most : ℕ). Given st.block st.red most v) (sym most) fitting) session closed
-    (λ coming. refl)
-    (old-ack (setting_by p q n st.red) v serial new_s new_r m st.drains sent serials) hears in
-    record {
-      left = falls.left;
-      less = falls.less;
-      standing = record {
-        block = st.block;
-        red = st.red;
-        facts = session-keep.receiver st.block st.red q.policy place v (a_report_ack serial) now t
-            closed sent hears tt tt st.facts;
-        drains = subst (λ (out : List ContentValue). Drains (setting_by p q n st.red)
-            (receiver_moves v t) new_s (new_r ++ out) falls.left)
-            (sym (all-plain t.out (none-right new_r t.out falls.drains.calm.none_r))) falls.drains;
-      };
-    }
-copy-to-receiver p q n Old place v (a_sender_cancel reason) now new_s new_r m t session closed most
-    unnoted st sent old numbered asks serials hears = by_kept v.receiver refl hears
+            (full-noted q.policy place x now of.service (fit x sent).0
+            (omega (arith, (fit x sent).1, most)) red_kind open_number is)))
+receiver-heard p q n red block place v (a_report_ack serial) now new_s new_r m t session closed most
+    unnoted facts fit front sent hears =
+    receiver-fell p q n red block v t new_s new_r m
+    (session-keep.receiver block red q.policy place v (a_report_ack serial) now t closed sent hears
+    tt tt facts)
+    (receiver-falls (setting_by p q n red) block q.policy (record place { full = false }) v
+    (a_report_ack serial) now new_s new_r m t
+    (subst (λ (most : ℕ). Given block red most v) (sym most)
+    (session-gives.gives block red q.most v fit facts)) session closed (λ coming. refl) front hears)
+receiver-heard p q n red block place v (a_sender_cancel reason) now new_s new_r m t session closed
+    most unnoted facts fit front sent hears = by_kept v.receiver refl hears
   where
     over : IsOpen v.sender → ⊥
-    over = cancelled-over st.block st.red v reason st.facts sent st.drains.calm.sending
+    over = cancelled-over block red v reason facts sent front.drains.calm.sending
 
-    facts : SessionFacts st.block st.red (receiver_moves v t)
-    facts = session-keep.receiver st.block st.red q.policy place v (a_sender_cancel reason) now t
-        closed sent hears tt tt st.facts
+    facts' : SessionFacts block red (receiver_moves v t)
+    facts' = session-keep.receiver block red q.policy place v (a_sender_cancel reason) now t
+        closed sent hears tt tt facts
 
     by_kept : (o : Option Receiving) → v.receiver ≡ o → Some (on_sender_cancel o reason) ≡ Some t
-        → Copied p q n (receiver_moves v t) new_s (new_r ++ plain t.out) m
-    by_kept None is hears = quiet-receiver p q n v t new_s new_r m st (a_sender_cancel_ack ∷ [])
+        → Heard p q n (receiver_moves v t) new_s (new_r ++ plain t.out) t.out m
+    by_kept None is hears = quiet-receiver p q n red block v t (a_sender_cancel reason) new_s new_r m
+        front (a_sender_cancel_ack ∷ [])
         (answered (λ (t : StepValue Receiving). t.next ≡ stays) _ t hears refl)
         (answered (λ (t : StepValue Receiving). t.out ≡ a_sender_cancel_ack ∷ []) _ t hears refl)
-        refl (λ is_open. absurd (over is_open)) serials facts
-    by_kept (Some r) is hears = over-receiver p q n v t new_s new_r m st (a_sender_cancel_ack ∷ [])
+        refl (omega arith) (λ is_open. absurd (over is_open)) facts'
+    by_kept (Some r) is hears = over-receiver p q n red block v t (a_sender_cancel reason) new_s new_r
+        m front (a_sender_cancel_ack ∷ [])
         (answered (λ (t : StepValue Receiving). t.next ≡ ends) _ t hears refl)
         (answered (λ (t : StepValue Receiving). t.out ≡ a_sender_cancel_ack ∷ []) _ t hears refl)
-        refl over serials facts
-copy-to-receiver p q n Old place v a_receiver_cancel_ack now new_s new_r m t session closed most
-    unnoted st sent old numbered asks serials hears = by_kept v.receiver refl hears
-  where
-    still : t.next ≡ stays → t.out ≡ []
-        → Copied p q n (receiver_moves v t) new_s (new_r ++ plain t.out) m
-    still next out = quiet-receiver p q n v t new_s new_r m st [] next out refl (λ h. refl) serials
-        (session-keep.receiver st.block st.red q.policy place v a_receiver_cancel_ack now t closed
-        sent hears tt tt st.facts)
-
-    by_kept : (o : Option Receiving) → v.receiver ≡ o → Some (on_receiver_cancel_ack o) ≡ Some t
-        → Copied p q n (receiver_moves v t) new_s (new_r ++ plain t.out) m
-    by_kept None is hears = still
-        (answered (λ (t : StepValue Receiving). t.next ≡ stays) _ t hears refl)
-        (answered (λ (t : StepValue Receiving). t.out ≡ []) _ t hears refl)
-    by_kept (Some r) is hears =
-        let calm = st.drains.calm.receiving r is in
-        let hears' : Some (idle-step) ≡ Some t = rest-of r calm ∙ hears in
-        still (answered (λ (t : StepValue Receiving). t.next ≡ stays) _ t hears' refl)
-        (answered (λ (t : StepValue Receiving). t.out ≡ []) _ t hears' refl)
-copy-to-receiver p q n Old place v (a_report x) now new_s new_r m t session closed most
-    unnoted st sent old numbered asks serials hears = absurd (cc)
-copy-to-receiver p q n Old place v (a_receiver_cancel reason) now new_s new_r m t session closed most
-    unnoted st sent old numbered asks serials hears = absurd (cc)
-copy-to-receiver p q n Old place v a_sender_cancel_ack now new_s new_r m t session closed most
-    unnoted st sent old numbered asks serials hears = absurd (cc)
+        refl (omega arith) over facts'
+receiver-heard p q n red block place v a_receiver_cancel_ack now new_s new_r m t session closed most
+    unnoted facts fit front sent hears =
+    let deaf = deaf-receiver v.receiver t front.drains.calm.receiving hears in
+    quiet-receiver p q n red block v t a_receiver_cancel_ack new_s new_r m front [] deaf.0 deaf.1 refl
+    (omega arith) (λ h. refl)
+    (session-keep.receiver block red q.policy place v a_receiver_cancel_ack now t closed sent hears
+    tt tt facts)
+receiver-heard p q n red block place v (a_report x) now new_s new_r m t session closed most unnoted
+    facts fit front sent hears = absurd (cc)
+receiver-heard p q n red block place v (a_receiver_cancel reason) now new_s new_r m t session closed
+    most unnoted facts fit front sent hears = absurd (cc)
+receiver-heard p q n red block place v a_sender_cancel_ack now new_s new_r m t session closed most
+    unnoted facts fit front sent hears = absurd (cc)

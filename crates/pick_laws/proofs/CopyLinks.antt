@@ -1,66 +1,39 @@
--- An old segment comes once more on a link: one session's rank rises by two at most.
+-- What a drain with old copies keeps of each session, and sums of ranks of which one changes.
 
 use Rattle.std.proofs.Common.{◌≡◌, ◌≢◌, ℕ, zero, suc, ◌+◌, ◌*◌, ◌<◌, Bool, true, false, ◌==◌}
-use Rattle.std.proofs.Common.{◌&&◌, List, [], ◌∷◌, ◌++◌}
-use Rattle.std.proofs.Common.{refl, ap, arith, subst, if◌then◌else◌}
+use Rattle.std.proofs.Common.{◌&&◌, List, refl, ap, arith, subst, if◌then◌else◌}
 use Rattle.std.proofs.lemmas.Bool.{eq-eqb, eqb-false, eqb-true}
 use Rattle.ltp_segment.specs.Values.{ContentValue}
 use Rattle.ltp_session.specs.Engine.{Party}
 use Rattle.ltp_session.specs.World.{End, Sent, World, at_end, first_end, other}
 use Rattle.ltp_session.specs.World.{second_end}
 use Rattle.link_laws.specs.Facts.{SessionFacts}
-use Rattle.link_laws.specs.View.{View, is_of, said, same_end}
+use Rattle.link_laws.specs.View.{View, said, same_end}
 use Rattle.link_laws.proofs.FrameLemmas.{same_self}
-use Rattle.drain_laws.specs.Calm.{HasSerials, is_cancel}
+use Rattle.drain_laws.specs.Calm.{HasSerials}
 use Rattle.drain_laws.specs.Hopeful.{sum_below}
-use Rattle.drain_laws.specs.Standing.{Stands, setting}
-use Rattle.drain_laws.specs.Standing.{sum_of}
+use Rattle.drain_laws.specs.Standing.{Stands, setting, sum_of}
 use Rattle.drain_laws.proofs.DrainLists.{same_end-true}
 use Rattle.pick_laws.specs.Asking.{AsksLast}
-use Rattle.pick_laws.proofs.CopyHears.{plain}
-
--- ---- segments that neither cancel nor answer a cancel
-
-unfoldable pub plain_of : List Sent → List Sent
-plain_of [] = []
-plain_of (d ∷ ds) = if is_cancel d.segment.content then plain_of ds else d ∷ plain_of ds
-
-pub plain_of-append : (xs ys : List Sent) → plain_of (xs ++ ys) ≡ plain_of xs ++ plain_of ys
-unfolding plain_of
-plain_of-append [] ys = refl
-plain_of-append (x ∷ xs) ys = by_test (is_cancel x.segment.content) (plain_of-append xs ys)
-  where
-    by_test : (b : Bool) → plain_of (xs ++ ys) ≡ plain_of xs ++ plain_of ys
-        → (if b then plain_of (xs ++ ys) else x ∷ plain_of (xs ++ ys))
-        ≡ (if b then plain_of xs else x ∷ plain_of xs) ++ plain_of ys
-    by_test true rest = rest
-    by_test false rest = ap (λ (ds : List Sent). x ∷ ds) rest
-
-pub said-plain : (who : End) (o n : ℕ) (ds : List Sent)
-    → said who o n (plain_of ds) ≡ plain (said who o n ds)
-unfolding plain_of plain said
-said-plain who o n [] = refl
-said-plain who o n (d ∷ ds) =
-    by_tests (is_cancel d.segment.content) (is_of who o n d) refl refl (said-plain who o n ds)
-  where
-    by_tests : (cancels mine : Bool) → is_cancel d.segment.content ≡ cancels
-        → is_of who o n d ≡ mine → said who o n (plain_of ds) ≡ plain (said who o n ds)
-        → said who o n (if cancels then plain_of ds else d ∷ plain_of ds)
-        ≡ plain (if mine then d.segment.content ∷ said who o n ds else said who o n ds)
-    by_tests true true is of rest = rw is rest
-    by_tests true false is of rest = rest
-    by_tests false true is of rest =
-        rw (of, is) (ap (λ (cs : List ContentValue). d.segment.content ∷ cs) rest)
-    by_tests false false is of rest = rw of rest
+use Rattle.pick_laws.proofs.EchoLemmas.{echoes, plain}
 
 -- ---- what a drain keeps of each session
 
-pub record Keeping (parties : Party × Party) (k : ℕ) (Old : End → ℕ → ContentValue → Type 0)
-    (new : List Sent) (rank : End → ℕ → ℕ) (o : End) (n : ℕ) (v : View) : Type 0 where
-  pub stands : Stands SessionFacts (setting parties o n) v (said o (at_end parties o).own n new)
-      (said (other o) (at_end parties o).own n new) (rank o n)
-  pub slack : HasSerials n v (rank o n + 3 * k)
-  pub asks : AsksLast (Old o n) v (said o (at_end parties o).own n new)
+-- it drains within its rank, what is new of cancels counted with it; it has serials for k old
+-- copies more; and what is new after its checkpoint is it again
+pub record Keeping (parties : Party × Party) (k : ℕ) (Old : ContentValue → Type 0)
+    (new : List Sent) (m : ℕ) (o : End) (n : ℕ) (v : View) : Type 0 where
+  pub left : ℕ
+  pub stands :
+      Stands SessionFacts (setting parties o n) v (plain (said o (at_end parties o).own n new))
+      (plain (said (other o) (at_end parties o).own n new)) left
+  pub count :
+      left + echoes (said o (at_end parties o).own n new)
+      + echoes (said (other o) (at_end parties o).own n new) ≡ m
+  pub slack : HasSerials n v (m + 3 * k)
+  pub asks : AsksLast Old v (plain (said o (at_end parties o).own n new))
+
+-- ---- the rank of one session changes
 
 -- the rank of one session is this
 unfoldable pub changed_at : (End → ℕ → ℕ) → End → ℕ → ℕ → End → ℕ → ℕ

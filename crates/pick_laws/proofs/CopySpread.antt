@@ -1,10 +1,11 @@
--- What an old segment leaves of all sessions of a link: one rank rises by two at most, and no other
--- changes.
+-- What a segment that comes leaves of all sessions of a link: one rank changes, and falls by one
+-- with three for each old copy that is to come.
 
-use Rattle.std.proofs.Common.{◌≡◌, ℕ, ◌+◌, ◌*◌, ◌<◌, ◌≤◌, true, List, ◌++◌, ◌⊎◌}
-use Rattle.std.proofs.Common.{Bool, false, ◌==◌, refl, sym, ◌∙◌, ap, arith, subst}
+use Rattle.std.proofs.Common.{◌≡◌, ℕ, ◌+◌, ◌*◌, ◌<◌, ◌≤◌, Bool, true, false, ◌==◌, List, ◌++◌, ◌⊎◌}
+use Rattle.std.proofs.Common.{inl, refl, sym, ◌∙◌, ap, arith, subst}
 use Rattle.std.proofs.lemmas.Bool.{eqb-false, eqb-true}
 use Rattle.ltp_segment.specs.Values.{ContentValue, SegmentValue}
+use Rattle.ltp_segment.specs.declared.session.Note.TheVariants as notes
 use Rattle.ltp_session.specs.Engine.{Party}
 use Rattle.ltp_session.specs.World.{ArePeers, End, Sent, World, arrival, at_end, first_end, other}
 use Rattle.ltp_session.specs.World.{second_end}
@@ -12,22 +13,24 @@ use Rattle.link_laws.specs.Facts.{SessionFacts}
 use Rattle.link_laws.specs.Runs.{HoldsIn}
 use Rattle.link_laws.specs.View.{View, said, same_end, view}
 use Rattle.link_laws.proofs.FrameLemmas.{same_self}
-use Rattle.drain_laws.specs.Calm.{HasSerials}
+use Rattle.drain_laws.specs.Calm.{Advances, HasSerials}
 use Rattle.drain_laws.specs.Draining.{since}
-use Rattle.drain_laws.specs.Effects.{EndEffects}
-use Rattle.drain_laws.specs.Standing.{Stands, setting, sum_of}
+use Rattle.drain_laws.specs.Effects.{EndEffects, IsHandedUp, IsNoted}
+use Rattle.drain_laws.specs.Hopeful.{IsHanded, IsOpen}
+use Rattle.drain_laws.specs.Standing.{AllAdvance, setting, sum_of}
 use Rattle.drain_laws.proofs.CleanSteps.{since-arrival}
 use Rattle.drain_laws.proofs.DrainFrame.{stands-so}
-use Rattle.drain_laws.proofs.DrainLists.{same_end-true}
+use Rattle.drain_laws.proofs.DrainLists.{new-none, same_end-true}
 use Rattle.drain_laws.proofs.DrainRun.{arrival-next, used-low}
 use Rattle.pick_laws.proofs.ArrivalFrame.{AreFormed, HasPlaces, OwnMoves, PeerMoves, arrival-moves}
 use Rattle.pick_laws.proofs.ArrivalFrame.{heard_effects, own_apart, own_deaf, own_hears, own_unused}
 use Rattle.pick_laws.proofs.ArrivalFrame.{peer_apart, peer_deaf, peer_hears}
 use Rattle.pick_laws.proofs.AskingLemmas.{same-asks}
-use Rattle.pick_laws.proofs.CopyKeeps.{SessionAfter, plain-nothing}
-use Rattle.pick_laws.proofs.CopyLinks.{Keeping, changed-away, changed-here, changed_at, plain_of}
+use Rattle.pick_laws.proofs.CopyKeeps.{SessionAfter}
+use Rattle.pick_laws.proofs.CopyLinks.{Keeping, changed-away, changed-here, changed_at}
 use Rattle.pick_laws.proofs.CopyLinks.{sum-changed}
 use Rattle.pick_laws.proofs.CopyRows.{fewer-serials}
+use Rattle.pick_laws.proofs.EchoLemmas.{echoes, plain}
 
 -- how a session moved, whichever end sends it
 pub data Moves (parties : Party × Party) (w : World) (me : End) (s : SegmentValue)
@@ -75,73 +78,109 @@ not-about parties w me s es o n v' apart (yours is moves) = by_moves moves
     by_moves (peer_deaf own number deaf same) = same
     by_moves (peer_hears own number t hears same closed full handed) = absurd (apart own number)
 
+same-view : (v v' : View) (S U : Type 0) → v' ≡ v → Advances v v' S U
+same-view v v' S U same = record {
+  sender = λ is_open. inl (subst (λ (v : View). IsOpen v.sender) (sym same) is_open);
+  receiver = λ handed. inl (subst (λ (v : View). IsHanded v.receiver) same handed);
+}
+
 -- and it keeps what it kept
-pub keeps-still : (parties : Party × Party) (k k' : ℕ) (Old Old' : End → ℕ → ContentValue → Type 0)
-    (w w' : World) (new : List Sent) (rank rank' : End → ℕ → ℕ) (o : End) (n : ℕ)
+keeps-still : (parties : Party × Party) (k k' m : ℕ) (Old Old' : ContentValue → Type 0)
+    (w w' : World) (new new' : List Sent) (o : End) (n : ℕ)
     → w'.sent ≡ w.sent ++ since w w' → view parties w' o n ≡ view parties w o n → k' ≤ k
-    → rank' o n ≡ rank o n → ((c : ContentValue) → Old' o n c → Old o n c)
-    → Keeping parties k Old new rank o n (view parties w o n)
-    → Keeping parties k' Old' (new ++ plain_of (since w w')) rank' o n (view parties w' o n)
-keeps-still parties k k' Old Old' w w' new rank rank' o n adds same fewer is older keeps =
-    let lists_s = plain-nothing o (at_end parties o).own n w w' new adds
-    (ap (λ (v : View). v.by_sender) same) in
-    let lists_r = plain-nothing (other o) (at_end parties o).own n w w' new adds
-    (ap (λ (v : View). v.by_receiver) same) in
-    record {
-      stands = subst (λ (m : ℕ). Stands SessionFacts (setting parties o n) (view parties w' o n)
-          (said o (at_end parties o).own n (new ++ plain_of (since w w')))
-          (said (other o) (at_end parties o).own n (new ++ plain_of (since w w'))) m) (sym is)
-          (stands-so SessionFacts (setting parties o n) (view parties w o n) (view parties w' o n)
-          (said o (at_end parties o).own n new) (said (other o) (at_end parties o).own n new)
-          (said o (at_end parties o).own n (new ++ plain_of (since w w')))
-          (said (other o) (at_end parties o).own n (new ++ plain_of (since w w')))
-          (rank o n) same lists_s lists_r keeps.stands);
-      slack = subst (λ (v : View). HasSerials n v (rank' o n + 3 * k')) (sym same)
-          (fewer-serials n (view parties w o n) (rank o n + 3 * k) (rank' o n + 3 * k')
-          (omega (arith, is, fewer)) keeps.slack);
-      asks = same-asks (Old o n) (Old' o n) (view parties w o n) (view parties w' o n)
-          (said o (at_end parties o).own n new)
-          (said o (at_end parties o).own n (new ++ plain_of (since w w')))
-          (ap (λ (v : View). v.sender) same) lists_s older keeps.asks;
-    }
+    → ((who : End) → said who (at_end parties o).own n new ≡ said who (at_end parties o).own n new')
+    → ((c : ContentValue) → Old' c → Old c)
+    → Keeping parties k Old new m o n (view parties w o n)
+    → Keeping parties k' Old' (new' ++ since w w') m o n (view parties w' o n)
+keeps-still parties k k' m Old Old' w w' new new' o n adds same fewer still older keeps = record {
+  left = keeps.left;
+  stands = stands-so SessionFacts (setting parties o n) (view parties w o n) (view parties w' o n)
+      (plain (said o (at_end parties o).own n new))
+      (plain (said (other o) (at_end parties o).own n new))
+      (plain (said o (at_end parties o).own n (new' ++ since w w')))
+      (plain (said (other o) (at_end parties o).own n (new' ++ since w w')))
+      keeps.left same (ap plain (lists o by_sender)) (ap plain (lists (other o) by_receiver))
+      keeps.stands;
+  count = omega (
+    arith,
+    keeps.count,
+    ap echoes (lists o by_sender),
+    ap echoes (lists (other o) by_receiver),
+  );
+  slack = subst (λ (v : View). HasSerials n v (m + 3 * k')) (sym same)
+      (fewer-serials n (view parties w o n) (m + 3 * k) (m + 3 * k') (omega (arith, fewer))
+      keeps.slack);
+  asks = same-asks Old Old' (view parties w o n) (view parties w' o n)
+      (plain (said o (at_end parties o).own n new))
+      (plain (said o (at_end parties o).own n (new' ++ since w w')))
+      (ap (λ (v : View). v.sender) same) (ap plain (lists o by_sender)) older keeps.asks;
+}
+  where
+    lists : (who : End)
+        → said who (at_end parties o).own n w'.sent ≡ said who (at_end parties o).own n w.sent
+        → said who (at_end parties o).own n (new' ++ since w w')
+        ≡ said who (at_end parties o).own n new
+    lists who quiet = new-none who (at_end parties o).own n w.sent new' (since w w')
+        (ap (said who (at_end parties o).own n) (sym adds) ∙ quiet) ∙ sym (still who)
 
--- after an old segment of session n' of o'
-pub record CopySpreads (parties : Party × Party) (k : ℕ) (Old : End → ℕ → ContentValue → Type 0)
-    (w w' : World) (new : List Sent) (rank : End → ℕ → ℕ) : Type 0 where
+    by_sender : said o (at_end parties o).own n w'.sent ≡ said o (at_end parties o).own n w.sent
+    by_sender = ap (λ (v : View). v.by_sender) same
+
+    by_receiver : said (other o) (at_end parties o).own n w'.sent
+        ≡ said (other o) (at_end parties o).own n w.sent
+    by_receiver = ap (λ (v : View). v.by_receiver) same
+
+-- ---- all sessions
+
+-- after a segment that came: the ranks, and three for each old copy that is to come, are less
+pub record CopySpreads (parties : Party × Party) (k k' : ℕ) (Old : End → ℕ → ContentValue → Type 0)
+    (w w' : World) (es : List EndEffects) (new : List Sent) (rank : End → ℕ → ℕ) : Type 0 where
   pub rank' : End → ℕ → ℕ
-  pub keeps : (o : End) (n : ℕ) → Keeping parties k Old new rank' o n (view parties w' o n)
-  pub most : sum_of w' rank' ≤ sum_of w rank + 2
+  pub keeps : (o : End) (n : ℕ) → Keeping parties k' (Old o n) new (rank' o n) o n
+      (view parties w' o n)
+  pub less : sum_of w' rank' + 3 * k' < sum_of w rank + 3 * k
+  pub advances : AllAdvance parties w w' es
 
-pub spreads : (parties : Party × Party) (w : World) (me : End) (s : SegmentValue) (k : ℕ)
-    (Old Old' : End → ℕ → ContentValue → Type 0) (new : List Sent) (rank : End → ℕ → ℕ) (o' : End)
-    → ArePeers parties
-    → s.originator ≡ (at_end parties o').own
-    → ((o : End) (n : ℕ) → Keeping parties (k + 1) Old new rank o n (view parties w o n))
-    → ((o : End) (n : ℕ) (c : ContentValue) → Old' o n c → Old o n c)
+pub spreads : (parties : Party × Party) (w : World) (me : End) (s : SegmentValue) (k k' : ℕ)
+    (Old Old' : End → ℕ → ContentValue → Type 0) (new new' : List Sent) (rank : End → ℕ → ℕ)
+    (o' : End) → ArePeers parties → s.originator ≡ (at_end parties o').own → k' ≤ k
+    → ((o : End) (n : ℕ) → Keeping parties k (Old o n) new (rank o n) o n (view parties w o n))
+    → ((o : End) (n : ℕ) → (o ≡ o' → s.session ≡ n → ⊥) → (who : End)
+    → said who (at_end parties o).own n new ≡ said who (at_end parties o).own n new')
+    → ((o : End) (n : ℕ) → (o ≡ o' → s.session ≡ n → ⊥) → (c : ContentValue) → Old' o n c
+    → Old o n c)
     → ((o : End) (n : ℕ) → Moves parties w me s
     (heard_effects me (at_end parties me) (at_end w.engines me) s w.now) o n
     (view parties (arrival parties w me s) o n))
-    → SessionAfter parties k Old' (new ++ plain_of (since w (arrival parties w me s)))
-    (rank o' s.session) o' s.session (view parties (arrival parties w me s) o' s.session)
-    → CopySpreads parties k Old' w (arrival parties w me s)
-    (new ++ plain_of (since w (arrival parties w me s))) rank
-spreads parties w me s k Old Old' new rank o' peers origin keeps older moves after = record {
-  rank' = changed_at rank o' s.session after.left;
-  keeps = each;
-  most = omega (
-    arith,
-    after.less,
-    sum-changed w (arrival parties w me s) rank o' s.session after.left
-        (λ o. arrival-next parties w me s o)
-        (subst (λ (k : ℕ). s.session < k) (arrival-next parties w me s o')
-        (used-low (at_end parties o') (at_end (arrival parties w me s).engines o') s.session
-        after.used)),
-  );
-}
+    → SessionAfter parties k' (rank o' s.session + 3 * k) (Old' o' s.session)
+    (heard_effects me (at_end parties me) (at_end w.engines me) s w.now)
+    (new' ++ since w (arrival parties w me s)) o' s.session (view parties w o' s.session)
+    (view parties (arrival parties w me s) o' s.session)
+    → CopySpreads parties k k' Old' w (arrival parties w me s)
+    (heard_effects me (at_end parties me) (at_end w.engines me) s w.now)
+    (new' ++ since w (arrival parties w me s)) rank
+spreads parties w me s k k' Old Old' new new' rank o' peers origin fewer keeps still older moves
+    after = record {
+      rank' = changed_at rank o' s.session after.rank;
+      keeps = λ o n. by_session o n Kept here (away o n);
+      less = omega (
+        arith,
+        after.less,
+        sum-changed w (arrival parties w me s) rank o' s.session after.rank
+            (λ o. arrival-next parties w me s o)
+            (subst (λ (k : ℕ). s.session < k) (arrival-next parties w me s o')
+            (used-low (at_end parties o') (at_end (arrival parties w me s).engines o') s.session
+            after.used)),
+      );
+      advances = λ o n. by_session o n Advancing after.advances (λ apart.
+          same-view (view parties w o n) (view parties (arrival parties w me s) o n)
+          (IsNoted (heard_effects me (at_end parties me) (at_end w.engines me) s w.now) o
+          (notes.Sent n))
+          (IsHandedUp (heard_effects me (at_end parties me) (at_end w.engines me) s w.now) (other o)
+          n)
+          (unmoved o n apart));
+    }
   where
-    w' : World
-    w' = arrival parties w me s
-
     own-is : (o : End) → s.originator ≡ (at_end parties o).own → o ≡ o'
     own-is o own = by_ends o o' (sym own ∙ origin)
       where
@@ -151,44 +190,49 @@ spreads parties w me s k Old Old' new rank o' peers origin keeps older moves aft
         by_ends first_end second_end same = absurd (peers.differ same)
         by_ends second_end first_end same = absurd (peers.differ (sym same))
 
-    To : End → ℕ → Type 0
-    To o n = Keeping parties k Old' (new ++ plain_of (since w (arrival parties w me s)))
-        (changed_at rank o' s.session after.left) o n
+    Kept : End → ℕ → Type 0
+    Kept o n = Keeping parties k' (Old' o n) (new' ++ since w (arrival parties w me s))
+        (changed_at rank o' s.session after.rank o n) o n
         (view parties (arrival parties w me s) o n)
 
-    here : To o' s.session
-    here = record {
-      stands = subst (λ (m : ℕ). Stands SessionFacts (setting parties o' s.session)
-          (view parties (arrival parties w me s) o' s.session)
-          (said o' (at_end parties o').own s.session
-          (new ++ plain_of (since w (arrival parties w me s))))
-          (said (other o') (at_end parties o').own s.session
-          (new ++ plain_of (since w (arrival parties w me s)))) m)
-          (sym (changed-here rank o' s.session after.left)) after.stands;
-      slack = subst (λ (m : ℕ). HasSerials s.session
-          (view parties (arrival parties w me s) o' s.session) (m + 3 * k))
-          (sym (changed-here rank o' s.session after.left)) after.slack;
-      asks = after.asks;
-    }
+    Advancing : End → ℕ → Type 0
+    Advancing o n = Advances (view parties w o n) (view parties (arrival parties w me s) o n)
+        (IsNoted (heard_effects me (at_end parties me) (at_end w.engines me) s w.now) o
+        (notes.Sent n))
+        (IsHandedUp (heard_effects me (at_end parties me) (at_end w.engines me) s w.now) (other o)
+        n)
 
-    away : (o : End) (n : ℕ) → (o ≡ o' → s.session ≡ n → ⊥) → To o n
-    away o n apart = keeps-still parties (k + 1) k Old Old' w (arrival parties w me s) new
-        rank (changed_at rank o' s.session after.left) o n (since-arrival parties w me s)
-        (not-about parties w me s
+    here : Kept o' s.session
+    here = subst (λ (m : ℕ). Keeping parties k' (Old' o' s.session)
+        (new' ++ since w (arrival parties w me s)) m o' s.session
+        (view parties (arrival parties w me s) o' s.session))
+        (sym (changed-here rank o' s.session after.rank)) after.keeps
+
+    unmoved : (o : End) (n : ℕ) → (o ≡ o' → s.session ≡ n → ⊥)
+        → view parties (arrival parties w me s) o n ≡ view parties w o n
+    unmoved o n apart = not-about parties w me s
         (heard_effects me (at_end parties me) (at_end w.engines me) s w.now) o n
         (view parties (arrival parties w me s) o n)
-        (λ own number. apart (own-is o own) number) (moves o n)) (omega arith)
-        (changed-away rank o' s.session after.left o n apart) (older o n) (keeps o n)
+        (λ own number. apart (own-is o own) number) (moves o n)
 
-    each : (o : End) (n : ℕ) → To o n
-    each o n = by_tests (same_end o o') (s.session == n) refl refl
+    away : (o : End) (n : ℕ) → (o ≡ o' → s.session ≡ n → ⊥) → Kept o n
+    away o n apart = subst (λ (m : ℕ). Keeping parties k' (Old' o n)
+        (new' ++ since w (arrival parties w me s)) m o n
+        (view parties (arrival parties w me s) o n))
+        (sym (changed-away rank o' s.session after.rank o n apart))
+        (keeps-still parties k k' (rank o n) (Old o n) (Old' o n) w (arrival parties w me s) new new'
+        o n (since-arrival parties w me s) (unmoved o n apart) fewer (still o n apart)
+        (older o n apart) (keeps o n))
+
+    by_session : (o : End) (n : ℕ) (P : End → ℕ → Type 0) → P o' s.session
+        → ((o ≡ o' → s.session ≡ n → ⊥) → P o n) → P o n
+    by_session o n P here_too others = by_tests (same_end o o') (s.session == n) refl refl
       where
-        by_tests : (a b : Bool) → same_end o o' ≡ a → (s.session == n) ≡ b → To o n
+        by_tests : (a b : Bool) → same_end o o' ≡ a → (s.session == n) ≡ b → P o n
         by_tests true true is_o is_n =
-            subst (λ (e : End). To e n) (sym (same_end-true o o' is_o))
-            (subst (To o') (eqb-true s.session n is_n) here)
-        by_tests true false is_o is_n =
-            away o n (λ h number. eqb-false s.session n is_n number)
-        by_tests false b is_o is_n = away o n (λ h number. absurd
+            subst (λ (e : End). P e n) (sym (same_end-true o o' is_o))
+            (subst (P o') (eqb-true s.session n is_n) here_too)
+        by_tests true false is_o is_n = others (λ h number. eqb-false s.session n is_n number)
+        by_tests false b is_o is_n = others (λ h number. absurd
             (let same : same_end o o' ≡ true = ap (λ (e : End). same_end e o') h
             ∙ same_self o' in cc))

@@ -131,7 +131,7 @@ run-goes parties w picks rest ready new are =
     picks-run parties ready.peers ready.alike picks rest (crosses_at w) (first_rank parties w)
     new are (starts-crossing parties w ready)
 
-length-both : (xs ys : List Turn) → length (xs ++ ys) ≡ length xs + length ys
+pub length-both : (xs ys : List Turn) → length (xs ++ ys) ≡ length xs + length ys
 length-both [] ys = omega arith
 length-both (x ∷ xs) ys = omega (arith, length-both xs ys)
 

@@ -11,7 +11,7 @@ use Rattle.drain_laws.specs.Effects.{EndEffects, IsHandedUp, IsNoted}
 use Rattle.drain_laws.specs.Hopeful.{IsHanded, IsOpen}
 use Rattle.drain_laws.specs.Standing.{AllAdvance}
 
-noted-among : (es fs : List EndEffects) (end : End) (note : Note)
+pub noted-among : (es fs : List EndEffects) (end : End) (note : Note)
     → ((e : EndEffects) → IsIn e es → IsIn e fs) → IsNoted es end note → IsNoted fs end note
 noted-among es fs end note more is =
     record { of = is.of; among = more is.of is.among; by = is.by; noted = is.noted }

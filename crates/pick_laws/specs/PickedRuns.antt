@@ -1,13 +1,15 @@
 -- What a drain with picks promises: from a hopeful link with room it completes all sessions, and
 -- an old segment that comes once more costs no more than three events.
 
-use Rattle.std.specs.Prelude.{◌≡◌, ℕ, ◌+◌, ◌≤◌, List, [], ◌∷◌, ◌++◌, length}
+use Rattle.std.specs.Prelude.{◌≡◌, ℕ, ◌+◌, ◌*◌, ◌≤◌, List, [], ◌∷◌, ◌++◌, length}
+use Rattle.ltp_segment.specs.declared.session.Note.TheVariants as notes
 use Rattle.ltp_session.specs.Engine.{Party}
-use Rattle.ltp_session.specs.World.{Event, World}
+use Rattle.ltp_session.specs.World.{End, Event, World}
 use Rattle.drain_laws.specs.Completion.{IsComplete, IsReady}
+use Rattle.drain_laws.specs.Effects.{EndEffects, IsNoted, effects_in}
 use Rattle.drain_laws.specs.Hopeful.{cost}
 use Rattle.pick_laws.specs.Picks.{AreNext, IsOver, Pick, Turn, after_picks, after_turns}
-use Rattle.pick_laws.specs.Picks.{crosses_at, events_of, old_copy, oldest_of, picked_turns}
+use Rattle.pick_laws.specs.Picks.{copies, crosses_at, events_of, old_copy, oldest_of, picked_turns}
 
 -- the drain that picks begin in w: n events lead to v, where nothing is left to do
 pub record PickedRun (parties : Party × Party) (w : World) (picks : List Pick) (n : ℕ) (v : World)
@@ -55,3 +57,31 @@ abbrev pub CrossingRunsEnd : Type 0
 CrossingRunsEnd =
     (parties : Party × Party) (w : World) (picks : List Pick) → IsReady parties w
     → PicksNew picks → HasPickedRun parties w picks
+
+-- ---- picks with old segments
+
+-- nobody is closed to make room for another session, and none is turned away for want of it
+pub record NoneTurnedAway (es : List EndEffects) : Type 0 where
+  pub evicted : (end : End) (n : ℕ) → IsNoted es end (notes.Evicted n) → ⊥
+  pub full : (end : End) (n : ℕ) → IsNoted es end (notes.HistoryFull n) → ⊥
+
+-- such a run in which at most 100,000 old segments come once more, and nobody is turned away
+pub record IsCopiedRun (parties : Party × Party) (w : World) (picks : List Pick) (n : ℕ) (v : World)
+    : Type 0 where
+  pub run : PickedRun parties w picks n v
+  pub few : copies parties (crosses_at w) picks ≤ 100000
+  pub spared : NoneTurnedAway (effects_in parties w (run_events parties w picks run.rest))
+
+-- the events are no more than the sessions cost, and three for each old segment that comes
+abbrev pub CopiesCostThree : Type 0
+CopiesCostThree =
+    (parties : Party × Party) (w : World) (picks : List Pick) (n : ℕ) (v : World)
+    → IsReady parties w → IsCopiedRun parties w picks n v
+    → n ≤ cost parties w v + 3 * copies parties (crosses_at w) picks
+
+-- and they complete the sessions
+abbrev pub CopiedRunsComplete : Type 0
+CopiedRunsComplete =
+    (parties : Party × Party) (w : World) (picks : List Pick) (n : ℕ) (v : World)
+    → IsReady parties w → (drain : IsCopiedRun parties w picks n v)
+    → IsComplete parties w (run_events parties w picks drain.run.rest) v

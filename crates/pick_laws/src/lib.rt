@@ -5,7 +5,7 @@
 //! cross in any way; and they have old segments come once more, those that were sent before the
 //! drain and those that were delivered in it. `specs/Picks` says what a pick does, and
 //! `specs/PickedRuns` what such a drain promises. The laws stand on the ranks of `drain_laws`,
-//! which fall however the directions cross.
+//! which fall however the directions cross, and rise by two at most where an old segment comes.
 #![tactic(auto)]
 
 pub mod laws;

@@ -66,6 +66,14 @@ impl Recorder {
         self.entries.get(i)
     }
 
+    /// The recording. It takes no memory.
+    pub fn entries(&self) -> &[Entry]
+        ensures { result.now ≡ self.now.entries }
+    {
+        let _ = self.spent;
+        self.entries.as_slice()
+    }
+
     /// A block comes to be sent, of which the first `red` octets are its red part. What is sent is
     /// recorded. A refusal other than `Memory` leaves all as it was.
     pub fn submit(&mut self, block: &[u8], red: u64, now: u64) -> Result<Effects, SubmitRefused>

@@ -1,0 +1,3 @@
+pub mod Record
+-- what only ties code to it
+pub mod Grows

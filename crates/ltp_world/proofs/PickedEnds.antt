@@ -6,19 +6,22 @@ use Rattle.std.proofs.Common.{None, Some, Ok, Err, inl, inr, refl, sym, ◌∙�
 use Rattle.std.specs.List.{AllByRecursion}
 use Rattle.std.specs.Option.{option_map}
 use Rattle.std.proofs.lemmas.List.{append_assoc, length-append, length-map, map-append}
+use Rattle.ltp_segment.specs.declared.session.Note.{Note}
 use Rattle.ltp_segment.specs.declared.session.Note.TheVariants as notes
 use Rattle.ltp_session.specs.Engine.{Party}
 use Rattle.ltp_session.specs.World.{End, Event, World, clock, deliver, other}
 use Rattle.link_laws.proofs.ListLemmas.{all-append}
 use Rattle.drain_laws.specs.Clean.{link_deadline}
-use Rattle.drain_laws.specs.Completion.{IsReady}
-use Rattle.drain_laws.specs.Hopeful.{cost}
+use Rattle.drain_laws.specs.Completion.{IsComplete, IsReady}
+use Rattle.drain_laws.specs.Effects.{IsNoted, effects_in}
+use Rattle.drain_laws.specs.Hopeful.{Hopeful, Room, cost}
 use Rattle.pick_laws.specs.Picks.{AreNext, Crossing, Turn, after_pick, after_picks, after_turn}
 use Rattle.pick_laws.specs.Picks.{after_turns, as_turns, behind_new, clock_turn, crosses_at}
 use Rattle.pick_laws.specs.Picks.{events_of, is_old, next_turn, old_copy, oldest_of, oldest_turn}
 use Rattle.pick_laws.specs.Picks.{or_clock, pick_turn, picked_turns, Placed}
 use Rattle.pick_laws.specs.Picks.{Pick as LinkPick}
-use Rattle.pick_laws.specs.PickedRuns.{run_events}
+use Rattle.pick_laws.specs.PickedRuns.{IsCopiedRun, run_events}
+use Rattle.pick_laws.proofs.CopyEnds.{copied-completes, copied-few}
 use Rattle.pick_laws.proofs.CrossingRuns.{crossing-completes, crossing-few}
 use Rattle.ltp_world.specs.declared.effects.Drained.{Drained}
 use Rattle.ltp_world.specs.declared.effects.EndEffects.{EndEffects}
@@ -31,7 +34,7 @@ use Rattle.ltp_world.specs.Drain.{InEveryRun, IsEarly, TellsNote, TellsUp, done_
 use Rattle.ltp_world.specs.Ends.{named}
 use Rattle.ltp_world.specs.Marks.{AreWithin, PicksAs, PicksFront, RestIn, RestTo, TurnsTo}
 use Rattle.ltp_world.specs.Marks.{least_mark}
-use Rattle.ltp_world.specs.Picks.{CompletesBy, DrainsBy, IsLateTurn, PicksAll}
+use Rattle.ltp_world.specs.Picks.{CompletesBy, CompletesWithCopies, DrainsBy, IsLateTurn, PicksAll}
 use Rattle.ltp_world.specs.Picks.{PicksCompleted, PicksUntilLate, late_after, late_pick, link_pick}
 use Rattle.ltp_world.specs.Picks.{link_picks}
 use Rattle.ltp_world.specs.RedParts.{DrainHandsUpFronts, HandsUpFrontsIn}
@@ -363,37 +366,76 @@ picks-fronts old new picks drained drains events shows = by_run (drains.run even
 
 -- ---- sessions are completed
 
+-- what a run completes is told
+told-complete : (old new : WorldValue) (picks : List Pick) (drained : Drained)
+    (events : List Event) (most : World → ℕ) (all : PicksAll old new picks drained events)
+    → drained.events ≤ most all.end
+    → IsComplete (parties_of old) (link_after old events)
+    (run_events (parties_of old) (link_after old events) (link_picks picks) all.run.rest) all.end
+    → PicksCompleted (parties_of old) (link_after old events) (link_picks picks) drained most
+told-complete old new picks drained events most all bound complete = record {
+  end = all.end;
+  run = all.run;
+  bound = bound;
+  sent = λ o n is_open. subst (λ steps. TellsNote steps (named o) (notes.Sent n))
+      (sym all.told) (tells-note (parties_of old) (link_after old events) _ o
+      (notes.Sent n) (complete.sent o n is_open));
+  handed = λ o n is_open. elim (complete.handed o n is_open) [
+    | inl before ↦ inl before
+    | inr since ↦ inr (subst (λ steps. TellsUp steps (named (other o)) n) (sym all.told)
+        (tells-up (parties_of old) (link_after old events) _ (other o) n since))
+  ];
+}
+
+is-ready : (old : WorldValue) (events : List Event) → ShowsRun old events
+    → Hopeful (parties_of old) (link_after old events) → Room (link_after old events)
+    → IsReady (parties_of old) (link_after old events)
+is-ready old events shows hopeful room = record {
+  peers = shows.peers;
+  alike = shows.alike;
+  reached = record { events = events; leads = refl };
+  hopeful = hopeful;
+  room = room;
+}
+
 pub picks-complete : (old new : WorldValue) (picks : List Pick) (drained : Drained)
     → DrainsBy old new picks (Ok drained) → CompletesBy old picks drained
 picks-complete old new picks drained drains events shows hopeful room new_picks =
-    by_run (drains.run events shows)
-  where
-    ready : IsReady (parties_of old) (link_after old events)
-    ready = record {
-      peers = shows.peers;
-      alike = shows.alike;
-      reached = record { events = events; leads = refl };
-      hopeful = hopeful;
-      room = room;
-    }
+    let all = drains.run events shows in
+    let ready = is-ready old events shows hopeful room in
+    told-complete old new picks drained events (cost (parties_of old) (link_after old events)) all
+    (crossing-few (parties_of old) (link_after old events) (link_picks picks) drained.events all.end
+    ready new_picks all.run)
+    (crossing-completes (parties_of old) (link_after old events) (link_picks picks) drained.events
+    all.end ready new_picks all.run)
 
-    by_run : PicksAll old new picks drained events
-        → PicksCompleted (parties_of old) (link_after old events) (link_picks picks) drained
-        (cost (parties_of old) (link_after old events))
-    by_run all =
-        let complete = crossing-completes (parties_of old) (link_after old events)
-        (link_picks picks) drained.events all.end ready new_picks all.run in
-        record {
-          end = all.end;
-          run = all.run;
-          bound = crossing-few (parties_of old) (link_after old events) (link_picks picks)
-              drained.events all.end ready new_picks all.run;
-          sent = λ o n is_open. subst (λ steps. TellsNote steps (named o) (notes.Sent n))
-              (sym all.told) (tells-note (parties_of old) (link_after old events) _ o
-              (notes.Sent n) (complete.sent o n is_open));
-          handed = λ o n is_open. elim (complete.handed o n is_open) [
-            | inl before ↦ inl before
-            | inr since ↦ inr (subst (λ steps. TellsUp steps (named (other o)) n) (sym all.told)
-                (tells-up (parties_of old) (link_after old events) _ (other o) n since))
-          ];
-        }
+pub copies-complete : (old new : WorldValue) (picks : List Pick) (drained : Drained)
+    → DrainsBy old new picks (Ok drained) → CompletesWithCopies old picks drained
+copies-complete old new picks drained drains events shows hopeful room few spared =
+    let all = drains.run events shows in
+    let ready = is-ready old events shows hopeful room in
+    let copied = copied all in
+    told-complete old new picks drained events _ all
+    (copied-few (parties_of old) (link_after old events) (link_picks picks) drained.events all.end
+    ready copied)
+    (copied-completes (parties_of old) (link_after old events) (link_picks picks) drained.events
+    all.end ready copied)
+  where
+    tells : (all : PicksAll old new picks drained events) (o : End) (note : Note)
+        → IsNoted (effects_in (parties_of old) (link_after old events)
+        (run_events (parties_of old) (link_after old events) (link_picks picks) all.run.rest)) o note
+        → TellsNote drained.effects (named o) note
+    tells all o note noted = subst (λ steps. TellsNote steps (named o) note) (sym all.told)
+        (tells-note (parties_of old) (link_after old events) _ o note noted)
+
+    copied : (all : PicksAll old new picks drained events)
+        → IsCopiedRun (parties_of old) (link_after old events) (link_picks picks) drained.events
+        all.end
+    copied all = record {
+      run = all.run;
+      few = few;
+      spared = record {
+        evicted = λ o n noted. spared.evicted o n (tells all o (notes.Evicted n) noted);
+        full = λ o n noted. spared.full o n (tells all o (notes.HistoryFull n) noted);
+      };
+    }

@@ -1,7 +1,7 @@
 -- What a drain with picks promises: the turns of its picks in every run where the world stands, and
 -- then the turns after them.
 
-use Rattle.std.specs.Prelude.{◌≡◌, ℕ, ◌≤◌, true, List, ◌∷◌, ◌++◌, map}
+use Rattle.std.specs.Prelude.{◌≡◌, ℕ, ◌+◌, ◌*◌, ◌≤◌, true, List, ◌∷◌, ◌++◌, map}
 use Rattle.std.specs.Prelude.{Option, None, Some, Result, Ok, Err, ◌⊎◌}
 use Rattle.std.specs.List.{AllByRecursion}
 use Rattle.ltp_segment.specs.declared.session.Note.TheVariants as notes
@@ -11,11 +11,12 @@ use Rattle.ltp_session.specs.World.{End as LinkEnd}
 use Rattle.link_laws.specs.View.{view}
 use Rattle.drain_laws.specs.Hopeful.{Hopeful, IsHanded, IsOpen, Room, cost}
 use Rattle.pick_laws.specs.Picks.{AreNext, Crossing, Turn, after_picks, after_turns, crosses_at}
-use Rattle.pick_laws.specs.Picks.{events_of, next_turn, old_copy, oldest_of, pick_turn}
+use Rattle.pick_laws.specs.Picks.{copies, events_of, next_turn, old_copy, oldest_of, pick_turn}
 use Rattle.pick_laws.specs.Picks.{picked_turns}
 use Rattle.pick_laws.specs.Picks.{Pick as LinkPick}
 use Rattle.pick_laws.specs.PickedRuns.{PickedRun, PicksNew, run_events}
 use Rattle.ltp_world.specs.declared.effects.Drained.{Drained}
+use Rattle.ltp_world.specs.declared.effects.EndEffects.{EndEffects}
 use Rattle.ltp_world.specs.declared.picks.Pick.{Pick}
 use Rattle.ltp_world.specs.declared.picks.Pick.TheVariants as picks
 use Rattle.ltp_world.specs.declared.refused.DrainRefused.{DrainRefused}
@@ -115,3 +116,20 @@ CompletesBy v picks drained =
     → PicksNew (link_picks picks)
     → PicksCompleted (parties_of v) (link_after v events) (link_picks picks) drained
     (cost (parties_of v) (link_after v events))
+
+-- at no event is a session closed to make room for another, nor turned away for want of it
+pub record TurnsNobodyAway (steps : List (List EndEffects)) : Type 0 where
+  pub evicted : (o : LinkEnd) (n : ℕ) → TellsNote steps (named o) (notes.Evicted n) → ⊥
+  pub full : (o : LinkEnd) (n : ℕ) → TellsNote steps (named o) (notes.HistoryFull n) → ⊥
+
+-- whatever the picks, where at most 100,000 old datagrams come once more and nobody is turned away:
+-- within what the sessions cost and three events for each of these
+abbrev pub CompletesWithCopies : WorldValue → List Pick → Drained → Type 0
+CompletesWithCopies v picks drained =
+    (events : List Event) → ShowsRun v events
+    → Hopeful (parties_of v) (link_after v events) → Room (link_after v events)
+    → copies (parties_of v) (crosses_at (link_after v events)) (link_picks picks) ≤ 100000
+    → TurnsNobodyAway drained.effects
+    → PicksCompleted (parties_of v) (link_after v events) (link_picks picks) drained
+    (λ end. cost (parties_of v) (link_after v events) end
+    + 3 * copies (parties_of v) (crosses_at (link_after v events)) (link_picks picks))

@@ -3,7 +3,7 @@
 ghost use Rattle.std.specs.Prelude.{◌≡◌, ◌<◌, ◌≤◌, ◌^◌, ◌+◌, false, true, length, drop, Some, IfOk, OnOk, OnErr};
 ghost use Rattle.std.specs.Prelude.{not};
 ghost use Rattle.ltp_world.specs.Shows.{AreBounded};
-ghost use Rattle.ltp_world.specs.Picks.{DrainsBy, CompletesBy};
+ghost use Rattle.ltp_world.specs.Picks.{CompletesBy, CompletesWithCopies, DrainsBy};
 ghost use Rattle.ltp_world.specs.Marks.{AreWithin, PicksAs, PicksOne, RestTo, SetsClock};
 ghost use Rattle.ltp_world.specs.Marks.{is_new_in, least_mark, mark_of, next_place, pick_of, with_mark};
 ghost use Rattle.ltp_world.specs.Work.{left_of};
@@ -84,6 +84,8 @@ impl LinkWorld {
         ensures fronts { IfOk result (λ drained. DrainHandsUpFronts self.old drained.effects) }
         // A hopeful world that has room completes its sessions, in whatever way new datagrams cross.
         ensures completes { IfOk result (CompletesBy self.old picks.now) }
+        // It does so too where old datagrams come once more; each costs three events at most.
+        ensures copies { IfOk result (CompletesWithCopies self.old picks.now) }
         // Both engines keep their bounds, unless memory runs out.
         ensures bounds { AreBounded self.old.engines → self.new.spent ≡ false
             → AreBounded self.new.engines }

@@ -2,8 +2,8 @@ use Rattle.std.proofs.Common.{◌+◌, take, drop, arith, refl, subst}
 use Rattle.ltp_world.specs.Marks.{PicksFront}
 use Rattle.ltp_world.specs.Picks.{link_picks}
 use Rattle.ltp_world.proofs.PickedLemmas.{all-taken, front-none, front-step, picks-apart}
-use Rattle.ltp_world.proofs.PickedEnds.{pick-stops, picks-complete, picks-end, picks-fronts}
-use Rattle.ltp_world.proofs.PickedEnds.{picks-refuse}
+use Rattle.ltp_world.proofs.PickedEnds.{copies-complete, pick-stops, picks-complete, picks-end}
+use Rattle.ltp_world.proofs.PickedEnds.{picks-fronts, picks-refuse}
 use Rattle.ltp_world.proofs.world.LinkWorld.drain_by.Goals as goal
 
 pub picking-init : goal.picking-init
@@ -43,6 +43,9 @@ returns-in-Ok-drain_from-clause-fronts c = picks-fronts c.args.self.now c.drain_
 
 pub returns-in-Ok-drain_from-clause-completes : goal.returns-in-Ok-drain_from-clause-completes
 returns-in-Ok-drain_from-clause-completes c = picks-complete c.args.self.now c.drain_from.new.self c.args.picks.now c.drained.result (returns-in-Ok-drain_from-clause-does c)
+
+pub returns-in-Ok-drain_from-clause-copies : goal.returns-in-Ok-drain_from-clause-copies
+returns-in-Ok-drain_from-clause-copies c = copies-complete c.args.self.now c.drain_from.new.self c.args.picks.now c.drained.result (returns-in-Ok-drain_from-clause-does c)
 
 pub returns-in-Err-drain_from-clause-does : goal.returns-in-Err-drain_from-clause-does
 returns-in-Err-drain_from-clause-does c =

@@ -16,7 +16,7 @@ with_commas-more data_of (y ∷ ys) x =
     ap (λ s. 44 ∷ s) (ap (λ s. compact_text (data_of y) ++ s) (with_commas-more data_of ys x)
     ∙ sym (append_assoc (compact_text (data_of y)) (with_commas data_of true ys) (44 ∷ compact_text (data_of x))))
 
-pub with_commas-push : {A : Type 0} (data_of : A → Data) (xs : List A) (x : A)
+with_commas-push : {A : Type 0} (data_of : A → Data) (xs : List A) (x : A)
     → with_commas data_of false (xs ++ x ∷ []) ≡ with_commas data_of false xs ++ (comma_after xs ++ compact_text (data_of x))
 with_commas-push data_of [] x = append-nil (compact_text (data_of x))
 with_commas-push data_of (y ∷ ys) x =
@@ -41,29 +41,27 @@ pub list-text : {A : Type 0} (data_of : A → Data) (xs : List A)
     → compact_text (list_of data_of xs) ≡ 91 ∷ (with_commas data_of false xs ++ 93 ∷ [])
 list-text data_of xs = ap (λ s. 91 ∷ s) (items-with_commas data_of false xs)
 
--- of a list and one more
-pub list-text-push : {A : Type 0} (data_of : A → Data) (xs : List A) (x : A)
-    → compact_text (list_of data_of (xs ++ x ∷ []))
-    ≡ 91 ∷ (with_commas data_of false xs ++ (comma_after xs ++ (compact_text (data_of x) ++ 93 ∷ [])))
-list-text-push data_of xs x =
-    list-text data_of (xs ++ x ∷ []) ∙ ap (λ s. 91 ∷ s) (ap (λ s. s ++ 93 ∷ []) (with_commas-push data_of xs x)
-    ∙ append_assoc (with_commas data_of false xs) (comma_after xs ++ compact_text (data_of x)) (93 ∷ [])
-    ∙ ap (λ s. with_commas data_of false xs ++ s) (append_assoc (comma_after xs) (compact_text (data_of x)) (93 ∷ [])))
-
 -- ---- the loop
 
 taken-one : {A : Type 0} (items : List A) (i : ℕ) (x : A) → i < length items → x ≡ get_or items i x → take (i + 1) items ≡ take i items ++ x ∷ []
 taken-one items i x within is = ap (λ n. take n items) (add-one i) ∙ take-suc items i x within ∙ ap (λ y. take i items ++ y ∷ []) (sym is)
+
+pub items-last : {A : Type 0} (data_of : A → Data) (xs : List A) (x : A) (start before comma between now : List ℕ)
+    → before ≡ start ++ with_commas data_of false xs → comma ≡ comma_after xs → between ≡ before ++ comma → now ≡ between ++ compact_text (data_of x)
+    → now ≡ start ++ with_commas data_of false (xs ++ x ∷ [])
+items-last data_of xs x start before comma between now so comma-is then last =
+    last ∙ ap (λ s. s ++ compact_text (data_of x)) (then ∙ ap₂ (λ (s t : List ℕ). s ++ t) so comma-is)
+    ∙ append_assoc (start ++ with_commas data_of false xs) (comma_after xs) (compact_text (data_of x))
+    ∙ append_assoc start (with_commas data_of false xs) (comma_after xs ++ compact_text (data_of x))
+    ∙ ap (λ s. start ++ s) (sym (with_commas-push data_of xs x))
 
 pub items-step : {A : Type 0} (data_of : A → Data) (items : List A) (i : ℕ) (x : A) (start before comma between now : List ℕ)
     → i < length items → x ≡ get_or items i x → before ≡ start ++ with_commas data_of false (take i items)
     → comma ≡ comma_after (take i items) → between ≡ before ++ comma → now ≡ between ++ compact_text (data_of x)
     → now ≡ start ++ with_commas data_of false (take (i + 1) items)
 items-step data_of items i x start before comma between now within is so comma-is then last =
-    last ∙ ap (λ s. s ++ compact_text (data_of x)) (then ∙ ap₂ (λ (s t : List ℕ). s ++ t) so comma-is)
-    ∙ append_assoc (start ++ with_commas data_of false (take i items)) (comma_after (take i items)) (compact_text (data_of x))
-    ∙ append_assoc start (with_commas data_of false (take i items)) (comma_after (take i items) ++ compact_text (data_of x))
-    ∙ ap (λ s. start ++ s) (sym (with_commas-push data_of (take i items) x) ∙ ap (with_commas data_of false) (sym (taken-one items i x within is)))
+    items-last data_of (take i items) x start before comma between now so comma-is then last
+    ∙ ap (λ xs. start ++ with_commas data_of false xs) (sym (taken-one items i x within is))
 
 pub comma-step : {A : Type 0} (items : List A) (i : ℕ) (x : A) → i < length items → x ≡ get_or items i x
     → 44 ∷ [] ≡ comma_after (take (i + 1) items)

@@ -1,5 +1,5 @@
 -- Telling a bundle part by part.
-use Rattle.std.proofs.Common.{◌≡◌, ℕ, ◌+◌, ◌<◌, ◌≤◌, Bool, true, false, List, [], ◌∷◌, ◌++◌, length, take, drop, codes, decimal, refl, sym, ◌∙◌, ap, arith, append_assoc, append-nil, length-append}
+use Rattle.std.proofs.Common.{◌≡◌, ℕ, ◌+◌, ◌<◌, ◌≤◌, Bool, true, false, List, [], ◌∷◌, ◌++◌, length, take, drop, codes, refl, sym, ◌∙◌, ap, arith, append_assoc, append-nil, length-append}
 use Rattle.std.proofs.lemmas.List.{take-append-drop, length-take-le, nil_from_length}
 use Rattle.hex.specs.Hex.{encode_lower, encode_with, IsBytes}
 use Rattle.endpoint.specs.declared.name.Endpoint.{Endpoint}
@@ -20,73 +20,28 @@ use Rattle.bundle_json.specs.declared.walk.BlockView.{BlockView}
 use Rattle.bundle_json.specs.declared.telling6.Telling6.{Telling6}
 use Rattle.bundle_json.specs.declared.telling6.Stage.{Stage}
 use Rattle.bundle_json.specs.declared.telling6.Stage.TheVariants as stages
-use Rattle.bundle_json.specs.Json.{name, list_of, two, part, block6, bundle6}
+use Rattle.bundle_json.specs.Json.{name, block6, bundle6}
 use Rattle.bundle_json.specs.Commas.{with_commas}
 use Rattle.bundle_json.specs.Laid.{LiesAt, ValueOf as ValueIn, IsPair, Names, SpellsBlock, ShowsPrimary, ShowsBlock, BlocksLie, texts_in}
 use Rattle.bundle6.specs.Table.{offsets}
-use Rattle.bundle_json.specs.Telling.{primary_text, blocks_text, refs_text, body_text, AtRefs, Left, Tells}
-use Rattle.bundle_json.proofs.StringLemmas.{encode_lower-append, quoted-hex}
-use Rattle.bundle_json.proofs.ObjectLemmas.{bundle6-text, block6-text, six}
-use Rattle.bundle_json.proofs.ListLemmas.{list-text}
+use Rattle.bundle_json.specs.Telling.{head_text, primary_text, blocks_text, refs_text, body_text, AtRefs, Left, Tells}
+use Rattle.hex_text.proofs.DigitLemmas.{encode_lower-append}
+use Rattle.bundle_json.proofs.ObjectLemmas.{bundle6-text, block6-text}
 use Rattle.bundle_json.proofs.WalkLemmas.{lies-parts, lies-long, lies-after, block-long, blocks-are, next-ref}
 
 -- ---- texts
 
--- what stands after the list of blocks, by the version's digit
-abbrev after-list : Primary6 → List ℕ → List ℕ
-after-list p digit =
-    codes ",\"creation\":" ++ (compact_text (two p.seconds p.sequence)
-    ++ (codes ",\"custodian\":" ++ (compact_text (name p.custodian)
-    ++ (codes ",\"destination\":" ++ (compact_text (name p.destination)
-    ++ (codes ",\"flags\":" ++ (decimal p.flags
-    ++ (codes ",\"fragment\":" ++ (compact_text (part p.fragment)
-    ++ (codes ",\"lifetime\":" ++ (decimal p.lifetime
-    ++ (codes ",\"report_to\":" ++ (compact_text (name p.report_to)
-    ++ (codes ",\"source\":" ++ (compact_text (name p.source)
-    ++ (codes ",\"version\":" ++ (digit ++ codes "}")))))))))))))))))
-
-list-open : (items rest : List ℕ) → (91 ∷ (items ++ 93 ∷ [])) ++ rest ≡ 91 ∷ (items ++ 93 ∷ rest)
-list-open items rest = ap (λ (v : List ℕ). 91 ∷ v) (append_assoc items (93 ∷ []) rest)
-
-bundle-text : (b : Bundle6) → compact_text (bundle6 b) ≡ codes "{\"blocks\":[" ++ blocks_text false b.blocks b.primary
-unfolding primary_text
-bundle-text b =
-    bundle6-text b
-    ∙ ap (λ (v : List ℕ). codes "{\"blocks\":" ++ (v ++ after-list b.primary (decimal 6))) (list-text block6 b.blocks)
-    ∙ ap (λ (v : List ℕ). codes "{\"blocks\":" ++ v) (list-open (with_commas block6 false b.blocks) (after-list b.primary (decimal 6)))
-    ∙ ap (λ (v : List ℕ). codes "{\"blocks\":[" ++ (with_commas block6 false b.blocks ++ 93 ∷ after-list b.primary v)) six
-
--- a block, by the texts of its octets and of its references
-abbrev block-by : (octets flags kind refs : List ℕ) → List ℕ
-block-by octets flags kind refs =
-    codes "{\"body\":" ++ (octets ++ (codes ",\"flags\":" ++ (flags ++ (codes ",\"kind\":" ++ (kind ++ (codes ",\"refs\":" ++ (refs ++ codes "}")))))))
-
-block-parts : (hex flags kind items rest : List ℕ)
-    → block-by (codes "\"" ++ (hex ++ codes "\"")) flags kind (91 ∷ (items ++ 93 ∷ [])) ++ rest
-    ≡ codes "{\"body\":\"" ++ (hex ++ (codes "\",\"flags\":" ++ (flags ++ (codes ",\"kind\":" ++ (kind ++ (codes ",\"refs\":[" ++ (items ++ (codes "]}" ++ rest))))))))
-block-parts hex flags kind items rest = simp append_assoc
+block-parts : (hex head items rest : List ℕ)
+    → (codes "{\"body\":\"" ++ (hex ++ (head ++ (items ++ codes "]}")))) ++ rest
+    ≡ codes "{\"body\":\"" ++ (hex ++ (head ++ (items ++ (codes "]}" ++ rest))))
+block-parts hex head items rest = simp append_assoc
 
 -- a block, and what stands after it
 block-text : (b : Block6) (blocks : List Block6) (p : Primary6) → IsBytes b.body
     → compact_text (block6 b) ++ blocks_text true blocks p ≡ codes "{\"body\":\"" ++ body_text b.body b blocks p
 block-text b blocks p small =
-    ap (λ (v : List ℕ). v ++ blocks_text true blocks p) (block6-text b)
-    ∙ ap (λ (v : List ℕ). block-by v (decimal b.flags) (decimal b.kind) (compact_text (list_of name b.refs)) ++ blocks_text true blocks p) (quoted-hex b.body small)
-    ∙ ap (λ (v : List ℕ). block-by (codes "\"" ++ (encode_lower b.body ++ codes "\"")) (decimal b.flags) (decimal b.kind) v ++ blocks_text true blocks p) (list-text name b.refs)
-    ∙ block-parts (encode_lower b.body) (decimal b.flags) (decimal b.kind) (with_commas name false b.refs) (blocks_text true blocks p)
-
--- what stands between the octets of a block and its references
-abbrev head-text : (flags kind : ℕ) → List ℕ
-head-text flags kind = codes "\",\"flags\":" ++ (decimal flags ++ (codes ",\"kind\":" ++ (decimal kind ++ codes ",\"refs\":[")))
-
-head-parts : (flags kind rest : List ℕ)
-    → codes "\",\"flags\":" ++ (flags ++ (codes ",\"kind\":" ++ (kind ++ (codes ",\"refs\":[" ++ rest))))
-    ≡ (codes "\",\"flags\":" ++ (flags ++ (codes ",\"kind\":" ++ (kind ++ codes ",\"refs\":[")))) ++ rest
-head-parts flags kind rest = simp append_assoc
-
-abbrev head-and-refs : Block6 → List Block6 → Primary6 → List ℕ
-head-and-refs block blocks p =
-    codes "\",\"flags\":" ++ (decimal block.flags ++ (codes ",\"kind\":" ++ (decimal block.kind ++ (codes ",\"refs\":[" ++ refs_text false block.refs blocks p))))
+    ap (λ (v : List ℕ). v ++ blocks_text true blocks p) (block6-text b small)
+    ∙ block-parts (encode_lower b.body) (head_text b.flags b.kind) (with_commas name false b.refs) (blocks_text true blocks p)
 
 hex-none : encode_lower [] ≡ []
 unfolding encode_with
@@ -117,7 +72,7 @@ new-left octets b view at spells walks =
       shows = there.1;
       left = (
         blocks_text false blocks.0 s.2.0,
-        ap (λ (v : Bundle6). compact_text (bundle6 v)) is ∙ bundle-text (record { primary = s.2.0; blocks = blocks.0 }),
+        ap (λ (v : Bundle6). compact_text (bundle6 v)) is ∙ bundle6-text (record { primary = s.2.0; blocks = blocks.0 }),
         record {
           blocks = blocks.0;
           blocks_lie = record {
@@ -271,21 +226,20 @@ tells-body octets old view size piece before now rest is left some fits part_is 
 
 pub tells-head : (octets : List ℕ) (old : Telling6) (view : BlockView) (before now rest : List ℕ)
     → old.stage ≡ stages.Body view → Left octets old rest → view.after ≤ old.at
-    → now ≡ before ++ (codes "\",\"flags\":" ++ (decimal view.flags ++ (codes ",\"kind\":" ++ (decimal view.kind ++ codes ",\"refs\":["))))
+    → now ≡ before ++ head_text view.flags view.kind
     → Tells octets old (At old (stages.Refs view.count false view.after) view.refs) before now rest
 tells-head octets old view before now rest is left past added =
     let there = rw is at left.left in
     let none : there.left ≡ [] = nil_from_length there.left (omega (arith, there.reach, past)) in
     record {
-      part = head-text there.block.flags there.block.kind;
+      part = head_text there.block.flags there.block.kind;
       later = refs_text false there.block.refs there.blocks left.primary;
       added =
-          added ∙ ap (λ (n : ℕ). before ++ head-text n view.kind) there.shows.flags
-          ∙ ap (λ (n : ℕ). before ++ head-text there.block.flags n) there.shows.kind;
+          added ∙ ap (λ (n : ℕ). before ++ head_text n view.kind) there.shows.flags
+          ∙ ap (λ (n : ℕ). before ++ head_text there.block.flags n) there.shows.kind;
       parts =
           there.text ∙ ap (λ (v : List ℕ). body_text v there.block there.blocks left.primary) none
-          ∙ ap (λ (v : List ℕ). v ++ head-and-refs there.block there.blocks left.primary) hex-none
-          ∙ head-parts (decimal there.block.flags) (decimal there.block.kind) (refs_text false there.block.refs there.blocks left.primary);
+          ∙ ap (λ (v : List ℕ). v ++ (head_text there.block.flags there.block.kind ++ refs_text false there.block.refs there.blocks left.primary)) hex-none;
       left = record {
         primary = left.primary;
         shows = left.shows;

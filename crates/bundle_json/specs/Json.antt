@@ -8,8 +8,10 @@ use Rattle.endpoint.specs.declared.extent.Fragment.{Fragment}
 use Rattle.endpoint.specs.Endpoints.{text_of}
 use Rattle.bundle6.specs.declared.block.Block6.{Block6}
 use Rattle.bundle6.specs.declared.bundle.Bundle6.{Bundle6}
+use Rattle.bundle6.specs.declared.primary.Primary6.{Primary6}
 use Rattle.bundle7.specs.declared.block.Block7.{Block7}
 use Rattle.bundle7.specs.declared.bundle.Bundle7.{Bundle7}
+use Rattle.bundle7.specs.declared.primary.Primary7.{Primary7}
 
 -- ---- the values
 
@@ -50,19 +52,27 @@ block6 block = object (keys_of (
     ∷ (codes "refs", list_of name block.refs)
     ∷ []))
 
+-- what an object ends with in both versions
+abbrev pub ending : (destination report_to source : Endpoint) (flags lifetime : ℕ) → Option Fragment → ℕ → List (List ℕ × Data)
+ending destination report_to source flags lifetime fragment version =
+    (codes "destination", name destination)
+    ∷ (codes "flags", count flags)
+    ∷ (codes "fragment", part fragment)
+    ∷ (codes "lifetime", count lifetime)
+    ∷ (codes "report_to", name report_to)
+    ∷ (codes "source", name source)
+    ∷ (codes "version", count version)
+    ∷ []
+
+-- the members after the blocks
+abbrev pub fields6 : Primary6 → List (List ℕ × Data)
+fields6 primary =
+    (codes "creation", two primary.seconds primary.sequence)
+    ∷ (codes "custodian", name primary.custodian)
+    ∷ ending primary.destination primary.report_to primary.source primary.flags primary.lifetime primary.fragment 6
+
 unfoldable pub bundle6 : Bundle6 → Data
-bundle6 bundle = object (keys_of (
-    (codes "blocks", list_of block6 bundle.blocks)
-    ∷ (codes "creation", two bundle.primary.seconds bundle.primary.sequence)
-    ∷ (codes "custodian", name bundle.primary.custodian)
-    ∷ (codes "destination", name bundle.primary.destination)
-    ∷ (codes "flags", count bundle.primary.flags)
-    ∷ (codes "fragment", part bundle.primary.fragment)
-    ∷ (codes "lifetime", count bundle.primary.lifetime)
-    ∷ (codes "report_to", name bundle.primary.report_to)
-    ∷ (codes "source", name bundle.primary.source)
-    ∷ (codes "version", count 6)
-    ∷ []))
+bundle6 bundle = object (keys_of ((codes "blocks", list_of block6 bundle.blocks) ∷ fields6 bundle.primary))
 
 -- ---- version 7
 
@@ -75,17 +85,15 @@ block7 block = object (keys_of (
     ∷ (codes "number", count block.number)
     ∷ []))
 
+-- the members after the blocks
+abbrev pub fields7 : Primary7 → List (List ℕ × Data)
+fields7 primary =
+    (codes "crc", count primary.crc)
+    ∷ (codes "creation", two primary.millis primary.sequence)
+    ∷ ending primary.destination primary.report_to primary.source primary.flags primary.lifetime primary.fragment 7
+
 -- the payload is the last of the blocks
 unfoldable pub bundle7 : Bundle7 → Data
 bundle7 bundle = object (keys_of (
     (codes "blocks", list_of block7 (bundle.exts ++ bundle.payload ∷ []))
-    ∷ (codes "crc", count bundle.primary.crc)
-    ∷ (codes "creation", two bundle.primary.millis bundle.primary.sequence)
-    ∷ (codes "destination", name bundle.primary.destination)
-    ∷ (codes "flags", count bundle.primary.flags)
-    ∷ (codes "fragment", part bundle.primary.fragment)
-    ∷ (codes "lifetime", count bundle.primary.lifetime)
-    ∷ (codes "report_to", name bundle.primary.report_to)
-    ∷ (codes "source", name bundle.primary.source)
-    ∷ (codes "version", count 7)
-    ∷ []))
+    ∷ fields7 bundle.primary))

@@ -1,5 +1,5 @@
 -- What is left to tell of a bundle of version 6, whose octets are at hand.
-use Rattle.std.specs.Prelude.{◌≡◌, ℕ, ◌+◌, ◌-◌, ◌*◌, ◌<◌, List, [], ◌++◌, length, codes, Bool, true, false}
+use Rattle.std.specs.Prelude.{◌≡◌, ℕ, ◌+◌, ◌-◌, ◌*◌, ◌<◌, List, [], ◌++◌, length, drop, codes, Bool, true, false}
 use Rattle.std.specs.Fmt.{decimal}
 use Rattle.hex.specs.Hex.{encode_lower}
 use Rattle.endpoint.specs.declared.name.Endpoint.{Endpoint}
@@ -10,24 +10,21 @@ use Rattle.bundle_json.specs.declared.walk.BlockView.{BlockView}
 use Rattle.bundle_json.specs.declared.telling6.Telling6.{Telling6}
 use Rattle.bundle_json.specs.declared.telling6.Stage.{Stage}
 use Rattle.bundle_json.specs.declared.telling6.Stage.TheVariants as stages
-use Rattle.bundle_json.specs.Json.{name, part, two, block6}
+use Rattle.bundle_json.specs.Json.{name, block6}
+use Rattle.bundle_json.specs.Frames.{head6}
 use Rattle.bundle_json.specs.Commas.{with_commas}
 use Rattle.bundle_json.specs.Laid.{LiesAt, AreRefs, ShowsPrimary, ShowsBlock, BlocksLie, texts_in}
 
 -- ---- the texts
 
--- what stands after the blocks
+-- what stands after the blocks: the text of the bundle without them but for its front
 unfoldable pub primary_text : Primary6 → List ℕ
-primary_text primary =
-    codes "],\"creation\":" ++ (compact_text (two primary.seconds primary.sequence)
-    ++ (codes ",\"custodian\":" ++ (compact_text (name primary.custodian)
-    ++ (codes ",\"destination\":" ++ (compact_text (name primary.destination)
-    ++ (codes ",\"flags\":" ++ (decimal primary.flags
-    ++ (codes ",\"fragment\":" ++ (compact_text (part primary.fragment)
-    ++ (codes ",\"lifetime\":" ++ (decimal primary.lifetime
-    ++ (codes ",\"report_to\":" ++ (compact_text (name primary.report_to)
-    ++ (codes ",\"source\":" ++ (compact_text (name primary.source)
-    ++ codes ",\"version\":6}")))))))))))))))
+primary_text primary = drop 11 (compact_text (head6 primary))
+
+-- what stands between the octets of a block and its references
+abbrev pub head_text : (flags kind : ℕ) → List ℕ
+head_text flags kind =
+    codes "\",\"flags\":" ++ (decimal flags ++ (codes ",\"kind\":" ++ (decimal kind ++ codes ",\"refs\":[")))
 
 -- blocks, and what stands after them
 abbrev pub blocks_text : Bool → List Block6 → Primary6 → List ℕ
@@ -41,9 +38,7 @@ refs_text later refs blocks primary =
 -- octets of a block, and what stands after them
 abbrev pub body_text : List ℕ → Block6 → List Block6 → Primary6 → List ℕ
 body_text left block blocks primary =
-    encode_lower left ++ (codes "\",\"flags\":" ++ (decimal block.flags
-    ++ (codes ",\"kind\":" ++ (decimal block.kind
-    ++ (codes ",\"refs\":[" ++ refs_text false block.refs blocks primary)))))
+    encode_lower left ++ (head_text block.flags block.kind ++ refs_text false block.refs blocks primary)
 
 -- ---- where the telling stands
 

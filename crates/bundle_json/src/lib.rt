@@ -1,15 +1,18 @@
 //! Bundles as JSON texts, without a tree of values.
 //!
-//! `write6` and `write7` append the text of a bundle to a text: each number, name and body is
-//! written where it stands in the bundle. The text is what `serde_json` writes of the same object: no
-//! space, the keys in alphabetical order. An endpoint is its text, and octets are hex in lower case.
+//! `write6` and `write7` append the text of a bundle to a text, and a `Telling6` tells one of version 6
+//! part by part out of its octets. The text is what `serde_json` writes of the object: no space, the
+//! keys in alphabetical order. An endpoint is its text, and octets are hex in lower case.
+//!
+//! `serde_json` writes the object without its blocks, each block without its octets and references,
+//! and each name. Its texts are cut where these go in, so that no more than one of them is kept.
 #![tactic(auto)]
 
-mod body;
+mod cut;
 mod list;
 mod name;
+mod shown;
 mod telling6;
-mod value;
 mod version6;
 mod version7;
 mod walk;

@@ -4,7 +4,6 @@ ghost use Rattle.std.specs.List.{All};
 ghost use Rattle.std.specs.String.{string_bytes};
 ghost use Rattle.serde_json.specs.Data.{Data};
 ghost use Rattle.serde_json.specs.Written.{compact_text};
-ghost use Rattle.bundle_json.specs.Json.{list_of};
 ghost use Rattle.bundle_json.specs.Commas.{with_commas, comma_after};
 
 use std::alloc::AllocError;
@@ -21,16 +20,6 @@ pub(crate) trait Shown {
     fn show(&self, text: &mut String) -> Result<(), AllocError>
         requires { HasText self.now }
         ensures { OnOk result (string_bytes text.new ≡ string_bytes text.old ++ compact_text (json self.now)) };
-}
-
-/// Writes an array.
-pub(crate) fn write_list<T: Shown>(text: &mut String, items: &[T]) -> Result<(), AllocError>
-    requires { All T.HasText items.now }
-    ensures { OnOk result (string_bytes text.new ≡ string_bytes text.old ++ compact_text (list_of T.json items.now)) }
-{
-    text.push_str("[")?;
-    write_items(text, items)?;
-    text.push_str("]")
 }
 
 /// Writes the items of an array, with commas between them. The result stands before a further item.

@@ -1,19 +1,19 @@
 //! Endpoints by their texts.
-ghost use Rattle.std.specs.Prelude.{◌≡◌, ◌++◌, codes, true, OnOk};
+ghost use Rattle.std.specs.Prelude.{◌≡◌, ◌++◌, codes, IfOk, OnOk};
 ghost use Rattle.std.specs.List.{position};
 ghost use Rattle.std.specs.Option.{option_map};
 ghost use Rattle.std.specs.String.{string_bytes};
-ghost use Rattle.json.specs.Print.{escape, escape_byte, quoted};
 ghost use Rattle.bundle6.specs.Names.{is_nul, text_at, numbered};
-ghost use Rattle.endpoint.specs.Endpoints.{IsEndpoint, is_visible};
-ghost use Rattle.serde_json.specs.Written.{compact_text};
+ghost use Rattle.endpoint.specs.Endpoints.{IsEndpoint, text_of};
 ghost use Rattle.bundle_json.specs.Json.{name};
 ghost use Rattle.bundle_json.specs.Laid.{Names, AreVisible, pair_of};
 
 use crate::list::Shown;
+use crate::shown::write_string;
 use crate::walk::Pair;
 use endpoint::Endpoint;
-use std::alloc::AllocError;
+use std::alloc::{AllocError, Global};
+use std::str;
 
 impl Shown for Endpoint {
     ghost json = { name };
@@ -21,44 +21,37 @@ impl Shown for Endpoint {
     ghost HasText = { IsEndpoint };
 
     fn show(&self, text: &mut String) -> Result<(), AllocError> {
-        write_name(text, self)
+        let name = name_of(*text.allocator(), self)?;
+        write_string(text, name.as_str())
     }
 }
 
-/// Writes an endpoint's text, in quotes.
-pub(crate) fn write_name(text: &mut String, endpoint: &Endpoint) -> Result<(), AllocError>
+/// An endpoint's text.
+pub(crate) fn name_of(alloc: Global, endpoint: &Endpoint) -> Result<String, AllocError>
     requires { IsEndpoint endpoint.now }
-    ensures { OnOk result (string_bytes text.new ≡ string_bytes text.old ++ compact_text (name endpoint.now)) }
+    ensures { IfOk result (λ name. string_bytes name ≡ text_of endpoint.now) }
 {
     match endpoint {
-        Endpoint::Null => text.push_str(r#""dtn:none""#),
-        Endpoint::Ipn { node, service } => write!(text, r#""ipn:{node}.{service}""#),
-        Endpoint::Dtn(ssp) => {
-            text.push_str(r#""dtn:"#)?;
-            write_visible(text, ssp.as_slice())?;
-            text.push_str("\"")
-        }
+        Endpoint::Null => String::from_str(alloc, "dtn:none"),
+        Endpoint::Ipn { node, service } => format!(in alloc; "ipn:{node}.{service}"),
+        Endpoint::Dtn(ssp) => joined(alloc, b"dtn", ssp.as_slice()),
     }
 }
 
-/// Writes the endpoint that two numbers name, in quotes; nothing where they name none.
-pub(crate) fn write_named(
-    text: &mut String,
-    dictionary: &[u8],
-    pair: Pair,
-) -> Result<(), AllocError>
+/// The text of the endpoint that two numbers name; another where they name none.
+pub(crate) fn named(alloc: Global, dictionary: &[u8], pair: Pair) -> Result<String, AllocError>
     ensures { (endpoint : Endpoint) → Names dictionary.now pair endpoint
-        → OnOk result (string_bytes text.new ≡ string_bytes text.old ++ compact_text (name endpoint)) }
+        → IfOk result (λ name. string_bytes name ≡ text_of endpoint) }
 {
     if dictionary.is_empty() {
-        return write_name(text, &numbered(pair));
+        return name_of(alloc, &numbered(pair));
     }
     match text_in(dictionary, pair.scheme) {
         Some(scheme) => match text_in(dictionary, pair.ssp) {
-            Some(ssp) => write_texts(text, scheme, ssp),
-            None => Ok(()),
+            Some(ssp) => joined(alloc, scheme, ssp),
+            None => Ok(String::new(alloc)),
         },
-        None => Ok(()),
+        None => Ok(String::new(alloc)),
     }
 }
 
@@ -73,16 +66,27 @@ fn numbered(pair: Pair) -> Endpoint
     }
 }
 
-/// Writes an endpoint by its scheme and its scheme-specific part, in quotes.
-fn write_texts(text: &mut String, scheme: &[u8], ssp: &[u8]) -> Result<(), AllocError>
-    ensures { AreVisible scheme.now → AreVisible ssp.now → OnOk result (string_bytes text.new
-        ≡ string_bytes text.old ++ quoted (scheme.now ++ (codes ":" ++ ssp.now))) }
+/// A scheme and a scheme-specific part of visible octets, with the colon between them.
+fn joined(alloc: Global, scheme: &[u8], ssp: &[u8]) -> Result<String, AllocError>
+    ensures { AreVisible scheme.now → AreVisible ssp.now
+        → IfOk result (λ name. string_bytes name ≡ scheme.now ++ (codes ":" ++ ssp.now)) }
 {
-    text.push_str("\"")?;
-    write_visible(text, scheme)?;
-    text.push_str(":")?;
-    write_visible(text, ssp)?;
-    text.push_str("\"")
+    let room = scheme.len().saturating_add(ssp.len()).saturating_add(1);
+    let mut name = String::with_capacity(alloc, room)?;
+    name.push_str(visible(scheme))?;
+    name.push_str(":")?;
+    name.push_str(visible(ssp))?;
+    Ok(name)
+}
+
+/// Visible octets as text.
+fn visible(octets: &[u8]) -> &str
+    ensures { AreVisible octets.now → result.now ≡ octets.now }
+{
+    match str::from_utf8(octets) {
+        Ok(text) => text,
+        Err(_) => "",
+    }
 }
 
 #[tactic(auto, unfolding(bundle6::specs::Names::text_at, bundle6::specs::Names::up_to_nul))]
@@ -105,28 +109,4 @@ fn nul_in(text: &[u8]) -> Option<usize>
     ensures { result ≡ position is_nul text.now }
 {
     text.iter().position(|octet| *octet == 0)
-}
-
-/// Writes visible octets as they stand in a JSON string.
-fn write_visible(text: &mut String, octets: &[u8]) -> Result<(), AllocError>
-    ensures { AreVisible octets.now
-        → OnOk result (string_bytes text.new ≡ string_bytes text.old ++ escape octets.now) }
-{
-    'octets: for octet in octets {
-        write_one(text, *octet)?;
-    }
-    Ok(())
-}
-
-/// Writes a visible octet as it stands in a JSON string: a quote and a backslash have a backslash
-/// before them.
-fn write_one(text: &mut String, octet: u8) -> Result<(), AllocError>
-    ensures { is_visible octet ≡ true
-        → OnOk result (string_bytes text.new ≡ string_bytes text.old ++ escape_byte octet) }
-{
-    match octet {
-        b'"' => text.push_str("\\\""),
-        b'\\' => text.push_str("\\\\"),
-        _ => text.push(char::from(octet)),
-    }
 }

@@ -1,22 +1,24 @@
 //! Telling a bundle of version 6 part by part, out of its octets.
-ghost use Rattle.std.specs.Prelude.{◌≡◌, ◌++◌, ◌<◌, ℕ, List, [], codes, if◌then◌else◌, OnOk, true, false};
+ghost use Rattle.std.specs.Prelude.{◌≡◌, ◌++◌, ◌<◌, ℕ, List, [], codes, if◌then◌else◌, IfOk, OnOk, true, false};
 ghost use Rattle.std.specs.String.{string_bytes};
 ghost use Rattle.serde_json.specs.Written.{compact_text};
 ghost use Rattle.bundle6.specs.declared.bundle.Bundle6.{Bundle6};
 ghost use Rattle.bundle6.specs.declared.primary.Primary6.{Primary6};
 ghost use Rattle.bundle6.specs.Legal.{Spells6};
 ghost use Rattle.bundle_json.specs.Json.{bundle6};
-ghost use Rattle.bundle_json.specs.Telling.{Left, Tells, steps_left, primary_text};
+ghost use Rattle.bundle_json.specs.Frames.{head6};
+ghost use Rattle.bundle_json.specs.Telling.{Left, Tells, steps_left, head_text, primary_text};
 ghost use Rattle.bundle_json.specs.Laid.{ShowsPrimary};
 
-use crate::body::write_hex;
-use crate::name::write_named;
-use crate::value::{write_part, write_two};
+use crate::cut::{BLOCKS, BODY, REFS_END, write_between};
+use crate::name::named;
+use crate::shown::{Frame6, Head6, Rest, Two, write_string};
 use crate::walk::{BlockView, PrimaryView, block, pair_at, part_of, primary};
-use std::alloc::AllocError;
+use hex_text::write_hex;
+use std::alloc::{AllocError, Global};
 
 /// How many octets of a block are told at a time.
-const BODY: usize = 4096;
+const PIECE: usize = 4096;
 
 /// After how many octets of text a part ends, or after how many steps.
 const PART: usize = 32_768;
@@ -115,7 +117,7 @@ impl Telling6 {
         ensures { (octets rest : List ℕ) → Left octets self.old rest → OnOk result
             (Tells octets self.old self.new (string_bytes text.old) (string_bytes text.new) rest) }
     {
-        text.push_str(r#"{"blocks":["#)?;
+        text.push_str(BLOCKS)?;
         self.stage = Stage::Block { later: false };
         Ok(())
     }
@@ -145,16 +147,12 @@ impl Telling6 {
             (Tells octets.now self.old self.new (string_bytes text.old) (string_bytes text.new) rest) }
     {
         if self.at < view.after {
-            let size = BODY.min(view.after - self.at);
+            let size = PIECE.min(view.after - self.at);
             write_hex(text, part_of(octets, self.at, size))?;
             self.at += size;
             return Ok(());
         }
-        write!(
-            text,
-            r#"","flags":{},"kind":{},"refs":["#,
-            view.flags, view.kind
-        )?;
+        write_head(text, view.flags, view.kind)?;
         self.at = view.refs;
         self.stage = Stage::Refs {
             left: view.count,
@@ -178,14 +176,15 @@ impl Telling6 {
             (Tells octets.now self.old self.new (string_bytes text.old) (string_bytes text.new) rest) }
     {
         if left == 0 {
-            text.push_str("]}")?;
+            text.push_str(REFS_END)?;
             self.at = after;
             self.stage = Stage::Block { later: true };
             return Ok(());
         }
-        let (named, at) = pair_at(octets, self.at);
+        let (pair, at) = pair_at(octets, self.at);
         text.push_str(comma(later))?;
-        write_named(text, self.primary.texts.lent(octets), named)?;
+        let name = named(*text.allocator(), self.primary.texts.lent(octets), pair)?;
+        write_string(text, name.as_str())?;
         self.at = at;
         self.stage = Stage::Refs {
             left: left - 1,
@@ -214,23 +213,42 @@ fn comma(later: bool) -> &'static str
     if later { "," } else { "" }
 }
 
+/// What stands between the octets of a block and its references.
+fn write_head(text: &mut String, flags: u64, kind: u8) -> Result<(), AllocError>
+    ensures { OnOk result (string_bytes text.new ≡ string_bytes text.old ++ head_text flags kind) }
+{
+    let frame = Frame6 { flags, kind };
+    let frame_text = frame.text(*text.allocator())?;
+    write_between(text, frame_text.as_str(), BODY, REFS_END)
+}
+
 /// What stands after the blocks.
 fn write_primary(octets: &[u8], view: &PrimaryView, text: &mut String) -> Result<(), AllocError>
     ensures { (primary : Primary6) → ShowsPrimary octets.now view.now primary
         → OnOk result (string_bytes text.new ≡ string_bytes text.old ++ primary_text primary) }
 {
+    let head_text = head(*text.allocator(), octets, view)?;
+    write_between(text, head_text.as_str(), BLOCKS, "")
+}
+
+/// The text without the blocks.
+fn head(alloc: Global, octets: &[u8], view: &PrimaryView) -> Result<String, AllocError>
+    ensures { (primary : Primary6) → ShowsPrimary octets.now view.now primary
+        → IfOk result (λ text. string_bytes text ≡ compact_text (head6 primary)) }
+{
     let dictionary = view.texts.lent(octets);
-    text.push_str(r#"],"creation":"#)?;
-    write_two(text, view.seconds, view.sequence)?;
-    text.push_str(r#","custodian":"#)?;
-    write_named(text, dictionary, view.names.custodian)?;
-    text.push_str(r#","destination":"#)?;
-    write_named(text, dictionary, view.names.destination)?;
-    write!(text, r#","flags":{},"fragment":"#, view.flags)?;
-    write_part(text, view.fragment)?;
-    write!(text, r#","lifetime":{},"report_to":"#, view.lifetime)?;
-    write_named(text, dictionary, view.names.report_to)?;
-    text.push_str(r#","source":"#)?;
-    write_named(text, dictionary, view.names.source)?;
-    text.push_str(r#","version":6}"#)
+    let head = Head6 {
+        creation: Two(view.seconds, view.sequence),
+        custodian: named(alloc, dictionary, view.names.custodian)?,
+        rest: Rest {
+            destination: named(alloc, dictionary, view.names.destination)?,
+            flags: view.flags,
+            fragment: view.fragment,
+            lifetime: view.lifetime,
+            report_to: named(alloc, dictionary, view.names.report_to)?,
+            source: named(alloc, dictionary, view.names.source)?,
+            version: 6,
+        },
+    };
+    head.text(alloc)
 }

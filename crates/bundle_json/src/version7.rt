@@ -1,48 +1,50 @@
 //! Bundles of version 7.
-ghost use Rattle.std.specs.Prelude.{◌≡◌, ◌++◌, ◌∷◌, [], OnOk};
+ghost use Rattle.std.specs.Prelude.{◌≡◌, ◌++◌, OnOk, IfOk};
 ghost use Rattle.std.specs.String.{string_bytes};
 ghost use Rattle.serde_json.specs.Written.{compact_text};
-ghost use Rattle.bundle7.specs.Legal.{IsLegal7};
-ghost use Rattle.bundle_json.specs.Json.{list_of, block7, bundle7};
+ghost use Rattle.bundle7.specs.Legal.{IsLegal7, IsLegalPrimary};
+ghost use Rattle.bundle_json.specs.Json.{block7, bundle7};
+ghost use Rattle.bundle_json.specs.Frames.{head7};
 
-use crate::body::write_body;
+use crate::cut::{BLOCKS, BODY, write_between, write_octets};
 use crate::list::{Shown, write_items};
-use crate::name::write_name;
-use crate::value::{write_part, write_two};
-use bundle7::{Block7, Bundle7};
-use std::alloc::AllocError;
+use crate::name::name_of;
+use crate::shown::{Frame7, Head7, Rest, Two};
+use bundle7::{Block7, Bundle7, Primary7};
+use std::alloc::{AllocError, Global};
 
 /// Appends the JSON text of a bundle of version 7. Where memory runs out, a part of it may stand there.
 pub fn write7(text: &mut String, bundle: &Bundle7) -> Result<(), AllocError>
     requires { IsLegal7 bundle.now }
     ensures { OnOk result (string_bytes text.new ≡ string_bytes text.old ++ compact_text (bundle7 bundle.now)) }
 {
-    let primary = &bundle.primary;
-    text.push_str(r#"{"blocks":"#)?;
-    write_blocks(text, bundle.exts.as_slice(), &bundle.payload)?;
-    write!(text, r#","crc":{},"creation":"#, primary.crc)?;
-    write_two(text, primary.millis, primary.sequence)?;
-    text.push_str(r#","destination":"#)?;
-    write_name(text, &primary.destination)?;
-    write!(text, r#","flags":{},"fragment":"#, primary.flags)?;
-    write_part(text, primary.fragment)?;
-    write!(text, r#","lifetime":{},"report_to":"#, primary.lifetime)?;
-    write_name(text, &primary.report_to)?;
-    text.push_str(r#","source":"#)?;
-    write_name(text, &primary.source)?;
-    text.push_str(r#","version":7}"#)
+    let head_text = head(*text.allocator(), &bundle.primary)?;
+    text.push_str(BLOCKS)?;
+    let comma = write_items(text, bundle.exts.as_slice())?;
+    text.push_str(comma)?;
+    bundle.payload.show(text)?;
+    write_between(text, head_text.as_str(), BLOCKS, "")
 }
 
-/// Writes the blocks, the payload last.
-fn write_blocks(text: &mut String, exts: &[Block7], payload: &Block7) -> Result<(), AllocError>
-    ensures { OnOk result (string_bytes text.new
-        ≡ string_bytes text.old ++ compact_text (list_of block7 (exts.now ++ payload.now ∷ []))) }
+/// The text without the blocks.
+fn head(alloc: Global, primary: &Primary7) -> Result<String, AllocError>
+    requires { IsLegalPrimary primary.now }
+    ensures { IfOk result (λ text. string_bytes text ≡ compact_text (head7 primary.now)) }
 {
-    text.push_str("[")?;
-    let comma = write_items(text, exts)?;
-    text.push_str(comma)?;
-    payload.show(text)?;
-    text.push_str("]")
+    let head = Head7 {
+        crc: primary.crc,
+        creation: Two(primary.millis, primary.sequence),
+        rest: Rest {
+            destination: name_of(alloc, &primary.destination)?,
+            flags: primary.flags,
+            fragment: primary.fragment,
+            lifetime: primary.lifetime,
+            report_to: name_of(alloc, &primary.report_to)?,
+            source: name_of(alloc, &primary.source)?,
+            version: 7,
+        },
+    };
+    head.text(alloc)
 }
 
 impl Shown for Block7 {
@@ -51,12 +53,15 @@ impl Shown for Block7 {
     ghost HasText = { λ _. Unit {0} };
 
     fn show(&self, text: &mut String) -> Result<(), AllocError> {
-        text.push_str(r#"{"body":"#)?;
-        write_body(text, self.body.as_slice())?;
-        write!(
-            text,
-            r#","crc":{},"flags":{},"kind":{},"number":{}}}"#,
-            self.crc, self.flags, self.kind, self.number
-        )
+        let frame = Frame7 {
+            crc: self.crc,
+            flags: self.flags,
+            kind: self.kind,
+            number: self.number,
+        };
+        let frame_text = frame.text(*text.allocator())?;
+        text.push_str(BODY)?;
+        write_octets(text, self.body.as_slice())?;
+        write_between(text, frame_text.as_str(), BODY, "")
     }
 }

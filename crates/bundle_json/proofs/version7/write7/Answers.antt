@@ -1,40 +1,17 @@
-use Rattle.std.proofs.Common.{◌++◌, ◌∷◌, [], codes, decimal, sym, ap, ◌∙◌}
-use Rattle.std.specs.String.{string_bytes}
-use Rattle.serde_json.specs.Written.{compact_text}
-use Rattle.bundle_json.specs.Json.{name, part, two, list_of, bundle7, block7}
-use Rattle.bundle_json.proofs.ObjectLemmas.{ends, step, step-number, bundle7-text, seven}
+use Rattle.std.proofs.Common.{◌++◌, ◌∷◌, [], codes, false, ◌∙◌}
+use Rattle.std.proofs.lemmas.Result.{on_ok_weaker}
+use Rattle.bundle_json.specs.Json.{block7}
+use Rattle.bundle_json.specs.Commas.{with_commas}
+use Rattle.bundle_json.proofs.ListLemmas.{items-last}
+use Rattle.bundle_json.proofs.ObjectLemmas.{head7-text, bundle7-text, after7, three-pieces, to-end}
 use Rattle.bundle_json.proofs.version7.write7.Goals as goal
 
 pub returns : goal.returns
 returns c =
     let b = c.args.bundle.now in
-    let last = string_bytes c.write_name-3.new.text in
-    let r0 = codes ",\"version\":" ++ (decimal 7 ++ codes "}") in
-    let r1 = compact_text (name b.primary.source) ++ r0 in
-    let r2 = codes ",\"source\":" ++ r1 in
-    let r3 = compact_text (name b.primary.report_to) ++ r2 in
-    let r4 = codes ",\"lifetime\":" ++ (decimal b.primary.lifetime ++ (codes ",\"report_to\":" ++ r3)) in
-    let r5 = compact_text (part b.primary.fragment) ++ r4 in
-    let r6 = codes ",\"flags\":" ++ (decimal b.primary.flags ++ (codes ",\"fragment\":" ++ r5)) in
-    let r7 = compact_text (name b.primary.destination) ++ r6 in
-    let r8 = codes ",\"destination\":" ++ r7 in
-    let r9 = compact_text (two b.primary.millis b.primary.sequence) ++ r8 in
-    let r10 = codes ",\"crc\":" ++ (decimal b.primary.crc ++ (codes ",\"creation\":" ++ r9)) in
-    let r11 = compact_text (list_of block7 (b.exts ++ b.payload ∷ [])) ++ r10 in
-    let r12 = codes "{\"blocks\":" ++ r11 in
-    ends c.push_str-4.result (string_bytes c.args.text.now) last (string_bytes c.push_str-4.new.self) (codes ",\"version\":7}") (compact_text (bundle7 b)) c.push_str-4.ensures.bytes
-    (ap (λ s. last ++ (codes ",\"version\":" ++ (s ++ codes "}"))) (sym seven)
-    ∙ step (string_bytes c.push_str-3.new.self) (string_bytes c.write_name-3.new.text) (compact_text (name b.primary.source)) r0 c.in_ok-write_name-3.ensures
-    ∙ step (string_bytes c.write_name-2.new.text) (string_bytes c.push_str-3.new.self) (codes ",\"source\":") r1 c.in_ok-push_str-3.ensures.bytes
-    ∙ step (string_bytes c.write-3.new.self) (string_bytes c.write_name-2.new.text) (compact_text (name b.primary.report_to)) r2 c.in_ok-write_name-2.ensures
-    ∙ step-number (string_bytes c.write_part.new.text) (string_bytes c.write-3.new.self) (codes ",\"lifetime\":") (decimal b.primary.lifetime) (codes ",\"report_to\":") r3 c.in_ok-write-3.ensures.bytes
-    ∙ step (string_bytes c.write-2.new.self) (string_bytes c.write_part.new.text) (compact_text (part b.primary.fragment)) r4 c.in_ok-write_part.ensures
-    ∙ step-number (string_bytes c.write_name.new.text) (string_bytes c.write-2.new.self) (codes ",\"flags\":") (decimal b.primary.flags) (codes ",\"fragment\":") r5 c.in_ok-write-2.ensures.bytes
-    ∙ step (string_bytes c.push_str-2.new.self) (string_bytes c.write_name.new.text) (compact_text (name b.primary.destination)) r6 c.in_ok-write_name.ensures
-    ∙ step (string_bytes c.write_two.new.text) (string_bytes c.push_str-2.new.self) (codes ",\"destination\":") r7 c.in_ok-push_str-2.ensures.bytes
-    ∙ step (string_bytes c.write.new.self) (string_bytes c.write_two.new.text) (compact_text (two b.primary.millis b.primary.sequence)) r8 c.in_ok-write_two.ensures
-    ∙ step-number (string_bytes c.write_blocks.new.text) (string_bytes c.write.new.self) (codes ",\"crc\":") (decimal b.primary.crc) (codes ",\"creation\":") r9 c.in_ok-write.ensures.bytes
-    ∙ step (string_bytes c.push_str.new.self) (string_bytes c.write_blocks.new.text) (compact_text (list_of block7 (b.exts ++ b.payload ∷ []))) r10
-    (c.in_ok-write_blocks.ensures ∙ ap (λ exts. string_bytes c.push_str.new.self ++ compact_text (list_of block7 (exts ++ b.payload ∷ []))) c.as_slice.ensures)
-    ∙ step (string_bytes c.args.text.now) (string_bytes c.push_str.new.self) (codes "{\"blocks\":") r11 c.in_ok-push_str.ensures.bytes
-    ∙ sym (ap (λ s. string_bytes c.args.text.now ++ s) (bundle7-text b)))
+    let blocks = items-last block7 b.exts b.payload _ _ _ _ _ (rw c.as_slice.ensures at c.in_ok-comma.ensures.written)
+    (rw c.as_slice.ensures at c.in_ok-comma.ensures.comma) c.in_ok-push_str-2.ensures.bytes c.in_ok-show.ensures in
+    on_ok_weaker c.write_between.result
+    (λ written. three-pieces _ _ _ _ (codes "{\"blocks\":[") (with_commas block7 false (b.exts ++ b.payload ∷ [])) (after7 b) _ (bundle7-text b)
+    c.in_ok-push_str.ensures.bytes blocks written)
+    (c.write_between.ensures (after7 b) (to-end _ _ (codes "{\"blocks\":[") (after7 b) c.as_str.ensures.value (c.in_ok-head_text.ensures ∙ head7-text b)))

@@ -14,4 +14,4 @@ returns-then-self-view c = λ rest left.
 
 pub returns : goal.returns
 returns c = λ rest left.
-    tells-head c.args.octets.now c.args.self.now c.args.view _ _ rest c.requires left (omega (arith, c.if-self-view.false)) c.in_ok-write.ensures.bytes
+    tells-head c.args.octets.now c.args.self.now c.args.view _ _ rest c.requires left (omega (arith, c.if-self-view.false)) c.in_ok-write_head.ensures

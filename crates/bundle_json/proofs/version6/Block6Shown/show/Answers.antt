@@ -1,13 +1,19 @@
-use Rattle.std.proofs.Common.{codes, append_assoc}
+use Rattle.std.proofs.Common.{codes, false, ◌∙◌}
 use Rattle.std.specs.String.{string_bytes}
+use Rattle.hex.specs.Hex.{IsBytes, encode_lower}
 use Rattle.serde_json.specs.Written.{compact_text}
-use Rattle.bundle_json.specs.Json.{block6}
-use Rattle.bundle_json.proofs.ObjectLemmas.{ends, block6-text}
+use Rattle.bundle_json.specs.Json.{name, block6}
+use Rattle.bundle_json.specs.Commas.{with_commas}
+use Rattle.bundle_json.specs.Telling.{head_text}
+use Rattle.bundle_json.proofs.ObjectLemmas.{ends, frame6-text, block6-text, five-pieces}
 use Rattle.bundle_json.proofs.version6.Block6Shown.show.Goals as goal
 
 pub returns : goal.returns
 returns c =
-    ends c.push_str-2.result (string_bytes c.args.text.now) (string_bytes c.write_list.new.text) (string_bytes c.push_str-2.new.self) (codes "}")
-    (compact_text (block6 c.args.self.now)) c.push_str-2.ensures.bytes
-    (rw (block6-text c.args.self.now)
-    (simp (c.in_ok-write_list.ensures, c.as_slice-2.ensures, c.in_ok-write.ensures.bytes, c.in_ok-write_body.ensures, c.as_slice.ensures, c.in_ok-push_str.ensures.bytes, append_assoc)))
+    let b = c.args.self.now in
+    let small : IsBytes b.body = rw c.as_slice.ensures at c.in_ok-write_octets.ensures.small in
+    let head = c.in_ok-write_between.ensures (head_text b.flags b.kind) (c.as_str.ensures.value ∙ c.in_ok-frame_text.ensures ∙ frame6-text b.flags b.kind) in
+    ends c.push_str-2.result (string_bytes c.args.text.now) (string_bytes c.write_items.new.text) (string_bytes c.push_str-2.new.self) (codes "]}")
+    (compact_text (block6 b)) c.push_str-2.ensures.bytes
+    (five-pieces _ _ _ _ _ (codes "{\"body\":\"") (encode_lower b.body) (head_text b.flags b.kind) (with_commas name false b.refs) (codes "]}") _ (block6-text b small)
+    c.in_ok-push_str.ensures.bytes (rw c.as_slice.ensures at c.in_ok-write_octets.ensures.written) head (rw c.as_slice-2.ensures at c.in_ok-write_items.ensures.written))

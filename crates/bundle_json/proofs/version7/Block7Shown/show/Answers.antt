@@ -1,16 +1,14 @@
-use Rattle.std.proofs.Common.{◌≡◌, ℕ, List, ◌++◌, codes, decimal, sym, subst, append_assoc}
-use Rattle.std.specs.Prelude.{OnOk}
-use Rattle.std.specs.String.{string_bytes}
-use Rattle.serde_json.specs.Written.{compact_text}
-use Rattle.bundle_json.specs.Json.{body}
-use Rattle.bundle_json.proofs.ObjectLemmas.{onward, block7-text}
+use Rattle.std.proofs.Common.{codes, ◌∙◌}
+use Rattle.std.proofs.lemmas.Result.{on_ok_weaker}
+use Rattle.hex.specs.Hex.{IsBytes, encode_lower}
+use Rattle.bundle_json.proofs.ObjectLemmas.{frame7-text, block7-text, after_body7, three-pieces, to-end}
 use Rattle.bundle_json.proofs.version7.Block7Shown.show.Goals as goal
 
 pub returns : goal.returns
 returns c =
     let b = c.args.self.now in
-    let rest = codes ",\"crc\":" ++ (decimal b.crc ++ (codes ",\"flags\":" ++ (decimal b.flags ++ (codes ",\"kind\":" ++ (decimal b.kind ++ (codes ",\"number\":" ++ (decimal b.number ++ codes "}"))))))) in
-    let before : string_bytes c.write_body.new.text ≡ string_bytes c.args.text.now ++ (codes "{\"body\":" ++ compact_text (body b.body)) =
-    simp (c.in_ok-write_body.ensures, c.as_slice.ensures, c.in_ok-push_str.ensures.bytes, append_assoc) in
-    subst (λ (s : List ℕ). OnOk c.write.result (string_bytes c.write.new.self ≡ string_bytes c.args.text.now ++ s)) (sym (block7-text b))
-    (onward c.write.result (string_bytes c.args.text.now) (string_bytes c.write_body.new.text) (string_bytes c.write.new.self) (codes "{\"body\":") (compact_text (body b.body)) rest before c.write.ensures.bytes)
+    let small : IsBytes b.body = rw c.as_slice.ensures at c.in_ok-write_octets.ensures.small in
+    on_ok_weaker c.write_between.result
+    (λ written. three-pieces _ _ _ _ (codes "{\"body\":\"") (encode_lower b.body) (after_body7 b) _ (block7-text b small)
+    c.in_ok-push_str.ensures.bytes (rw c.as_slice.ensures at c.in_ok-write_octets.ensures.written) written)
+    (c.write_between.ensures (after_body7 b) (to-end _ _ (codes "{\"body\":\"") (after_body7 b) c.as_str.ensures.value (c.in_ok-frame_text.ensures ∙ frame7-text b)))

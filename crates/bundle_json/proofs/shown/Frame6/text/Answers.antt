@@ -1,0 +1,11 @@
+use Rattle.std.proofs.Common.{refl}
+use Rattle.std.proofs.lemmas.Result.{IfOk-weaker}
+use Rattle.std.specs.String.{string_bytes}
+use Rattle.serde_json.proofs.FreeTexts.{text_of_value}
+use Rattle.bundle_json.specs.Frames.{frame6}
+use Rattle.bundle_json.proofs.shown.Frame6.text.Goals as goal
+
+pub returns : goal.returns
+returns c =
+    let frame = c.args.self.now in
+    IfOk-weaker c.json_text.result _ _ (λ text sent. text_of_value (frame6 frame.flags frame.kind) sent.0 (string_bytes text) sent.1 sent.2 refl) c.json_text.ensures

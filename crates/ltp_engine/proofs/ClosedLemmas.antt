@@ -1,12 +1,11 @@
 -- Closed numbers.
 
-use Rattle.std.proofs.Common.{◌≡◌, ℕ, ◌+◌, ◌<◌, ◌≤◌, Bool, true, false, not, ◌==◌, ◌&&◌, ◌||◌, List, [], ◌∷◌, length, filter, refl, sym, ◌∙◌, ap, arith, subst, nat_eq, if◌then◌else◌, ◌++◌, ◌^◌, ◌-◌}
+use Rattle.std.proofs.Common.{◌≡◌, ℕ, ◌+◌, ◌<◌, ◌≤◌, Bool, true, false, ◌&&◌, ◌||◌, List, [], ◌∷◌, length, refl, sym, ◌∙◌, ap, arith, subst, if◌then◌else◌, ◌++◌, ◌^◌, ◌-◌}
 use Rattle.std.proofs.Common.{inl, inr}
 use Rattle.std.proofs.lemmas.Bool.{ne_eqb, cases_lt}
 use Rattle.std.proofs.lemmas.List.{get_or_past, length-append}
 use Rattle.spans.specs.Places.{is_covered, all_covered}
 use Rattle.spans.proofs.Places.{all_covered-true, all_covered-from}
-use Rattle.ltp_session.specs.Engine.{untouched, untouched_all}
 use Rattle.ltp_engine.specs.declared.closed.TheConstants.{LAST}
 use Rattle.ltp_engine.specs.Closed.{ClosedValue, is_among, also_closed, all_closed, begins_run}
 
@@ -39,21 +38,7 @@ has-past n c last limit = rw (past, ne_eqb (n + 1) LAST (λ h. absurd (omega (ar
   past : is_covered c.places (n + 1) ≡ false
   past = get_or_past c.places (n + 1) false (omega (arith, last, limit))
 
--- keeping all but a number
-pub filter-untouched : (n : ℕ) (numbers : List ℕ) → filter (λ m. not (nat_eq m n)) numbers ≡ untouched n numbers
-unfolding untouched
-filter-untouched n [] = refl
-filter-untouched n (m ∷ numbers) = by_test (m == n) refl (filter-untouched n numbers) where
-  by_test : (same : Bool) → (m == n) ≡ same → filter (λ k. not (nat_eq k n)) numbers ≡ untouched n numbers
-      → filter (λ k. not (nat_eq k n)) (m ∷ numbers) ≡ (if same then untouched n numbers else m ∷ untouched n numbers)
-  by_test true is rest = rw (is, rest) refl
-  by_test false is rest = rw (is, rest) refl
-
 -- the last of some numbers, first
-pub untouched_all-last : (numbers : List ℕ) (n : ℕ) (touched : List ℕ) → untouched_all (numbers ++ n ∷ []) touched ≡ untouched_all numbers (untouched n touched)
-untouched_all-last [] n touched = refl
-untouched_all-last (m ∷ numbers) n touched = ap (λ t. untouched m t) (untouched_all-last numbers n touched)
-
 pub all_closed-last : (numbers : List ℕ) (n : ℕ) (c : ClosedValue) → all_closed (numbers ++ n ∷ []) c ≡ all_closed numbers (also_closed n c)
 unfolding all_closed
 all_closed-last [] n c = refl
@@ -69,16 +54,13 @@ runs-grow n c = by_tests (begins_run c n) (is_among c (n + 1)) c.runs where
   by_tests false true runs = omega arith
   by_tests false false runs = omega arith
 
-pub record ClosingStep (numbers left touches forgotten : List ℕ) (before after_it : ClosedValue) : Type 0 where
-  pub touched : untouched_all numbers touches ≡ untouched_all left forgotten
+pub record ClosingStep (numbers left : List ℕ) (before after_it : ClosedValue) : Type 0 where
   pub closed : all_closed numbers before ≡ all_closed left after_it
   pub runs : after_it.runs + length left < 2 ^ 32
 
-pub closing-step : (numbers left : List ℕ) (n : ℕ) (touched forgotten : List ℕ) (before after_it : ClosedValue) → numbers ≡ left ++ n ∷ []
-    → forgotten ≡ untouched n touched → after_it ≡ also_closed n before → before.runs + length numbers < 2 ^ 32
-    → ClosingStep numbers left touched forgotten before after_it
-closing-step numbers left n touched forgotten before after_it is forgets closes room = record {
-  touched = rw (is, forgets) (untouched_all-last left n touched);
+pub closing-step : (numbers left : List ℕ) (n : ℕ) (before after_it : ClosedValue) → numbers ≡ left ++ n ∷ []
+    → after_it ≡ also_closed n before → before.runs + length numbers < 2 ^ 32 → ClosingStep numbers left before after_it
+closing-step numbers left n before after_it is closes room = record {
   closed = rw (is, closes) (all_closed-last left n before);
   runs =
       let more : length numbers ≡ length left + 1 = ap (λ xs. length xs) is ∙ length-append left (n ∷ []) in

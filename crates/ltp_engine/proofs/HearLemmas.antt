@@ -44,7 +44,7 @@ use Rattle.ltp_engine.proofs.InboundLemmas.{opens}
 use Rattle.ltp_engine.proofs.BlockLemmas.{all-settled, all-find, sender-within, receiver-within}
 use Rattle.ltp_engine.proofs.KeepLemmas.{MayOpen, sound-step, length-put_found, length-without}
 use Rattle.ltp_engine.proofs.ShowLemmas.{StepsIn, shows-step, same-place}
-use Rattle.ltp_engine.proofs.EngineLemmas.{inbound-is}
+use Rattle.ltp_engine.proofs.ChangeLemmas.{in-order}
 
 either : {X : Type 0} (P : X → Type 0) (b : Bool) (x y : X) → P x → P y → P (if b then x else y)
 either P true x y at_x at_y = at_x
@@ -250,10 +250,10 @@ all-room most i (Some m) all = all-settled (ReceivesAtMost most) m ends i.receiv
 
 pub peer-whole : (p : Party) (next n now : ℕ) (content : ContentValue) (senders : List (ℕ × SessionValue Sending)) (old new : Inbound) (told : Option (Option ℕ × Step))
     → p.most ≡ BLOCK_MAX → n ≤ LAST → AreWhole p next senders old
-    → ReceiverDoes p.peer p.policy n (receiver_answers p.policy (place_in (inbound_of old) BLOCK_MAX n) (find n (table_of old.receivers.entries)) content now) old new told
+    → ReceiverDoes p.peer p.policy n (receiver_answers p.policy (place_in (inbound_of old) BLOCK_MAX n) (find n (inbound_of old).receivers) content now) old new told
     → AreWhole p next senders new
-peer-whole p next n now content senders old new told greatest most whole does = by_answer (receiver_answers p.policy (place_in (inbound_of old) BLOCK_MAX n) (find n (table_of old.receivers.entries)) content now) refl told does where
-  by_answer : (answer : Option (StepValue Receiving)) → receiver_answers p.policy (place_in (inbound_of old) BLOCK_MAX n) (find n (table_of old.receivers.entries)) content now ≡ answer
+peer-whole p next n now content senders old new told greatest most whole does = by_answer (receiver_answers p.policy (place_in (inbound_of old) BLOCK_MAX n) (find n (inbound_of old).receivers) content now) refl told does where
+  by_answer : (answer : Option (StepValue Receiving)) → receiver_answers p.policy (place_in (inbound_of old) BLOCK_MAX n) (find n (inbound_of old).receivers) content now ≡ answer
       → (told : Option (Option ℕ × Step)) → ReceiverDoes p.peer p.policy n answer old new told → AreWhole p next senders new
   by_answer None is None does = subst (λ i. AreWhole p next senders i) (sym does) whole
   by_answer None is (Some t) does = absurd does
@@ -262,22 +262,22 @@ peer-whole p next n now content senders old new told greatest most whole does = 
       let after_it = settled_in (with_room (inbound_of old) t.0) n step.next in
       record {
         own = whole.own;
-        others = live-table p.peer p.policy new.receivers.entries after_it.receivers does.next.receivers;
+        others = does.next.live;
         sound = record {
           begun = whole.sound.begun;
           numbers = whole.sound.numbers;
           senders = whole.sound.senders;
           ascending = whole.sound.ascending;
-          inbound = subst IsInboundSound (sym (inbound-is p.peer p.policy new after_it does.next))
-              (sound-step (inbound_of old) n BLOCK_MAX t.0 step.next most whole.sound.inbound does.gone
+          inbound = subst IsInboundSound (sym does.next.is)
+              (sound-step (inbound_of old) n BLOCK_MAX t.0 step.next most (in-order p.peer p.policy old whole.others) whole.sound.inbound does.gone
               (λ absent. receiver-may p.policy (place_in (inbound_of old) BLOCK_MAX n) content now step (ap (λ kept. receiver_answers p.policy (place_in (inbound_of old) BLOCK_MAX n) kept content now) (sym absent) ∙ is)));
           sent = whole.sound.sent;
-          received = subst (λ i. AllByRecursion (ReceivesAtMost p.most) i.receivers) (sym (inbound-is p.peer p.policy new after_it does.next))
+          received = subst (λ i. AllByRecursion (ReceivesAtMost p.most) i.receivers) (sym does.next.is)
               (all-settled (ReceivesAtMost p.most) n step.next (with_room (inbound_of old) t.0).receivers
               (all-room p.most (inbound_of old) t.0 whole.sound.received)
               (subst (λ m. IfKeeps (λ r. ReceivesAtMost m (n, r)) step.next) (sym greatest)
-              (receiver-within n p.policy (place_in (inbound_of old) BLOCK_MAX n) (find n (table_of old.receivers.entries)) content now step is
-              (subst (λ m. IfKept (λ r. ReceivesAtMost m (n, r)) (find n (table_of old.receivers.entries))) greatest (all-find (ReceivesAtMost p.most) n (table_of old.receivers.entries) whole.sound.received)))));
+              (receiver-within n p.policy (place_in (inbound_of old) BLOCK_MAX n) (find n (inbound_of old).receivers) content now step is
+              (subst (λ m. IfKept (λ r. ReceivesAtMost m (n, r)) (find n (inbound_of old).receivers)) greatest (all-find (ReceivesAtMost p.most) n (inbound_of old).receivers whole.sound.received)))));
         };
       }
 
@@ -288,7 +288,7 @@ ups-same n None = refl
 ups-same n (Some body) = refl
 
 peer-reply : (p : Party) (next n now : ℕ) (content : ContentValue) (senders : List (ℕ × SessionValue Sending)) (old : Inbound) (answer : Option (StepValue Receiving)) (e : Engine)
-    → p.most ≡ BLOCK_MAX → receiver_answers p.policy (place_in (inbound_of old) BLOCK_MAX n) (find n (table_of old.receivers.entries)) content now ≡ answer
+    → p.most ≡ BLOCK_MAX → receiver_answers p.policy (place_in (inbound_of old) BLOCK_MAX n) (find n (inbound_of old).receivers) content now ≡ answer
     → Shows (made_of false p next senders old) e
     → peer_step p e n content now ≡ replied_or_stranger e (record { originator = p.peer; number = n }) (receiver_replies e n answer)
 peer-reply p next n now content senders old answer e greatest is shows =
@@ -299,17 +299,17 @@ peer-reply p next n now content senders old answer e greatest is shows =
 
 pub peer-steps : (p : Party) (next n now : ℕ) (content : ContentValue) (senders : List (ℕ × SessionValue Sending)) (old new : Inbound) (told : Option (Option ℕ × Step)) (effects : Effects)
     → p.most ≡ BLOCK_MAX → n ≤ LAST → AreWhole p next senders old
-    → ReceiverDoes p.peer p.policy n (receiver_answers p.policy (place_in (inbound_of old) BLOCK_MAX n) (find n (table_of old.receivers.entries)) content now) old new told
+    → ReceiverDoes p.peer p.policy n (receiver_answers p.policy (place_in (inbound_of old) BLOCK_MAX n) (find n (inbound_of old).receivers) content now) old new told
     → effects ≡ handed_of n told
     → Steps (made_of false p next senders old) (made_of false p next senders new) (λ e. peer_step p e n content now) effects
 peer-steps p next n now content senders old new told effects greatest most whole does says =
-    by_answer (receiver_answers p.policy (place_in (inbound_of old) BLOCK_MAX n) (find n (table_of old.receivers.entries)) content now) refl told does says where
-      reply : (answer : Option (StepValue Receiving)) → receiver_answers p.policy (place_in (inbound_of old) BLOCK_MAX n) (find n (table_of old.receivers.entries)) content now ≡ answer
+    by_answer (receiver_answers p.policy (place_in (inbound_of old) BLOCK_MAX n) (find n (inbound_of old).receivers) content now) refl told does says where
+      reply : (answer : Option (StepValue Receiving)) → receiver_answers p.policy (place_in (inbound_of old) BLOCK_MAX n) (find n (inbound_of old).receivers) content now ≡ answer
           → (e : Engine) → Shows (made_of false p next senders old) e
           → replied_or_stranger e (record { originator = p.peer; number = n }) (receiver_replies e n answer) ≡ peer_step p e n content now
       reply answer is e shows = sym (peer-reply p next n now content senders old answer e greatest is shows)
 
-      by_answer : (answer : Option (StepValue Receiving)) → receiver_answers p.policy (place_in (inbound_of old) BLOCK_MAX n) (find n (table_of old.receivers.entries)) content now ≡ answer
+      by_answer : (answer : Option (StepValue Receiving)) → receiver_answers p.policy (place_in (inbound_of old) BLOCK_MAX n) (find n (inbound_of old).receivers) content now ≡ answer
           → (told : Option (Option ℕ × Step)) → ReceiverDoes p.peer p.policy n answer old new told → effects ≡ handed_of n told
           → Steps (made_of false p next senders old) (made_of false p next senders new) (λ e. peer_step p e n content now) effects
       by_answer None is (Some t) does says = absurd does
@@ -328,7 +328,7 @@ peer-steps p next n now content senders old new told effects greatest most whole
             (record {
               next = next-with_receiver (without_evicted e (gone_of e)) n step.next ∙ (next-without e (gone_of e) ∙ shows.next);
               senders = senders-with_receiver (without_evicted e (gone_of e)) n step.next ∙ (senders-without e (gone_of e) ∙ shows.senders);
-              inbound = subst (λ i. ShowsInbound i (with_receiver (without_evicted e (gone_of e)) n step.next)) (sym (inbound-is p.peer p.policy new (settled_in (with_room (inbound_of old) t.0) n step.next) does.next)) (moves e shows).shows;
+              inbound = subst (λ i. ShowsInbound i (with_receiver (without_evicted e (gone_of e)) n step.next)) (sym does.next.is) (moves e shows).shows;
             });
         effects_are = λ e shows. subst (λ x. effects ≡ effects_of x.effects) (reply (Some step) is e shows)
             (says ∙ (rw (does.says, (moves e shows).same) (rw (ups-same n step.up) refl)));

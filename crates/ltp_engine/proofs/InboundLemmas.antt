@@ -2,20 +2,24 @@
 
 use Rattle.std.proofs.Common.{◌≡◌, ℕ, ◌<◌, ◌≤◌, Bool, true, false, not, ◌==◌, List, [], ◌∷◌, ◌++◌, Option, None, Some, is_some, refl, sym, ◌∙◌, ap, arith, subst, if◌then◌else◌}
 use Rattle.std.specs.Ordering.{nat_cmp}
-use Rattle.std.specs.BTreeMap.{is_at, insert_entry}
+use Rattle.std.specs.BTreeMap.{is_at}
+use Rattle.indexmap.specs.IndexMap.{insert_entry}
+use Rattle.indexmap.proofs.CallerLemmas.{insert_entry-new}
 use Rattle.std.specs.Map.{lookup, set_value, remove_entry, keys_of}
-use Rattle.std.specs.List.Sorted.{IsStrictlySortedBy}
+use Rattle.std.specs.List.{IsDistinct}
+use Rattle.std.proofs.lemmas.Bool.{eqb-true, eq-eqb}
+use Rattle.std.proofs.lemmas.List.{map-append}
 use Rattle.ltp_segment.specs.declared.session.Step.{Step}
 use Rattle.ltp_segment.specs.Policy.{PolicyValue}
 use Rattle.ltp_segment.specs.Values.{ReportValue, PieceValue}
-use Rattle.ltp_session.specs.Step.{Change, stays, keeps, ends, after, StepValue, sending, noting, note_bad_bounds, miscoloured, by_system}
+use Rattle.ltp_session.specs.Step.{Change, stays, keeps, ends, StepValue, sending, noting, note_bad_bounds, miscoloured, by_system}
 use Rattle.ltp_session.specs.Receiver.{Receiving, piece_stop, is_outside, is_miscoloured, takes_red, takes_checkpoint, takes_green, rejects, reports, report_of, with_red, with_handed_up, red_part, piece_step, fresh, on_report_ack, on_piece, piece_for, first_piece, ReceivingPhase, receiver_open, receiver_cancelling, settles, acknowledged_in, acknowledged, on_receiver_cancel_ack, on_sender_cancel, is_cancelling}
 use Rattle.ltp_session.specs.Claims.{is_whole_claim}
 use Rattle.ltp_session.specs.Cells.{is_no_part}
 use Rattle.ltp_segment.specs.declared.session.Note.TheVariants as notes
 use Rattle.ltp_engine.specs.Values.{InboundValue}
-use Rattle.ltp_session.specs.Table.{find}
-use Rattle.ltp_session.specs.Engine.{untouched}
+use Rattle.ltp_session.specs.Table.{find, without}
+use Rattle.link_laws.proofs.TableLemmas.{find-without, find-without_other}
 use Rattle.ltp_session.specs.Views.{SessionValue, changed, answer_of, note_of}
 use Rattle.ltp_session.specs.Engine.{longest_untouched}
 use Rattle.ltp_session.specs.Timer.{is_past_serials}
@@ -23,69 +27,15 @@ use Rattle.ltp_segment.specs.Kinds.{is_red, is_checkpoint, ends_red_part}
 use Rattle.ltp_receiver.specs.Receiver.{on_open_piece, is_kept_cancelling, new_session, IsOpen}
 use Rattle.ltp_engine.specs.Notes.{is_taken}
 use Rattle.std.specs.Option.{option_map}
-use Rattle.std.proofs.Common.{length, slice_get, suc, nat_le, nat_lt, ◌&&◌, ◌||◌, ◌<◌}
+use Rattle.std.proofs.Common.{length, slice_get, remove, suc, ◌+◌, nat_eq, nat_le, nat_lt, ◌&&◌, ◌||◌}
 use Rattle.std.proofs.lemmas.Bool.Decides.{nat_tests}
-use Rattle.ltp_engine.specs.Closed.{ClosedValue}
-use Rattle.ltp_engine.specs.Tables.{table_of, live, live_all, AreLive, Does, swept}
-use Rattle.ltp_engine.specs.Inbound.{inbound_of, Keeps, touched_after, closed_after, settled_in, moved, closed_if, Receives, evicted_in, evicted_for, with_room, Takes, TakesKept, TakesNext, kept_piece, place_in}
+use Rattle.ltp_engine.specs.Closed.{also_closed}
+use Rattle.ltp_engine.specs.Tables.{table_of, by_number, live, live_entry, live_all, AreLive}
+use Rattle.ltp_engine.specs.Inbound.{inbound_of, Keeps, settled_in, Receives, evicted_in, evicted_for, with_room, Takes, TakesKept, TakesNext, kept_piece, place_in}
 use Rattle.ltp_engine.specs.declared.inbound.Inbound.{Inbound}
-use Rattle.ltp_engine.proofs.TableLemmas.{found-live, absent-live, does-kept, lookup-live_all, table_of-live_all, remove-live_all, ascending-sorted, insert-live_all}
-
--- a session that is told to be touched is one that is kept
-abbrev pub Touches : Change Receiving → Bool → Type 0
-Touches stays touches = touches ≡ false
-Touches (keeps r) touches = touches ≡ true
-Touches ends touches = Unit {0}
-
-moved-is : (n : ℕ) (r : Receiving) (change : Change Receiving) (over touches : Bool) (touched : List ℕ) → over ≡ not (is_some (after change (Some r)))
-    → Touches change touches → moved n over touches touched ≡ touched_after n change touched
-moved-is n r stays over touches touched is_over to = rw (is_over, to) refl
-moved-is n r (keeps s) over touches touched is_over to = rw (is_over, to) refl
-moved-is n r ends over touches touched is_over to = rw is_over refl
-
-closed-is : (n : ℕ) (r : Receiving) (change : Change Receiving) (over : Bool) (c : ClosedValue) → over ≡ not (is_some (after change (Some r)))
-    → closed_if n over c ≡ closed_after n change c
-closed-is n r stays over c is_over = rw is_over refl
-closed-is n r (keeps s) over c is_over = rw is_over refl
-closed-is n r ends over c is_over = rw is_over refl
-
-pub receives-kept : (o : ℕ) (p : PolicyValue) (n : ℕ) (f : PolicyValue → Option Receiving → StepValue Receiving) (old new : Inbound)
-    (mid : List (ℕ × SessionValue Receiving)) (v w : SessionValue Receiving) (over touches : Bool) (told : Step)
-    → AreLive o p old.receivers.entries → lookup (is_at (nat_cmp n)) old.receivers.entries ≡ Some v → IsStrictlySortedBy nat_cmp (keys_of old.receivers.entries)
-    → w ≡ changed v (f v.policy v.kept).next → told ≡ answer_of v.name (f v.policy v.kept) → over ≡ not (is_some w.kept)
-    → ((r : Receiving) → v ≡ live o p n r → Touches (f p (Some r)).next touches)
-    → mid ≡ set_value (is_at (nat_cmp n)) old.receivers.entries w → new.receivers.entries ≡ swept n over mid
-    → new.touched.items ≡ moved n over touches old.touched.items → new.closed ≡ closed_if n over old.closed
-    → Receives o p n (f p (find n (table_of old.receivers.entries))) old new told
-receives-kept o p n f old new mid v w over touches told are_live holds sorted moved_to answered is_over touch written swept_is touched_is closed_is =
-    let does = does-kept o p n f old.receivers.entries mid new.receivers.entries v w over told are_live holds sorted moved_to answered is_over written swept_is in
-    let found = found-live o p n old.receivers.entries v are_live holds in
-    go found.state found.is found.found does where
-      go : (r : Receiving) → v ≡ live o p n r → find n (table_of old.receivers.entries) ≡ Some r
-          → Does o p n (f p (find n (table_of old.receivers.entries))) old.receivers.entries new.receivers.entries told
-          → Receives o p n (f p (find n (table_of old.receivers.entries))) old new told
-      go r is at does =
-          let to : w ≡ changed (live o p n r) (f p (Some r)).next = subst (λ x. w ≡ changed x (f x.policy x.kept).next) is moved_to in
-          let ended : over ≡ not (is_some (after (f p (Some r)).next (Some r))) = subst (λ x. over ≡ not (is_some x.kept)) to is_over in
-          record {
-            next = record {
-              receivers = does.next;
-              touched = rw at (touched_is ∙ moved-is n r (f p (Some r)).next over touches old.touched.items ended (touch r is));
-              closed = rw at (closed_is ∙ closed-is n r (f p (Some r)).next over old.closed ended);
-            };
-            says = does.says;
-          }
-
-pub receives-absent : (o : ℕ) (p : PolicyValue) (n : ℕ) (f : PolicyValue → Option Receiving → StepValue Receiving) (old new : Inbound) (told : Step)
-    → AreLive o p old.receivers.entries → lookup (is_at (nat_cmp n)) old.receivers.entries ≡ None → (f p None).next ≡ stays
-    → new.receivers.entries ≡ old.receivers.entries → new.touched ≡ old.touched → new.closed ≡ old.closed
-    → told ≡ answer_of (record { originator = o; number = n }) (f p None)
-    → Receives o p n (f p (find n (table_of old.receivers.entries))) old new told
-receives-absent o p n f old new told are_live holds unmoved same same_touched same_closed answered =
-    rw (absent-live o p n old.receivers.entries are_live holds) (record {
-      next = rw unmoved (record { receivers = same ∙ are_live; touched = ap (λ v. v.items) same_touched; closed = same_closed });
-      says = answered;
-    })
+use Rattle.ltp_engine.proofs.TableLemmas.{found-live, lookup-live_all}
+use Rattle.ltp_engine.proofs.OrderLemmas.{looked-up, found-first, find-by_number, by_number-last, keys-last, removed-absent, length-by_number, first-removed}
+use Rattle.ltp_engine.proofs.ChangeLemmas.{Touches, live-of, distinct-live, Changed, changed-gone, keeps-changed, receives-kept, absent-of, keeps-same_entries}
 
 -- ---- which steps touch a session
 
@@ -159,95 +109,100 @@ cancel-silent o n (Some r) = quiet-silent o n (on_receiver_cancel_ack (Some r)) 
 
 -- ---- a session that is over at once
 
-pub present-live : (o : ℕ) (p : PolicyValue) (n : ℕ) (old : List (ℕ × SessionValue Receiving)) → AreLive o p old
-    → is_some (lookup (is_at (nat_cmp n)) old) ≡ is_some (find n (table_of old))
+present-live : (o : ℕ) (p : PolicyValue) (n : ℕ) (old : Inbound) → AreLive o p old.receivers.entries
+    → is_some (lookup (nat_eq n) old.receivers.entries) ≡ is_some (find n (inbound_of old).receivers)
 present-live o p n old are_live =
-    ap (λ es. is_some (lookup (is_at (nat_cmp n)) es)) are_live ∙ (ap (λ x. is_some x) (lookup-live_all o p n (table_of old)) ∙ by_kept (find n (table_of old))) where
+    ap (λ x. is_some x) (sym (looked-up n old.receivers.entries)) ∙ (ap (λ es. is_some (lookup (is_at (nat_cmp n)) es)) are_live
+    ∙ (ap (λ x. is_some x) (lookup-live_all o p n (table_of old.receivers.entries)) ∙ (by_kept (find n (table_of old.receivers.entries))
+    ∙ ap (λ x. is_some x) (sym (find-by_number n (table_of old.receivers.entries)))))) where
       by_kept : (kept : Option Receiving) → is_some (option_map (live o p n) kept) ≡ is_some kept
       by_kept None = refl
       by_kept (Some r) = refl
 
-pub ended-live : (o : ℕ) (p : PolicyValue) (n : ℕ) (old new : Inbound) → AreLive o p old.receivers.entries → IsStrictlySortedBy nat_cmp (keys_of old.receivers.entries)
-    → new.receivers.entries ≡ swept n true old.receivers.entries → new.touched.items ≡ moved n true false old.touched.items
-    → new.closed ≡ closed_if n true old.closed → Keeps o p new (settled_in (inbound_of old) n ends)
-ended-live o p n old new are_live sorted removed touched closed =
-    let up = ascending-sorted o p (table_of old.receivers.entries) (subst (λ es. IsStrictlySortedBy nat_cmp (keys_of es)) are_live sorted) in
-    record {
-      receivers = removed ∙ (ap (λ es. remove_entry (is_at (nat_cmp n)) es) are_live ∙ remove-live_all o p n 0 (table_of old.receivers.entries) up);
-      touched = touched;
-      closed = closed;
-    }
+pub ended-live : (o : ℕ) (p : PolicyValue) (n : ℕ) (old new : Inbound) → AreLive o p old.receivers.entries → IsDistinct nat_eq (keys_of old.receivers.entries)
+    → new.receivers.entries ≡ remove_entry (nat_eq n) old.receivers.entries → new.closed ≡ also_closed n old.closed
+    → Keeps o p new (settled_in (inbound_of old) n ends)
+ended-live o p n old new are_live distinct removed closed =
+    keeps-changed o p n ends old new are_live (subst (λ es. Changed o p n ends (table_of old.receivers.entries) es)
+    (sym (removed ∙ ap (λ es. remove_entry (nat_eq n) es) are_live))
+    (changed-gone o p n (table_of old.receivers.entries) (distinct-live o p old.receivers.entries are_live distinct))) closed
 
 pub sender_cancel-kept : (o : ℕ) (p : PolicyValue) (n reason : ℕ) (old new : Inbound) (told : Step) (b : Bool) → AreLive o p old.receivers.entries
-    → b ≡ is_some (lookup (is_at (nat_cmp n)) old.receivers.entries) → b ≡ true → IsStrictlySortedBy nat_cmp (keys_of old.receivers.entries)
-    → new.receivers.entries ≡ swept n true old.receivers.entries → new.touched.items ≡ moved n true false old.touched.items
-    → new.closed ≡ closed_if n true old.closed
+    → b ≡ is_some (lookup (nat_eq n) old.receivers.entries) → b ≡ true → IsDistinct nat_eq (keys_of old.receivers.entries)
+    → new.receivers.entries ≡ remove_entry (nat_eq n) old.receivers.entries → new.closed ≡ also_closed n old.closed
     → ((r : Receiving) → told ≡ answer_of (record { originator = o; number = n }) (on_sender_cancel (Some r) reason))
-    → Receives o p n (on_sender_cancel (find n (table_of old.receivers.entries)) reason) old new told
-sender_cancel-kept o p n reason old new told b are_live looked holds sorted removed touched closed says =
-    go (find n (table_of old.receivers.entries)) (sym (present-live o p n old.receivers.entries are_live) ∙ (sym looked ∙ holds)) where
+    → Receives o p n (on_sender_cancel (find n (inbound_of old).receivers) reason) old new told
+sender_cancel-kept o p n reason old new told b are_live looked holds distinct removed closed says =
+    go (find n (inbound_of old).receivers) (sym (present-live o p n old are_live) ∙ (sym looked ∙ holds)) where
       go : (kept : Option Receiving) → is_some kept ≡ true → Receives o p n (on_sender_cancel kept reason) old new told
       go None holds = absurd (cc)
-      go (Some r) holds = record { next = ended-live o p n old new are_live sorted removed touched closed; says = says r }
+      go (Some r) holds = record { next = ended-live o p n old new are_live distinct removed closed; says = says r }
 
 pub sender_cancel-absent : (o : ℕ) (p : PolicyValue) (n reason : ℕ) (old : Inbound) (told : Step) (b : Bool) → AreLive o p old.receivers.entries
-    → b ≡ is_some (lookup (is_at (nat_cmp n)) old.receivers.entries) → (b ≡ true → ⊥)
+    → b ≡ is_some (lookup (nat_eq n) old.receivers.entries) → (b ≡ true → ⊥)
     → told ≡ answer_of (record { originator = o; number = n }) (on_sender_cancel None reason)
-    → Receives o p n (on_sender_cancel (find n (table_of old.receivers.entries)) reason) old old told
+    → Receives o p n (on_sender_cancel (find n (inbound_of old).receivers) reason) old old told
 sender_cancel-absent o p n reason old told b are_live looked absent says =
-    go (find n (table_of old.receivers.entries)) (λ h. absent (looked ∙ (present-live o p n old.receivers.entries are_live ∙ h))) where
+    go (find n (inbound_of old).receivers) (λ h. absent (looked ∙ (present-live o p n old are_live ∙ h))) where
       go : (kept : Option Receiving) → (is_some kept ≡ true → ⊥) → Receives o p n (on_sender_cancel kept reason) old old told
-      go None absent = record { next = record { receivers = are_live; touched = refl; closed = refl }; says = says }
+      go None absent = record { next = record { live = are_live; is = refl }; says = says }
       go (Some r) absent = absurd (absent refl)
 
 -- ---- making room
 
-pub longest-some : (touched : List ℕ) (t : List (ℕ × Receiving)) (n : ℕ) → slice_get touched 0 ≡ Some n → is_some (find n t) ≡ true
-    → Some n ≡ longest_untouched touched t
-longest-some [] t n first holds = absurd (cc)
-longest-some (m ∷ touched) t n first holds = by_kept (find m t) refl where
-  is : m ≡ n
-  is = let h : Some m ≡ Some n = first in cc
+length-live : (o : ℕ) (p : PolicyValue) (i : Inbound) → AreLive o p i.receivers.entries → IsDistinct nat_eq (keys_of i.receivers.entries)
+    → length (inbound_of i).receivers ≡ length i.receivers.entries
+length-live o p i are_live distinct =
+    length-by_number (table_of i.receivers.entries) (distinct-live o p i.receivers.entries are_live distinct)
+    ∙ sym (ap (λ xs. length xs) are_live ∙ length-live_all o p (table_of i.receivers.entries)) where
+      length-live_all : (o : ℕ) (p : PolicyValue) (t : List (ℕ × Receiving)) → length (live_all o p t) ≡ length t
+      length-live_all o p [] = refl
+      length-live_all o p (e ∷ t) = ap suc (length-live_all o p t)
 
-  by_kept : (kept : Option Receiving) → find m t ≡ kept → Some n ≡ option_map (λ r. m) kept
-  by_kept None none = absurd (cc (none, is, holds))
-  by_kept (Some r) found = ap (λ k. Some k) (sym is)
+pub full-is : (o : ℕ) (p : PolicyValue) (i : Inbound) (runs len : ℕ) → AreLive o p i.receivers.entries → IsDistinct nat_eq (keys_of i.receivers.entries)
+    → len ≡ length i.receivers.entries → nat_le 65536 (runs + len) ≡ nat_le 65536 (runs + length (inbound_of i).receivers)
+full-is o p i runs len are_live distinct is = ap (λ k. nat_le 65536 (runs + k)) (is ∙ sym (length-live o p i are_live distinct))
 
-pub longest-none : (touched : List ℕ) (t : List (ℕ × Receiving)) (n : ℕ) → slice_get touched 0 ≡ Some n → (is_some (find n t) ≡ true → ⊥)
-    → None ≡ longest_untouched touched t
-longest-none [] t n first absent = refl
-longest-none (m ∷ touched) t n first absent = by_kept (find m t) refl where
-  is : m ≡ n
-  is = let h : Some m ≡ Some n = first in cc
-
-  by_kept : (kept : Option Receiving) → find m t ≡ kept → None ≡ option_map (λ r. m) kept
-  by_kept None none = refl
-  by_kept (Some r) found = absurd (absent (subst (λ k. is_some (find k t) ≡ true) is (ap (λ o. is_some o) found)))
-
-length-live_all : (o : ℕ) (p : PolicyValue) (t : List (ℕ × Receiving)) → length (live_all o p t) ≡ length t
-length-live_all o p [] = refl
-length-live_all o p (e ∷ t) = ap suc (length-live_all o p t)
-
-pub length-live : (o : ℕ) (p : PolicyValue) (es : List (ℕ × SessionValue Receiving)) → AreLive o p es → length es ≡ length (table_of es)
-length-live o p es are_live = ap (λ xs. length xs) are_live ∙ length-live_all o p (table_of es)
-
-pub room-left : (o : ℕ) (p : PolicyValue) (i : Inbound) (n : ℕ) → AreLive o p i.receivers.entries → n ≡ length i.receivers.entries → n < 64
-    → None ≡ evicted_in (inbound_of i)
+pub room-left : (o : ℕ) (p : PolicyValue) (i : Inbound) (n : ℕ) → AreLive o p i.receivers.entries → IsDistinct nat_eq (keys_of i.receivers.entries)
+    → n ≡ length i.receivers.entries → n < 64 → None ≡ evicted_in (inbound_of i)
 unfolding evicted_in
-room-left o p i n are_live is low =
-    let few : nat_le 64 (length (table_of i.receivers.entries)) ≡ false = few_of (length (table_of i.receivers.entries)) (is ∙ length-live o p i.receivers.entries are_live) in
+room-left o p i n are_live distinct is low =
+    let few : nat_le 64 (length (inbound_of i).receivers) ≡ false = few_of (length (inbound_of i).receivers) (is ∙ sym (length-live o p i are_live distinct)) in
     rw few refl where
       few_of : (m : ℕ) → n ≡ m → nat_le 64 m ≡ false
       few_of m is = grind (arith, nat_tests)
 
-pub room-made : (o : ℕ) (p : PolicyValue) (i : Inbound) (n : ℕ) (gone : Option ℕ) → AreLive o p i.receivers.entries → n ≡ length i.receivers.entries → 64 ≤ n
-    → gone ≡ longest_untouched i.touched.items (table_of i.receivers.entries) → gone ≡ evicted_in (inbound_of i)
+-- the session that is longest untouched stands first
+longest-first : (o : ℕ) (p : PolicyValue) (i : Inbound) (e : ℕ × SessionValue Receiving) → AreLive o p i.receivers.entries → slice_get i.receivers.entries 0 ≡ Some e
+    → Some e.0 ≡ longest_untouched (inbound_of i).touched (inbound_of i).receivers
+longest-first o p i e are_live first = by_table (table_of i.receivers.entries) are_live where
+  by_table : (t : List (ℕ × Receiving)) → i.receivers.entries ≡ live_all o p t → Some e.0 ≡ longest_untouched (keys_of i.receivers.entries) (by_number (table_of i.receivers.entries))
+  by_table [] is = absurd (none (sym (ap (λ es. slice_get es 0) is) ∙ first)) where
+    none : {X : Type 0} {x : X} → None ≡ Some x → ⊥
+    none is = cc
+  by_table ((k, r) ∷ t) is =
+      let here : e ≡ (k, live o p k r) = same (sym first ∙ ap (λ es. slice_get es 0) is) in
+      let found : find k (by_number (table_of i.receivers.entries)) ≡ Some r =
+      find-by_number k (table_of i.receivers.entries) ∙ (ap (λ xs. find k xs) (live-of o p i.receivers.entries ((k, r) ∷ t) is).table ∙ found-first k r t) in
+      ap (λ x. Some x.0) here ∙ sym (ap (λ ks. longest_untouched ks (by_number (table_of i.receivers.entries))) (live-of o p i.receivers.entries ((k, r) ∷ t) is).numbers
+      ∙ ap (λ o. option_map (λ r. k) o) found) where
+        same : {X : Type 0} {x y : X} → Some x ≡ Some y → x ≡ y
+        same is = cc
+
+pub room-made : (o : ℕ) (p : PolicyValue) (i : Inbound) (n : ℕ) (e : ℕ × SessionValue Receiving) → AreLive o p i.receivers.entries → IsDistinct nat_eq (keys_of i.receivers.entries)
+    → n ≡ length i.receivers.entries → 64 ≤ n → slice_get i.receivers.entries 0 ≡ Some e → Some e.0 ≡ evicted_in (inbound_of i)
 unfolding evicted_in
-room-made o p i n gone are_live is high longest =
-    let full : nat_le 64 (length (table_of i.receivers.entries)) ≡ true = full_of (length (table_of i.receivers.entries)) (is ∙ length-live o p i.receivers.entries are_live) in
-    rw full longest where
+room-made o p i n e are_live distinct is high first =
+    let full : nat_le 64 (length (inbound_of i).receivers) ≡ true = full_of (length (inbound_of i).receivers) (is ∙ sym (length-live o p i are_live distinct)) in
+    rw full (longest-first o p i e are_live first) where
       full_of : (m : ℕ) → n ≡ m → nat_le 64 m ≡ true
       full_of m is = grind (arith, nat_tests)
+
+pub first-gone : (o : ℕ) (p : PolicyValue) (old new : Inbound) (e : ℕ × SessionValue Receiving) → AreLive o p old.receivers.entries → IsDistinct nat_eq (keys_of old.receivers.entries)
+    → slice_get old.receivers.entries 0 ≡ Some e → new.receivers.entries ≡ remove old.receivers.entries 0 → new.closed ≡ also_closed e.0 old.closed
+    → Keeps o p new (with_room (inbound_of old) (Some e.0))
+first-gone o p old new e are_live distinct first removed closed =
+    ended-live o p e.0 old new are_live distinct (removed ∙ first-removed old.receivers.entries e first) closed
 
 -- ---- pieces
 
@@ -262,24 +217,21 @@ open-step p None piece now is = refl
 open-step p (Some r) piece now is = rw is refl
 
 pub takes-next : (o : ℕ) (p : PolicyValue) (n : ℕ) (piece : PieceValue) (now : ℕ) (old new : Inbound) (v : SessionValue Receiving) (told : Step)
-    → AreLive o p old.receivers.entries → lookup (is_at (nat_cmp n)) old.receivers.entries ≡ Some v
-    → Receives o p n (kept_step p (find n (table_of old.receivers.entries)) piece now) old new told
+    → AreLive o p old.receivers.entries → lookup (nat_eq n) old.receivers.entries ≡ Some v
+    → Receives o p n (kept_step p (find n (inbound_of old).receivers) piece now) old new told
     → TakesNext o p n piece now old new (Some told)
 takes-next o p n piece now old new v told are_live holds does =
-    let found = found-live o p n old.receivers.entries v are_live holds in
-    go (find n (table_of old.receivers.entries)) found.found does where
+    let found = found-live o p n old.receivers.entries v are_live (looked-up n old.receivers.entries ∙ holds) in
+    go (find n (inbound_of old).receivers) (find-by_number n (table_of old.receivers.entries) ∙ found.found) does where
       go : (kept : Option Receiving) → {r : Receiving} → kept ≡ Some r → Receives o p n (kept_step p kept piece now) old new told
           → TakesKept o p n piece now old new kept (Some told)
       go None is does = absurd (cc)
       go (Some s) is does = does
 
 pub takes-none : (o : ℕ) (p : PolicyValue) (n : ℕ) (piece : PieceValue) (now : ℕ) (old new : Inbound)
-    → AreLive o p old.receivers.entries → lookup (is_at (nat_cmp n)) old.receivers.entries ≡ None
-    → new.receivers.entries ≡ old.receivers.entries → new.touched ≡ old.touched → new.closed ≡ old.closed
-    → TakesNext o p n piece now old new None
-takes-none o p n piece now old new are_live holds same same_touched same_closed =
-    rw (absent-live o p n old.receivers.entries are_live holds)
-    (record { receivers = same ∙ are_live; touched = ap (λ v. v.items) same_touched; closed = same_closed })
+    → AreLive o p old.receivers.entries → lookup (nat_eq n) old.receivers.entries ≡ None
+    → new.receivers.entries ≡ old.receivers.entries → new.closed ≡ old.closed → TakesNext o p n piece now old new None
+takes-none o p n piece now old new are_live holds same closed = rw (absent-of o p n old are_live holds) (keeps-same_entries o p old new are_live same closed)
 
 both_arms : {X : Type 0} (P : X → Type 0) (b : Bool) (x y : X) → P x → P y → P (if b then x else y)
 both_arms P true x y at_x at_y = at_x
@@ -352,32 +304,56 @@ opens n p piece now = rw (fresh-fits n piece)
     (both_arms (λ s. IsKeeping s.next) (is_red piece.kind) (takes_red p (with_red (fresh n) piece) piece now) (takes_green (fresh n) piece)
     (fresh-red n p (with_red (fresh n) piece) piece now) (_, refl)))
 
+-- a session that isn't kept is put in
+inserted-last : (o : ℕ) (p : PolicyValue) (n : ℕ) (r : Receiving) (mid : Inbound) → AreLive o p mid.receivers.entries → IsDistinct nat_eq (keys_of mid.receivers.entries)
+    → find n (inbound_of mid).receivers ≡ None
+    → Changed o p n (keeps r) (table_of mid.receivers.entries) (insert_entry nat_eq mid.receivers.entries n (live o p n r))
+inserted-last o p n r mid are_live distinct absent =
+    let t = table_of mid.receivers.entries in
+    let gone : find n t ≡ None = sym (find-by_number n t) ∙ absent in
+    let apart : IsDistinct nat_eq (keys_of t) = distinct-live o p mid.receivers.entries are_live distinct in
+    let looked : lookup (nat_eq n) mid.receivers.entries ≡ None =
+    ap (λ es. lookup (nat_eq n) es) are_live ∙ (sym (looked-up n (live_all o p t)) ∙ (lookup-live_all o p n t ∙ ap (λ k. option_map (live o p n) k) gone)) in
+    record {
+      now = remove_entry (nat_eq n) t ++ (n, r) ∷ [];
+      is = insert_entry-new nat_eq mid.receivers n (live o p n r) looked ∙ (ap (λ es. es ++ (n, live o p n r) ∷ []) (are_live ∙ ap (λ xs. live_all o p xs) (sym (removed-absent n t gone)))
+          ∙ sym (map-append (live_entry o p) (remove_entry (nat_eq n) t) ((n, r) ∷ [])));
+      next = by_number-last n r t apart;
+      touched = keys-last n r t apart;
+    }
+
+absent-room : (i : InboundValue) (n : ℕ) (gone : Option ℕ) → find n i.receivers ≡ None → find n (with_room i gone).receivers ≡ None
+absent-room i n None absent = absent
+absent-room i n (Some m) absent = by_test (nat_eq n m) refl where
+  by_test : (same : Bool) → nat_eq n m ≡ same → find n (without m i.receivers) ≡ None
+  by_test true is = subst (λ k. find k (without m i.receivers) ≡ None) (sym (eqb-true n m is)) (find-without m i.receivers)
+  by_test false is = find-without_other n m i.receivers (λ h. differ (eq-eqb n m h) is) ∙ absent where
+    differ : {b : Bool} → b ≡ true → b ≡ false → ⊥
+    differ is also = cc
+
 pub begun-live : (o : ℕ) (p : PolicyValue) (n : ℕ) (piece : PieceValue) (now : ℕ) (old mid new : Inbound) (w : SessionValue Receiving) (told : Option ℕ × Step)
-    → find n (table_of old.receivers.entries) ≡ None
+    → find n (inbound_of old).receivers ≡ None
     → w ≡ changed (new_session (record { originator = o; number = n }) p) (piece_step p (fresh n) piece now).next
     → told.1 ≡ answer_of (record { originator = o; number = n }) (piece_step p (fresh n) piece now)
     → told.0 ≡ evicted_in (inbound_of old) → Keeps o p mid (with_room (inbound_of old) told.0)
-    → new.receivers.entries ≡ insert_entry nat_cmp mid.receivers.entries n w
-    → new.touched.items ≡ untouched n mid.touched.items ++ n ∷ [] → new.closed ≡ mid.closed
+    → IsDistinct nat_eq (keys_of mid.receivers.entries) → new.receivers.entries ≡ insert_entry nat_eq mid.receivers.entries n w → new.closed ≡ mid.closed
     → Takes o p n (piece_step p (fresh n) piece now) old new told
-begun-live o p n piece now old mid new w told absent to says gone room inserted touched closed =
+begun-live o p n piece now old mid new w told absent to says gone room distinct inserted closed =
     let (r, keeping) = opens n p piece now in
     let state : w ≡ live o p n r = to ∙ ap (λ c. changed (new_session (record { originator = o; number = n }) p) c) keeping in
+    let unkept : find n (inbound_of mid).receivers ≡ None = subst (λ i. find n i.receivers ≡ None) (sym room.is) (absent-room (inbound_of old) n told.0 absent) in
     record {
       gone = gone ∙ rw (absent, keeping) refl;
-      next = rw keeping (record {
-        receivers = inserted ∙ (ap (λ x. insert_entry nat_cmp mid.receivers.entries n x) state
-            ∙ (ap (λ es. insert_entry nat_cmp es n (live o p n r)) room.receivers ∙ insert-live_all o p n r (with_room (inbound_of old) told.0).receivers));
-        touched = touched ∙ ap (λ xs. untouched n xs ++ n ∷ []) room.touched;
-        closed = closed ∙ room.closed;
-      });
+      next = rw keeping (subst (λ i. Keeps o p new (settled_in i n (keeps r))) room.is
+          (keeps-changed o p n (keeps r) mid new room.live (subst (λ es. Changed o p n (keeps r) (table_of mid.receivers.entries) es)
+          (sym (inserted ∙ ap (λ x. insert_entry nat_eq mid.receivers.entries n x) state)) (inserted-last o p n r mid room.live distinct unkept)) closed));
       says = says;
     }
 
 pub open-live : (o : ℕ) (p : PolicyValue) (n : ℕ) (old : List (ℕ × SessionValue Receiving)) (v : SessionValue Receiving) → AreLive o p old
-    → lookup (is_at (nat_cmp n)) old ≡ Some v → is_kept_cancelling v.kept ≡ false → IsOpen v.kept
+    → lookup (nat_eq n) old ≡ Some v → is_kept_cancelling v.kept ≡ false → IsOpen v.kept
 open-live o p n old v are_live holds open_is =
-    let found = found-live o p n old v are_live holds in
+    let found = found-live o p n old v are_live (looked-up n old ∙ holds) in
     go found.state found.is where
       go : (r : Receiving) → v ≡ live o p n r → IsOpen v.kept
       go r is =
@@ -385,40 +361,35 @@ open-live o p n old v are_live holds open_is =
           subst (λ x. IsOpen x.kept) (sym is) still
 
 pub takes-cancelling : (o : ℕ) (p : PolicyValue) (n : ℕ) (piece : PieceValue) (now : ℕ) (old new : Inbound) (v : SessionValue Receiving) (told : Step)
-    → AreLive o p old.receivers.entries → lookup (is_at (nat_cmp n)) old.receivers.entries ≡ Some v → IsStrictlySortedBy nat_cmp (keys_of old.receivers.entries)
+    → AreLive o p old.receivers.entries → lookup (nat_eq n) old.receivers.entries ≡ Some v → IsDistinct nat_eq (keys_of old.receivers.entries)
     → is_kept_cancelling v.kept ≡ true → told ≡ record { out = []; up = None; green = None; note = Some (notes.Closed n) }
-    → new.receivers.entries ≡ set_value (is_at (nat_cmp n)) old.receivers.entries v
-    → new.touched ≡ old.touched → new.closed ≡ old.closed → TakesNext o p n piece now old new (Some told)
-takes-cancelling o p n piece now old new v told are_live holds sorted closing says written same_touched same_closed =
-    let found = found-live o p n old.receivers.entries v are_live holds in
+    → new.receivers.entries ≡ set_value (nat_eq n) old.receivers.entries v → new.closed ≡ old.closed → TakesNext o p n piece now old new (Some told)
+takes-cancelling o p n piece now old new v told are_live holds distinct closing says written closed =
+    let found = found-live o p n old.receivers.entries v are_live (looked-up n old.receivers.entries ∙ holds) in
     takes-next o p n piece now old new v told are_live holds (go found.state found.is) where
-      go : (r : Receiving) → v ≡ live o p n r → Receives o p n (kept_step p (find n (table_of old.receivers.entries)) piece now) old new told
+      go : (r : Receiving) → v ≡ live o p n r → Receives o p n (kept_step p (find n (inbound_of old).receivers) piece now) old new told
       go r is =
           let still : is_cancelling r.phase ≡ true = subst (λ x. is_kept_cancelling x.kept ≡ true) is closing in
-          receives-kept o p n (λ q kept. kept_step q kept piece now) old new new.receivers.entries v v false false told are_live holds sorted
+          receives-kept o p n (λ q kept. kept_step q kept piece now) old new new.receivers.entries v v false false told are_live holds distinct
           (subst (λ x. x ≡ changed x (kept_step x.policy x.kept piece now).next) (sym is) (rw still refl))
           (subst (λ x. told ≡ answer_of x.name (kept_step x.policy x.kept piece now)) (sym is) (rw still says))
           (subst (λ x. false ≡ not (is_some x.kept)) (sym is) refl)
           (λ s same. let also : is_cancelling s.phase ≡ true = subst (λ x. is_kept_cancelling x.kept ≡ true) same closing in rw also refl)
-          written refl (ap (λ v. v.items) same_touched) same_closed
-
--- what is kept is the same
-keeps-same : (o : ℕ) (p : PolicyValue) (mid old : Inbound) → Keeps o p mid (inbound_of old) → inbound_of mid ≡ inbound_of old
-keeps-same o p mid old keep = rw (keep.receivers, keep.touched, keep.closed, table_of-live_all o p (table_of old.receivers.entries)) refl
+          written refl closed
 
 pub absent-next : (o : ℕ) (p : PolicyValue) (n : ℕ) (piece : PieceValue) (now : ℕ) (old mid : Inbound) → TakesNext o p n piece now old mid None
-    → (find n (table_of old.receivers.entries) ≡ None) × Keeps o p mid (inbound_of old)
-absent-next o p n piece now old mid takes = go (find n (table_of old.receivers.entries)) refl takes where
-  go : (kept : Option Receiving) → find n (table_of old.receivers.entries) ≡ kept → TakesKept o p n piece now old mid kept None
-      → (find n (table_of old.receivers.entries) ≡ None) × Keeps o p mid (inbound_of old)
+    → (find n (inbound_of old).receivers ≡ None) × Keeps o p mid (inbound_of old)
+absent-next o p n piece now old mid takes = go (find n (inbound_of old).receivers) refl takes where
+  go : (kept : Option Receiving) → find n (inbound_of old).receivers ≡ kept → TakesKept o p n piece now old mid kept None
+      → (find n (inbound_of old).receivers ≡ None) × Keeps o p mid (inbound_of old)
   go None is takes = (is, takes)
   go (Some r) is takes = absurd takes
 
 pub absent-mid : (o : ℕ) (p : PolicyValue) (n : ℕ) (piece : PieceValue) (now : ℕ) (old mid : Inbound) → TakesNext o p n piece now old mid None
-    → find n (table_of mid.receivers.entries) ≡ None
+    → find n (inbound_of mid).receivers ≡ None
 absent-mid o p n piece now old mid takes =
     let (absent, keep) = absent-next o p n piece now old mid takes in
-    subst (λ i. find n i.receivers ≡ None) (sym (keeps-same o p mid old keep)) absent
+    subst (λ i. find n i.receivers ≡ None) (sym keep.is) absent
 
 -- what a step did, by what was kept before it
 pub record Held (o : ℕ) (p : PolicyValue) (n : ℕ) (step : StepValue Receiving) (new : Inbound) (told : Option ℕ × Step) (i : InboundValue) : Type 0 where
@@ -429,19 +400,18 @@ pub record Held (o : ℕ) (p : PolicyValue) (n : ℕ) (step : StepValue Receivin
 pub takes-first : (o : ℕ) (p : PolicyValue) (n : ℕ) (piece : PieceValue) (now most : ℕ) (old mid new : Inbound) (told : Option ℕ × Step)
     → (piece.service == 1) ≡ true → is_no_part most piece.offset piece.body ≡ false
     → TakesNext o p n piece now old mid None → Takes o p n (first_piece p (place_in (inbound_of mid) most n) piece now) mid new told
-    → Takes o p n (on_piece p (place_in (inbound_of old) most n) (find n (table_of old.receivers.entries)) piece now) old new told
+    → Takes o p n (on_piece p (place_in (inbound_of old) most n) (find n (inbound_of old).receivers) piece now) old new told
 takes-first o p n piece now most old mid new told served fits takes does =
     let (absent, keep) = absent-next o p n piece now old mid takes in
-    let same = keeps-same o p mid old keep in
-    let held = subst (λ i. Held o p n (first_piece p (place_in i most n) piece now) new told i) same (record { gone = does.gone; next = does.next; says = does.says }) in
+    let held = subst (λ i. Held o p n (first_piece p (place_in i most n) piece now) new told i) keep.is (record { gone = does.gone; next = does.next; says = does.says }) in
     rw (served, fits) (subst (λ kept. Takes o p n (piece_for p (place_in (inbound_of old) most n) kept piece now) old new told) (sym absent)
     (record { gone = held.gone; next = held.next; says = held.says }))
 
 pub takes-kept : (o : ℕ) (p : PolicyValue) (n : ℕ) (piece : PieceValue) (now most : ℕ) (old new : Inbound) (told : Step)
     → (piece.service == 1) ≡ true → is_no_part most piece.offset piece.body ≡ false → TakesNext o p n piece now old new (Some told)
-    → Takes o p n (on_piece p (place_in (inbound_of old) most n) (find n (table_of old.receivers.entries)) piece now) old new (None, told)
-takes-kept o p n piece now most old new told served fits takes = rw (served, fits) (go (find n (table_of old.receivers.entries)) refl takes) where
-  go : (kept : Option Receiving) → find n (table_of old.receivers.entries) ≡ kept → TakesKept o p n piece now old new kept (Some told)
+    → Takes o p n (on_piece p (place_in (inbound_of old) most n) (find n (inbound_of old).receivers) piece now) old new (None, told)
+takes-kept o p n piece now most old new told served fits takes = rw (served, fits) (go (find n (inbound_of old).receivers) refl takes) where
+  go : (kept : Option Receiving) → find n (inbound_of old).receivers ≡ kept → TakesKept o p n piece now old new kept (Some told)
       → Takes o p n (piece_for p (place_in (inbound_of old) most n) kept piece now) old new (None, told)
   go None is takes = absurd takes
   go (Some r) is takes = record { gone = rw is refl; next = takes.next; says = takes.says }
@@ -450,16 +420,16 @@ takes-kept o p n piece now most old new told served fits takes = rw (served, fit
 pub takes-nothing : (o : ℕ) (p : PolicyValue) (n : ℕ) (step : StepValue Receiving) (old : Inbound) (told : Step) → AreLive o p old.receivers.entries → step.next ≡ stays
     → told ≡ answer_of (record { originator = o; number = n }) step → Takes o p n step old old (None, told)
 takes-nothing o p n step old told are_live unmoved says =
-    record { gone = rw unmoved (sym (none (find n (table_of old.receivers.entries)))); next = rw unmoved (record { receivers = are_live; touched = refl; closed = refl }); says = says } where
+    record { gone = rw unmoved (sym (none (find n (inbound_of old).receivers))); next = rw unmoved (record { live = are_live; is = refl }); says = says } where
       none : (kept : Option Receiving) → evicted_for (inbound_of old) kept stays ≡ None
       none None = refl
       none (Some r) = refl
 
 -- a step that opens no session evicts none
 pub takes-of : (o : ℕ) (p : PolicyValue) (n : ℕ) (f : Option Receiving → StepValue Receiving) (old new : Inbound) (told : Step)
-    → Receives o p n (f (find n (table_of old.receivers.entries))) old new told → (f None).next ≡ stays
-    → Takes o p n (f (find n (table_of old.receivers.entries))) old new (None, told)
-takes-of o p n f old new told does unmoved = record { gone = none (find n (table_of old.receivers.entries)); next = does.next; says = does.says } where
+    → Receives o p n (f (find n (inbound_of old).receivers)) old new told → (f None).next ≡ stays
+    → Takes o p n (f (find n (inbound_of old).receivers)) old new (None, told)
+takes-of o p n f old new told does unmoved = record { gone = none (find n (inbound_of old).receivers); next = does.next; says = does.says } where
   none : (kept : Option Receiving) → None ≡ evicted_for (inbound_of old) kept (f kept).next
   none None = rw unmoved refl
   none (Some r) = refl

@@ -1,19 +1,19 @@
 -- What an engine keeps stays within its bounds.
 
-use Rattle.std.proofs.Common.{◌≡◌, ◌≢◌, ℕ, ◌+◌, ◌<◌, ◌≤◌, Bool, true, false, not, ◌==◌, ◌&&◌, ◌||◌, nat_lt, nat_le, List, [], ◌∷◌, ◌++◌, length, Option, None, Some, is_some, refl, sym, ◌∙◌, ap, arith, subst, if◌then◌else◌}
-use Rattle.std.specs.List.{AllByRecursion}
+use Rattle.std.proofs.Common.{◌≡◌, ◌≢◌, ℕ, ◌+◌, ◌<◌, ◌≤◌, Bool, true, false, not, ◌==◌, ◌||◌, nat_lt, nat_le, List, [], ◌∷◌, length, Option, None, Some, is_some, refl, sym, ◌∙◌, ap, arith, subst, if◌then◌else◌}
+use Rattle.std.specs.List.{AllByRecursion, list_any}
 use Rattle.std.specs.Option.{option_map}
 use Rattle.std.proofs.lemmas.Bool.{eqb-true, ne_eqb, eq-eqb}
 use Rattle.std.proofs.lemmas.Bool.Decides.{nat_tests}
 use Rattle.ltp_session.specs.Step.{Change, stays, keeps, ends, after}
 use Rattle.ltp_session.specs.Receiver.{Receiving, Place}
 use Rattle.ltp_session.specs.Table.{find, put, without, AreAscending, ticked, ended, then_kept, then_ended}
-use Rattle.ltp_session.specs.Engine.{is_closed, untouched, untouched_all, longest_untouched}
-use Rattle.link_laws.proofs.TableLemmas.{self_eqb, find_below, find-put, find-put_other, find-without, find-without_other, find-ticked, after_tick, ascending-put, ascending-without, ascending-ticked}
+use Rattle.ltp_session.specs.Engine.{is_closed, untouched_all, longest_untouched}
+use Rattle.link_laws.proofs.TableLemmas.{self_eqb, find_below, find-put_other, find-without, find-without_other, find-ticked, after_tick, ascending-put, ascending-without, ascending-ticked}
 use Rattle.ltp_engine.specs.declared.closed.TheConstants.{LAST}
 use Rattle.ltp_engine.specs.Closed.{ClosedValue, is_among, also_closed, all_closed}
 use Rattle.ltp_engine.specs.Values.{InboundValue}
-use Rattle.ltp_engine.specs.Bounds.{IsInboundSound, is_touched}
+use Rattle.ltp_engine.specs.Bounds.{IsInboundSound}
 use Rattle.ltp_engine.specs.Inbound.{settled_in, with_room, evicted_in, evicted_for, place_in}
 use Rattle.ltp_engine.proofs.ClosedLemmas.{runs-grow}
 use Rattle.ltp_engine.proofs.SoundLemmas.{among-also}
@@ -72,68 +72,6 @@ length-ticked {S = S} change (e ∷ es) = by_change (change e.1) (length-ticked 
   by_change (keeps s) rest = omega (arith, rest)
   by_change ends rest = omega (arith, rest)
 
--- ---- the order of touch
-
-touched-other : (n m : ℕ) (touched : List ℕ) → m ≢ n → is_touched m (untouched n touched) ≡ is_touched m touched
-unfolding untouched
-touched-other n m [] apart = refl
-touched-other n m (k ∷ touched) apart = by_test (k == n) refl (touched-other n m touched apart) where
-  by_test : (same : Bool) → (k == n) ≡ same → is_touched m (untouched n touched) ≡ is_touched m touched
-      → is_touched m (if same then untouched n touched else k ∷ untouched n touched) ≡ is_touched m (k ∷ touched)
-  by_test true is rest =
-      let here : k ≡ n = eqb-true k n is in
-      rw (ne_eqb k m (λ e. apart (sym e ∙ here))) rest
-  by_test false is rest = ap (λ b. (k == m) || b) rest
-
-touched-gone : (n : ℕ) (touched : List ℕ) → is_touched n (untouched n touched) ≡ false
-unfolding untouched
-touched-gone n [] = refl
-touched-gone n (k ∷ touched) = by_test (k == n) refl (touched-gone n touched) where
-  by_test : (same : Bool) → (k == n) ≡ same → is_touched n (untouched n touched) ≡ false → is_touched n (if same then untouched n touched else k ∷ untouched n touched) ≡ false
-  by_test true is rest = rest
-  by_test false is rest = rw is rest
-
-touched-last : (m n : ℕ) (touched : List ℕ) → is_touched m (touched ++ n ∷ []) ≡ (is_touched m touched || (n == m))
-touched-last m n [] = by_test (n == m) where
-  by_test : (b : Bool) → (b || false) ≡ b
-  by_test true = refl
-  by_test false = refl
-touched-last m n (k ∷ touched) = ap (λ b. (k == m) || b) (touched-last m n touched) ∙ ors (k == m) (is_touched m touched) (n == m) where
-  ors : (a b d : Bool) → (a || (b || d)) ≡ ((a || b) || d)
-  ors true b d = refl
-  ors false b d = refl
-
-pub order-put : (n : ℕ) (r : Receiving) (touched : List ℕ) (t : List (ℕ × Receiving)) → ((m : ℕ) → is_touched m touched ≡ is_some (find m t))
-    → (m : ℕ) → is_touched m (untouched n touched ++ n ∷ []) ≡ is_some (find m (put n r t))
-order-put n r touched t order m = by_test (n == m) refl where
-  by_test : (same : Bool) → (n == m) ≡ same → is_touched m (untouched n touched ++ n ∷ []) ≡ is_some (find m (put n r t))
-  by_test true is =
-      let here : n ≡ m = eqb-true n m is in
-      rw (← here) (touched-last n n (untouched n touched) ∙ (rw (touched-gone n touched, self_eqb n) refl ∙ ap (λ x. is_some x) (sym (find-put n r t))))
-  by_test false is =
-      let apart : m ≢ n = λ e. differ (eq-eqb n m (sym e)) is in
-      touched-last m n (untouched n touched) ∙ (rw is (or_none (is_touched m (untouched n touched)))
-      ∙ (touched-other n m touched apart ∙ (order m ∙ ap (λ x. is_some x) (sym (find-put_other m n r t apart))))) where
-        or_none : (b : Bool) → (b || false) ≡ b
-        or_none true = refl
-        or_none false = refl
-
-        differ : {b : Bool} → b ≡ true → b ≡ false → ⊥
-        differ is also = cc
-
-pub order-without : (n : ℕ) (touched : List ℕ) (t : List (ℕ × Receiving)) → ((m : ℕ) → is_touched m touched ≡ is_some (find m t))
-    → (m : ℕ) → is_touched m (untouched n touched) ≡ is_some (find m (without n t))
-order-without n touched t order m = by_test (n == m) refl where
-  by_test : (same : Bool) → (n == m) ≡ same → is_touched m (untouched n touched) ≡ is_some (find m (without n t))
-  by_test true is =
-      let here : n ≡ m = eqb-true n m is in
-      rw (← here) (touched-gone n touched ∙ ap (λ x. is_some x) (sym (find-without n t)))
-  by_test false is =
-      let apart : m ≢ n = λ e. differ (eq-eqb n m (sym e)) is in
-      touched-other n m touched apart ∙ (order m ∙ ap (λ x. is_some x) (sym (find-without_other m n t apart))) where
-        differ : {b : Bool} → b ≡ true → b ≡ false → ⊥
-        differ is also = cc
-
 -- ---- one change
 
 some-put : (n m : ℕ) (r : Receiving) (t : List (ℕ × Receiving)) → (P : ℕ → Type 0) → P n → ((k : ℕ) → is_some (find k t) ≡ true → P k)
@@ -159,7 +97,6 @@ pub sound-put : (i : InboundValue) (n : ℕ) (r : Receiving) → IsInboundSound 
 sound-put i n r sound most open_is few room = record {
   receivers = few;
   history = room;
-  order = order-put n r i.touched i.receivers sound.order;
   unclosed = λ m holds. some-put n m r i.receivers (λ k. is_among i.closed k ≡ false) open_is sound.unclosed holds;
   range = λ m holds. some-put n m r i.receivers (λ k. k ≤ LAST) most sound.range holds;
   limit = sound.limit;
@@ -170,7 +107,6 @@ pub sound-ends : (i : InboundValue) (n : ℕ) → IsInboundSound i → is_some (
 sound-ends i n sound found = record {
   receivers = omega (arith, fewer, sound.receivers);
   history = omega (arith, fewer, runs-grow n i.closed, sound.history);
-  order = order-without n i.touched i.receivers sound.order;
   unclosed = λ m holds. still m (some-without n m i.receivers holds);
   range = λ m holds. let (apart, there) = some-without n m i.receivers holds in sound.range m there;
   limit = length-also n i.closed most sound.limit;
@@ -194,18 +130,24 @@ sound-kept i n ends sound found = sound-ends i n sound found
 
 -- ---- a session opens
 
+-- the sessions that have a place in the order of touch are those that are kept
+abbrev pub IsInOrder : InboundValue → Type 0
+IsInOrder i = (n : ℕ) → list_any (λ m. m == n) i.touched ≡ is_some (find n i.receivers)
+
 -- the longest untouched of some sessions is kept
-first-kept : (touched : List ℕ) (t : List (ℕ × Receiving)) → ((m : ℕ) → is_touched m touched ≡ is_some (find m t)) → 64 ≤ length t
-    → (n : ℕ) × (longest_untouched touched t ≡ Some n) × (is_some (find n t) ≡ true)
+first-kept : (i : InboundValue) → IsInOrder i → 64 ≤ length i.receivers → (n : ℕ) × (longest_untouched i.touched i.receivers ≡ Some n) × (is_some (find n i.receivers) ≡ true)
 unfolding find
-first-kept [] [] order many = absurd (omega (arith, many))
-first-kept [] (e ∷ t) order many = absurd (differ (order e.0) (rw (self_eqb e.0) refl)) where
-  differ : {b : Bool} → false ≡ b → b ≡ true → ⊥
-  differ is also = cc
-first-kept (n ∷ touched) t order many = by_kept (find n t) refl (sym (order n) ∙ rw (self_eqb n) refl) where
-  by_kept : (kept : Option Receiving) → find n t ≡ kept → is_some (find n t) ≡ true → (m : ℕ) × (option_map (λ r. n) (find n t) ≡ Some m) × (is_some (find m t) ≡ true)
-  by_kept None is holds = absurd (cc (is, holds))
-  by_kept (Some r) is holds = (n, ap (λ k. option_map (λ r. n) k) is, holds)
+first-kept i order many = by_touched i.touched i.receivers order many where
+  by_touched : (touched : List ℕ) (t : List (ℕ × Receiving)) → ((m : ℕ) → list_any (λ k. k == m) touched ≡ is_some (find m t)) → 64 ≤ length t
+      → (n : ℕ) × (longest_untouched touched t ≡ Some n) × (is_some (find n t) ≡ true)
+  by_touched [] [] order many = absurd (omega (arith, many))
+  by_touched [] (e ∷ t) order many = absurd (differ (order e.0) (rw (self_eqb e.0) refl)) where
+    differ : {b : Bool} → false ≡ b → b ≡ true → ⊥
+    differ is also = cc
+  by_touched (n ∷ touched) t order many = by_kept (find n t) refl (sym (order n) ∙ rw (self_eqb n) refl) where
+    by_kept : (kept : Option Receiving) → find n t ≡ kept → is_some (find n t) ≡ true → (m : ℕ) × (option_map (λ r. n) (find n t) ≡ Some m) × (is_some (find m t) ≡ true)
+    by_kept None is holds = absurd (cc (is, holds))
+    by_kept (Some r) is holds = (n, ap (λ k. option_map (λ r. n) k) is, holds)
 
 -- after it was made, there is room for a session that isn't kept
 pub record HasRoom (i : InboundValue) (n : ℕ) : Type 0 where
@@ -214,10 +156,10 @@ pub record HasRoom (i : InboundValue) (n : ℕ) : Type 0 where
   pub room : i.closed.runs + length i.receivers + 1 ≤ 65536
   pub open_is : is_among i.closed n ≡ false
 
-pub room-for : (i : InboundValue) (n : ℕ) → IsInboundSound i → find n i.receivers ≡ None → is_among i.closed n ≡ false
+pub room-for : (i : InboundValue) (n : ℕ) → IsInOrder i → IsInboundSound i → find n i.receivers ≡ None → is_among i.closed n ≡ false
     → nat_le 65536 (i.closed.runs + length i.receivers) ≡ false → HasRoom (with_room i (evicted_in i)) n
 unfolding evicted_in
-room-for i n sound absent open_is not_full = by_many (nat_le 64 (length i.receivers)) refl where
+room-for i n order sound absent open_is not_full = by_many (nat_le 64 (length i.receivers)) refl where
   there_is : i.closed.runs + length i.receivers + 1 ≤ 65536
   there_is = go (i.closed.runs + length i.receivers) not_full where
     go : (k : ℕ) → nat_le 65536 k ≡ false → k + 1 ≤ 65536
@@ -228,7 +170,7 @@ room-for i n sound absent open_is not_full = by_many (nat_le 64 (length i.receiv
     go : (k : ℕ) → nat_le 64 k ≡ false → k + 1 ≤ 64
     go k is = grind (arith, nat_tests)
   by_many true is =
-      let (m, longest, found) = first-kept i.touched i.receivers sound.order (go (length i.receivers) is) in
+      let (m, longest, found) = first-kept i order (go (length i.receivers) is) in
       let fewer = length-without_found m i.receivers found in
       rw longest (record {
         sound = sound-ends i m sound found;
@@ -253,16 +195,16 @@ MayOpen place stays = Unit {0}
 MayOpen place (keeps r) = (place.closed ≡ false) × (place.full ≡ false)
 MayOpen place ends = ⊥
 
-pub sound-step : (i : InboundValue) (n most : ℕ) (gone : Option ℕ) (change : Change Receiving) → n ≤ LAST → IsInboundSound i
+pub sound-step : (i : InboundValue) (n most : ℕ) (gone : Option ℕ) (change : Change Receiving) → n ≤ LAST → IsInOrder i → IsInboundSound i
     → gone ≡ evicted_for i (find n i.receivers) change → (find n i.receivers ≡ None → MayOpen (place_in i most n) change)
     → IsInboundSound (settled_in (with_room i gone) n change)
-sound-step i n most gone change least sound is may = subst (λ g. IsInboundSound (settled_in (with_room i g) n change)) (sym is) (by_kept (find n i.receivers) refl) where
+sound-step i n most gone change least order sound is may = subst (λ g. IsInboundSound (settled_in (with_room i g) n change)) (sym is) (by_kept (find n i.receivers) refl) where
   by_kept : (kept : Option Receiving) → find n i.receivers ≡ kept → IsInboundSound (settled_in (with_room i (evicted_for i kept change)) n change)
   by_kept (Some r) found = sound-kept i n change sound (ap (λ x. is_some x) found)
   by_kept None absent = by_change change (may absent) where
     by_change : (c : Change Receiving) → MayOpen (place_in i most n) c → IsInboundSound (settled_in (with_room i (evicted_for i None c)) n c)
     by_change stays opens = sound
-    by_change (keeps r) opens = sound-opens (with_room i (evicted_in i)) n r least (room-for i n sound absent opens.0 opens.1)
+    by_change (keeps r) opens = sound-opens (with_room i (evicted_in i)) n r least (room-for i n order sound absent opens.0 opens.1)
     by_change ends opens = absurd opens
 
 -- ---- all sessions tick
@@ -299,24 +241,6 @@ closed-ended change m low (e ∷ es) is = by_test (e.0 == m) refl (change e.1) r
   by_test false is_same (keeps r) is_change rest = rest
   by_test false is_same ends is_change rest = rw is_same rest
 
-touched-all : (m : ℕ) (numbers touched : List ℕ) → is_touched m (untouched_all numbers touched) ≡ (is_touched m touched && not (is_closed m numbers))
-touched-all m [] touched = by_touched (is_touched m touched) where
-  by_touched : (b : Bool) → b ≡ (b && true)
-  by_touched true = refl
-  by_touched false = refl
-touched-all m (n ∷ numbers) touched = by_test (n == m) refl (touched-all m numbers touched) where
-  by_test : (same : Bool) → (n == m) ≡ same → is_touched m (untouched_all numbers touched) ≡ (is_touched m touched && not (is_closed m numbers))
-      → is_touched m (untouched n (untouched_all numbers touched)) ≡ (is_touched m touched && not (same || is_closed m numbers))
-  by_test true is rest =
-      let here : n ≡ m = eqb-true n m is in
-      subst (λ k. is_touched k (untouched n (untouched_all numbers touched)) ≡ (is_touched m touched && false)) here (touched-gone n (untouched_all numbers touched) ∙ never (is_touched m touched)) where
-        never : (b : Bool) → false ≡ (b && false)
-        never true = refl
-        never false = refl
-  by_test false is rest = touched-other n m (untouched_all numbers touched) (λ e. differ (eq-eqb n m (sym e)) is) ∙ rest where
-    differ : {b : Bool} → b ≡ true → b ≡ false → ⊥
-    differ is also = cc
-
 abbrev pub ticked_by : (Receiving → Change Receiving) → InboundValue → InboundValue
 ticked_by change i = record {
   receivers = ticked change i.receivers;
@@ -328,7 +252,6 @@ pub sound-ticked : (change : Receiving → Change Receiving) (i : InboundValue) 
 sound-ticked change i sound = record {
   receivers = omega (arith, size, sound.receivers);
   history = omega (arith, size, runs-all over i.closed, sound.history);
-  order = λ m. touched-all m over i.touched ∙ rw (sound.order m, closed-ended change m 0 i.receivers sound.ascending, after_it m) (order_at (find m i.receivers));
   unclosed = λ m holds. (among-all over i.closed m most sound.limit).0 ∙ rw (closed-ended change m 0 i.receivers sound.ascending) (open_at m (find m i.receivers) refl (subst (λ x. is_some x ≡ true) (after_it m) holds));
   range = λ m holds. sound.range m (was (find m i.receivers) (subst (λ x. is_some x ≡ true) (after_it m) holds));
   limit = (among-all over i.closed 0 most sound.limit).1;
@@ -345,14 +268,6 @@ sound-ticked change i sound = record {
 
   after_it : (m : ℕ) → find m (ticked change i.receivers) ≡ after_tick change (find m i.receivers)
   after_it m = find-ticked change m 0 i.receivers sound.ascending
-
-  order_at : (kept : Option Receiving) → (is_some kept && not (is_over_by change kept)) ≡ is_some (after_tick change kept)
-  order_at None = refl
-  order_at (Some r) = by_change (change r) where
-    by_change : (c : Change Receiving) → not (not (is_some (after c (Some r)))) ≡ is_some (after c (Some r))
-    by_change stays = refl
-    by_change (keeps s) = refl
-    by_change ends = refl
 
   was : (kept : Option Receiving) → is_some (after_tick change kept) ≡ true → is_some kept ≡ true
   was None holds = absurd (cc)

@@ -1,5 +1,7 @@
 mod ClosedLemmas
 mod TableLemmas
+mod OrderLemmas
+mod ChangeLemmas
 mod InboundLemmas
 mod SoundLemmas
 mod BlockLemmas
@@ -8,7 +10,7 @@ mod KeepLemmas
 mod ShowLemmas
 mod EngineLemmas
 mod HearLemmas
-mod LegalLemmas
+pub mod LegalLemmas
 mod BeginLemmas
 mod QuietLemmas
 mod RedPartLemmas

@@ -24,6 +24,7 @@ use Rattle.ltp_session.specs.Views.{SessionValue, changed, answer_of}
 use Rattle.ltp_segment.specs.Values.{SegmentValue}
 use Rattle.ltp_engine.specs.declared.effects.Effects.{Effects}
 use Rattle.ltp_engine.specs.Ticks.{with_ticks}
+use Rattle.ltp_engine.specs.Effects.{with_sent}
 use Rattle.ltp_engine.specs.Tables.{is_ended, table_of, live, live_entry, live_all, AreLive, Does, swept}
 use Rattle.link_laws.proofs.TableLemmas.{self_eqb, find_below}
 
@@ -203,18 +204,6 @@ pub does-absent : {S : Type 0} (o : ℕ) (p : PolicyValue) (n : ℕ) (f : Policy
 does-absent o p n f old new told are_live holds unmoved same answered =
     rw (absent-live o p n old are_live holds) (record { next = rw unmoved (same ∙ are_live); says = answered })
 
--- a session is taken out
-pub remove-live_all : {S : Type 0} (o : ℕ) (p : PolicyValue) (n low : ℕ) (t : List (ℕ × S)) → AreAscending low t
-    → remove_entry (is_at (nat_cmp n)) (live_all o p t) ≡ live_all o p (without n t)
-unfolding without
-remove-live_all o p n low [] up = refl
-remove-live_all o p n low (e ∷ t) up =
-    rw (at-number n e.0) (by_test (e.0 == n) refl (remove-live_all o p n (e.0 + 1) t up.1)) where
-      by_test : (same : Bool) → (e.0 == n) ≡ same → remove_entry (is_at (nat_cmp n)) (live_all o p t) ≡ live_all o p (without n t)
-          → cond same (live_all o p t) (live_entry o p e ∷ remove_entry (is_at (nat_cmp n)) (live_all o p t)) ≡ live_all o p (if same then without n t else e ∷ without n t)
-      by_test true is rest = let gone : without n t ≡ t = without_below n (e.0 + 1) t (grind (arith, nat_tests)) up.1 in rw gone refl
-      by_test false is rest = rw rest refl
-
 -- a session is put in
 pub insert-live_all : {S : Type 0} (o : ℕ) (p : PolicyValue) (n : ℕ) (s : S) (t : List (ℕ × S)) → insert_entry nat_cmp (live_all o p t) n (live o p n s) ≡ live_all o p (put n s t)
 unfolding put
@@ -251,38 +240,47 @@ ended-kept {S = S} o p n f old v w over are_live holds moved is_over =
           let ended : over ≡ not (is_some (after (f p (Some s)).next (Some s))) = subst (λ x. over ≡ not (is_some x.kept)) to is_over in
           rw at (ended ∙ over-ended s (f p (Some s)).next)
 
-keys_of-live_all : {S : Type 0} (o : ℕ) (p : PolicyValue) (t : List (ℕ × S)) → keys_of (live_all o p t) ≡ keys_of t
+pub keys_of-live_all : {S : Type 0} (o : ℕ) (p : PolicyValue) (t : List (ℕ × S)) → keys_of (live_all o p t) ≡ keys_of t
 keys_of-live_all o p [] = refl
 keys_of-live_all o p (e ∷ t) = ap (λ ks. e.0 ∷ ks) (keys_of-live_all o p t)
 
 -- ---- all sessions tick
 
+pub empty-list : {X : Type 0} (xs : List X) → length xs ≡ 0 → xs ≡ []
+empty-list [] is = refl
+empty-list (x ∷ xs) is = absurd (omega (arith, is))
+
+with_ticks-is : (e told : Effects) (segments : List SegmentValue) (remarks : List Note) → told.ups ≡ e.ups → told.greens ≡ e.greens
+    → told.out ≡ e.out ++ map segment_octets segments → told.notes ≡ e.notes ++ remarks → told ≡ with_ticks e segments remarks
+with_ticks-is e told segments remarks ups greens out notes = rw (sym ups, sym greens, sym out, sym notes) refl
+
 -- the sessions whose turn is past, and those whose turn is to come, of a table that ticks
-pub record SoFar {S : Type 0} (o : ℕ) (p : PolicyValue) (tick : S → StepValue S) (all : List (ℕ × S)) (numbers : List ℕ)
-    (entries : List (ℕ × SessionValue S)) (out : List (List ℕ)) (remarks : List Note) (out_all : List (List ℕ)) (remarks_all : List Note)
-    (ended_now ended_all : List ℕ) : Type 0 where
+pub record SoFar {S : Type 0} (o : ℕ) (tick : S → StepValue S) (all : List (ℕ × S)) (begun : Effects) (numbers : List ℕ) (table : List (ℕ × S))
+    (told : Effects) (over : List ℕ) : Type 0 where
   pub past : List (ℕ × S)
   pub left : List (ℕ × S)
   pub numbers_are : numbers ≡ keys_of left
-  pub entries_are : entries ≡ live_all o p (past ++ left)
+  pub table_is : table ≡ past ++ left
   pub goes_on : ticked (λ s. (tick s).next) all ≡ past ++ ticked (λ s. (tick s).next) left
-  pub sends : out_all ≡ out ++ map segment_octets (tick_segments tick o left)
-  pub notes : remarks_all ≡ remarks ++ tick_remarks tick left
-  pub ends : ended_all ≡ ended_now ++ ended (λ s. (tick s).next) left
+  pub sends : begun.out ++ map segment_octets (tick_segments tick o all) ≡ told.out ++ map segment_octets (tick_segments tick o left)
+  pub notes : begun.notes ++ tick_remarks tick all ≡ told.notes ++ tick_remarks tick left
+  pub ups : told.ups ≡ begun.ups
+  pub greens : told.greens ≡ begun.greens
+  pub ends : ended (λ s. (tick s).next) all ≡ over ++ ended (λ s. (tick s).next) left
 
-pub so_far-start : {S : Type 0} (o : ℕ) (p : PolicyValue) (tick : S → StepValue S) (entries : List (ℕ × SessionValue S)) (numbers : List ℕ)
-    (out : List (List ℕ)) (remarks : List Note) → AreLive o p entries → numbers ≡ keys_of entries
-    → SoFar o p tick (table_of entries) numbers entries out remarks (out ++ map segment_octets (tick_segments tick o (table_of entries)))
-    (remarks ++ tick_remarks tick (table_of entries)) [] (ended (λ s. (tick s).next) (table_of entries))
-so_far-start o p tick entries numbers out remarks are_live are = record {
+pub so_far-start : {S : Type 0} (o : ℕ) (tick : S → StepValue S) (table : List (ℕ × S)) (begun : Effects) (numbers over : List ℕ) → numbers ≡ keys_of table → over ≡ []
+    → SoFar o tick table begun numbers table begun over
+so_far-start o tick table begun numbers over are none = record {
   past = [];
-  left = table_of entries;
-  numbers_are = are ∙ (ap (λ es. keys_of es) are_live ∙ keys_of-live_all o p (table_of entries));
-  entries_are = are_live;
+  left = table;
+  numbers_are = are;
+  table_is = refl;
   goes_on = refl;
   sends = refl;
   notes = refl;
-  ends = refl;
+  ups = refl;
+  greens = refl;
+  ends = rw none refl;
 }
 
 above_all : {S : Type 0} (n low : ℕ) (s : S) (past left : List (ℕ × S)) → AreAscending low (past ++ (n, s) ∷ left) → low ≤ n
@@ -334,116 +332,111 @@ split-ended n stays numbers = refl
 split-ended n (keeps r) numbers = refl
 split-ended n ends numbers = refl
 
-pub so_far-step : {S : Type 0} (o : ℕ) (p : PolicyValue) (tick : S → StepValue S) (f : Option S → StepValue S) (all : List (ℕ × S)) (n : ℕ) (numbers : List ℕ)
-    (entries moved : List (ℕ × SessionValue S)) (out : List (List ℕ)) (remarks : List Note) (out_all : List (List ℕ)) (remarks_all : List Note)
-    (ended_now ended_all : List ℕ) (told : Step) → ((s : S) → f (Some s) ≡ tick s)
-    → SoFar o p tick all (n ∷ numbers) entries out remarks out_all remarks_all ended_now ended_all
-    → IsStrictlySortedBy nat_cmp (keys_of entries) → Does o p n (f (find n (table_of entries))) entries moved told
-    → SoFar o p tick all numbers moved (out ++ told.out) (remarks ++ list_of told.note) out_all remarks_all
-    (ended_now ++ (if is_ended (f (find n (table_of entries))).next then n ∷ [] else [])) ended_all
+-- one more ticks
+pub so_far-step : {S : Type 0} (o : ℕ) (tick : S → StepValue S) (f : Option S → StepValue S) (all : List (ℕ × S)) (begun : Effects) (n : ℕ) (turns numbers : List ℕ)
+    (table moved : List (ℕ × S)) (told next : Effects) (over : List ℕ) (step : Step) → ((s : S) → f (Some s) ≡ tick s)
+    → SoFar o tick all begun turns table told over → turns ≡ n ∷ numbers
+    → AreAscending 0 table → moved ≡ settled n (f (find n table)).next table
+    → step ≡ answer_of (record { originator = o; number = n }) (f (find n table)) → next ≡ with_sent told step.out step.note
+    → SoFar o tick all begun numbers moved next (over ++ (if is_ended (f (find n table)).next then n ∷ [] else []))
 unfolding ticked tick_segments tick_remarks ended
-so_far-step {S = S} o p tick f all n numbers entries moved out remarks out_all remarks_all ended_now ended_all told same so_far sorted does =
-    by_left so_far.past so_far.left so_far.numbers_are so_far.entries_are so_far.goes_on so_far.sends so_far.notes so_far.ends where
-      at_turn : (past left : List (ℕ × S)) (s : S) → numbers ≡ keys_of left → entries ≡ live_all o p (past ++ (n, s) ∷ left)
-          → ticked (λ s. (tick s).next) all ≡ past ++ ticked (λ s. (tick s).next) ((n, s) ∷ left)
-          → out_all ≡ out ++ map segment_octets (tick_segments tick o ((n, s) ∷ left))
-          → remarks_all ≡ remarks ++ tick_remarks tick ((n, s) ∷ left)
-          → ended_all ≡ ended_now ++ ended (λ s. (tick s).next) ((n, s) ∷ left)
-          → SoFar o p tick all numbers moved (out ++ told.out) (remarks ++ list_of told.note) out_all remarks_all
-          (ended_now ++ (if is_ended (f (find n (table_of entries))).next then n ∷ [] else [])) ended_all
-      at_turn past left s numbers_are entries_are goes_on sends notes ends_are =
-          let table : table_of entries ≡ past ++ (n, s) ∷ left = ap (λ es. table_of es) entries_are ∙ table_of-live_all o p (past ++ (n, s) ∷ left) in
-          let up : AreAscending 0 (past ++ (n, s) ∷ left) = ascending-sorted o p (past ++ (n, s) ∷ left) (subst (λ es. IsStrictlySortedBy nat_cmp (keys_of es)) entries_are sorted) in
-          let found : find n (table_of entries) ≡ Some s = ap (λ t. find n t) table ∙ find-past n 0 s past left up in
-          let step : f (find n (table_of entries)) ≡ tick s = ap f found ∙ same s in
-          let said : told ≡ answer_of (record { originator = o; number = n }) (tick s) = does.says ∙ ap (λ x. answer_of (record { originator = o; number = n }) x) step in
-          record {
+so_far-step {S = S} o tick f all begun n turns numbers table moved told next over step same so_far turn ascends moved_is says next_is =
+    by_left so_far.past so_far.left (sym turn ∙ so_far.numbers_are) so_far.table_is so_far.goes_on so_far.sends so_far.notes so_far.ends where
+      change : S → Change S
+      change s = (tick s).next
+
+      at_turn : (past left : List (ℕ × S)) (s : S) → numbers ≡ keys_of left → table ≡ past ++ (n, s) ∷ left
+          → ticked change all ≡ past ++ ticked change ((n, s) ∷ left)
+          → begun.out ++ map segment_octets (tick_segments tick o all) ≡ told.out ++ map segment_octets (tick_segments tick o ((n, s) ∷ left))
+          → begun.notes ++ tick_remarks tick all ≡ told.notes ++ tick_remarks tick ((n, s) ∷ left)
+          → ended change all ≡ over ++ ended change ((n, s) ∷ left)
+          → SoFar o tick all begun numbers moved next (over ++ (if is_ended (f (find n table)).next then n ∷ [] else []))
+      at_turn past left s numbers_are table_is goes_on sends notes ends_are =
+          let up : AreAscending 0 (past ++ (n, s) ∷ left) = subst (λ t. AreAscending 0 t) table_is ascends in
+          let found : find n table ≡ Some s = ap (λ t. find n t) table_is ∙ find-past n 0 s past left up in
+          let does : f (find n table) ≡ tick s = ap f found ∙ same s in
+          let said : step ≡ answer_of (record { originator = o; number = n }) (tick s) = says ∙ ap (λ x. answer_of (record { originator = o; number = n }) x) does in
+          subst (λ e. SoFar o tick all begun numbers moved e (over ++ (if is_ended (f (find n table)).next then n ∷ [] else []))) (sym next_is) (record {
             past = past ++ then_kept (n, s) (tick s).next [];
             left = left;
             numbers_are = numbers_are;
-            entries_are = does.next ∙ (ap (λ x. live_all o p (settled n x.next (table_of entries))) step
-                ∙ (ap (λ t. live_all o p (settled n (tick s).next t)) table
-                ∙ ap (λ t. live_all o p t) (settled-past n 0 s (tick s).next past left up ∙ (ap (λ t. past ++ t) (split-kept n s (tick s).next left)
+            table_is = moved_is ∙ (ap (λ x. settled n x.next table) does ∙ (ap (λ t. settled n (tick s).next t) table_is
+                ∙ (settled-past n 0 s (tick s).next past left up ∙ (ap (λ t. past ++ t) (split-kept n s (tick s).next left)
                 ∙ sym (append_assoc past (then_kept (n, s) (tick s).next []) left)))));
-            goes_on = goes_on ∙ (ap (λ t. past ++ t) (split-kept n s (tick s).next (ticked (λ s. (tick s).next) left))
-                ∙ sym (append_assoc past (then_kept (n, s) (tick s).next []) (ticked (λ s. (tick s).next) left)));
-            sends = sends ∙ (ap (λ x. out ++ x) (map-append segment_octets (headed_all (record { originator = o; number = n }) (tick s).out) (tick_segments tick o left)
+            goes_on = goes_on ∙ (ap (λ t. past ++ t) (split-kept n s (tick s).next (ticked change left))
+                ∙ sym (append_assoc past (then_kept (n, s) (tick s).next []) (ticked change left)));
+            sends = sends ∙ (ap (λ x. told.out ++ x) (map-append segment_octets (headed_all (record { originator = o; number = n }) (tick s).out) (tick_segments tick o left)
                 ∙ ap (λ x. x.out ++ map segment_octets (tick_segments tick o left)) (sym said))
-                ∙ sym (append_assoc out told.out (map segment_octets (tick_segments tick o left))));
-            notes = notes ∙ (ap (λ x. remarks ++ (list_of x.note ++ tick_remarks tick left)) (sym said)
-                ∙ sym (append_assoc remarks (list_of told.note) (tick_remarks tick left)));
-            ends = ends_are ∙ (ap (λ x. ended_now ++ x) (split-ended n (tick s).next (ended (λ s. (tick s).next) left)
-                ∙ ap (λ x. (if is_ended x.next then n ∷ [] else []) ++ ended (λ s. (tick s).next) left) (sym step))
-                ∙ sym (append_assoc ended_now (if is_ended (f (find n (table_of entries))).next then n ∷ [] else []) (ended (λ s. (tick s).next) left)));
-          }
+                ∙ sym (append_assoc told.out step.out (map segment_octets (tick_segments tick o left))));
+            notes = notes ∙ (ap (λ x. told.notes ++ (list_of x.note ++ tick_remarks tick left)) (sym said)
+                ∙ sym (append_assoc told.notes (list_of step.note) (tick_remarks tick left)));
+            ups = so_far.ups;
+            greens = so_far.greens;
+            ends = ends_are ∙ (ap (λ x. over ++ x) (split-ended n (tick s).next (ended change left)
+                ∙ ap (λ x. (if is_ended x.next then n ∷ [] else []) ++ ended change left) (sym does))
+                ∙ sym (append_assoc over (if is_ended (f (find n table)).next then n ∷ [] else []) (ended change left)));
+          })
 
-      by_left : (past left : List (ℕ × S)) → n ∷ numbers ≡ keys_of left → entries ≡ live_all o p (past ++ left)
-          → ticked (λ s. (tick s).next) all ≡ past ++ ticked (λ s. (tick s).next) left
-          → out_all ≡ out ++ map segment_octets (tick_segments tick o left)
-          → remarks_all ≡ remarks ++ tick_remarks tick left
-          → ended_all ≡ ended_now ++ ended (λ s. (tick s).next) left
-          → SoFar o p tick all numbers moved (out ++ told.out) (remarks ++ list_of told.note) out_all remarks_all
-          (ended_now ++ (if is_ended (f (find n (table_of entries))).next then n ∷ [] else [])) ended_all
-      by_left past [] numbers_are entries_are goes_on sends notes ends_are = absurd (cc)
-      by_left past ((m, s) ∷ left) numbers_are entries_are goes_on sends notes ends_are =
+      by_left : (past left : List (ℕ × S)) → n ∷ numbers ≡ keys_of left → table ≡ past ++ left
+          → ticked change all ≡ past ++ ticked change left
+          → begun.out ++ map segment_octets (tick_segments tick o all) ≡ told.out ++ map segment_octets (tick_segments tick o left)
+          → begun.notes ++ tick_remarks tick all ≡ told.notes ++ tick_remarks tick left
+          → ended change all ≡ over ++ ended change left
+          → SoFar o tick all begun numbers moved next (over ++ (if is_ended (f (find n table)).next then n ∷ [] else []))
+      by_left past [] numbers_are table_is goes_on sends notes ends_are = absurd (cc)
+      by_left past ((m, s) ∷ left) numbers_are table_is goes_on sends notes ends_are =
           let here : m ≡ n = cc in
           let rest : numbers ≡ keys_of left = cc in
-          at_turn past left s rest (subst (λ k. entries ≡ live_all o p (past ++ (k, s) ∷ left)) here entries_are)
-          (subst (λ k. ticked (λ s. (tick s).next) all ≡ past ++ ticked (λ s. (tick s).next) ((k, s) ∷ left)) here goes_on)
-          (subst (λ k. out_all ≡ out ++ map segment_octets (tick_segments tick o ((k, s) ∷ left))) here sends)
-          (subst (λ k. remarks_all ≡ remarks ++ tick_remarks tick ((k, s) ∷ left)) here notes)
-          (subst (λ k. ended_all ≡ ended_now ++ ended (λ s. (tick s).next) ((k, s) ∷ left)) here ends_are)
+          at_turn past left s rest (subst (λ k. table ≡ past ++ (k, s) ∷ left) here table_is)
+          (subst (λ k. ticked change all ≡ past ++ ticked change ((k, s) ∷ left)) here goes_on)
+          (subst (λ k. begun.out ++ map segment_octets (tick_segments tick o all) ≡ told.out ++ map segment_octets (tick_segments tick o ((k, s) ∷ left))) here sends)
+          (subst (λ k. begun.notes ++ tick_remarks tick all ≡ told.notes ++ tick_remarks tick ((k, s) ∷ left)) here notes)
+          (subst (λ k. ended change all ≡ over ++ ended change ((k, s) ∷ left)) here ends_are)
 
 -- when no session is left
-pub record Ticked {S : Type 0} (o : ℕ) (p : PolicyValue) (tick : S → StepValue S) (all : List (ℕ × S)) (entries : List (ℕ × SessionValue S))
-    (out : List (List ℕ)) (remarks : List Note) (out_all : List (List ℕ)) (remarks_all : List Note) (ended_now ended_all : List ℕ) : Type 0 where
-  pub entries_are : entries ≡ live_all o p (ticked (λ s. (tick s).next) all)
-  pub sends : out ≡ out_all
-  pub notes : remarks ≡ remarks_all
-  pub ends : ended_now ≡ ended_all
+pub record Ticked {S : Type 0} (o : ℕ) (tick : S → StepValue S) (all : List (ℕ × S)) (begun : Effects) (table : List (ℕ × S)) (told : Effects) (over : List ℕ) : Type 0 where
+  pub table_is : table ≡ ticked (λ s. (tick s).next) all
+  pub told_is : told ≡ with_ticks begun (tick_segments tick o all) (tick_remarks tick all)
+  pub ends : over ≡ ended (λ s. (tick s).next) all
 
-pub so_far-end : {S : Type 0} (o : ℕ) (p : PolicyValue) (tick : S → StepValue S) (all : List (ℕ × S)) (entries : List (ℕ × SessionValue S))
-    (out : List (List ℕ)) (remarks : List Note) (out_all : List (List ℕ)) (remarks_all : List Note) (ended_now ended_all : List ℕ)
-    → SoFar o p tick all [] entries out remarks out_all remarks_all ended_now ended_all
-    → Ticked o p tick all entries out remarks out_all remarks_all ended_now ended_all
+pub so_far-end : {S : Type 0} (o : ℕ) (tick : S → StepValue S) (all : List (ℕ × S)) (begun : Effects) (numbers : List ℕ) (table : List (ℕ × S)) (told : Effects) (over : List ℕ)
+    → SoFar o tick all begun numbers table told over → length numbers ≡ 0 → Ticked o tick all begun table told over
 unfolding ticked tick_segments tick_remarks ended
-so_far-end {S = S} o p tick all entries out remarks out_all remarks_all ended_now ended_all so_far =
-    by_left so_far.left so_far.numbers_are so_far.entries_are so_far.goes_on so_far.sends so_far.notes so_far.ends where
-      by_left : (left : List (ℕ × S)) → [] ≡ keys_of left → entries ≡ live_all o p (so_far.past ++ left)
+so_far-end {S = S} o tick all begun numbers table told over so_far none =
+    by_left so_far.left (sym (empty-list numbers none) ∙ so_far.numbers_are) so_far.table_is so_far.goes_on so_far.sends so_far.notes so_far.ends where
+      by_left : (left : List (ℕ × S)) → [] ≡ keys_of left → table ≡ so_far.past ++ left
           → ticked (λ s. (tick s).next) all ≡ so_far.past ++ ticked (λ s. (tick s).next) left
-          → out_all ≡ out ++ map segment_octets (tick_segments tick o left)
-          → remarks_all ≡ remarks ++ tick_remarks tick left
-          → ended_all ≡ ended_now ++ ended (λ s. (tick s).next) left
-          → Ticked o p tick all entries out remarks out_all remarks_all ended_now ended_all
-      by_left [] are entries_are goes_on sends notes ends_are = record {
-        entries_are = entries_are ∙ ap (λ t. live_all o p t) (sym goes_on);
-        sends = sym (append-nil out) ∙ sym sends;
-        notes = sym (append-nil remarks) ∙ sym notes;
-        ends = sym (append-nil ended_now) ∙ sym ends_are;
+          → begun.out ++ map segment_octets (tick_segments tick o all) ≡ told.out ++ map segment_octets (tick_segments tick o left)
+          → begun.notes ++ tick_remarks tick all ≡ told.notes ++ tick_remarks tick left
+          → ended (λ s. (tick s).next) all ≡ over ++ ended (λ s. (tick s).next) left → Ticked o tick all begun table told over
+      by_left [] are table_is goes_on sends notes ends_are = record {
+        table_is = table_is ∙ sym goes_on;
+        told_is = with_ticks-is begun told (tick_segments tick o all) (tick_remarks tick all) so_far.ups so_far.greens
+            (sym (append-nil told.out) ∙ sym sends) (sym (append-nil told.notes) ∙ sym notes);
+        ends = sym (append-nil over) ∙ sym ends_are;
       }
-      by_left (e ∷ left) are entries_are goes_on sends notes ends_are = absurd (cc)
+      by_left (e ∷ left) are table_is goes_on sends notes ends_are = absurd (cc)
 
 -- a table's sessions are live
 pub live-table : {S : Type 0} (o : ℕ) (p : PolicyValue) (entries : List (ℕ × SessionValue S)) (t : List (ℕ × S)) → entries ≡ live_all o p t → AreLive o p entries
 live-table o p entries t is = is ∙ ap (λ x. live_all o p x) (sym (ap (λ es. table_of es) is ∙ table_of-live_all o p t))
 
-pub so_far-live : {S : Type 0} (o : ℕ) (p : PolicyValue) (tick : S → StepValue S) (all : List (ℕ × S)) (numbers : List ℕ)
-    (entries : List (ℕ × SessionValue S)) (out : List (List ℕ)) (remarks : List Note) (out_all : List (List ℕ)) (remarks_all : List Note)
-    (ended_now ended_all : List ℕ) → SoFar o p tick all numbers entries out remarks out_all remarks_all ended_now ended_all → AreLive o p entries
-so_far-live o p tick all numbers entries out remarks out_all remarks_all ended_now ended_all so_far =
-    live-table o p entries (so_far.past ++ so_far.left) so_far.entries_are
+pub live-numbers : {S : Type 0} (o : ℕ) (p : PolicyValue) (entries : List (ℕ × SessionValue S)) (numbers : List ℕ) → AreLive o p entries → numbers ≡ keys_of entries
+    → numbers ≡ keys_of (table_of entries)
+live-numbers o p entries numbers are_live is = is ∙ (ap (λ es. keys_of es) are_live ∙ keys_of-live_all o p (table_of entries))
 
-pub empty-list : {X : Type 0} (xs : List X) → length xs ≡ 0 → xs ≡ []
-empty-list [] is = refl
-empty-list (x ∷ xs) is = absurd (omega (arith, is))
+pub live-settled : {S : Type 0} (o : ℕ) (p : PolicyValue) (n : ℕ) (step : StepValue S) (old new : List (ℕ × SessionValue S)) (told : Step) → Does o p n step old new told
+    → AreLive o p new × (table_of new ≡ settled n step.next (table_of old))
+live-settled o p n step old new told does =
+    (live-table o p new (settled n step.next (table_of old)) does.next, ap (λ es. table_of es) does.next ∙ table_of-live_all o p (settled n step.next (table_of old)))
 
-pub with_ticks-is : (e told : Effects) (segments : List SegmentValue) (remarks : List Note) → told.ups ≡ e.ups → told.greens ≡ e.greens
-    → told.out ≡ e.out ++ map segment_octets segments → told.notes ≡ e.notes ++ remarks → told ≡ with_ticks e segments remarks
-with_ticks-is e told segments remarks ups greens out notes = rw (sym ups, sym greens, sym out, sym notes) refl
+pub live-sorted : {S : Type 0} (o : ℕ) (p : PolicyValue) (entries : List (ℕ × SessionValue S)) → AreLive o p entries → IsStrictlySortedBy nat_cmp (keys_of entries)
+    → AreAscending 0 (table_of entries)
+live-sorted o p entries are_live sorted = ascending-sorted o p (table_of entries) (subst (λ es. IsStrictlySortedBy nat_cmp (keys_of es)) are_live sorted)
 
 -- ---- the least deadline
 
-earlier_assoc : (a b c : Option ℕ) → earlier a (earlier b c) ≡ earlier (earlier a b) c
+pub earlier_assoc : (a b c : Option ℕ) → earlier a (earlier b c) ≡ earlier (earlier a b) c
 earlier_assoc None b c = refl
 earlier_assoc (Some a) None c = refl
 earlier_assoc (Some a) (Some b) None = refl
@@ -509,14 +502,9 @@ unfolding ended
 length-ended change [] = omega arith
 length-ended change (e ∷ t) = let few : length (ended change t) ≤ length t = length-ended change t in length-then_ended e.0 (change e.1) (ended change t) (length t) few
 
-length-live_entries : {S : Type 0} (o : ℕ) (p : PolicyValue) (t : List (ℕ × S)) → length (live_all o p t) ≡ length t
-length-live_entries o p [] = refl
-length-live_entries o p (e ∷ t) = ap suc (length-live_entries o p t)
-
-pub room-ended : {S : Type 0} (o : ℕ) (p : PolicyValue) (change : S → Change S) (entries : List (ℕ × SessionValue S)) (over : List ℕ) (runs now_runs : ℕ) → AreLive o p entries
-    → over ≡ ended change (table_of entries) → now_runs ≡ runs → runs + length entries < 2 ^ 32 → now_runs + length over < 2 ^ 32
-room-ended o p change entries over runs now_runs are_live is same room =
-    let few : length (ended change (table_of entries)) ≤ length (table_of entries) = length-ended change (table_of entries) in
-    let size : length entries ≡ length (table_of entries) = ap (λ es. length es) are_live ∙ length-live_entries o p (table_of entries) in
-    let much : length over ≡ length (ended change (table_of entries)) = ap (λ ns. length ns) is in
-    omega (arith, few, size, much, same, room)
+pub room-ended : {S : Type 0} (change : S → Change S) (table : List (ℕ × S)) (over : List ℕ) (runs now_runs : ℕ)
+    → over ≡ ended change table → now_runs ≡ runs → runs + length table < 2 ^ 32 → now_runs + length over < 2 ^ 32
+room-ended change table over runs now_runs is same room =
+    let few : length (ended change table) ≤ length table = length-ended change table in
+    let much : length over ≡ length (ended change table) = ap (λ ns. length ns) is in
+    omega (arith, few, much, same, room)

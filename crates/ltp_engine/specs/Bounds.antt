@@ -1,8 +1,8 @@
 -- What an engine keeps at the most.
 
-use Rattle.std.specs.Prelude.{◌≡◌, ℕ, ◌+◌, ◌^◌, ◌≤◌, Bool, true, false, ◌==◌, List, length}
+use Rattle.std.specs.Prelude.{◌≡◌, ℕ, ◌+◌, ◌^◌, ◌≤◌, true, false, length}
 use Rattle.std.specs.Prelude.{is_some}
-use Rattle.std.specs.List.{AllByRecursion, list_any}
+use Rattle.std.specs.List.{AllByRecursion}
 use Rattle.ltp_segment.specs.declared.session.TheConstants.{BLOCK_MAX}
 use Rattle.ltp_session.specs.Sender.{Sending}
 use Rattle.ltp_session.specs.Receiver.{Receiving}
@@ -31,16 +31,11 @@ pub record IsBounded (v : EngineValue) : Type 0 where
 
 -- ---- what every call keeps, these bounds among it
 
--- a number is among some numbers
-abbrev pub is_touched : ℕ → List ℕ → Bool
-is_touched n touched = list_any (λ m. m == n) touched
-
--- exactly the sessions that are kept have a place in the order; none of them is closed; their
--- numbers ascend, and are numbers that a session can have
+-- none of the sessions that are kept is closed; their numbers ascend, and are numbers that a
+-- session can have
 pub record IsInboundSound (i : InboundValue) : Type 0 where
   pub receivers : length i.receivers ≤ 64
   pub history : i.closed.runs + length i.receivers ≤ 65536
-  pub order : (n : ℕ) → is_touched n i.touched ≡ is_some (find n i.receivers)
   pub unclosed : (n : ℕ) → is_some (find n i.receivers) ≡ true → is_among i.closed n ≡ false
   pub range : (n : ℕ) → is_some (find n i.receivers) ≡ true → n ≤ LAST
   pub limit : length i.closed.places ≡ LAST

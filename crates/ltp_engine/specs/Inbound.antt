@@ -1,7 +1,8 @@
 -- The steps of the receiving side, over what the code keeps.
 
 use Rattle.std.specs.Prelude.{◌≡◌, ℕ, ◌+◌, Bool, true, false, nat_le, List, [], ◌∷◌, ◌++◌, length}
-use Rattle.std.specs.Prelude.{Option, None, Some, if◌then◌else◌}
+use Rattle.std.specs.Prelude.{Option, None, Some, if◌then◌else◌, nat_eq}
+use Rattle.std.specs.Map.{keys_of, lookup, remove_entry}
 use Rattle.ltp_segment.specs.declared.session.Step.{Step}
 use Rattle.ltp_segment.specs.Policy.{PolicyValue}
 use Rattle.ltp_segment.specs.Values.{PieceValue}
@@ -9,25 +10,25 @@ use Rattle.ltp_session.specs.Step.{Change, stays, keeps, ends, StepValue, noting
 use Rattle.ltp_session.specs.Receiver.{Receiving, Place, is_cancelling, piece_step}
 use Rattle.ltp_session.specs.Table.{find, settled, ticked, ended}
 use Rattle.ltp_session.specs.Engine.{untouched, untouched_all, longest_untouched}
-use Rattle.ltp_session.specs.Views.{answer_of}
+use Rattle.ltp_session.specs.Views.{SessionValue, answer_of}
 use Rattle.ltp_engine.specs.Closed.{ClosedValue, is_among, also_closed, all_closed}
 use Rattle.ltp_engine.specs.Values.{InboundValue}
-use Rattle.ltp_engine.specs.Tables.{table_of, live_all}
+use Rattle.ltp_engine.specs.Tables.{table_of, AreLive, by_number}
 use Rattle.ltp_engine.specs.Ticks.{receiver_change}
 use Rattle.ltp_engine.specs.declared.inbound.Inbound.{Inbound}
 
+-- the code keeps its sessions from the longest untouched to the last touched
 abbrev pub inbound_of : Inbound → InboundValue
 inbound_of i = record {
-  receivers = table_of i.receivers.entries;
-  touched = i.touched.items;
+  receivers = by_number (table_of i.receivers.entries);
+  touched = keys_of i.receivers.entries;
   closed = i.closed;
 }
 
 -- the code keeps this, and no session of it is over or spent
 pub record Keeps (peer : ℕ) (policy : PolicyValue) (i : Inbound) (v : InboundValue) : Type 0 where
-  pub receivers : i.receivers.entries ≡ live_all peer policy v.receivers
-  pub touched : i.touched.items ≡ v.touched
-  pub closed : i.closed ≡ v.closed
+  pub live : AreLive peer policy i.receivers.entries
+  pub is : inbound_of i ≡ v
 
 -- the order of touch after a change of session n
 abbrev pub touched_after : ℕ → Change Receiving → List ℕ → List ℕ
@@ -73,11 +74,19 @@ place_in i most n = record {
 
 -- ---- a step of a session
 
--- the order of touch once a session is over, or was touched, or neither
-abbrev pub moved : ℕ → Bool → Bool → List ℕ → List ℕ
-moved n true touches touched = untouched n touched
-moved n false true touched = untouched n touched ++ n ∷ []
-moved n false false touched = touched
+-- the sessions, where one of them was touched: it is the last one now
+abbrev pub then_last : {S : Type 0} → ℕ → Option S → List (ℕ × S) → List (ℕ × S)
+then_last n None entries = entries
+then_last n (Some state) entries = remove_entry (nat_eq n) entries ++ (n, state) ∷ []
+
+abbrev pub with_touched : {S : Type 0} → ℕ → List (ℕ × S) → List (ℕ × S)
+with_touched n entries = then_last n (lookup (nat_eq n) entries) entries
+
+-- they, once a session is over, or was touched, or neither
+abbrev pub moved : {S : Type 0} → ℕ → Bool → Bool → List (ℕ × S) → List (ℕ × S)
+moved n true touches entries = remove_entry (nat_eq n) entries
+moved n false true entries = with_touched n entries
+moved n false false entries = entries
 
 abbrev pub closed_if : ℕ → Bool → ClosedValue → ClosedValue
 closed_if n true c = also_closed n c
@@ -93,7 +102,7 @@ pub record Receives (peer : ℕ) (policy : PolicyValue) (n : ℕ) (step : StepVa
 pub record Takes (peer : ℕ) (policy : PolicyValue) (n : ℕ) (step : StepValue Receiving)
     (old new : Inbound) (told : Option ℕ × Step) : Type 0 where
   pub gone : told.0
-      ≡ evicted_for (inbound_of old) (find n (table_of old.receivers.entries)) step.next
+      ≡ evicted_for (inbound_of old) (find n (inbound_of old).receivers) step.next
   pub next : Keeps peer policy new
       (settled_in (with_room (inbound_of old) told.0) n step.next)
   pub says : told.1 ≡ answer_of (record { originator = peer; number = n }) step
@@ -116,9 +125,23 @@ TakesKept peer policy n piece now old new (Some r) (Some told) =
 abbrev pub TakesNext : ℕ → PolicyValue → ℕ → PieceValue → ℕ → Inbound → Inbound
     → Option Step → Type 0
 TakesNext peer policy n piece now old new told =
-    TakesKept peer policy n piece now old new (find n (table_of old.receivers.entries)) told
+    TakesKept peer policy n piece now old new (find n (inbound_of old).receivers) told
 
 -- ---- all sessions tick
+
+-- the numbers, where a session may be over
+abbrev pub numbers_after : ℕ → Change Receiving → List ℕ → List ℕ
+numbers_after n stays numbers = numbers
+numbers_after n (keeps r) numbers = numbers
+numbers_after n ends numbers = untouched n numbers
+
+-- a session did a step of its definition, which touches none
+pub record Turns (peer : ℕ) (policy : PolicyValue) (n : ℕ) (step : StepValue Receiving)
+    (old new : List (ℕ × SessionValue Receiving)) (told : Step) : Type 0 where
+  pub live : AreLive peer policy new
+  pub next : by_number (table_of new) ≡ settled n step.next (by_number (table_of old))
+  pub numbers : keys_of new ≡ numbers_after n step.next (keys_of old)
+  pub says : told ≡ answer_of (record { originator = peer; number = n }) step
 
 abbrev pub ticked_in : PolicyValue → ℕ → InboundValue → InboundValue
 ticked_in policy now i = record {

@@ -8,7 +8,7 @@ use Rattle.std.specs.Ordering.{nat_cmp}
 use Rattle.ltp_segment.specs.Policy.{PolicyValue}
 use Rattle.ltp_segment.specs.declared.session.Step.{Step}
 use Rattle.ltp_session.specs.Step.{Change, stays, keeps, ends, StepValue}
-use Rattle.ltp_session.specs.Table.{settled}
+use Rattle.ltp_session.specs.Table.{put, settled}
 use Rattle.ltp_session.specs.Views.{SessionValue, answer_of}
 
 abbrev pub with_kept : {S : Type 0} → ℕ → Option S → List (ℕ × S) → List (ℕ × S)
@@ -50,6 +50,11 @@ pub record Does {S : Type 0} (originator : ℕ) (policy : PolicyValue) (n : ℕ)
 abbrev pub swept : {S : Type 0} → ℕ → Bool → List (ℕ × S) → List (ℕ × S)
 swept n true entries = remove_entry (is_at (nat_cmp n)) entries
 swept n false entries = entries
+
+-- sessions in ascending order of their numbers
+unfoldable pub by_number : {S : Type 0} → List (ℕ × S) → List (ℕ × S)
+by_number [] = []
+by_number (entry ∷ entries) = put entry.0 entry.1 (by_number entries)
 
 -- a change is the end of a session
 abbrev pub is_ended : {S : Type 0} → Change S → Bool

@@ -2,9 +2,9 @@
 
 ghost use Rattle.std.specs.Prelude.{◌≡◌, ℕ, ◌<◌, ◌≤◌, ◌^◌, ◌∷◌, [], None, Some, false, length};
 ghost use Rattle.std.specs.Prelude.{IfOk, OnOk};
-ghost use Rattle.std.specs.Prelude.{◌+◌, ◌++◌, nat_le, true, if◌then◌else◌};
-ghost use Rattle.std.specs.BTreeMap.{insert_entry, keys, IsOrdered};
-ghost use Rattle.std.specs.Ordering.{nat_cmp};
+ghost use Rattle.std.specs.Prelude.{◌+◌, ◌++◌, nat_eq, nat_le, true, if◌then◌else◌};
+ghost use Rattle.std.specs.Map.{keys_of, remove_entry};
+ghost use Rattle.indexmap.specs.IndexMap.{insert_entry, IsUnique};
 ghost use Rattle.ltp_segment.specs.declared.session.Note.TheVariants as notes;
 ghost use Rattle.ltp_segment.specs.declared.session.TheConstants.{BLOCK_MAX};
 ghost use Rattle.ltp_segment.specs.Kinds.{is_red};
@@ -19,27 +19,28 @@ ghost use Rattle.ltp_session.specs.Receiver.{on_receiver_cancel_ack, on_piece, f
 ghost use Rattle.ltp_session.specs.Receiver.{piece_step, fresh, green_of, ends_block};
 ghost use Rattle.ltp_session.specs.Receiver.{on_receiver_tick, receiver_deadline};
 ghost use Rattle.ltp_session.specs.Step.{unreachable};
-ghost use Rattle.ltp_session.specs.Engine.{untouched, longest_untouched, untouched_all};
 ghost use Rattle.ltp_session.specs.Engine.{tick_segments, tick_remarks, least_deadline};
 ghost use Rattle.ltp_session.specs.Views.{datagrams_of, green_view};
 ghost use Rattle.ltp_engine.specs.Notes.{is_taken};
-ghost use Rattle.ltp_engine.specs.Tables.{table_of, AreLive, Does, swept, is_ended};
+ghost use Rattle.ltp_engine.specs.Tables.{table_of, AreLive, by_number, is_ended};
 ghost use Rattle.ltp_engine.specs.Closed.{all_closed};
+ghost use Rattle.ltp_engine.specs.Inbound.{moved, Turns};
 ghost use Rattle.ltp_engine.specs.Ticks.{receiver_ticked, with_ticks};
 
 use crate::closed::Closed;
 use crate::deadlines::earlier;
 use crate::effects::Effects;
+use crate::held::Held;
 use crate::outbound::sending;
 use crate::terms::Terms;
-use crate::touched::{forget, touch};
+use crate::touched::{Receivers, touch};
 use endpoint::Octets;
+use indexmap::IndexMap;
 use ltp_receiver::Receiver;
 use ltp_segment::{
     BLOCK_MAX, Green, Note, Outs, PieceKind, PieceView, Step, write_cancel, write_cancel_ack,
 };
 use std::alloc::{AllocError, Global};
-use std::collections::BTreeMap;
 
 /// The most receiving sessions that are kept.
 const MOST: usize = 64;
@@ -53,10 +54,8 @@ const UNREACHABLE: u8 = 1;
 /// The receiving side.
 #[derive(Debug, Drop)]
 pub(crate) struct Inbound {
-    /// The sessions by their numbers. None of them is over.
-    pub receivers: BTreeMap<u64, Receiver>,
-    /// Their numbers, from the longest untouched to the last touched.
-    pub touched: Vec<u64>,
+    /// The sessions by their numbers, in the order in which they were touched.
+    pub receivers: Receivers,
     /// The numbers of those that are over.
     pub closed: Closed,
 }
@@ -75,7 +74,7 @@ fn noting(out: Outs, note: Note) -> Step
 
 impl Inbound {
     ghost use Rattle.ltp_engine.specs.Values.{nothing_received};
-    ghost use Rattle.ltp_engine.specs.Inbound.{inbound_of, Keeps, moved, closed_if, Receives};
+    ghost use Rattle.ltp_engine.specs.Inbound.{inbound_of, Keeps, closed_if, Receives};
     ghost use Rattle.ltp_engine.specs.Inbound.{Takes, TakesNext, evicted_in, with_room, place_in};
     ghost use Rattle.ltp_engine.specs.Inbound.{ticked_in};
 
@@ -84,8 +83,7 @@ impl Inbound {
         ensures { (peer : ℕ) (policy : PolicyValue) → Keeps peer policy result nothing_received }
     {
         Inbound {
-            receivers: BTreeMap::new(alloc),
-            touched: Vec::new(alloc),
+            receivers: IndexMap::new(alloc),
             closed: Closed::new(alloc),
         }
     }
@@ -93,19 +91,16 @@ impl Inbound {
     /// Puts a session in its place after a step: it may be over, or have been touched.
     fn finish(&mut self, n: u64, over: bool, touches: bool) -> Result<(), AllocError>
         requires { self.old.closed.runs < 2 ^ 32 }
-        ensures receivers { OnOk result
-            (self.new.receivers.entries ≡ swept n over self.old.receivers.entries) }
-        ensures touched { OnOk result
-            (self.new.touched.items ≡ moved n over touches self.old.touched.items) }
+        ensures receivers { OnOk result (self.new.receivers.entries
+            ≡ moved n over touches self.old.receivers.entries) }
         ensures closed { OnOk result (self.new.closed ≡ closed_if n over self.old.closed) }
     {
         if over {
-            self.receivers.remove(&n);
-            forget(&mut self.touched, n);
+            self.receivers.shift_remove(&n);
             return self.closed.close(n);
         }
         if touches {
-            return touch(&mut self.touched, n);
+            touch(&mut self.receivers, n);
         }
         Ok(())
     }
@@ -116,7 +111,7 @@ impl Inbound {
             self.old.receivers.entries }
         requires runs { self.old.closed.runs < 2 ^ 32 }
         ensures { IfOk result (Receives terms.originator (policy_value terms.policy) n
-            (on_report_ack (find n (table_of self.old.receivers.entries)) serial)
+            (on_report_ack (find n (inbound_of self.old).receivers) serial)
             self.old self.new) }
     {
         let answer = sending(Outs::new(terms.alloc));
@@ -135,7 +130,7 @@ impl Inbound {
             self.old.receivers.entries }
         requires runs { self.old.closed.runs < 2 ^ 32 }
         ensures { IfOk result (Receives terms.originator (policy_value terms.policy) n
-            (on_receiver_cancel_ack (find n (table_of self.old.receivers.entries)))
+            (on_receiver_cancel_ack (find n (inbound_of self.old).receivers))
             self.old self.new) }
     {
         let answer = sending(Outs::new(terms.alloc));
@@ -154,12 +149,12 @@ impl Inbound {
             self.old.receivers.entries }
         requires runs { self.old.closed.runs < 2 ^ 32 }
         ensures { IfOk result (Receives terms.originator (policy_value terms.policy) n
-            (on_sender_cancel (find n (table_of self.old.receivers.entries)) reason)
+            (on_sender_cancel (find n (inbound_of self.old).receivers) reason)
             self.old self.new) }
     {
         let mut out = Outs::new(terms.alloc);
         out.push(write_cancel_ack(terms.alloc, terms.originator, n, true)?)?;
-        // The contract of `len` tells that the numbers ascend.
+        // The contract of `len` tells that no number stands twice.
         let _kept = self.receivers.len();
         if !self.receivers.contains_key(&n) {
             return Ok(sending(out));
@@ -169,27 +164,14 @@ impl Inbound {
     }
 
     /// Whether there is no room for a new session in the record of earlier ones.
-    fn is_full(&self) -> bool
-        requires { self.now.closed.runs < 2 ^ 32 }
+    fn is_full(&self, terms: &Terms) -> bool
+        requires live { AreLive terms.now.originator (policy_value terms.now.policy)
+            self.now.receivers.entries }
+        requires runs { self.now.closed.runs < 2 ^ 32 }
         ensures { result ≡ nat_le 65536
-            (self.now.closed.runs + length self.now.receivers.entries) }
+            (self.now.closed.runs + length (inbound_of self.now).receivers) }
     {
         self.closed.runs() + self.receivers.len() as u64 >= HISTORY
-    }
-
-    /// The session that is longest untouched, where it is kept.
-    fn longest_untouched(&self, terms: &Terms) -> Option<u64>
-        requires { AreLive terms.now.originator (policy_value terms.now.policy)
-            self.now.receivers.entries }
-        ensures { result ≡ longest_untouched self.now.touched.items
-            (table_of self.now.receivers.entries) }
-    {
-        let first = *self.touched.first()?;
-        if self.receivers.contains_key(&first) {
-            Some(first)
-        } else {
-            None
-        }
     }
 
     /// Makes room for another session: where 64 are kept, the longest untouched one is over.
@@ -204,25 +186,26 @@ impl Inbound {
         if self.receivers.len() < MOST {
             return Ok(None);
         }
-        let Some(gone) = self.longest_untouched(&terms) else {
+        let Some((gone, _session)) = self.receivers.shift_remove_index(0) else {
             return Ok(None);
         };
-        self.finish(gone, true, false)?;
+        self.closed.close(gone)?;
         Ok(Some(gone))
     }
 
-    /// A session is kept from now on, and was touched.
-    fn open(&mut self, n: u64, receiver: Receiver) -> Result<(), AllocError>
+    /// A session is kept from now on. It was touched last.
+    fn open(&mut self, alloc: Global, n: u64, receiver: Receiver) -> Result<(), AllocError>
         ensures receivers { OnOk result (self.new.receivers.entries
-            ≡ insert_entry nat_cmp self.old.receivers.entries n receiver) }
-        ensures touched { OnOk result
-            (self.new.touched.items ≡ untouched n self.old.touched.items ++ n ∷ []) }
+            ≡ insert_entry nat_eq self.old.receivers.entries n receiver) }
         ensures closed { OnOk result (self.new.closed ≡ self.old.closed) }
+        ensures unique { IsUnique nat_eq self.old.receivers }
     {
-        if self.receivers.insert(n, receiver).is_err() {
+        let _kept = self.receivers.len();
+        let held = Held::new(alloc, receiver)?;
+        if self.receivers.insert(n, held).is_err() {
             return Err(AllocError);
         }
-        touch(&mut self.touched, n)
+        Ok(())
     }
 
     /// A red piece came for a new session, which opens.
@@ -240,7 +223,7 @@ impl Inbound {
         requires fits { stop_of piece.now.offset piece.now.body.now ≤ BLOCK_MAX }
         requires moment { now < 2 ^ 62 }
         requires red { is_red piece.now.kind ≡ true }
-        requires absent { find n (table_of self.old.receivers.entries) ≡ None }
+        requires absent { find n (inbound_of self.old).receivers ≡ None }
         ensures { IfOk result (Takes terms.originator (policy_value terms.policy) n
             (piece_step (policy_value terms.policy) (fresh n) (piece_value piece.now) now)
             self.old self.new) }
@@ -253,7 +236,7 @@ impl Inbound {
         let mut receiver = Receiver::new(alloc, originator, n, &policy);
         let step = receiver.piece(piece, now)?;
         let gone = self.make_room(terms)?;
-        self.open(n, receiver)?;
+        self.open(alloc, n, receiver)?;
         Ok((gone, step))
     }
 
@@ -271,7 +254,7 @@ impl Inbound {
         requires some { 0 < length piece.now.body.now }
         requires fits { stop_of piece.now.offset piece.now.body.now ≤ BLOCK_MAX }
         requires moment { now < 2 ^ 62 }
-        requires absent { find n (table_of self.old.receivers.entries) ≡ None }
+        requires absent { find n (inbound_of self.old).receivers ≡ None }
         ensures { IfOk result (Takes terms.originator (policy_value terms.policy) n
             (first_piece (policy_value terms.policy) (place_in (inbound_of self.old) BLOCK_MAX n)
             (piece_value piece.now) now) self.old self.new) }
@@ -283,7 +266,7 @@ impl Inbound {
         if self.closed.has(n) {
             return Ok((None, noting(Outs::new(alloc), Note::Closed { session: n })));
         }
-        if self.is_full() {
+        if self.is_full(&terms) {
             return Ok((
                 None,
                 noting(Outs::new(alloc), Note::HistoryFull { session: n }),
@@ -338,7 +321,7 @@ impl Inbound {
         requires moment { now < 2 ^ 62 }
         ensures { IfOk result (Takes terms.originator (policy_value terms.policy) n
             (on_piece (policy_value terms.policy) (place_in (inbound_of self.old) BLOCK_MAX n)
-            (find n (table_of self.old.receivers.entries)) (piece_value piece.now) now)
+            (find n (inbound_of self.old).receivers) (piece_value piece.now) now)
             self.old self.new) }
     {
         let alloc = terms.alloc;
@@ -359,24 +342,29 @@ impl Inbound {
 
     /// The numbers of the sessions, in ascending order.
     fn numbers(&self, terms: Terms) -> Result<Vec<u64>, AllocError>
-        ensures { IfOk result (λ numbers. numbers.items ≡ keys self.now.receivers) }
+        requires { AreLive terms.originator (policy_value terms.policy)
+            self.now.receivers.entries }
+        ensures { IfOk result (λ numbers.
+            numbers.items ≡ keys_of (inbound_of self.now).receivers) }
     {
-        self.receivers.keys().copied().collect(terms.alloc)
+        let mut numbers: Vec<u64> = self.receivers.keys().copied().collect(terms.alloc)?;
+        numbers.sort_unstable();
+        Ok(numbers)
     }
 
     /// Time has passed for all sessions, in ascending order. Those that are over are closed.
     pub fn tick(&mut self, terms: Terms, now: u64, effects: Effects) -> Result<Effects, AllocError>
         requires live { AreLive terms.originator (policy_value terms.policy)
             self.old.receivers.entries }
-        requires runs { self.old.closed.runs + length self.old.receivers.entries < 2 ^ 32 }
+        requires runs { self.old.closed.runs + length (inbound_of self.old).receivers < 2 ^ 32 }
         requires moment { now < 2 ^ 62 }
         ensures next { OnOk result (Keeps terms.originator (policy_value terms.policy) self.new
             (ticked_in (policy_value terms.policy) now (inbound_of self.old))) }
         ensures effects { IfOk result (λ told. told ≡ with_ticks effects
             (tick_segments (receiver_ticked (policy_value terms.policy) now) terms.originator
-            (table_of self.old.receivers.entries))
+            (inbound_of self.old).receivers)
             (tick_remarks (receiver_ticked (policy_value terms.policy) now)
-            (table_of self.old.receivers.entries))) }
+            (inbound_of self.old).receivers)) }
     {
         let mut told = effects;
         let mut ended = Vec::new(terms.alloc);
@@ -394,13 +382,10 @@ impl Inbound {
         requires { self.old.closed.runs + length ended.items < 2 ^ 32 }
         ensures receivers { OnOk result (self.new.receivers.entries
             ≡ self.old.receivers.entries) }
-        ensures touched { OnOk result
-            (self.new.touched.items ≡ untouched_all ended.items self.old.touched.items) }
         ensures closed { OnOk result
             (self.new.closed ≡ all_closed ended.items self.old.closed) }
     {
         'closing: while let Some(n) = ended.pop() {
-            forget(&mut self.touched, n);
             self.closed.close(n)?;
         }
         Ok(())
@@ -410,9 +395,10 @@ impl Inbound {
     pub fn next_deadline(&self, terms: Terms) -> Option<u64>
         requires { AreLive terms.originator (policy_value terms.policy)
             self.now.receivers.entries }
-        ensures { result ≡ least_deadline receiver_deadline
-            (table_of self.now.receivers.entries) }
+        ensures { result ≡ least_deadline receiver_deadline (inbound_of self.now).receivers }
     {
+        // The contract of `len` tells that no number stands twice.
+        let _kept = self.receivers.len();
         let mut least = None;
         'sessions: for receiver in self.receivers.values() {
             least = earlier(least, receiver.deadline());
@@ -433,21 +419,20 @@ fn add_ended(ended: &mut Vec<u64>, n: u64, over: bool) -> Result<(), AllocError>
 
 /// Time has passed for a session. Answers whether it is over besides.
 fn tick_one(
-    receivers: &mut BTreeMap<u64, Receiver>,
+    receivers: &mut Receivers,
     terms: Terms,
     n: u64,
     now: u64,
 ) -> Result<(Step, bool), AllocError>
     requires live { AreLive terms.originator (policy_value terms.policy) receivers.old.entries }
     requires moment { now < 2 ^ 62 }
-    ensures ordered { IsOrdered nat_cmp receivers.old }
-    ensures did { IfOk result (λ told. Does terms.originator (policy_value terms.policy) n
+    ensures did { IfOk result (λ told. Turns terms.originator (policy_value terms.policy) n
         (on_receiver_tick (policy_value terms.policy)
-        (find n (table_of receivers.old.entries)) now)
+        (find n (by_number (table_of receivers.old.entries))) now)
         receivers.old.entries receivers.new.entries told.0) }
     ensures over { IfOk result (λ told. told.1 ≡ is_ended
         (on_receiver_tick (policy_value terms.policy)
-        (find n (table_of receivers.old.entries)) now).next) }
+        (find n (by_number (table_of receivers.old.entries))) now).next) }
 {
     let Some(receiver) = receivers.get_mut(&n) else {
         return Ok((sending(Outs::new(terms.alloc)), false));
@@ -459,11 +444,11 @@ fn tick_one(
 }
 
 /// Takes a session out where it is over.
-fn sweep(receivers: &mut BTreeMap<u64, Receiver>, n: u64, over: bool)
-    ensures { receivers.new.entries ≡ swept n over receivers.old.entries }
+fn sweep(receivers: &mut Receivers, n: u64, over: bool)
+    ensures { receivers.new.entries ≡ moved n over false receivers.old.entries }
 {
     if over {
-        receivers.remove(&n);
+        receivers.shift_remove(&n);
     }
 }
 

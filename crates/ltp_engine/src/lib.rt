@@ -5,9 +5,9 @@
 //! contracts cite the steps that `ltp_session` defines. They see the engine as its sessions'
 //! states, by their numbers; `Shows` says which engines of the definition that stands for.
 //!
-//! A datagram is decoded here, and only here: nothing above sees an octet of a header. Sessions
-//! are in ordered maps, since strangers choose the numbers; the receiving ones have an order of
-//! last touch besides. Numbers of sessions that are over are kept as ranges.
+//! A datagram is decoded here, and only here: nothing above sees an octet of a header. Sending
+//! sessions are kept by ascending numbers, receiving ones from the longest untouched to the last
+//! touched. Numbers of sessions that are over are kept as ranges.
 //!
 //! A new engine shows the definition's engine at its beginning, so each later value shows what the
 //! steps make of that. [`laws`] says what an engine hands up, whoever is at the other end.
@@ -17,6 +17,7 @@ mod closed;
 mod deadlines;
 mod effects;
 mod engine;
+mod held;
 mod inbound;
 pub mod laws;
 mod outbound;

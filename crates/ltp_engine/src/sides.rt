@@ -75,7 +75,7 @@ pub(crate) fn to_receiver(
     ensures { IfOk result (ReceiverDoes terms.originator (policy_value terms.policy) n
         (receiver_answers (policy_value terms.policy)
         (place_in (inbound_of inbound.old) BLOCK_MAX n)
-        (find n (table_of inbound.old.receivers.entries)) (content_value content.entry) now)
+        (find n (inbound_of inbound.old).receivers) (content_value content.entry) now)
         inbound.old inbound.new) }
 {
     match content {

@@ -1,22 +1,21 @@
-//! The order in which sessions were touched.
+//! The receiving sessions in the order in which they were touched.
 
-ghost use Rattle.std.specs.Prelude.{◌≡◌, ◌++◌, ◌∷◌, [], OnOk};
-ghost use Rattle.ltp_session.specs.Engine.{untouched};
+ghost use Rattle.std.specs.Prelude.{◌≡◌};
+ghost use Rattle.ltp_engine.specs.Inbound.{with_touched};
 
-use std::alloc::AllocError;
+use crate::held::Held;
+use indexmap::IndexMap;
 
-/// A session isn't kept any more.
-pub(crate) fn forget(touched: &mut Vec<u64>, n: u64)
-    ensures { touched.new.items ≡ untouched n touched.old.items }
+/// Receiving sessions by their numbers, from the longest untouched to the last touched. None of
+/// them is over.
+pub(crate) type Receivers = IndexMap<u64, Held>;
+
+/// A session was touched: it is the last one now, where it is kept. It takes no memory.
+pub(crate) fn touch(receivers: &mut Receivers, n: u64)
+    ensures { receivers.new.entries ≡ with_touched n receivers.old.entries }
 {
-    touched.retain(|m| *m != n);
-}
-
-/// A session was touched: it is the last one now.
-pub(crate) fn touch(touched: &mut Vec<u64>, n: u64) -> Result<(), AllocError>
-    ensures { OnOk result (touched.new.items ≡ untouched n touched.old.items ++ n ∷ []) }
-{
-    forget(touched, n);
-    touched.push(n)?;
-    Ok(())
+    if let Some(at) = receivers.get_index_of(&n) {
+        let last = receivers.len() - 1;
+        receivers.move_index(at, last);
+    }
 }

@@ -1,19 +1,19 @@
 use Rattle.std.proofs.Common.{rules, refl, ◌∙◌, ap, None}
 use Rattle.ltp_session.specs.Receiver.{on_report_ack}
 use Rattle.ltp_segment.specs.PolicyViews.{policy_value}
-use Rattle.ltp_engine.proofs.TableLemmas.{whole-live}
-use Rattle.ltp_engine.proofs.InboundLemmas.{receives-kept, receives-absent, acknowledged-touches, ack-silent}
+use Rattle.ltp_engine.proofs.ChangeLemmas.{whole-kept, receives-kept, receives-absent}
+use Rattle.ltp_engine.proofs.InboundLemmas.{acknowledged-touches, ack-silent}
 use Rattle.ltp_engine.proofs.inbound.Inbound.acknowledged.Goals as goal
 
 pub returns-in_default : goal.returns-in_default
 returns-in_default c = receives-absent c.args.terms.originator (policy_value c.args.terms.policy) c.args.n (λ p kept. on_report_ack kept c.args.serial)
-    c.args.self.now _ c.sending-answer.result c.requires.live (search rules) refl (search rules) refl refl (search rules)
+    c.args.self.now _ c.sending-answer.result c.requires.live (search rules) refl (search rules) refl (search rules)
 
 pub acknowledged-requires : goal.acknowledged-requires
-acknowledged-requires c = record { whole = whole-live c.args.terms.originator (policy_value c.args.terms.policy) c.args.n c.args.self.now.receivers.entries c.in-Some.receiver.now c.requires.live (search rules) }
+acknowledged-requires c = record { whole = whole-kept c.args.terms.originator (policy_value c.args.terms.policy) c.args.n c.args.self.now.receivers.entries c.in-Some.receiver.now c.requires.live (search rules) }
 
 pub returns : goal.returns
 returns c = receives-kept c.args.terms.originator (policy_value c.args.terms.policy) c.args.n (λ p kept. on_report_ack kept c.args.serial)
     c.args.self.now c.finish.new.self (c.get_mut.follows.lender c.acknowledged.new.self).entries c.in-Some.receiver.now c.acknowledged.new.self c.is_over-over.result _ c.sending-answer.result
-    c.requires.live (search rules) c.in-Some.ensures.ordered c.acknowledged.ensures (c.sending-answer.ensures ∙ (ap (λ out. record { out = out; up = None; green = None; note = None }) c.new.ensures ∙ ack-silent c.in-Some.receiver.now.name.originator c.in-Some.receiver.now.name.number c.in-Some.receiver.now.kept c.args.serial)) c.is_over-over.ensures (λ r is. acknowledged-touches r c.args.serial)
-    (search rules) c.in_ok-finish.ensures.receivers c.in_ok-finish.ensures.touched c.in_ok-finish.ensures.closed
+    c.requires.live (search rules) c.in-Some.ensures.unique c.acknowledged.ensures (c.sending-answer.ensures ∙ (ap (λ out. record { out = out; up = None; green = None; note = None }) c.new.ensures ∙ ack-silent c.in-Some.receiver.now.name.originator c.in-Some.receiver.now.name.number c.in-Some.receiver.now.kept c.args.serial)) c.is_over-over.ensures (λ r is. acknowledged-touches r c.args.serial)
+    (search rules) c.in_ok-finish.ensures.receivers c.in_ok-finish.ensures.closed

@@ -9,4 +9,4 @@ returns-then-not-contains_key c = sender_cancel-absent c.args.terms.originator (
 
 pub returns : goal.returns
 returns c = sender_cancel-kept c.args.terms.originator (policy_value c.args.terms.policy) c.args.n c.args.reason c.args.self.now c.finish.new.self c.noting.result c.contains_key.result
-    c.requires.live c.contains_key.ensures (search rules) c.len-kept.ensures.ordered c.in_ok-finish.ensures.receivers c.in_ok-finish.ensures.touched c.in_ok-finish.ensures.closed (λ r. search rules)
+    c.requires.live c.contains_key.ensures (search rules) c.len-kept.ensures.unique c.in_ok-finish.ensures.receivers c.in_ok-finish.ensures.closed (λ r. search rules)

@@ -5,6 +5,7 @@ use Rattle.ltp_session.specs.Engine.{earlier}
 use Rattle.ltp_engine.specs.Tables.{table_of}
 use Rattle.ltp_receiver.specs.Receiver.{deadline_of}
 use Rattle.ltp_engine.proofs.TableLemmas.{LeastSoFar, least-start, least-step, least-end}
+use Rattle.ltp_engine.proofs.ChangeLemmas.{least-ordered}
 use Rattle.ltp_engine.proofs.inbound.Inbound.next_deadline.Goals as goal
 
 pub sessions-init : goal.sessions-init
@@ -23,4 +24,6 @@ sessions-preserved c =
     (tt, tt, subst (λ least. LeastSoFar c.args.terms.originator (policy_value c.args.terms.policy) receiver_deadline (table_of c.args.self.now.receivers.entries) c.next.new.self least) (sym (c.earlier-least.ensures ∙ ap (λ d. earlier c.sessions.least d) (c.deadline.ensures ∙ ap (λ kept. deadline_of kept) step.kept))) step.next)
 
 pub returns : goal.returns
-returns c = least-end c.args.terms.originator (policy_value c.args.terms.policy) receiver_deadline (table_of c.args.self.now.receivers.entries) c.sessions.least (subst (λ left. LeastSoFar c.args.terms.originator (policy_value c.args.terms.policy) receiver_deadline (table_of c.args.self.now.receivers.entries) left c.sessions.least) (search rules) c.sessions.invariant.2)
+returns c = least-ordered c.args.terms.originator (policy_value c.args.terms.policy) c.args.self.now c.sessions.least c.requires c.len-kept.ensures.unique
+    (least-end c.args.terms.originator (policy_value c.args.terms.policy) receiver_deadline (table_of c.args.self.now.receivers.entries) c.sessions.least
+    (subst (λ left. LeastSoFar c.args.terms.originator (policy_value c.args.terms.policy) receiver_deadline (table_of c.args.self.now.receivers.entries) left c.sessions.least) (search rules) c.sessions.invariant.2))

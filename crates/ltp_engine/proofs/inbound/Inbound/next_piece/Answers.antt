@@ -2,21 +2,21 @@ use Rattle.std.proofs.Common.{rules, refl, ◌∙◌, ap}
 use Rattle.ltp_segment.specs.PolicyViews.{policy_value}
 use Rattle.ltp_segment.specs.Views.{piece_value}
 use Rattle.ltp_session.specs.Views.{changed, answer_of}
-use Rattle.ltp_engine.proofs.TableLemmas.{whole-live}
-use Rattle.ltp_engine.proofs.InboundLemmas.{takes-none, takes-next, receives-kept, kept_step, open-step, tells-kept, open-live, takes-cancelling}
+use Rattle.ltp_engine.proofs.ChangeLemmas.{whole-kept, receives-kept}
+use Rattle.ltp_engine.proofs.InboundLemmas.{takes-none, takes-next, kept_step, open-step, tells-kept, open-live, takes-cancelling}
 use Rattle.ltp_engine.proofs.inbound.Inbound.next_piece.Goals as goal
 
 pub returns-in_default : goal.returns-in_default
-returns-in_default c = takes-none c.args.terms.originator (policy_value c.args.terms.policy) c.args.n (piece_value c.args.piece.now) c.args.now c.args.self.now _ c.requires.live (search rules) (search rules) refl refl
+returns-in_default c = takes-none c.args.terms.originator (policy_value c.args.terms.policy) c.args.n (piece_value c.args.piece.now) c.args.now c.args.self.now _ c.requires.live (search rules) (search rules) refl
 
 pub is_cancelling-requires : goal.is_cancelling-requires
-is_cancelling-requires c = record { whole = whole-live c.args.terms.originator (policy_value c.args.terms.policy) c.args.n c.args.self.now.receivers.entries c.in-Some.receiver.now c.requires.live (search rules) }
+is_cancelling-requires c = record { whole = whole-kept c.args.terms.originator (policy_value c.args.terms.policy) c.args.n c.args.self.now.receivers.entries c.in-Some.receiver.now c.requires.live (search rules) }
 
 pub returns-then-is_cancelling : goal.returns-then-is_cancelling
-returns-then-is_cancelling c = takes-cancelling c.args.terms.originator (policy_value c.args.terms.policy) c.args.n (piece_value c.args.piece.now) c.args.now c.args.self.now _ c.in-Some.receiver.now c.noting-answer.result c.requires.live (search rules) c.in-Some.ensures.ordered (search rules) (search rules) (search rules) refl refl
+returns-then-is_cancelling c = takes-cancelling c.args.terms.originator (policy_value c.args.terms.policy) c.args.n (piece_value c.args.piece.now) c.args.now c.args.self.now _ c.in-Some.receiver.now c.noting-answer.result c.requires.live (search rules) c.in-Some.ensures.unique (search rules) (search rules) (search rules) refl
 
 pub piece-requires-clause-whole : goal.piece-requires-clause-whole
-piece-requires-clause-whole c = whole-live c.args.terms.originator (policy_value c.args.terms.policy) c.args.n c.args.self.now.receivers.entries c.in-Some.receiver.now c.requires.live (search rules)
+piece-requires-clause-whole c = whole-kept c.args.terms.originator (policy_value c.args.terms.policy) c.args.n c.args.self.now.receivers.entries c.in-Some.receiver.now c.requires.live (search rules)
 
 pub piece-requires-clause-open : goal.piece-requires-clause-open
 piece-requires-clause-open c = open-live c.args.terms.originator (policy_value c.args.terms.policy) c.args.n c.args.self.now.receivers.entries c.in-Some.receiver.now c.requires.live (search rules) (search rules)
@@ -25,8 +25,8 @@ pub returns : goal.returns
 returns c = takes-next c.args.terms.originator (policy_value c.args.terms.policy) c.args.n (piece_value c.args.piece.now) c.args.now c.args.self.now c.finish.new.self c.in-Some.receiver.now c.in_ok-step.step c.requires.live (search rules)
     (receives-kept c.args.terms.originator (policy_value c.args.terms.policy) c.args.n (λ p kept. kept_step p kept (piece_value c.args.piece.now) c.args.now)
     c.args.self.now c.finish.new.self (c.get_mut.follows.lender c.piece.new.self).entries c.in-Some.receiver.now c.piece.new.self c.is_over-over.result c.is_taken-taken.result c.in_ok-step.step
-    c.requires.live (search rules) c.in-Some.ensures.ordered
+    c.requires.live (search rules) c.in-Some.ensures.unique
     (c.in_ok-step.ensures.next ∙ ap (λ s. changed c.in-Some.receiver.now s.next) (open-step c.in-Some.receiver.now.policy c.in-Some.receiver.now.kept (piece_value c.args.piece.now) c.args.now (search rules)))
     (c.in_ok-step.ensures.answer ∙ ap (λ s. answer_of c.in-Some.receiver.now.name s) (open-step c.in-Some.receiver.now.policy c.in-Some.receiver.now.kept (piece_value c.args.piece.now) c.args.now (search rules)))
     c.is_over-over.ensures (tells-kept c.args.terms.originator (policy_value c.args.terms.policy) c.args.n c.in-Some.receiver.now (piece_value c.args.piece.now) c.args.now c.is_taken-taken.result c.in_ok-step.step (search rules) (c.in_ok-step.ensures.answer ∙ ap (λ s. answer_of c.in-Some.receiver.now.name s) (open-step c.in-Some.receiver.now.policy c.in-Some.receiver.now.kept (piece_value c.args.piece.now) c.args.now (search rules))) c.is_taken-taken.ensures)
-    (search rules) c.in_ok-finish.ensures.receivers c.in_ok-finish.ensures.touched c.in_ok-finish.ensures.closed)
+    (search rules) c.in_ok-finish.ensures.receivers c.in_ok-finish.ensures.closed)

@@ -1,14 +1,14 @@
-use Rattle.std.proofs.Common.{rules, refl, ◌∙◌, sym, ap, subst, [], ◌∷◌, ◌++◌, map, if◌then◌else◌}
+use Rattle.std.proofs.Common.{rules, ◌≡◌, refl, ◌∙◌, sym, ap, subst, [], ◌∷◌, ◌++◌, if◌then◌else◌}
+use Rattle.std.specs.Map.{keys_of}
 use Rattle.ltp_segment.specs.PolicyViews.{policy_value}
-use Rattle.ltp_segment.specs.Spelling.{segment_octets}
-use Rattle.ltp_session.specs.Table.{ended, find}
-use Rattle.ltp_session.specs.Engine.{tick_segments, tick_remarks, untouched_all}
+use Rattle.ltp_session.specs.Engine.{untouched_all}
 use Rattle.ltp_session.specs.Receiver.{on_receiver_tick}
-use Rattle.ltp_engine.specs.Closed.{all_closed}
-use Rattle.ltp_engine.specs.Tables.{table_of, is_ended}
+use Rattle.ltp_engine.specs.Tables.{table_of, by_number}
+use Rattle.ltp_engine.specs.Inbound.{inbound_of}
 use Rattle.ltp_engine.specs.Ticks.{receiver_ticked, receiver_change}
-use Rattle.ltp_engine.specs.declared.effects.Effects.{Effects}
-use Rattle.ltp_engine.proofs.TableLemmas.{SoFar, so_far-start, so_far-step, so_far-end, so_far-live, with_ticks-is, empty-list, room-ended}
+use Rattle.ltp_engine.proofs.TableLemmas.{SoFar, so_far-start, so_far-step, so_far-end, room-ended}
+use Rattle.ltp_engine.proofs.OrderLemmas.{ascending-by_number, numbers-step}
+use Rattle.ltp_engine.proofs.ChangeLemmas.{keeps-ticked}
 use Rattle.ltp_engine.proofs.inbound.Inbound.tick.Goals as goal
 
 pub sessions-init : goal.sessions-init
@@ -16,49 +16,49 @@ sessions-init c = (
   tt,
   tt,
   refl,
-  refl,
-  refl,
-  refl,
-  subst (λ over. SoFar c.args.terms.originator (policy_value c.args.terms.policy) (receiver_ticked (policy_value c.args.terms.policy) c.args.now) (table_of c.args.self.now.receivers.entries) c.into_iter-n-iterator.result.rest.items c.args.self.now.receivers.entries c.args.effects.out c.args.effects.notes (c.args.effects.out ++ map segment_octets (tick_segments (receiver_ticked (policy_value c.args.terms.policy) c.args.now) c.args.terms.originator (table_of c.args.self.now.receivers.entries))) (c.args.effects.notes ++ tick_remarks (receiver_ticked (policy_value c.args.terms.policy) c.args.now) (table_of c.args.self.now.receivers.entries)) over (ended (receiver_change (policy_value c.args.terms.policy) c.args.now) (table_of c.args.self.now.receivers.entries))) (sym c.new-ended.ensures.items) (so_far-start c.args.terms.originator (policy_value c.args.terms.policy) (receiver_ticked (policy_value c.args.terms.policy) c.args.now) c.args.self.now.receivers.entries c.into_iter-n-iterator.result.rest.items
-      c.args.effects.out c.args.effects.notes c.requires.live (search rules)),
+  c.requires.live,
+  ap (λ over. untouched_all over (keys_of c.args.self.now.receivers.entries)) (sym c.new-ended.ensures.items),
+  so_far-start c.args.terms.originator (receiver_ticked (policy_value c.args.terms.policy) c.args.now) (inbound_of c.args.self.now).receivers c.args.effects c.into_iter-n-iterator.result.rest.items _
+      (search rules) c.new-ended.ensures.items,
 )
 
 pub tick_one-requires-clause-live : goal.tick_one-requires-clause-live
-tick_one-requires-clause-live c = so_far-live c.args.terms.originator (policy_value c.args.terms.policy) (receiver_ticked (policy_value c.args.terms.policy) c.args.now) (table_of c.args.self.now.receivers.entries) c.sessions.n-iterator.rest.items c.sessions.self.receivers.entries c.sessions.told.out c.sessions.told.notes (c.args.effects.out ++ map segment_octets (tick_segments (receiver_ticked (policy_value c.args.terms.policy) c.args.now) c.args.terms.originator (table_of c.args.self.now.receivers.entries))) (c.args.effects.notes ++ tick_remarks (receiver_ticked (policy_value c.args.terms.policy) c.args.now) (table_of c.args.self.now.receivers.entries)) c.sessions.ended.items (ended (receiver_change (policy_value c.args.terms.policy) c.args.now) (table_of c.args.self.now.receivers.entries)) c.sessions.invariant.6
+tick_one-requires-clause-live c = c.sessions.invariant.3
 
 pub sessions-preserved : goal.sessions-preserved
 sessions-preserved c = (
   tt,
   tt,
-  ap (λ e. e.ups) c.in_ok-told.ensures ∙ c.sessions.invariant.2,
-  ap (λ e. e.greens) c.in_ok-told.ensures ∙ c.sessions.invariant.3,
-  c.sessions.invariant.4,
-  c.sessions.invariant.5,
-  subst (λ over. SoFar c.args.terms.originator (policy_value c.args.terms.policy) (receiver_ticked (policy_value c.args.terms.policy) c.args.now) (table_of c.args.self.now.receivers.entries) c.next.new.self.rest.items c.tick_one.new.receivers.entries c.in_ok-told.told.out c.in_ok-told.told.notes (c.args.effects.out ++ map segment_octets (tick_segments (receiver_ticked (policy_value c.args.terms.policy) c.args.now) c.args.terms.originator (table_of c.args.self.now.receivers.entries))) (c.args.effects.notes ++ tick_remarks (receiver_ticked (policy_value c.args.terms.policy) c.args.now) (table_of c.args.self.now.receivers.entries)) over (ended (receiver_change (policy_value c.args.terms.policy) c.args.now) (table_of c.args.self.now.receivers.entries)))
+  c.sessions.invariant.2,
+  c.in_ok-step.ensures.did.live,
+  subst (λ over. keys_of c.tick_one.new.receivers.entries ≡ untouched_all over (keys_of c.args.self.now.receivers.entries)) (sym c.in_ok-add_ended.ensures)
+      (numbers-step c.in-Some.n _ _ c.sessions.ended.items (keys_of c.sessions.self.receivers.entries) (keys_of c.tick_one.new.receivers.entries) (keys_of c.args.self.now.receivers.entries)
+      c.sessions.invariant.4 c.in_ok-step.ensures.did.numbers c.in_ok-step.ensures.over),
+  subst (λ over. SoFar c.args.terms.originator (receiver_ticked (policy_value c.args.terms.policy) c.args.now) (inbound_of c.args.self.now).receivers c.args.effects
+      c.next.new.self.rest.items (by_number (table_of c.tick_one.new.receivers.entries)) c.in_ok-told.told over)
       (sym (c.in_ok-add_ended.ensures ∙ ap (λ over. c.sessions.ended.items ++ (if over then c.in-Some.n ∷ [] else [])) c.in_ok-step.ensures.over))
-      (subst {A = Effects} (λ e. SoFar c.args.terms.originator (policy_value c.args.terms.policy) (receiver_ticked (policy_value c.args.terms.policy) c.args.now) (table_of c.args.self.now.receivers.entries) c.next.new.self.rest.items c.tick_one.new.receivers.entries e.out e.notes (c.args.effects.out ++ map segment_octets (tick_segments (receiver_ticked (policy_value c.args.terms.policy) c.args.now) c.args.terms.originator (table_of c.args.self.now.receivers.entries))) (c.args.effects.notes ++ tick_remarks (receiver_ticked (policy_value c.args.terms.policy) c.args.now) (table_of c.args.self.now.receivers.entries)) (c.sessions.ended.items ++ (if is_ended (on_receiver_tick (policy_value c.args.terms.policy) (find c.in-Some.n (table_of c.sessions.self.receivers.entries)) c.args.now).next then c.in-Some.n ∷ [] else [])) (ended (receiver_change (policy_value c.args.terms.policy) c.args.now) (table_of c.args.self.now.receivers.entries))) (sym c.in_ok-told.ensures)
-      (so_far-step c.args.terms.originator (policy_value c.args.terms.policy) (receiver_ticked (policy_value c.args.terms.policy) c.args.now) (λ kept. on_receiver_tick (policy_value c.args.terms.policy) kept c.args.now) (table_of c.args.self.now.receivers.entries) c.in-Some.n c.next.new.self.rest.items c.sessions.self.receivers.entries c.tick_one.new.receivers.entries
-      c.sessions.told.out c.sessions.told.notes (c.args.effects.out ++ map segment_octets (tick_segments (receiver_ticked (policy_value c.args.terms.policy) c.args.now) c.args.terms.originator (table_of c.args.self.now.receivers.entries))) (c.args.effects.notes ++ tick_remarks (receiver_ticked (policy_value c.args.terms.policy) c.args.now) (table_of c.args.self.now.receivers.entries)) c.sessions.ended.items (ended (receiver_change (policy_value c.args.terms.policy) c.args.now) (table_of c.args.self.now.receivers.entries)) c.in_ok-step.step (λ s. refl)
-      (subst (λ items. SoFar c.args.terms.originator (policy_value c.args.terms.policy) (receiver_ticked (policy_value c.args.terms.policy) c.args.now) (table_of c.args.self.now.receivers.entries) items c.sessions.self.receivers.entries c.sessions.told.out c.sessions.told.notes (c.args.effects.out ++ map segment_octets (tick_segments (receiver_ticked (policy_value c.args.terms.policy) c.args.now) c.args.terms.originator (table_of c.args.self.now.receivers.entries))) (c.args.effects.notes ++ tick_remarks (receiver_ticked (policy_value c.args.terms.policy) c.args.now) (table_of c.args.self.now.receivers.entries)) c.sessions.ended.items (ended (receiver_change (policy_value c.args.terms.policy) c.args.now) (table_of c.args.self.now.receivers.entries))) (search rules) c.sessions.invariant.6)
-      c.in_ok-step.ensures.ordered c.in_ok-step.ensures.did)),
+      (so_far-step c.args.terms.originator (receiver_ticked (policy_value c.args.terms.policy) c.args.now) (λ kept. on_receiver_tick (policy_value c.args.terms.policy) kept c.args.now)
+      (inbound_of c.args.self.now).receivers c.args.effects c.in-Some.n c.sessions.n-iterator.rest.items c.next.new.self.rest.items
+      (by_number (table_of c.sessions.self.receivers.entries)) (by_number (table_of c.tick_one.new.receivers.entries))
+      c.sessions.told c.in_ok-told.told c.sessions.ended.items c.in_ok-step.step (λ s. refl) c.sessions.invariant.5 (search rules)
+      (ascending-by_number (table_of c.sessions.self.receivers.entries)) c.in_ok-step.ensures.did.next c.in_ok-step.ensures.did.says c.in_ok-told.ensures),
 )
 
 pub close_all-requires : goal.close_all-requires
 close_all-requires c =
-    let done = so_far-end c.args.terms.originator (policy_value c.args.terms.policy) (receiver_ticked (policy_value c.args.terms.policy) c.args.now) (table_of c.args.self.now.receivers.entries) c.sessions.self.receivers.entries c.sessions.told.out c.sessions.told.notes (c.args.effects.out ++ map segment_octets (tick_segments (receiver_ticked (policy_value c.args.terms.policy) c.args.now) c.args.terms.originator (table_of c.args.self.now.receivers.entries))) (c.args.effects.notes ++ tick_remarks (receiver_ticked (policy_value c.args.terms.policy) c.args.now) (table_of c.args.self.now.receivers.entries)) c.sessions.ended.items (ended (receiver_change (policy_value c.args.terms.policy) c.args.now) (table_of c.args.self.now.receivers.entries)) (subst (λ items. SoFar c.args.terms.originator (policy_value c.args.terms.policy) (receiver_ticked (policy_value c.args.terms.policy) c.args.now) (table_of c.args.self.now.receivers.entries) items c.sessions.self.receivers.entries c.sessions.told.out c.sessions.told.notes (c.args.effects.out ++ map segment_octets (tick_segments (receiver_ticked (policy_value c.args.terms.policy) c.args.now) c.args.terms.originator (table_of c.args.self.now.receivers.entries))) (c.args.effects.notes ++ tick_remarks (receiver_ticked (policy_value c.args.terms.policy) c.args.now) (table_of c.args.self.now.receivers.entries)) c.sessions.ended.items (ended (receiver_change (policy_value c.args.terms.policy) c.args.now) (table_of c.args.self.now.receivers.entries))) (empty-list c.sessions.n-iterator.rest.items (search rules)) c.sessions.invariant.6) in
-    room-ended c.args.terms.originator (policy_value c.args.terms.policy) (receiver_change (policy_value c.args.terms.policy) c.args.now) c.args.self.now.receivers.entries c.sessions.ended.items c.args.self.now.closed.runs c.sessions.self.closed.runs c.requires.live
-    (done.ends) (ap (λ x. x.runs) c.sessions.invariant.5) c.requires.runs
+    let done = so_far-end c.args.terms.originator (receiver_ticked (policy_value c.args.terms.policy) c.args.now) (inbound_of c.args.self.now).receivers c.args.effects c.sessions.n-iterator.rest.items
+    (by_number (table_of c.sessions.self.receivers.entries)) c.sessions.told c.sessions.ended.items c.sessions.invariant.5 (search rules) in
+    room-ended (receiver_change (policy_value c.args.terms.policy) c.args.now) (inbound_of c.args.self.now).receivers c.sessions.ended.items c.args.self.now.closed.runs c.sessions.self.closed.runs
+    done.ends (ap (λ x. x.runs) c.sessions.invariant.2) c.requires.runs
 
 pub returns-clause-next : goal.returns-clause-next
 returns-clause-next c =
-    let done = so_far-end c.args.terms.originator (policy_value c.args.terms.policy) (receiver_ticked (policy_value c.args.terms.policy) c.args.now) (table_of c.args.self.now.receivers.entries) c.sessions.self.receivers.entries c.sessions.told.out c.sessions.told.notes (c.args.effects.out ++ map segment_octets (tick_segments (receiver_ticked (policy_value c.args.terms.policy) c.args.now) c.args.terms.originator (table_of c.args.self.now.receivers.entries))) (c.args.effects.notes ++ tick_remarks (receiver_ticked (policy_value c.args.terms.policy) c.args.now) (table_of c.args.self.now.receivers.entries)) c.sessions.ended.items (ended (receiver_change (policy_value c.args.terms.policy) c.args.now) (table_of c.args.self.now.receivers.entries)) (subst (λ items. SoFar c.args.terms.originator (policy_value c.args.terms.policy) (receiver_ticked (policy_value c.args.terms.policy) c.args.now) (table_of c.args.self.now.receivers.entries) items c.sessions.self.receivers.entries c.sessions.told.out c.sessions.told.notes (c.args.effects.out ++ map segment_octets (tick_segments (receiver_ticked (policy_value c.args.terms.policy) c.args.now) c.args.terms.originator (table_of c.args.self.now.receivers.entries))) (c.args.effects.notes ++ tick_remarks (receiver_ticked (policy_value c.args.terms.policy) c.args.now) (table_of c.args.self.now.receivers.entries)) c.sessions.ended.items (ended (receiver_change (policy_value c.args.terms.policy) c.args.now) (table_of c.args.self.now.receivers.entries))) (empty-list c.sessions.n-iterator.rest.items (search rules)) c.sessions.invariant.6) in
-    record {
-      receivers = c.in_ok-close_all.ensures.receivers ∙ done.entries_are;
-      touched = c.in_ok-close_all.ensures.touched ∙ (ap (λ ns. untouched_all ns c.sessions.self.touched.items) (done.ends) ∙ ap (λ v. untouched_all (ended (receiver_change (policy_value c.args.terms.policy) c.args.now) (table_of c.args.self.now.receivers.entries)) v.items) c.sessions.invariant.4);
-      closed = c.in_ok-close_all.ensures.closed ∙ (ap (λ ns. all_closed ns c.sessions.self.closed) (done.ends) ∙ ap (λ x. all_closed (ended (receiver_change (policy_value c.args.terms.policy) c.args.now) (table_of c.args.self.now.receivers.entries)) x) c.sessions.invariant.5);
-    }
+    let done = so_far-end c.args.terms.originator (receiver_ticked (policy_value c.args.terms.policy) c.args.now) (inbound_of c.args.self.now).receivers c.args.effects c.sessions.n-iterator.rest.items
+    (by_number (table_of c.sessions.self.receivers.entries)) c.sessions.told c.sessions.ended.items c.sessions.invariant.5 (search rules) in
+    keeps-ticked c.args.terms.originator (policy_value c.args.terms.policy) c.args.now c.args.self.now c.sessions.self c.close_all.new.self c.sessions.ended.items c.sessions.invariant.3 c.sessions.invariant.4
+    done.table_is done.ends c.sessions.invariant.2 c.in_ok-close_all.ensures.receivers c.in_ok-close_all.ensures.closed
 
 pub returns-clause-effects : goal.returns-clause-effects
 returns-clause-effects c =
-    let done = so_far-end c.args.terms.originator (policy_value c.args.terms.policy) (receiver_ticked (policy_value c.args.terms.policy) c.args.now) (table_of c.args.self.now.receivers.entries) c.sessions.self.receivers.entries c.sessions.told.out c.sessions.told.notes (c.args.effects.out ++ map segment_octets (tick_segments (receiver_ticked (policy_value c.args.terms.policy) c.args.now) c.args.terms.originator (table_of c.args.self.now.receivers.entries))) (c.args.effects.notes ++ tick_remarks (receiver_ticked (policy_value c.args.terms.policy) c.args.now) (table_of c.args.self.now.receivers.entries)) c.sessions.ended.items (ended (receiver_change (policy_value c.args.terms.policy) c.args.now) (table_of c.args.self.now.receivers.entries)) (subst (λ items. SoFar c.args.terms.originator (policy_value c.args.terms.policy) (receiver_ticked (policy_value c.args.terms.policy) c.args.now) (table_of c.args.self.now.receivers.entries) items c.sessions.self.receivers.entries c.sessions.told.out c.sessions.told.notes (c.args.effects.out ++ map segment_octets (tick_segments (receiver_ticked (policy_value c.args.terms.policy) c.args.now) c.args.terms.originator (table_of c.args.self.now.receivers.entries))) (c.args.effects.notes ++ tick_remarks (receiver_ticked (policy_value c.args.terms.policy) c.args.now) (table_of c.args.self.now.receivers.entries)) c.sessions.ended.items (ended (receiver_change (policy_value c.args.terms.policy) c.args.now) (table_of c.args.self.now.receivers.entries))) (empty-list c.sessions.n-iterator.rest.items (search rules)) c.sessions.invariant.6) in
-    with_ticks-is c.args.effects c.sessions.told (tick_segments (receiver_ticked (policy_value c.args.terms.policy) c.args.now) c.args.terms.originator (table_of c.args.self.now.receivers.entries)) (tick_remarks (receiver_ticked (policy_value c.args.terms.policy) c.args.now) (table_of c.args.self.now.receivers.entries)) c.sessions.invariant.2 c.sessions.invariant.3 (done.sends) (done.notes)
+    (so_far-end c.args.terms.originator (receiver_ticked (policy_value c.args.terms.policy) c.args.now) (inbound_of c.args.self.now).receivers c.args.effects c.sessions.n-iterator.rest.items
+    (by_number (table_of c.sessions.self.receivers.entries)) c.sessions.told c.sessions.ended.items c.sessions.invariant.5 (search rules)).told_is

@@ -44,7 +44,7 @@ def heard(node):
     """The next datagram that comes to a node, as a segment; or None."""
     try:
         return read_segment(node.recv(65_507))
-    except TimeoutError:
+    except socket.timeout:
         return None
 
 

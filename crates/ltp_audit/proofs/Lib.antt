@@ -6,3 +6,12 @@ pub mod AlikeLemmas
 pub mod AuditLemmas
 pub mod LegalLemmas
 pub mod LawLemmas
+pub mod SenderSays
+pub mod ReceiverSays
+pub mod SaidLemmas
+pub mod KnowsLemmas
+pub mod ToldLemmas
+pub mod ComingLemmas
+pub mod ReplyLemmas
+pub mod EngineSays
+pub mod RecorderLemmas

@@ -6,7 +6,9 @@ pub mod Words
 pub mod Adding
 pub mod Laws
 pub mod Recording
+pub mod Keeping
 -- What only ties code to it.
 pub mod Pages
 pub mod Held
 pub mod Shows
+pub mod Knows

@@ -1,6 +1,6 @@
 -- An engine whose exchange is recorded: what came to it and left it, the first entry first.
 
-use Rattle.std.specs.Prelude.{◌≡◌, ℕ, Bool, true, false, List, ◌++◌, map, Result, Ok, Err}
+use Rattle.std.specs.Prelude.{◌≡◌, ℕ, Bool, true, false, List, [], ◌++◌, map, Result, Ok, Err}
 use Rattle.ltp_session.specs.Engine.{Engine, EngineStep, SubmitFault}
 use Rattle.ltp_engine.specs.declared.effects.Effects.{Effects}
 use Rattle.ltp_engine.specs.declared.refused.SubmitRefused.{SubmitRefused}
@@ -34,6 +34,11 @@ SubmitsRecorded old new step (Err causes.Memory) =
     (new.spent ≡ true) × ((e : Engine) → Shows old.engine e → IsNoFault (step e))
 SubmitsRecorded old new step (Err refused) =
     (new ≡ old) × ((e : Engine) → Shows old.engine e → IsFault refused (step e))
+
+-- the datagrams that are sent with a block
+abbrev pub outs_of : Result Effects SubmitRefused → List (List ℕ)
+outs_of (Ok effects) = effects.out
+outs_of (Err refused) = []
 
 -- memory ran out while a block was submitted
 abbrev pub ran_out : Result Effects SubmitRefused → Bool

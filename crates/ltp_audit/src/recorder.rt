@@ -1,13 +1,14 @@
 //! An engine whose exchange is recorded.
 
-ghost use Rattle.std.specs.Prelude.{◌≡◌, ◌≢◌, ◌++◌, ◌∷◌, ◌<◌, ◌≤◌, ◌^◌, [], false, true, length, map, slice_get, IfOk, OnOk, OnErr};
+ghost use Rattle.std.specs.Prelude.{◌≡◌, ◌≢◌, ◌++◌, ◌∷◌, ◌<◌, ◌≤◌, ◌^◌, [], false, true, length, map, slice_get, IfOk, IsOk, OnOk, OnErr};
 ghost use Rattle.std.specs.Option.{option_copied};
 ghost use Rattle.ltp_segment.specs.PolicyViews.{policy_value};
 ghost use Rattle.ltp_segment.specs.Reading.{segment_of};
 ghost use Rattle.ltp_session.specs.Engine.{starts, datagram_step, submits, submit_step, tick_step};
 ghost use Rattle.ltp_engine.specs.Shows.{Shows};
 ghost use Rattle.ltp_engine.specs.Steps.{new_engine, Steps};
-ghost use Rattle.ltp_audit.specs.Recording.{came, went, SubmitsRecorded, ran_out};
+ghost use Rattle.ltp_audit.specs.Recording.{came, went, SubmitsRecorded, outs_of, ran_out};
+ghost use Rattle.ltp_audit.specs.Keeping.{KeepsRules};
 
 use crate::entry::Entry;
 use endpoint::Octets;
@@ -30,12 +31,14 @@ pub struct Recorder {
 impl Model for Recorder {
     ghost use Rattle.std.specs.Prelude.{◌≡◌, false};
     ghost use Rattle.ltp_audit.specs.Recording.{RecorderValue};
+    ghost use Rattle.ltp_audit.specs.Knows.{Records};
 
     ghost Value = { RecorderValue };
 
     ghost view = { λ r. record { spent = r.spent; engine = r.engine; entries = r.entries.items } };
 
-    ghost invariant = { λ r. r.spent ≡ false → r.engine.spent ≡ false };
+    ghost invariant = { λ r. r.spent ≡ false
+        → (r.engine.spent ≡ false) × Records r.engine r.entries.items };
 }
 
 impl Recorder {
@@ -68,7 +71,10 @@ impl Recorder {
 
     /// The recording. It takes no memory.
     pub fn entries(&self) -> &[Entry]
-        ensures { result.now ≡ self.now.entries }
+        ensures are { result.now ≡ self.now.entries }
+        // No entry that went out breaks a rule, whatever came.
+        ensures rules { self.now.spent ≡ false → KeepsRules self.now.engine.party.own
+            self.now.engine.party.peer [] result.now }
     {
         let _ = self.spent;
         self.entries.as_slice()
@@ -80,14 +86,15 @@ impl Recorder {
         requires whole { self.old.spent ≡ false }
         requires red { red ≤ length block.now }
         requires moment { now < 2 ^ 62 }
-        ensures { SubmitsRecorded self.old self.new (λ e. submit_step self.old.engine.party e
+        ensures does { SubmitsRecorded self.old self.new (λ e. submit_step self.old.engine.party e
             (submits self.old.engine.party e block.now red now)) result }
+        // No entry that went out breaks a rule.
+        ensures rules { OnOk result (KeepsRules self.new.engine.party.own
+            self.new.engine.party.peer [] self.new.entries) }
     {
         self.spent = true;
         let submitted = self.engine.submit(block, red, now);
-        if let Ok(effects) = &submitted {
-            record_sent(self.alloc, &mut self.entries, effects)?;
-        }
+        record_submitted(self.alloc, &mut self.entries, &submitted)?;
         self.spent = ran_out(&submitted);
         submitted
     }
@@ -100,6 +107,9 @@ impl Recorder {
             (λ e. datagram_step self.old.engine.party e (segment_of datagram.now) now)) }
         ensures recorded { IfOk result (λ effects. self.new.entries
             ≡ (self.old.entries ++ came datagram.now ∷ []) ++ map went effects.out) }
+        // No entry that went out breaks a rule.
+        ensures rules { OnOk result (KeepsRules self.new.engine.party.own
+            self.new.engine.party.peer [] self.new.entries) }
         ensures whole { OnOk result (self.new.spent ≡ false) }
         ensures err { OnErr result (self.new.spent ≡ true) }
     {
@@ -123,6 +133,9 @@ impl Recorder {
             (λ e. tick_step self.old.engine.party e now)) }
         ensures recorded { IfOk result (λ effects. self.new.entries
             ≡ self.old.entries ++ map went effects.out) }
+        // No entry that went out breaks a rule.
+        ensures rules { OnOk result (KeepsRules self.new.engine.party.own
+            self.new.engine.party.peer [] self.new.entries) }
         ensures whole { OnOk result (self.new.spent ≡ false) }
         ensures err { OnErr result (self.new.spent ≡ true) }
     {
@@ -146,6 +159,22 @@ fn record_sent(alloc: Global, entries: &mut Vec<Entry>, effects: &Effects) -> Re
         })?;
     }
     Ok(())
+}
+
+/// Records the datagrams that are sent with a block, where it isn't refused.
+fn record_submitted(
+    alloc: Global,
+    entries: &mut Vec<Entry>,
+    submitted: &Result<Effects, SubmitRefused>,
+) -> Result<(), AllocError>
+    ensures recorded { OnOk result (entries.new.items
+        ≡ entries.old.items ++ map went (outs_of submitted.now)) }
+    ensures err { OnErr result (IsOk submitted.now) }
+{
+    match submitted {
+        Ok(effects) => record_sent(alloc, entries, effects),
+        Err(_) => Ok(()),
+    }
 }
 
 /// Whether memory ran out while a block was submitted.

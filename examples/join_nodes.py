@@ -1,5 +1,6 @@
 #!/usr/bin/env python3
-"""Joins two `node` by pipes and loses some of their datagrams, until a block is handed up and its sender knows it.
+"""Joins two `node` by pipes and loses some of their datagrams, until a block is handed up and its sender knows it. What came
+to each end and left it is then judged by `audit`.
 
 usage: examples/join_nodes.py [PROGRAM]      the program as this repository builds it, where none is named
 """
@@ -14,20 +15,23 @@ if not os.access(PROGRAM, os.X_OK):
 BLOCK = bytes(range(100)) * 25     # in three segments, of 1,024, 1,024 and 452 octets
 LOST = {1, 2, 7}                   # of the datagrams, which are counted from 0
 
-ends = [subprocess.Popen([PROGRAM, "node", own, peer], stdin=subprocess.PIPE, stdout=subprocess.PIPE, text=True)
-        for own, peer in (("1", "2"), ("2", "1"))]
-under_way, notes, sent = [], [], 0
+ENGINES = [("1", "2"), ("2", "1")]
+ends = [subprocess.Popen([PROGRAM, "node", *engines], stdin=subprocess.PIPE, stdout=subprocess.PIPE, text=True)
+        for engines in ENGINES]
+under_way, notes, sent, recordings = [], [], 0, ([], [])
 
 
 def happen(end, line):
     """Tells an end a line, and does what it answers. The refusal of an empty block marks the end of the answer."""
     global sent
+    recordings[end].extend([f"{line}\n"] if line.startswith("in ") else [])
     ends[end].stdin.write(f"{line}\nsend\n")
     ends[end].stdin.flush()
     for said in iter(ends[end].stdout.readline, "refused Empty\n"):
         word, _, rest = said.strip().partition(" ")
         if word == "out":
             print(f"end {end + 1} sends datagram {sent}, {len(rest) // 2} octets{', lost' if sent in LOST else ''}")
+            recordings[end].append(f"{said.strip()}\n")
             under_way.extend([] if sent in LOST else [(1 - end, f"in {rest}")])
             sent += 1
         elif word == "up":
@@ -48,3 +52,6 @@ for moment in range(10_000, 100_000, 10_000):
     happen(1, f"clock {moment}")
 for end in ends:
     end.communicate()
+for end, engines in enumerate(ENGINES):
+    audit = subprocess.run([PROGRAM, "audit", *engines], input="".join(recordings[end]), stdout=subprocess.PIPE, text=True)
+    print(f"audit of end {end + 1}: {audit.stdout.strip()}")

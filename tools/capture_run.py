@@ -19,7 +19,7 @@ import time
 sys.dont_write_bytecode = True
 sys.path.insert(0, os.path.dirname(os.path.abspath(__file__)))
 from gateway_model import VERSION, OLD, NEW, system_clock
-from live_nodes import Node, Served, idle_turns_a_second, options_of, program_of
+from live_nodes import RecordedSocket, Served, idle_turns_a_second, options_of, program_of
 from made_bundles import Made
 
 OPTIONS = {"bundles": 20, "seed": 1}
@@ -27,25 +27,6 @@ CUT, LARGEST, SECONDS = 65_536, 3000, 30
 PORT, UDP = 1113, 17
 ADDRESSES = {1: ("192.0.2.1", "192.0.2.2"), 4: ("198.51.100.4", "198.51.100.3")}     # by the node's engine
 IPV4_PACKETS = 228       # a capture's word for packets that begin with their IPv4 head
-
-
-class Recorded:
-    """A node's socket, which keeps what goes and what comes."""
-
-    def __init__(self, socket, node, gate, packets):
-        self.socket, self.node, self.gate, self.packets = socket, node, gate, packets
-
-    def __getattr__(self, name):
-        return getattr(self.socket, name)
-
-    def send(self, datagram):
-        self.packets.append((self.node, self.gate, bytes(datagram)))
-        return self.socket.send(datagram)
-
-    def recv(self, most):
-        datagram = self.socket.recv(most)
-        self.packets.append((self.gate, self.node, datagram))
-        return datagram
 
 
 def packet(source, target, datagram):
@@ -65,6 +46,13 @@ def write(path, packets):
             out.write(struct.pack("<IIII", at // 1000, at % 1000 * 1000, len(octets), len(octets)) + octets)
 
 
+def record_packets(node, address, gate, packets):
+    """From now on what the node sends and gets is kept."""
+    def tell(goes, datagram):
+        packets.append((address, gate, datagram) if goes else (gate, address, datagram))
+    node.socket = RecordedSocket(node.socket, tell)
+
+
 def planned(node, count, draw):
     """Bundles of a node that pass, every third of which asks for reports."""
     made = Made(draw, VERSION[OLD if node.engine.own == 1 else NEW], LARGEST, system_clock(), CUT, LARGEST)
@@ -79,7 +67,7 @@ def run(path, options):
     served = Served(path, int(rate * SECONDS))
     packets, draw, sent = [], random.Random(int(options["seed"])), 0
     for node in served.nodes:
-        node.socket = Recorded(node.socket, *ADDRESSES[node.engine.own], packets)
+        record_packets(node, *ADDRESSES[node.engine.own], packets)
         for block in planned(node, int(options["bundles"]), draw):
             node.submit(block)
             sent += 1

@@ -99,6 +99,25 @@ class Queues:
         return found
 
 
+class RecordedSocket:
+    """A node's socket, which tells each datagram that goes (True) or comes (False)."""
+
+    def __init__(self, socket, tell):
+        self.socket, self.tell = socket, tell
+
+    def __getattr__(self, name):
+        return getattr(self.socket, name)
+
+    def send(self, datagram):
+        self.tell(True, bytes(datagram))
+        return self.socket.send(datagram)
+
+    def recv(self, most):
+        datagram = self.socket.recv(most)
+        self.tell(False, datagram)
+        return datagram
+
+
 class Node:
     """One node: its engine, its socket, and the troubles of the ways to the gateway and from it."""
 

@@ -2,14 +2,15 @@
 """Plays an old node and a new node over loopback UDP against a running `serve`, and checks all that comes out.
 
 usage: tools/live_run.py [PROGRAM] [--bundles N] [--seconds S] [--loss PERCENT] [--repeats PERCENT] [--delays PERCENT]
-                         [--largest OCTETS] [--seed N] [--turns N] [--ipv6]
+                         [--largest OCTETS] [--seed N] [--turns N] [--ipv6] [--recordings FOLDER]
 
 The program is the one that this repository builds, where none is named. tools/gateway_model.py is one too: on it this
 was tried before the program had the command, and with faults planted there. The program is started here and ends by
 itself when its turns are over; turns that are left in the end are used up by datagrams that it says nothing of. So many
 bundles go from each node, of all sizes and kinds: whole ones and fragments, ones that are cut and ones that mayn't be,
 hop counts and previous nodes, ones that ask for reports, and ones that are refused. Datagrams of both ways on both
-links are lost, repeated and delayed by the seed, and false ones come between them.
+links are lost, repeated and delayed by the seed, and false ones come between them. Into FOLDER go the files old and new,
+which `audit 2 1` and `audit 3 4` read: all but the false datagrams that passed on either link.
 Status 0 where all of this holds, and 1 else:
 
 - each block that the program hands up is what the node sent under that number, and comes once;
@@ -31,7 +32,7 @@ from format_model import Refused
 from fragment_model import Joiner
 from gateway_model import (NEW, OLD, OTHER, SERIALS, SERVED, VERSION, bundle_of, case_of, octets_in, passage,
                            status_bundle, system_clock)
-from live_nodes import GATE, Served, Trouble, idle_turns_a_second, options_of, program_of
+from live_nodes import GATE, RecordedSocket, Served, Trouble, idle_turns_a_second, options_of, program_of
 from ltp_model import read_segment, written
 from made_bundles import Made
 from translate_model import Untranslated, record
@@ -161,6 +162,16 @@ class Live:
         self.nodes = dict(zip((OLD, NEW), self.served.nodes))
         self.ledger = Ledger(self.nodes)
         self.false = {OLD: collections.Counter(), NEW: collections.Counter()}
+        self.lies, self.recordings = set(), {OLD: [], NEW: []}
+        for face, node in self.nodes.items():
+            self.record(node, self.recordings[face])
+
+    def record(self, node, recording):
+        """Keeps from now on what comes to the gateway's engine from this node, and what it sends to it."""
+        def tell(goes, datagram):
+            if datagram not in self.lies:
+                recording.append(f"{'in' if goes else 'out'} {datagram.hex()}\n")
+        node.socket = RecordedSocket(node.socket, tell)
 
     def planned(self, face, options):
         """The blocks of a node, each with its case."""
@@ -195,6 +206,7 @@ class Live:
                 self.ledger.cases[face][session] = case
                 if self.draw.random() < 0.3:
                     octets, note = false_datagram(self.draw, self.nodes[face].engine.own)
+                    self.lies.add(octets)
                     self.nodes[face].outgoing.append(octets)
                     self.false[face][note] += 1
 
@@ -280,6 +292,8 @@ class Live:
 
     def end(self):
         self.dropped = self.served.dropped()
+        for node in self.nodes.values():
+            node.socket = node.socket.socket
         status = self.served.use_up()
         self.read_lines()
         must(status == 0, f"the program ends with {status}")
@@ -287,6 +301,10 @@ class Live:
 
 def main(words):
     path, words = program_of(words)
+    folder = None
+    if "--recordings" in words[:-1]:
+        at = words.index("--recordings")
+        folder, words = words[at + 1], words[:at] + words[at + 2:]
     options = options_of(words, OPTIONS)
     if options is None:
         sys.stderr.write(__doc__.split("\n\n")[1] + "\n")
@@ -307,6 +325,9 @@ def main(words):
         if live:
             live.served.use_up(60)
         return 1
+    for face, name in ((OLD, "old"), (NEW, "new")) if folder else ():
+        with open(os.path.join(folder, name), "w", encoding="ascii") as file:
+            file.writelines(live.recordings[face])
     told = ", ".join(f"{count} {word}" for word, count in sorted(live.ledger.told.items()))
     lost = sum(trouble.lost for node in live.nodes.values() for trouble in (node.there, node.back))
     print(f"live_run: {told}; {sum(len(node.came) for node in live.nodes.values())} blocks came out as they had to; "

@@ -4,7 +4,6 @@ pub mod HeldLemmas
 pub mod RedPartLemmas
 pub mod AlikeLemmas
 pub mod AuditLemmas
-pub mod LegalLemmas
 pub mod LawLemmas
 pub mod SenderSays
 pub mod ReceiverSays

@@ -21,7 +21,7 @@ use Rattle.ltp_segment.specs.Reports.{report_fields}
 use Rattle.ltp_segment.specs.Table.{segment, content_of, report_ack_fields, sender_cancel_fields, receiver_cancel_fields, unused, control}
 use Rattle.ltp_segment.specs.Reading.{SpellsSegment, segment_of, told}
 use Rattle.ltp_engine.specs.Sides.{IsFit}
-use Rattle.ltp_audit.proofs.LegalLemmas.{segment-fit}
+use Rattle.ltp_engine.proofs.LegalLemmas.{segment-fit}
 use Rattle.ltp_audit.proofs.SenderSays.{IsTold}
 
 -- the serial number of a checkpoint fits 64 bits

@@ -1,6 +1,6 @@
 use Rattle.std.proofs.Common.{sym, subst, ◌∙◌, Err}
 use Rattle.ltp_segment.specs.Views.{segment_value}
-use Rattle.ltp_audit.proofs.LegalLemmas.{segment-fit}
+use Rattle.ltp_engine.proofs.LegalLemmas.{segment-fit}
 use Rattle.ltp_audit.specs.Adding.{Adds}
 use Rattle.ltp_audit.specs.Shows.{Shows}
 use Rattle.ltp_audit.proofs.AuditLemmas.{answers-form, answers-broken, answers-kept, answers-memory, shows-more}

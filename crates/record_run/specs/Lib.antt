@@ -1,3 +1,5 @@
 pub mod Record
--- what only ties code to it
+-- what it writes over a run, whoever is at the other end
+pub mod Exchange
+-- what only ties code to these
 pub mod Grows

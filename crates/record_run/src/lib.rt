@@ -8,9 +8,11 @@
 //! each line answered before the next is read. `audit` reads what is written.
 //!
 //! The definition is `specs/Record.antt`, over the steps of an engine that `node` has. What an
-//! engine does is none of this crate's business, and neither is the grammar of a line.
+//! engine does is none of this crate's business, and neither is the grammar of a line. `laws` has
+//! that no entry which went out breaks a rule, whoever is at the other end.
 #![tactic(auto)]
 
+pub mod laws;
 mod record_lines;
 mod written_lines;
 

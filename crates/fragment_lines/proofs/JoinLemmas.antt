@@ -1,5 +1,5 @@
 -- What `join` writes of a bundle.
-use Rattle.std.proofs.Common.{◌≡◌, ℕ, false, List, ◌++◌, codes, Option, Some, None, Result, Ok, Err, IfOk, sym, ap, subst}
+use Rattle.std.proofs.Common.{◌≡◌, ℕ, false, List, ◌++◌, codes, Option, Some, None, Result, Ok, Err, IfOk, OnOk, sym, ◌∙◌, ap, subst}
 use Rattle.bundle6.specs.declared.bundle.Bundle6.{Bundle6}
 use Rattle.bundle7.specs.declared.bundle.Bundle7.{Bundle7}
 use Rattle.bundle_meaning.specs.declared.full.Full.{Full}
@@ -82,3 +82,14 @@ pub join-unread7 : (joins : List Join) (b : Bundle7) (text : List ℕ) (cause : 
 unfolding join7
 join-unread7 joins b text cause is =
     said-unread (first_that_holds (refusals7 b)) (taken_as spelled_new joins (full7_of b)) text joins cause is
+
+-- whatever is written then, the record was taken
+pub took-read : {A E : Type 0} (result : Result A E) (first : Option Refused) (value full : Full) (joins : List Join) (new : Joining)
+    → Reads first value (Ok full) → new ≡ record { joins = after joins full; spent = false }
+    → OnOk result (first ≡ None → new.joins ≡ after joins value)
+took-read (Ok x) first value full joins new (none, is) kept = λ reads. ap (λ (j : Joining). j.joins) kept ∙ ap (after joins) is
+took-read (Err e) first value full joins new (none, is) kept = tt
+
+-- a bundle that doesn't read has no record
+pub unread-none : {P : Type 0} (first : Option Refused) (cause : Refused) → first ≡ Some cause → first ≡ None → P
+unread-none first cause is none = absurd (cc)

@@ -5,8 +5,8 @@ ghost use Rattle.std.specs.String.{string_bytes};
 ghost use Rattle.bundle6.specs.Legal.{IsLegal};
 ghost use Rattle.bundle7.specs.Legal.{IsLegal7};
 ghost use Rattle.translate.specs.Refusals.{first_that_holds};
-ghost use Rattle.translate.specs.Reading6.{refusals6};
-ghost use Rattle.translate.specs.Reading7.{refusals7};
+ghost use Rattle.translate.specs.Reading6.{refusals6, full6_of};
+ghost use Rattle.translate.specs.Reading7.{refusals7, full7_of};
 ghost use Rattle.translate.specs.Sound.{IsSound};
 ghost use Rattle.fragments.specs.declared.join.Join.{Join};
 ghost use Rattle.fragments.specs.Cutting.{octets_of};
@@ -85,6 +85,10 @@ impl BundleJoiner {
         // A bundle that doesn't read as a record changes nothing.
         ensures stays { (first_that_holds (refusals6 bundle.now) ≡ None → ⊥) → self.new ≡ self.old }
 
+        // Any other is taken as its record, also where the whole that it completes is turned down.
+        ensures taken { OnOk result (first_that_holds (refusals6 bundle.now) ≡ None
+            → self.new.joins ≡ after self.old.joins (full6_of bundle.now)) }
+
         // Memory is wanted only where the bundle reads as a record.
         ensures memory { OnErr result (first_that_holds (refusals6 bundle.now) ≡ None) }
     {
@@ -108,6 +112,10 @@ impl BundleJoiner {
 
         // A bundle that doesn't read as a record changes nothing.
         ensures stays { (first_that_holds (refusals7 bundle.now) ≡ None → ⊥) → self.new ≡ self.old }
+
+        // Any other is taken as its record, also where the whole that it completes is turned down.
+        ensures taken { OnOk result (first_that_holds (refusals7 bundle.now) ≡ None
+            → self.new.joins ≡ after self.old.joins (full7_of bundle.now)) }
 
         // Memory is wanted only where the bundle reads as a record.
         ensures memory { OnErr result (first_that_holds (refusals7 bundle.now) ≡ None) }

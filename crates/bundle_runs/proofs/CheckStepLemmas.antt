@@ -17,9 +17,9 @@ use Rattle.bundle_runs.specs.Front.{word_of}
 use Rattle.bundle_runs.specs.Answering.{settles_from}
 use Rattle.bundle_runs.specs.WrittenLines.{check_line, refused_line}
 use Rattle.bundle_runs.specs.Given.{IsVersion}
-use Rattle.bundle_runs.specs.Taking.{kept_of, kept_by, settling_of, passed, waiting, IsReady, HasBegun, SoFar, IsCutAt}
+use Rattle.bundle_runs.specs.Taking.{kept_of, kept_by, keeps_going, settling_of, passed, waiting, IsReady, HasBegun, SoFar, IsCutAt}
 use Rattle.bundle_runs.specs.Checking.{StandsFor, IsNew, Shadows, IsShadowed, StandsChecking, with_judges, JudgedOn, ChecksOn}
-use Rattle.bundle_runs.proofs.TakingLemmas.{whole-room, refused-room, step-checked, step-part, step-refused, quiet, so_far-start, so_far-more, so_far-stop, finish-none, finish-cut, cut-inside}
+use Rattle.bundle_runs.proofs.TakingLemmas.{whole-room, refused-room, step-checked, step-part, step-refused, quiet, so_far-start, so_far-more, so_far-stop, finish-done, finish-cut, cut-inside}
 use Rattle.bundle_runs.proofs.CheckLemmas.{unfinished-none, unfinished-some}
 
 -- ---- a step
@@ -184,16 +184,16 @@ checks-stop start s new Later piece left before text after so_far step =
 -- ---- the start and the end
 
 pub shadows-start : (seven : judging7.Judging) → IsNew seven
-    → (x : Standing) × Shadows (record { number = 1; at = 0; taken = 0; begun = None; seven = seven }) x × (settles_from Check [] 1 0 ≡ settling_of x)
+    → (x : Standing) × Shadows (record { number = 1; at = 0; taken = 0; begun = None; seven = seven }) x × (settles_from Check false [] 1 0 ≡ settling_of x)
 shadows-start seven fresh = (
-  record { command = Check; joiner = record { joins = []; spent = false }; number = 1; at = 0; taken = 0; unfinished = None },
+  record { command = Check; any_refused = false; joiner = record { joins = []; spent = false }; number = 1; at = 0; taken = 0; unfinished = None },
   record {
     command = refl;
     number = refl;
     place = refl;
     took = refl;
     bundle = tt;
-    sound = record { begun = tt; held = refl; within = omega arith; counted = omega arith; memory = refl };
+    sound = record { begun = tt; held = refl; within = omega arith; counted = omega arith; memory = refl; clean = λ plain. refl };
     seven = fresh;
   },
   refl,
@@ -205,7 +205,7 @@ shadowed-start seven fresh = let start = shadows-start seven fresh in (start.0, 
 -- nothing is left of the bundle
 pub shadowed-after : (s : Checking) → IsShadowed s → IsShadowed (record { number = s.number; at = s.at; taken = 0; begun = None; seven = s.seven })
 shadowed-after s (old, shadows) = (
-  record { command = Check; joiner = old.joiner; number = old.number; at = old.at; taken = 0; unfinished = None },
+  record { command = Check; any_refused = false; joiner = old.joiner; number = old.number; at = old.at; taken = 0; unfinished = None },
   record {
     command = refl;
     number = shadows.number;
@@ -218,6 +218,7 @@ shadowed-after s (old, shadows) = (
       within = omega (arith, shadows.sound.within);
       counted = shadows.sound.counted;
       memory = shadows.sound.memory;
+      clean = λ plain. refl;
     };
     seven = shadows.seven;
   },
@@ -225,7 +226,7 @@ shadowed-after s (old, shadows) = (
 
 pub check-finish-none : (s : Checking) (old : Standing) (text : List ℕ) → s.begun ≡ None → Shadows s old → Finishes (settling_of old) text text statuses.Done
 check-finish-none s old text is shadows =
-    finish-none old text (ap kept_by (unfinished-none old.unfinished (rw is at shadows.bundle)))
+    finish-done old text (ap keeps_going shadows.command) shadows.sound (ap kept_by (unfinished-none old.unfinished (rw is at shadows.bundle)))
 
 -- the bundle that has begun, and its reader
 pub begun-bundle : (s : Checking) (old : Standing) (begun : Begun) → s.begun ≡ Some begun → Shadows s old
@@ -239,7 +240,7 @@ pub check-finish-empty : (s : Checking) (old : Standing) (begun : Begun) (text :
     → ((bundle : Unfinished) → StandsFor begun bundle → IsReady bundle → IsCutAt bundle None) → Finishes (settling_of old) text text statuses.Done
 check-finish-empty s old begun text is shadows cut =
     let (bundle, some, stands, ready) = begun-bundle s old begun is shadows in
-    finish-none old text (ap kept_by some ∙ cut bundle stands ready)
+    finish-done old text (ap keeps_going shadows.command) shadows.sound (ap kept_by some ∙ cut bundle stands ready)
 
 pub check-finish-room : (s : Checking) (old : Standing) (begun : Begun) (at : ℕ) → s.begun ≡ Some begun → Shadows s old
     → ((bundle : Unfinished) → StandsFor begun bundle → IsReady bundle → IsCutAt bundle (Some at)) → s.at + at ≤ 67108864

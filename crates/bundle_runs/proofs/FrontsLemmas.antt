@@ -1,5 +1,5 @@
 -- Fronts one after another, and what they settle.
-use Rattle.std.proofs.Common.{◌≡◌, ℕ, zero, suc, ◌+◌, ◌-◌, ◌<◌, ◌≤◌, eqb, Bool, true, false, List, [], ◌∷◌, ◌++◌, length, drop, if◌then◌else◌, Result, Ok, Err, refl, ◌∙◌, ap, arith, length-drop}
+use Rattle.std.proofs.Common.{◌≡◌, ℕ, zero, suc, ◌+◌, ◌-◌, ◌<◌, ◌≤◌, eqb, Bool, true, false, List, [], ◌∷◌, ◌++◌, length, drop, if◌then◌else◌, None, Some, Result, Ok, Err, refl, ◌∙◌, ap, arith, length-drop}
 use Rattle.edge_traits.specs.Settled.{Ends, put_before}
 use Rattle.wire_fields.specs.Format.{Format}
 use Rattle.wire_fields.specs.Refusal.{Stop, truncated, because}
@@ -18,7 +18,7 @@ use Rattle.bundle_runs.specs.declared.front.Cause.{Cause}
 use Rattle.bundle_runs.specs.declared.front.Cause.TheVariants as causes
 use Rattle.bundle_runs.specs.Front.{front_of, front_by, front_read, front6, front7, word_of, IsWithin, IsFirm, Front, whole, cut_short, refused}
 use Rattle.bundle_runs.specs.Fronts.{after_front, first_fronts, fronts_of}
-use Rattle.bundle_runs.specs.Answering.{by_bundles, step_of, after_said, after_last, unfinished, refused_by, settles_from}
+use Rattle.bundle_runs.specs.Answering.{by_bundles, step_of, leaves_of, after_said, after_last, unfinished, refused_by, settles_from}
 use Rattle.bundle_runs.specs.WrittenLines.{refused_line, turned_down_line}
 use Rattle.fragment_lines.specs.Said.{says, refuses}
 use Rattle.bundle_runs.proofs.FrontLemmas.{six-within, seven-within, stopped-within}
@@ -54,52 +54,62 @@ fronts-more octet octets =
 
 -- ---- what they settle
 
-module _ (command : Command) (joins : List Join) (n at : ℕ) (ends : Ends) where
-  pub settles-none : settles_from command joins n at ends [] ≡ after_last ends
+module _ (command : Command) (any_refused : Bool) (joins : List Join) (n at : ℕ) (ends : Ends) where
+  pub settles-none : settles_from command any_refused joins n at ends [] ≡ after_last ends any_refused
   unfolding settles_from fronts_of first_fronts by_bundles
   settles-none = refl
 
   by-front : (octet : ℕ) (octets : List ℕ) (front : Front) → front_of (octet ∷ octets) ≡ front
-      → settles_from command joins n at ends (octet ∷ octets)
-      ≡ by_bundles (step_of command) ends joins n at (front ∷ after_front front octets (λ rest. fronts_of rest))
+      → settles_from command any_refused joins n at ends (octet ∷ octets)
+      ≡ by_bundles (step_of command) (leaves_of command) ends any_refused joins n at (front ∷ after_front front octets (λ rest. fronts_of rest))
   unfolding settles_from
   by-front octet octets front is =
-      ap (λ fronts. by_bundles (step_of command) ends joins n at fronts) (fronts-more octet octets)
-      ∙ ap (λ f. by_bundles (step_of command) ends joins n at (f ∷ after_front f octets (λ rest. fronts_of rest))) is
+      ap (λ fronts. by_bundles (step_of command) (leaves_of command) ends any_refused joins n at fronts) (fronts-more octet octets)
+      ∙ ap (λ f. by_bundles (step_of command) (leaves_of command) ends any_refused joins n at (f ∷ after_front f octets (λ rest. fronts_of rest))) is
 
   pub settles-whole : (octets : List ℕ) (bundle : Bundle) (k : ℕ) → front_of octets ≡ whole bundle k → 0 < k → k ≤ length octets
-      → settles_from command joins n at ends octets
-      ≡ after_said n (step_of command joins bundle k) (λ now. settles_from command now (n + 1) (at + k) ends (drop k octets))
+      → settles_from command any_refused joins n at ends octets
+      ≡ after_said n (step_of command joins bundle k) (leaves_of command joins bundle) any_refused (λ any now. settles_from command any now (n + 1) (at + k) ends (drop k octets))
   unfolding settles_from by_bundles
   settles-whole octets bundle zero is some inside = absurd (omega (arith, some))
   settles-whole [] bundle (suc k) is some inside = absurd (omega (arith, inside))
   settles-whole (octet ∷ octets) bundle (suc k) is some inside =
       let less : suc k - 1 ≡ k = omega arith in
       by-front octet octets (whole bundle (suc k)) is
-      ∙ ap (λ j. after_said n (step_of command joins bundle (suc k)) (λ now. settles_from command now (n + 1) (at + suc k) ends (drop j octets))) less
+      ∙ ap (λ j. after_said n (step_of command joins bundle (suc k)) (leaves_of command joins bundle) any_refused (λ any now. settles_from command any now (n + 1) (at + suc k) ends (drop j octets))) less
 
   pub settles-says : (octets : List ℕ) (bundle : Bundle) (k : ℕ) (text : List ℕ) (now : List Join) → front_of octets ≡ whole bundle k → 0 < k → k ≤ length octets
       → step_of command joins bundle k ≡ says text now
-      → settles_from command joins n at ends octets ≡ put_before text (settles_from command now (n + 1) (at + k) ends (drop k octets))
+      → settles_from command any_refused joins n at ends octets ≡ put_before text (settles_from command any_refused now (n + 1) (at + k) ends (drop k octets))
   settles-says octets bundle k text now is some inside said =
       settles-whole octets bundle k is some inside
-      ∙ ap (λ s. after_said n s (λ now. settles_from command now (n + 1) (at + k) ends (drop k octets))) said
+      ∙ ap (λ s. after_said n s (leaves_of command joins bundle) any_refused (λ any now. settles_from command any now (n + 1) (at + k) ends (drop k octets))) said
 
   pub settles-turned-down : (octets : List ℕ) (bundle : Bundle) (k : ℕ) (word : List ℕ) → front_of octets ≡ whole bundle k → 0 < k → k ≤ length octets
-      → step_of command joins bundle k ≡ refuses word
-      → settles_from command joins n at ends octets ≡ refused_by (turned_down_line n word)
-  settles-turned-down octets bundle k word is some inside said =
+      → step_of command joins bundle k ≡ refuses word → leaves_of command joins bundle ≡ None
+      → settles_from command any_refused joins n at ends octets ≡ refused_by (turned_down_line n word)
+  settles-turned-down octets bundle k word is some inside said left =
       settles-whole octets bundle k is some inside
-      ∙ ap (λ s. after_said n s (λ now. settles_from command now (n + 1) (at + k) ends (drop k octets))) said
+      ∙ ap (λ s. after_said n s (leaves_of command joins bundle) any_refused (λ any now. settles_from command any now (n + 1) (at + k) ends (drop k octets))) said
+      ∙ ap (λ l. after_said n (refuses word) l any_refused (λ any now. settles_from command any now (n + 1) (at + k) ends (drop k octets))) left
+
+  pub settles-kept : (octets : List ℕ) (bundle : Bundle) (k : ℕ) (word : List ℕ) (now : List Join) → front_of octets ≡ whole bundle k → 0 < k → k ≤ length octets
+      → step_of command joins bundle k ≡ refuses word → leaves_of command joins bundle ≡ Some now
+      → settles_from command any_refused joins n at ends octets
+      ≡ put_before (turned_down_line n word) (settles_from command true now (n + 1) (at + k) ends (drop k octets))
+  settles-kept octets bundle k word now is some inside said left =
+      settles-whole octets bundle k is some inside
+      ∙ ap (λ s. after_said n s (leaves_of command joins bundle) any_refused (λ any now. settles_from command any now (n + 1) (at + k) ends (drop k octets))) said
+      ∙ ap (λ l. after_said n (refuses word) l any_refused (λ any now. settles_from command any now (n + 1) (at + k) ends (drop k octets))) left
 
   pub settles-refused : (octets : List ℕ) (place : ℕ) (cause : Cause) → 0 < length octets → front_of octets ≡ refused place cause
-      → settles_from command joins n at ends octets ≡ refused_by (refused_line n (at + place) (word_of cause))
+      → settles_from command any_refused joins n at ends octets ≡ refused_by (refused_line n (at + place) (word_of cause))
   unfolding by_bundles
   settles-refused [] place cause some is = absurd (omega (arith, some))
   settles-refused (octet ∷ octets) place cause some is = by-front octet octets (refused place cause) is
 
   pub settles-cut : (octets : List ℕ) (place : ℕ) → 0 < length octets → front_of octets ≡ cut_short place
-      → settles_from command joins n at ends octets ≡ unfinished ends n (at + place)
+      → settles_from command any_refused joins n at ends octets ≡ unfinished ends n (at + place)
   unfolding by_bundles
   settles-cut [] place some is = absurd (omega (arith, some))
   settles-cut (octet ∷ octets) place some is = by-front octet octets (cut_short place) is

@@ -32,12 +32,12 @@ use Rattle.bundle_runs.specs.declared.front.Bundle.TheVariants as bundles
 use Rattle.bundle_runs.specs.declared.front.Cause.{Cause}
 use Rattle.bundle_runs.specs.declared.front.Cause.TheVariants as causes
 use Rattle.bundle_runs.specs.Front.{Front, whole, cut_short, refused, front_of, stopped, word_of, IsWithin}
-use Rattle.bundle_runs.specs.Answering.{settles, settles_from, step_of, refused_by}
+use Rattle.bundle_runs.specs.Answering.{settles, settles_from, step_of, leaves_of, refused_by}
 use Rattle.bundle_runs.specs.WrittenLines.{refused_line, turned_down_line}
 use Rattle.fragment_lines.specs.Said.{Said, says, refuses}
 use Rattle.bundle_runs.specs.Laws.{TakesBundle6, TakesBundle7, StopsAt6, StopsAt7, EndsInside6, EndsInside7, StopsAtVersion, EndsAfterLast, EarliestOctetDecides}
 use Rattle.bundle_runs.proofs.FrontLemmas.{six-within, seven-within}
-use Rattle.bundle_runs.proofs.FrontsLemmas.{settles-none, settles-whole, settles-says, settles-turned-down, settles-refused, settles-cut, front-stays, front-within}
+use Rattle.bundle_runs.proofs.FrontsLemmas.{settles-none, settles-whole, settles-says, settles-turned-down, settles-kept, settles-refused, settles-cut, front-stays, front-within}
 
 needs-true : {C : Type 0} (b : Bool) (c : C) → needs b c ≡ None → b ≡ true
 needs-true true c is = refl
@@ -75,14 +75,14 @@ unfolding front_of
 front-seven octets first b k begins = rw (first, begins-read (table7.bundle 64) octets k b begins) refl
 
 pub takes_bundle6 : TakesBundle6
-takes_bundle6 command joins ends n at k octets b begins =
+takes_bundle6 command any_refused joins ends n at k octets b begins =
     let size = six-within octets b k begins in
-    settles-whole command joins n at ends octets (bundles.Six b) k (front-six octets (first6 64 k octets b begins.spells) b k begins) size.0 size.1
+    settles-whole command any_refused joins n at ends octets (bundles.Six b) k (front-six octets (first6 64 k octets b begins.spells) b k begins) size.0 size.1
 
 pub takes_bundle7 : TakesBundle7
-takes_bundle7 command joins ends n at k octets b begins =
+takes_bundle7 command any_refused joins ends n at k octets b begins =
     let size = seven-within octets b k begins in
-    settles-whole command joins n at ends octets (bundles.Seven b) k (front-seven octets (first7 64 k octets b begins.spells) b k begins) size.0 size.1
+    settles-whole command any_refused joins n at ends octets (bundles.Seven b) k (front-seven octets (first7 64 k octets b begins.spells) b k begins) size.0 size.1
 
 front-refused6 : (octets : List ℕ) → slice_index octets 0 ≡ 6 → IsOctets octets → (place : ℕ) (s : Stop Cause6)
     → Refusal (table6.bundle 64) [] octets place s → front_of octets ≡ stopped causes.Six place s
@@ -101,30 +101,30 @@ unfolding front_of
 front-unknown octets six seven = rw (ne_eqb (slice_index octets 0) 0x06 six, ne_eqb (slice_index octets 0) 0x9F seven) refl
 
 pub stops_at6 : StopsAt6
-stops_at6 command joins ends n at place octets cause fits first refusal =
-    settles-refused command joins n at ends octets place (causes.Six cause) (has-some octets 5 first) (front-refused6 octets first fits place (because cause) refusal)
+stops_at6 command any_refused joins ends n at place octets cause fits first refusal =
+    settles-refused command any_refused joins n at ends octets place (causes.Six cause) (has-some octets 5 first) (front-refused6 octets first fits place (because cause) refusal)
 
 pub stops_at7 : StopsAt7
-stops_at7 command joins ends n at place octets cause fits first refusal =
-    settles-refused command joins n at ends octets place (causes.Seven cause) (has-some octets 0x9E first) (front-refused7 octets first fits place (because cause) refusal)
+stops_at7 command any_refused joins ends n at place octets cause fits first refusal =
+    settles-refused command any_refused joins n at ends octets place (causes.Seven cause) (has-some octets 0x9E first) (front-refused7 octets first fits place (because cause) refusal)
 
 pub ends_inside6 : EndsInside6
-ends_inside6 command joins ends n at place octets fits first refusal =
-    settles-cut command joins n at ends octets place (has-some octets 5 first) (front-refused6 octets first fits place truncated refusal)
+ends_inside6 command any_refused joins ends n at place octets fits first refusal =
+    settles-cut command any_refused joins n at ends octets place (has-some octets 5 first) (front-refused6 octets first fits place truncated refusal)
 
 pub ends_inside7 : EndsInside7
-ends_inside7 command joins ends n at place octets fits first refusal =
-    settles-cut command joins n at ends octets place (has-some octets 0x9E first) (front-refused7 octets first fits place truncated refusal)
+ends_inside7 command any_refused joins ends n at place octets fits first refusal =
+    settles-cut command any_refused joins n at ends octets place (has-some octets 0x9E first) (front-refused7 octets first fits place truncated refusal)
 
 pub stops_at_version : StopsAtVersion
-stops_at_version command joins ends n at octet octets six seven =
+stops_at_version command any_refused joins ends n at octet octets six seven =
     let front : front_of (octet ∷ octets) ≡ refused 0 causes.Version = front-unknown (octet ∷ octets) six seven in
     let place : at + 0 ≡ at = omega arith in
-    settles-refused command joins n at ends (octet ∷ octets) 0 causes.Version (omega arith) front
+    settles-refused command any_refused joins n at ends (octet ∷ octets) 0 causes.Version (omega arith) front
     ∙ ap (λ (p : ℕ). refused_by (refused_line n p (word_of causes.Version))) place
 
 pub ends_after_last : EndsAfterLast
-ends_after_last command joins ends n at = settles-none command joins n at ends
+ends_after_last command any_refused joins ends n at = settles-none command any_refused joins n at ends
 
 -- ---- the earliest place
 
@@ -134,77 +134,90 @@ pub data Goes (settling : Settling) (taken : List ℕ) : Type 0 where
   stops : (text : List ℕ) (status : Status) → GoesOnTo settling taken text (over status) → Goes settling taken
 
 module _ (command : Command) where
-  pub goes-refused : (joins : List Join) (n at place : ℕ) (cause : Cause) (taken : List ℕ) → IsOctets taken → 0 < length taken
+  pub goes-refused : (any_refused : Bool) (joins : List Join) (n at place : ℕ) (cause : Cause) (taken : List ℕ) → IsOctets taken → 0 < length taken
       → front_of taken ≡ refused place cause
-      → GoesOnTo (settles_from command joins n at) taken (refused_line n (at + place) (word_of cause)) (over statuses.Refused)
-  goes-refused joins n at place cause taken fits some is ends more =
+      → GoesOnTo (settles_from command any_refused joins n at) taken (refused_line n (at + place) (word_of cause)) (over statuses.Refused)
+  goes-refused any_refused joins n at place cause taken fits some is ends more =
       let line = refused_line n (at + place) (word_of cause) in
       let stays = front-stays taken more fits some (rw is tt) in
-      settles-refused command joins n at ends (taken ++ more) place cause (omega (arith, length-append taken more, some)) (stays ∙ is)
+      settles-refused command any_refused joins n at ends (taken ++ more) place cause (omega (arith, length-append taken more, some)) (stays ∙ is)
       ∙ ap (λ text. record { text = text; ends = Some statuses.Refused }) (sym (append-nil line))
 
-  pub goes-says : (joins : List Join) (n at k : ℕ) (bundle : Bundle) (text : List ℕ) (now : List Join) (taken : List ℕ) → IsOctets taken → 0 < length taken
+  pub goes-says : (any_refused : Bool) (joins : List Join) (n at k : ℕ) (bundle : Bundle) (text : List ℕ) (now : List Join) (taken : List ℕ) → IsOctets taken → 0 < length taken
       → front_of taken ≡ whole bundle k → 0 < k → k ≤ length taken → step_of command joins bundle k ≡ says text now
-      → (ends : Ends) (more : List ℕ) → settles_from command joins n at ends (taken ++ more)
-      ≡ put_before text (settles_from command now (n + 1) (at + k) ends (drop k taken ++ more))
-  goes-says joins n at k bundle text now taken fits here is some inside said ends more =
+      → (ends : Ends) (more : List ℕ) → settles_from command any_refused joins n at ends (taken ++ more)
+      ≡ put_before text (settles_from command any_refused now (n + 1) (at + k) ends (drop k taken ++ more))
+  goes-says any_refused joins n at k bundle text now taken fits here is some inside said ends more =
       let stays = front-stays taken more fits here (rw is tt) in
-      settles-says command joins n at ends (taken ++ more) bundle k text now (stays ∙ is) some (omega (arith, length-append taken more, inside)) said
-      ∙ ap (λ left. put_before text (settles_from command now (n + 1) (at + k) ends left)) (drop-append-le k taken more inside)
+      settles-says command any_refused joins n at ends (taken ++ more) bundle k text now (stays ∙ is) some (omega (arith, length-append taken more, inside)) said
+      ∙ ap (λ left. put_before text (settles_from command any_refused now (n + 1) (at + k) ends left)) (drop-append-le k taken more inside)
 
-  pub goes-turned-down : (joins : List Join) (n at k : ℕ) (bundle : Bundle) (word taken : List ℕ) → IsOctets taken → 0 < length taken
-      → front_of taken ≡ whole bundle k → 0 < k → k ≤ length taken → step_of command joins bundle k ≡ refuses word
-      → GoesOnTo (settles_from command joins n at) taken (turned_down_line n word) (over statuses.Refused)
-  goes-turned-down joins n at k bundle word taken fits here is some inside said ends more =
+  pub goes-turned-down : (any_refused : Bool) (joins : List Join) (n at k : ℕ) (bundle : Bundle) (word taken : List ℕ) → IsOctets taken → 0 < length taken
+      → front_of taken ≡ whole bundle k → 0 < k → k ≤ length taken → step_of command joins bundle k ≡ refuses word → leaves_of command joins bundle ≡ None
+      → GoesOnTo (settles_from command any_refused joins n at) taken (turned_down_line n word) (over statuses.Refused)
+  goes-turned-down any_refused joins n at k bundle word taken fits here is some inside said left ends more =
       let stays = front-stays taken more fits here (rw is tt) in
-      settles-turned-down command joins n at ends (taken ++ more) bundle k word (stays ∙ is) some (omega (arith, length-append taken more, inside)) said
+      settles-turned-down command any_refused joins n at ends (taken ++ more) bundle k word (stays ∙ is) some (omega (arith, length-append taken more, inside)) said left
       ∙ ap (λ text. record { text = text; ends = Some statuses.Refused }) (sym (append-nil (turned_down_line n word)))
 
-  pub goes-cut : (joins : List Join) (n at place : ℕ) (taken : List ℕ) → 0 < length taken → front_of taken ≡ cut_short place
-      → IsQuiet (λ ends more. settles_from command joins n at ends (taken ++ more))
-  goes-cut joins n at place taken some is =
-      ap (settles_from command joins n at goes_on) (append-nil taken) ∙ settles-cut command joins n at goes_on taken place some is
+  pub goes-kept : (any_refused : Bool) (joins : List Join) (n at k : ℕ) (bundle : Bundle) (word : List ℕ) (now : List Join) (taken : List ℕ) → IsOctets taken → 0 < length taken
+      → front_of taken ≡ whole bundle k → 0 < k → k ≤ length taken → step_of command joins bundle k ≡ refuses word → leaves_of command joins bundle ≡ Some now
+      → (ends : Ends) (more : List ℕ) → settles_from command any_refused joins n at ends (taken ++ more)
+      ≡ put_before (turned_down_line n word) (settles_from command true now (n + 1) (at + k) ends (drop k taken ++ more))
+  goes-kept any_refused joins n at k bundle word now taken fits here is some inside said left ends more =
+      let stays = front-stays taken more fits here (rw is tt) in
+      settles-kept command any_refused joins n at ends (taken ++ more) bundle k word now (stays ∙ is) some (omega (arith, length-append taken more, inside)) said left
+      ∙ ap (λ left. put_before (turned_down_line n word) (settles_from command true now (n + 1) (at + k) ends left)) (drop-append-le k taken more inside)
 
-  after-says : (joins : List Join) (n at k : ℕ) (bundle : Bundle) (line : List ℕ) (now : List Join) (taken : List ℕ) → IsOctets taken → 0 < length taken
-      → front_of taken ≡ whole bundle k → 0 < k → k ≤ length taken → step_of command joins bundle k ≡ says line now
-      → Goes (settles_from command now (n + 1) (at + k)) (drop k taken) → Goes (settles_from command joins n at) taken
-  after-says joins n at k bundle line now taken fits here is some inside said (waits text later quiet goes) =
+  pub goes-cut : (any_refused : Bool) (joins : List Join) (n at place : ℕ) (taken : List ℕ) → 0 < length taken → front_of taken ≡ cut_short place
+      → IsQuiet (λ ends more. settles_from command any_refused joins n at ends (taken ++ more))
+  goes-cut any_refused joins n at place taken some is =
+      ap (settles_from command any_refused joins n at goes_on) (append-nil taken) ∙ settles-cut command any_refused joins n at goes_on taken place some is
+
+  after-line : (settling next : Settling) (taken line rest : List ℕ)
+      → ((ends : Ends) (more : List ℕ) → settling ends (taken ++ more) ≡ put_before line (next ends (rest ++ more)))
+      → Goes next rest → Goes settling taken
+  after-line settling next taken line rest is (waits text later quiet goes) =
       waits (line ++ text) later quiet (λ ends more.
-      goes-says joins n at k bundle line now taken fits here is some inside said ends more
+      is ends more
       ∙ ap (put_before line) (goes ends more)
       ∙ put_before-put_before line text (later ends more))
-  after-says joins n at k bundle line now taken fits here is some inside said (stops text status goes) =
+  after-line settling next taken line rest is (stops text status goes) =
       stops (line ++ text) status (λ ends more.
-      goes-says joins n at k bundle line now taken fits here is some inside said ends more
+      is ends more
       ∙ ap (put_before line) (goes ends more)
       ∙ put_before-put_before line text (over status ends more))
 
-  after-whole : (joins : List Join) (n at k : ℕ) (bundle : Bundle) (taken : List ℕ) → IsOctets taken → 0 < length taken
+  after-whole : (any_refused : Bool) (joins : List Join) (n at k : ℕ) (bundle : Bundle) (taken : List ℕ) → IsOctets taken → 0 < length taken
       → front_of taken ≡ whole bundle k → 0 < k → k ≤ length taken
-      → (said : Said (List Join)) → step_of command joins bundle k ≡ said
-      → ((now : List Join) → Goes (settles_from command now (n + 1) (at + k)) (drop k taken)) → Goes (settles_from command joins n at) taken
-  after-whole joins n at k bundle taken fits here is some inside (says line now) said later =
-      after-says joins n at k bundle line now taken fits here is some inside said (later now)
-  after-whole joins n at k bundle taken fits here is some inside (refuses word) said later =
-      stops (turned_down_line n word) statuses.Refused (goes-turned-down joins n at k bundle word taken fits here is some inside said)
+      → (said : Said (List Join)) → step_of command joins bundle k ≡ said → (left : Option (List Join)) → leaves_of command joins bundle ≡ left
+      → ((any : Bool) (now : List Join) → Goes (settles_from command any now (n + 1) (at + k)) (drop k taken)) → Goes (settles_from command any_refused joins n at) taken
+  after-whole any_refused joins n at k bundle taken fits here is some inside (says line now) said left after later =
+      after-line (settles_from command any_refused joins n at) (settles_from command any_refused now (n + 1) (at + k)) taken line (drop k taken)
+      (goes-says any_refused joins n at k bundle line now taken fits here is some inside said) (later any_refused now)
+  after-whole any_refused joins n at k bundle taken fits here is some inside (refuses word) said None after later =
+      stops (turned_down_line n word) statuses.Refused (goes-turned-down any_refused joins n at k bundle word taken fits here is some inside said after)
+  after-whole any_refused joins n at k bundle taken fits here is some inside (refuses word) said (Some now) after later =
+      after-line (settles_from command any_refused joins n at) (settles_from command true now (n + 1) (at + k)) taken (turned_down_line n word) (drop k taken)
+      (goes-kept any_refused joins n at k bundle word now taken fits here is some inside said after) (later true now)
 
-  by-front : (joins : List Join) (n at : ℕ) (taken : List ℕ) → IsOctets taken → 0 < length taken
+  by-front : (any_refused : Bool) (joins : List Join) (n at : ℕ) (taken : List ℕ) → IsOctets taken → 0 < length taken
       → (front : Front) → front_of taken ≡ front → IsWithin (length taken) (front_of taken)
-      → ((now : List Join) (k : ℕ) → 0 < k → Goes (settles_from command now (n + 1) (at + k)) (drop k taken)) → Goes (settles_from command joins n at) taken
-  by-front joins n at taken fits here (whole bundle k) is low later =
+      → ((any : Bool) (now : List Join) (k : ℕ) → 0 < k → Goes (settles_from command any now (n + 1) (at + k)) (drop k taken)) → Goes (settles_from command any_refused joins n at) taken
+  by-front any_refused joins n at taken fits here (whole bundle k) is low later =
       let inside = rw is at low in
-      after-whole joins n at k bundle taken fits here is inside.0 inside.1 (step_of command joins bundle k) refl (λ now. later now k inside.0)
-  by-front joins n at taken fits here (cut_short place) is low later =
-      waits [] (λ ends more. settles_from command joins n at ends (taken ++ more)) (goes-cut joins n at place taken here is) (λ ends more. refl)
-  by-front joins n at taken fits here (refused place cause) is low later =
-      stops (refused_line n (at + place) (word_of cause)) statuses.Refused (goes-refused joins n at place cause taken fits here is)
+      after-whole any_refused joins n at k bundle taken fits here is inside.0 inside.1 (step_of command joins bundle k) refl (leaves_of command joins bundle) refl (λ any now. later any now k inside.0)
+  by-front any_refused joins n at taken fits here (cut_short place) is low later =
+      waits [] (λ ends more. settles_from command any_refused joins n at ends (taken ++ more)) (goes-cut any_refused joins n at place taken here is) (λ ends more. refl)
+  by-front any_refused joins n at taken fits here (refused place cause) is low later =
+      stops (refused_line n (at + place) (word_of cause)) statuses.Refused (goes-refused any_refused joins n at place cause taken fits here is)
 
-  goes-most : (most : ℕ) (joins : List Join) (n at : ℕ) (taken : List ℕ) → length taken ≤ most → IsOctets taken → Goes (settles_from command joins n at) taken
-  goes-most most joins n at [] low fits = waits [] (settles_from command joins n at) (settles-none command joins n at goes_on) (λ ends more. refl)
-  goes-most zero joins n at (octet ∷ octets) low fits = absurd (omega (arith, low))
-  goes-most (suc most) joins n at (octet ∷ octets) low fits =
-      by-front joins n at (octet ∷ octets) fits (omega arith) (front_of (octet ∷ octets)) refl (front-within (octet ∷ octets) fits)
-      (λ now k some. goes-most most now (n + 1) (at + k) (drop k (octet ∷ octets))
+  goes-most : (most : ℕ) (any_refused : Bool) (joins : List Join) (n at : ℕ) (taken : List ℕ) → length taken ≤ most → IsOctets taken → Goes (settles_from command any_refused joins n at) taken
+  goes-most most any_refused joins n at [] low fits = waits [] (settles_from command any_refused joins n at) (settles-none command any_refused joins n at goes_on) (λ ends more. refl)
+  goes-most zero any_refused joins n at (octet ∷ octets) low fits = absurd (omega (arith, low))
+  goes-most (suc most) any_refused joins n at (octet ∷ octets) low fits =
+      by-front any_refused joins n at (octet ∷ octets) fits (omega arith) (front_of (octet ∷ octets)) refl (front-within (octet ∷ octets) fits)
+      (λ any now k some. goes-most most any now (n + 1) (at + k) (drop k (octet ∷ octets))
       (omega (arith, low, some, length-drop k (octet ∷ octets))) (octets-drop k (octet ∷ octets) fits))
 
   goes-front : (most : ℕ) (settling : Settling) (taken : List ℕ) → length taken ≤ most → Goes settling taken
@@ -229,10 +242,10 @@ module _ (command : Command) where
       by_ends (Some status) = refl
 
   earliest : (most : ℕ) (ends : Ends) (taken more : List ℕ) → IsOctets taken
-      → IsFrontOf (within most (settles_from command [] 1 0) goes_on taken) (within most (settles_from command [] 1 0) ends (taken ++ more))
+      → IsFrontOf (within most (settles_from command false [] 1 0) goes_on taken) (within most (settles_from command false [] 1 0) ends (taken ++ more))
   earliest most ends taken more fits = elim (cases_lt most (length taken)) [
-    | inl past ↦ rw (past-front most (settles_from command [] 1 0) taken past ends more) (same-front (within most (settles_from command [] 1 0) goes_on taken))
-    | inr low ↦ goes-front most (settles_from command [] 1 0) taken low (goes-most (length taken) [] 1 0 taken (omega arith) fits) ends more
+    | inl past ↦ rw (past-front most (settles_from command false [] 1 0) taken past ends more) (same-front (within most (settles_from command false [] 1 0) goes_on taken))
+    | inr low ↦ goes-front most (settles_from command false [] 1 0) taken low (goes-most (length taken) false [] 1 0 taken (omega arith) fits) ends more
   ]
 
 pub earliest_decides : (command : Command) → EarliestOctetDecides (settles command)

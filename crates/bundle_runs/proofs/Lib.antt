@@ -11,3 +11,4 @@ pub mod ShowJudgeLemmas
 pub mod ShowStepLemmas
 pub mod LawLemmas
 pub mod ConvertLemmas
+pub mod KeepingLemmas

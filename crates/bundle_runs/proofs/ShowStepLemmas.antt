@@ -5,7 +5,7 @@ use Rattle.std.proofs.Math.Seq.{take-append_seam}
 use Rattle.std.specs.declared.alloc.AllocError.{AllocError}
 use Rattle.edge_traits.specs.declared.status.Status.TheVariants as statuses
 use Rattle.command_frame.specs.declared.part_task.Taken.TheVariants as takens
-use Rattle.command_frame.specs.Task.{Settling, Finishes}
+use Rattle.command_frame.specs.Task.{Settling, over, Finishes}
 use Rattle.command_frame.specs.PartTask.{FeedsPart, LeavesFewer, TellsPart, IsDue}
 use Rattle.command_frame.proofs.WithinLemmas.{GoesOnTo-more}
 use Rattle.wire_fields.specs.Reading.{IsOctets}
@@ -22,16 +22,16 @@ use Rattle.bundle_runs.specs.declared.unfinished.Unfinished.TheVariants.{Six, Se
 use Rattle.bundle_runs.specs.declared.coming.Coming.{Coming}
 use Rattle.bundle_runs.specs.declared.coming.Coming.TheVariants as comings
 use Rattle.bundle_runs.specs.declared.bundle_reader.Standing.{Standing}
-use Rattle.bundle_runs.specs.declared.bundle_reader.Next.TheVariants.{After}
+use Rattle.bundle_runs.specs.declared.bundle_reader.Next.TheVariants.{After, End}
 use Rattle.bundle_runs.specs.declared.show_reader.Showing.{Showing}
 use Rattle.bundle_runs.specs.Front.{front_of}
 use Rattle.bundle_runs.specs.Answering.{settles_from}
 use Rattle.bundle_runs.specs.WrittenLines.{refused_line}
-use Rattle.bundle_runs.specs.Taking.{kept_of, kept_by, settling_of, IsReady, IsCut, HasBegun, IsSound, IsCutAt}
+use Rattle.bundle_runs.specs.Taking.{kept_of, kept_by, keeps_going, settling_of, IsReady, IsCut, HasBegun, IsSound, IsCutAt}
 use Rattle.bundle_runs.specs.Legal.{IsLegal}
 use Rattle.bundle_runs.specs.Coming.{TookNone, ComesFor, ComesForAny, JudgedSo}
 use Rattle.bundle_runs.specs.Showing.{octets_of_six, Owes, OwesLine, steps_due, ShowsAs, IsShowing, StandsShowing, KeepsOctets, KeepsOneBundle, parts_due, IsBundle, BeginsLine, ShowsStep, ShowsSoFar}
-use Rattle.bundle_runs.proofs.TakingLemmas.{quiet, finish-none, finish-cut, cut-inside}
+use Rattle.bundle_runs.proofs.TakingLemmas.{quiet, finish-done, finish-cut, cut-inside}
 use Rattle.bundle_runs.proofs.BegunLemmas.{front-kept}
 use Rattle.bundle_runs.proofs.ComingLemmas.{coming-some, coming-none}
 use Rattle.bundle_runs.proofs.ShowJudgeLemmas.{kept-is, no-due, old-room, inside-whole, room-whole, bundle-whole, read-legal, room-refused}
@@ -168,10 +168,31 @@ so-far-due old s piece left before text used is so_far =
       takes = (on.due, (settling_of on.later, (on.later, on.shows, refl), quiet on.later on.shows.sound, rw front on.goes));
     }
 
+-- the run ends with the octets that are left
+pub so-far-stop : (old : Standing) (s new : Showing) (piece left before text after : List ℕ) → s.telling ≡ None → ShowsSoFar old piece left before s text
+    → ((now : Standing) → ShowsAs s [] now → ShowsStep now left text new after End)
+    → FeedsPart (StandsShowing new) (settling_of old) piece before after (takens.Ends statuses.Refused)
+so-far-stop old s new piece left before text after none so_far step =
+    let on = so_far.on in
+    let nothing : on.due ≡ [] = (kept-is s on.due on.later none on.shows).1 in
+    let plain : on.text ++ on.due ≡ on.text = ap (λ (v : List ℕ). on.text ++ v) nothing ∙ append-nil on.text in
+    let ends = step on.later (no-due s on.due on.later none on.shows) in
+    record {
+      text = on.text ++ ends.text;
+      added =
+          ends.added ∙ ap (λ (v : List ℕ). v ++ ends.text) on.added
+          ∙ append_assoc before on.text ends.text;
+      takes = (
+        tt,
+        rw so_far.parts (GoesOnTo-more (settling_of old) (settling_of on.later) (over statuses.Refused) so_far.taken on.text left ends.text
+            (rw plain at on.goes) ends.goes),
+      );
+    }
+
 -- ---- the start and the end
 
 pub shows-fresh : (s : Showing) → s.taken ≡ 0 → s.begun ≡ None → s.telling ≡ None → s.octets.items ≡ [] → TookNone s.seven → s.at ≤ 67108864
-    → s.number ≤ s.at + 1 → ShowsAs s [] (record { command = Show; joiner = record { joins = []; spent = false }; number = s.number; at = s.at; taken = 0; unfinished = None })
+    → s.number ≤ s.at + 1 → ShowsAs s [] (record { command = Show; any_refused = false; joiner = record { joins = []; spent = false }; number = s.number; at = s.at; taken = 0; unfinished = None })
 shows-fresh s none_taken none_begun none_told none_kept rests low counted = record {
   command = refl;
   number = refl;
@@ -180,13 +201,13 @@ shows-fresh s none_taken none_begun none_told none_kept rests low counted = reco
   bundle = rw none_begun rests;
   kept = rw none_told none_kept;
   owes = rw none_told refl;
-  sound = record { begun = tt; held = refl; within = omega (arith, low); counted = counted; memory = refl };
+  sound = record { begun = tt; held = refl; within = omega (arith, low); counted = counted; memory = refl; clean = λ plain. refl };
 }
 
 pub stands-start : (s : Showing) → s.number ≡ 1 → s.at ≡ 0 → s.taken ≡ 0 → s.begun ≡ None → s.telling ≡ None → s.octets.items ≡ []
-    → TookNone s.seven → StandsShowing s [] (settles_from Show [] 1 0)
+    → TookNone s.seven → StandsShowing s [] (settles_from Show false [] 1 0)
 stands-start s number place none_taken none_begun none_told none_kept rests = (
-  record { command = Show; joiner = record { joins = []; spent = false }; number = s.number; at = s.at; taken = 0; unfinished = None },
+  record { command = Show; any_refused = false; joiner = record { joins = []; spent = false }; number = s.number; at = s.at; taken = 0; unfinished = None },
   shows-fresh s none_taken none_begun none_told none_kept rests (omega (arith, place)) (omega (arith, place, number)),
   rw (number, place) refl,
 )
@@ -203,7 +224,7 @@ pub showing-after : (s new : Showing) → IsShowing s → new.number ≡ s.numbe
 showing-after s new showing number place none_taken none_begun none_told none_kept rests =
     let counts = showing-counts s showing in (
       [],
-      record { command = Show; joiner = record { joins = []; spent = false }; number = new.number; at = new.at; taken = 0; unfinished = None },
+      record { command = Show; any_refused = false; joiner = record { joins = []; spent = false }; number = new.number; at = new.at; taken = 0; unfinished = None },
       shows-fresh new none_taken none_begun none_told none_kept rests (omega (arith, place, counts.0)) (omega (arith, place, number, counts.1)),
     )
 
@@ -289,7 +310,8 @@ module _ (s new : Showing) (before now : List ℕ) (some : 0 < parts_due s) wher
       )
 
 pub show-finish-none : (s : Showing) (old : Standing) (text : List ℕ) → s.begun ≡ None → ShowsAs s [] old → Finishes (settling_of old) text text statuses.Done
-show-finish-none s old text is shows = finish-none old text (ap kept_by (coming-none s.seven old.unfinished (rw is at shows.bundle)).0)
+show-finish-none s old text is shows =
+    finish-done old text (ap keeps_going shows.command) shows.sound (ap kept_by (coming-none s.seven old.unfinished (rw is at shows.bundle)).0)
 
 begun-bundle : (s : Showing) (old : Standing) (begun : Coming) → s.begun ≡ Some begun → ShowsAs s [] old
     → (bundle : Unfinished) × (old.unfinished ≡ Some bundle) × ComesFor begun s.seven bundle × IsReady bundle

@@ -1,5 +1,5 @@
 -- What a piece makes of the reading.
-use Rattle.std.proofs.Common.{false, ◌≡◌, ℕ, ◌+◌, ◌<◌, ◌≤◌, List, [], ◌∷◌, ◌++◌, length, drop, codes, Option, None, Some, Result, Ok, Err, OnErr, IfOk, OnOk, IfSome, IsSomeAnd, refl, sym, ◌∙◌, ap, arith, append_assoc, length-append}
+use Rattle.std.proofs.Common.{Bool, true, false, ◌≡◌, ℕ, ◌+◌, ◌<◌, ◌≤◌, List, [], ◌∷◌, ◌++◌, length, drop, codes, Option, None, Some, Result, Ok, Err, OnErr, IfOk, OnOk, IfSome, IsSomeAnd, refl, sym, subst, ◌∙◌, ap, arith, append_assoc, length-append}
 use Rattle.std.proofs.lemmas.List.{append-nil}
 use Rattle.std.specs.declared.alloc.AllocError.{AllocError}
 use Rattle.edge_traits.specs.declared.status.Status.TheVariants as statuses
@@ -10,6 +10,8 @@ use Rattle.command_frame.specs.Task.{Settling, IsQuiet, over, Feeds, Finishes}
 use Rattle.wire_fields.specs.Reading.{read, IsOctets}
 use Rattle.fragments.specs.declared.join.Join.{Join}
 use Rattle.fragments.specs.Joining.{Joining}
+use Rattle.bundle_runs.specs.declared.commands.command.Command.{Command}
+use Rattle.bundle_runs.specs.declared.commands.command.Command.TheVariants as commands
 use Rattle.bundle_runs.specs.declared.commands.command.Command.TheVariants.{Check}
 use Rattle.bundle_runs.specs.declared.front.Bundle.{Bundle}
 use Rattle.bundle_runs.specs.declared.front.Cause.{Cause}
@@ -17,18 +19,43 @@ use Rattle.bundle_runs.specs.declared.given.Given.TheVariants.{Whole, Part, Refu
 use Rattle.bundle_runs.specs.declared.unfinished.Unfinished.{Unfinished}
 use Rattle.bundle_runs.specs.declared.bundle_reader.Standing.{Standing}
 use Rattle.bundle_runs.specs.declared.bundle_reader.Next.{Next}
-use Rattle.bundle_runs.specs.declared.bundle_reader.Next.TheVariants.{End}
+use Rattle.bundle_runs.specs.declared.bundle_reader.Next.TheVariants.{After, End}
 use Rattle.bundle_runs.specs.Front.{whole, cut_short, refused, front_of, word_of, version_of, IsWithin}
-use Rattle.bundle_runs.specs.Answering.{settles_from, step_of}
+use Rattle.bundle_runs.specs.Answering.{settles_from, step_of, leaves_of, status_by}
 use Rattle.bundle_runs.specs.WrittenLines.{check_line, refused_line, turned_down_line}
 use Rattle.fragment_lines.specs.Said.{says, refuses}
 use Rattle.fragment_lines.specs.declared.turned_down.TurnedDown.{TurnedDown}
 use Rattle.fragment_lines.specs.Lines.{turned_down_word, Writes}
 use Rattle.bundle_runs.specs.Given.{IsVersion, IsRead}
-use Rattle.bundle_runs.specs.Taking.{kept_of, front_in, kept_by, settling_of, settling_after, with_unfinished, with_joiner, passed, waiting, HasBegun, HasBegunWith, IsSound, Took, GoesAfter, EndsWith, Steps, SoFar, Stands}
+use Rattle.bundle_runs.specs.Taking.{kept_of, front_in, kept_by, settling_of, settling_after, keeps_going, with_unfinished, with_refused, with_joiner, passed, waiting, HasBegun, HasBegunWith, IsSound, Took, GoesAfter, EndsWith, Steps, SoFar, Stands}
 use Rattle.bundle_runs.proofs.FrontsLemmas.{settles-none, settles-cut, front-within}
-use Rattle.bundle_runs.proofs.LawLemmas.{goes-says, goes-turned-down, goes-cut, goes-refused}
+use Rattle.bundle_runs.proofs.LawLemmas.{goes-says, goes-turned-down, goes-kept, goes-cut, goes-refused}
 use Rattle.bundle_runs.proofs.BegunLemmas.{drop-all, drop-past, front-kept, is-cut, octets-join}
+
+-- ---- commands that keep going
+
+-- what a refusal leaves is none where a command doesn't keep going
+plain-leaves : (command : Command) (joins : List Join) (b : Bundle) → keeps_going command ≡ false → leaves_of command joins b ≡ None
+plain-leaves commands.Check joins b plain = refl
+plain-leaves commands.Show joins b plain = refl
+plain-leaves commands.Convert joins b plain = refl
+plain-leaves (commands.Cut most) joins b plain = refl
+plain-leaves commands.Join joins b plain = refl
+plain-leaves commands.KeepConverting joins b plain = cc
+plain-leaves (commands.KeepCutting most) joins b plain = cc
+plain-leaves commands.KeepJoining joins b plain = cc
+
+-- and else it is the joins then
+kept-leaves : (command : Command) (joins : List Join) (b : Bundle) (now : List Join) → keeps_going command ≡ true
+    → IfSome (leaves_of command joins b) (λ left. now ≡ left) → leaves_of command joins b ≡ Some now
+kept-leaves commands.Check joins b now keeps leaves = cc
+kept-leaves commands.Show joins b now keeps leaves = cc
+kept-leaves commands.Convert joins b now keeps leaves = cc
+kept-leaves (commands.Cut most) joins b now keeps leaves = cc
+kept-leaves commands.Join joins b now keeps leaves = cc
+kept-leaves commands.KeepConverting joins b now keeps leaves = ap Some (sym leaves)
+kept-leaves (commands.KeepCutting most) joins b now keeps leaves = ap Some (sym leaves)
+kept-leaves commands.KeepJoining joins b now keeps leaves = ap Some (sym leaves)
 
 -- ---- a step
 
@@ -62,15 +89,20 @@ module _ (old : Standing) (left : List ℕ) (sound : IsSound old) (fits : IsOcte
   refused-inside at cause is = rw is at within-all
 
   from-old : (ends : Ends) (more : List ℕ)
-      → settling_of old ends (left ++ more) ≡ settles_from old.command old.joiner.joins old.number old.at ends ((kept_by old.unfinished ++ left) ++ more)
-  from-old ends more = ap (settles_from old.command old.joiner.joins old.number old.at ends) (sym (append_assoc (kept_by old.unfinished) left more))
+      → settling_of old ends (left ++ more) ≡ settles_from old.command old.any_refused old.joiner.joins old.number old.at ends ((kept_by old.unfinished ++ left) ++ more)
+  from-old ends more = ap (settles_from old.command old.any_refused old.joiner.joins old.number old.at ends) (sym (append_assoc (kept_by old.unfinished) left more))
 
-  -- it ended, and lines were written of it
-  pub goes-after-whole : (b : Bundle) (used : ℕ) (joiner : Joining) (text before now : List ℕ) → old.at + old.taken + length left ≤ 67108864
+  -- it ended, and a text was written of it
+  goes-after : (any_refused : Bool) (b : Bundle) (used : ℕ) (joiner : Joining) (text before now : List ℕ) → old.at + old.taken + length left ≤ 67108864
       → front_of (kept_by old.unfinished ++ left) ≡ whole b (length (kept_by old.unfinished) + used)
-      → step_of old.command old.joiner.joins b (old.taken + used) ≡ says text joiner.joins → joiner.spent ≡ false → now ≡ before ++ text
-      → GoesAfter old left used before (passed (with_joiner old joiner) used) now
-  goes-after-whole b used joiner text before now room is said memory added =
+      → (keeps_going old.command ≡ false → any_refused ≡ false)
+      → ((ends : Ends) (more : List ℕ)
+      → settles_from old.command old.any_refused old.joiner.joins old.number old.at ends ((kept_by old.unfinished ++ left) ++ more)
+      ≡ put_before text (settles_from old.command any_refused joiner.joins (old.number + 1) (old.at + (length (kept_by old.unfinished) + used)) ends
+      (drop (length (kept_by old.unfinished) + used) (kept_by old.unfinished ++ left) ++ more)))
+      → joiner.spent ≡ false → now ≡ before ++ text
+      → GoesAfter old left used before (passed (with_refused (with_joiner old joiner) any_refused) used) now
+  goes-after any_refused b used joiner text before now room is clean goes memory added =
       let inside = whole-inside b used is in
       let k = length (kept_by old.unfinished) + used in
       let count : k ≡ old.taken + used = omega (arith, sound.held) in
@@ -81,19 +113,48 @@ module _ (old : Standing) (left : List ℕ) (sound : IsSound old) (fits : IsOcte
           within = omega (arith, room, inside.0);
           counted = omega (arith, sound.counted, inside.1);
           memory = memory;
+          clean = clean;
         };
         text = text;
         added = added;
         goes = λ ends more.
             from-old ends more
-            ∙ goes-says old.command old.joiner.joins old.number old.at (length (kept_by old.unfinished) + used) b text joiner.joins (kept_by old.unfinished ++ left)
-            all-octets all-some is (omega (arith, count, inside.1)) (omega (arith, inside.0, length-append (kept_by old.unfinished) left)) (rw count said) ends more
-            ∙ ap (λ (t : List ℕ). put_before text (settles_from old.command joiner.joins (old.number + 1) (old.at + (length (kept_by old.unfinished) + used)) ends (t ++ more))) (drop-past (kept_by old.unfinished) left used)
-            ∙ ap (λ (p : ℕ). put_before text (settles_from old.command joiner.joins (old.number + 1) (old.at + p) ends (drop used left ++ more))) count;
+            ∙ goes ends more
+            ∙ ap (λ (t : List ℕ). put_before text (settles_from old.command any_refused joiner.joins (old.number + 1) (old.at + (length (kept_by old.unfinished) + used)) ends (t ++ more))) (drop-past (kept_by old.unfinished) left used)
+            ∙ ap (λ (p : ℕ). put_before text (settles_from old.command any_refused joiner.joins (old.number + 1) (old.at + p) ends (drop used left ++ more))) count;
         inside = inside.0;
         passed = omega arith;
         less = omega (arith, inside.1);
       }
+
+  -- the command said lines of it
+  pub goes-after-whole : (b : Bundle) (used : ℕ) (joiner : Joining) (text before now : List ℕ) → old.at + old.taken + length left ≤ 67108864
+      → front_of (kept_by old.unfinished ++ left) ≡ whole b (length (kept_by old.unfinished) + used)
+      → step_of old.command old.joiner.joins b (old.taken + used) ≡ says text joiner.joins → joiner.spent ≡ false → now ≡ before ++ text
+      → GoesAfter old left used before (passed (with_joiner old joiner) used) now
+  goes-after-whole b used joiner text before now room is said memory added =
+      let inside = whole-inside b used is in
+      let count : length (kept_by old.unfinished) + used ≡ old.taken + used = omega (arith, sound.held) in
+      goes-after old.any_refused b used joiner text before now room is sound.clean
+      (goes-says old.command old.any_refused old.joiner.joins old.number old.at (length (kept_by old.unfinished) + used) b text joiner.joins (kept_by old.unfinished ++ left)
+      all-octets all-some is (omega (arith, count, inside.1)) (omega (arith, inside.0, length-append (kept_by old.unfinished) left)) (rw count said))
+      memory added
+
+  -- the command refuses it, and keeps going
+  pub goes-after-kept : (b : Bundle) (used : ℕ) (joiner : Joining) (word before now : List ℕ) → old.at + old.taken + length left ≤ 67108864
+      → front_of (kept_by old.unfinished ++ left) ≡ whole b (length (kept_by old.unfinished) + used)
+      → keeps_going old.command ≡ true
+      → step_of old.command old.joiner.joins b (old.taken + used) ≡ refuses word → leaves_of old.command old.joiner.joins b ≡ Some joiner.joins
+      → joiner.spent ≡ false → now ≡ before ++ turned_down_line old.number word
+      → GoesAfter old left used before (passed (with_refused (with_joiner old joiner) true) used) now
+  goes-after-kept b used joiner word before now room is keeps said leaves memory added =
+      let inside = whole-inside b used is in
+      let count : length (kept_by old.unfinished) + used ≡ old.taken + used = omega (arith, sound.held) in
+      goes-after true b used joiner (turned_down_line old.number word) before now room is
+      (λ plain. sym keeps ∙ plain)
+      (goes-kept old.command old.any_refused old.joiner.joins old.number old.at (length (kept_by old.unfinished) + used) b word joiner.joins (kept_by old.unfinished ++ left)
+      all-octets all-some is (omega (arith, count, inside.1)) (omega (arith, inside.0, length-append (kept_by old.unfinished) left)) (rw count said) leaves)
+      memory added
 
   -- it goes on after them
   pub goes-after-part : (new : Option Unfinished) (text : List ℕ) → old.at + old.taken + length left ≤ 67108864
@@ -107,13 +168,14 @@ module _ (old : Standing) (left : List ℕ) (sound : IsSound old) (fits : IsOcte
       within = omega (arith, room);
       counted = sound.counted;
       memory = sound.memory;
+      clean = sound.clean;
     };
     text = [];
     added = sym (append-nil text);
     goes = λ ends more.
         from-old ends more
-        ∙ ap (λ (t : List ℕ). settles_from old.command old.joiner.joins old.number old.at ends (t ++ more)) (sym kept)
-        ∙ ap (λ (t : List ℕ). settles_from old.command old.joiner.joins old.number old.at ends (kept_of new ++ (t ++ more))) (sym (drop-all left));
+        ∙ ap (λ (t : List ℕ). settles_from old.command old.any_refused old.joiner.joins old.number old.at ends (t ++ more)) (sym kept)
+        ∙ ap (λ (t : List ℕ). settles_from old.command old.any_refused old.joiner.joins old.number old.at ends (kept_of new ++ (t ++ more))) (sym (drop-all left));
     inside = omega arith;
     passed = omega arith;
     less = omega (arith, some);
@@ -127,23 +189,23 @@ module _ (old : Standing) (left : List ℕ) (sound : IsSound old) (fits : IsOcte
     added = added;
     goes = λ ends more.
         from-old ends more
-        ∙ goes-refused old.command old.joiner.joins old.number old.at at cause (kept_by old.unfinished ++ left) all-octets all-some is ends more;
+        ∙ goes-refused old.command old.any_refused old.joiner.joins old.number old.at at cause (kept_by old.unfinished ++ left) all-octets all-some is ends more;
   }
 
-  -- it is valid, and the command refuses it
+  -- it is valid, and the command refuses it, which ends the run
   pub ends-turned-down : (b : Bundle) (used : ℕ) (word before now : List ℕ)
       → front_of (kept_by old.unfinished ++ left) ≡ whole b (length (kept_by old.unfinished) + used)
-      → step_of old.command old.joiner.joins b (old.taken + used) ≡ refuses word
+      → step_of old.command old.joiner.joins b (old.taken + used) ≡ refuses word → leaves_of old.command old.joiner.joins b ≡ None
       → now ≡ before ++ turned_down_line old.number word → EndsWith old left before now
-  ends-turned-down b used word before now is said added = record {
+  ends-turned-down b used word before now is said leaves added = record {
     text = turned_down_line old.number word;
     added = added;
     goes = λ ends more.
         let inside = whole-inside b used is in
         let count : length (kept_by old.unfinished) + used ≡ old.taken + used = omega (arith, sound.held) in
         from-old ends more
-        ∙ goes-turned-down old.command old.joiner.joins old.number old.at (length (kept_by old.unfinished) + used) b word (kept_by old.unfinished ++ left)
-        all-octets all-some is (omega (arith, count, inside.1)) (omega (arith, inside.0, length-append (kept_by old.unfinished) left)) (rw count said) ends more;
+        ∙ goes-turned-down old.command old.any_refused old.joiner.joins old.number old.at (length (kept_by old.unfinished) + used) b word (kept_by old.unfinished ++ left)
+        all-octets all-some is (omega (arith, count, inside.1)) (omega (arith, inside.0, length-append (kept_by old.unfinished) left)) (rw count said) leaves ends more;
   }
 
 -- ---- the same, of what the code stands at once the octets were looked at
@@ -206,15 +268,55 @@ module _ (old mid : Standing) (left : List ℕ) (sound : IsSound old) (fits : Is
       let new : passed (with_joiner mid joiner) used ≡ passed (with_joiner old joiner) used = ap (λ (s : Standing). passed (with_joiner s joiner) used) took.same in
       rw new (goes-after-whole old left sound fits some b used joiner text before now room front (said-old b used took.same ∙ rw is.0 at said) memory added)
 
+  line-old : (word now : List ℕ) → mid ≡ with_unfinished old mid.unfinished
+      → now ++ turned_down_line mid.number word ≡ now ++ turned_down_line old.number word
+  line-old word now same = ap (λ (s : Standing). now ++ turned_down_line s.number word) same
+
   pub step-turned-down : (read : Bundle) (used : ℕ) (joins : List Join) (cause : TurnedDown) (before now after : List ℕ) → Took IsRead old left mid (Whole read used)
       → Writes (step_of mid.command mid.joiner.joins read (mid.taken + used)) before now joins (Some cause)
+      → keeps_going mid.command ≡ false
       → after ≡ now ++ turned_down_line mid.number (turned_down_word cause) → EndsWith old left before after
-  step-turned-down read used joins cause before now after took (said, same) added =
+  step-turned-down read used joins cause before now after took (said, same) plain added =
       let (b, is, front) = took.finds in
-      let line : now ++ turned_down_line mid.number (turned_down_word cause) ≡ before ++ turned_down_line old.number (turned_down_word cause) =
-      ap (λ (s : Standing). now ++ turned_down_line s.number (turned_down_word cause)) took.same
-      ∙ ap (λ (t : List ℕ). t ++ turned_down_line old.number (turned_down_word cause)) same in
-      ends-turned-down old left sound fits some b used (turned_down_word cause) before after front (said-old b used took.same ∙ rw is.0 at said) (added ∙ line)
+      let ends : keeps_going old.command ≡ false = sym (ap (λ (s : Standing). keeps_going s.command) took.same) ∙ plain in
+      ends-turned-down old left sound fits some b used (turned_down_word cause) before after front (said-old b used took.same ∙ rw is.0 at said)
+      (plain-leaves old.command old.joiner.joins b ends)
+      (added ∙ line-old (turned_down_word cause) now took.same ∙ ap (λ (t : List ℕ). t ++ turned_down_line old.number (turned_down_word cause)) same)
+
+  pub step-kept : (read : Bundle) (used : ℕ) (joiner : Joining) (cause : TurnedDown) (before now after : List ℕ) → Took IsRead old left mid (Whole read used)
+      → Writes (step_of mid.command mid.joiner.joins read (mid.taken + used)) before now joiner.joins (Some cause)
+      → IfSome (leaves_of mid.command mid.joiner.joins read) (λ left. joiner.joins ≡ left) → joiner.spent ≡ false
+      → keeps_going mid.command ≡ true
+      → after ≡ now ++ turned_down_line mid.number (turned_down_word cause)
+      → GoesAfter old left used before (passed (with_refused (with_joiner mid joiner) true) used) after
+  step-kept read used joiner cause before now after took (said, same) leaves memory keeps added =
+      let (b, is, front) = took.finds in
+      let new : passed (with_refused (with_joiner mid joiner) true) used ≡ passed (with_refused (with_joiner old joiner) true) used =
+      ap (λ (s : Standing). passed (with_refused (with_joiner s joiner) true) used) took.same in
+      let goes : keeps_going old.command ≡ true = sym (ap (λ (s : Standing). keeps_going s.command) took.same) ∙ keeps in
+      let left_old : leaves_of old.command old.joiner.joins b ≡ leaves_of mid.command mid.joiner.joins b =
+      sym (ap (λ (s : Standing). leaves_of s.command s.joiner.joins b) took.same) in
+      rw new (goes-after-kept old left sound fits some b used joiner (turned_down_word cause) before after room front goes
+      (said-old b used took.same ∙ rw is.0 at said)
+      (left_old ∙ kept-leaves mid.command mid.joiner.joins b joiner.joins keeps (rw is.0 at leaves))
+      memory
+      (added ∙ line-old (turned_down_word cause) now took.same ∙ ap (λ (t : List ℕ). t ++ turned_down_line old.number (turned_down_word cause)) same))
+
+  -- the command refused it: by whether it keeps going
+  pub step-refusal : (new : Standing) (next : Next) (read : Bundle) (used : ℕ) (joiner : Joining) (cause : TurnedDown) (before now after : List ℕ)
+      → Took IsRead old left mid (Whole read used)
+      → Writes (step_of mid.command mid.joiner.joins read (mid.taken + used)) before now joiner.joins (Some cause)
+      → IfSome (leaves_of mid.command mid.joiner.joins read) (λ left. joiner.joins ≡ left) → joiner.spent ≡ false
+      → after ≡ now ++ turned_down_line mid.number (turned_down_word cause)
+      → (keeps_going mid.command ≡ false → next ≡ End)
+      → (keeps_going mid.command ≡ true → next ≡ After used)
+      → (keeps_going mid.command ≡ true → new ≡ passed (with_refused (with_joiner mid joiner) true) used)
+      → Steps old left before new after next
+  step-refusal new next read used joiner cause before now after took writes leaves memory added ends on is = by_keeps (keeps_going mid.command) refl
+    where
+      by_keeps : (b : Bool) → keeps_going mid.command ≡ b → Steps old left before new after next
+      by_keeps false plain = rw (ends plain) (step-turned-down read used joiner.joins cause before now after took writes plain added)
+      by_keeps true keeps = rw (on keeps, is keeps) (step-kept read used joiner cause before now after took writes leaves memory keeps added)
 
 -- ---- the steps so far
 
@@ -223,10 +325,10 @@ pub quiet : (s : Standing) → IsSound s → IsQuiet (settling_of s)
 quiet s sound = by_unfinished s.unfinished refl sound.begun
   where
     by_unfinished : (unfinished : Option Unfinished) → s.unfinished ≡ unfinished → IfSome unfinished HasBegun → IsQuiet (settling_of s)
-    by_unfinished None is begun = rw is (settles-none s.command s.joiner.joins s.number s.at goes_on)
+    by_unfinished None is begun = rw is (settles-none s.command s.any_refused s.joiner.joins s.number s.at goes_on)
     by_unfinished (Some bundle) is begun =
         let (at, front) = is-cut (front_in bundle (kept_of bundle)) begun.cut in
-        rw is (goes-cut s.command s.joiner.joins s.number s.at at (kept_of bundle) begun.some (front-kept bundle begun ∙ front))
+        rw is (goes-cut s.command s.any_refused s.joiner.joins s.number s.at at (kept_of bundle) begun.some (front-kept bundle begun ∙ front))
 
 pub so_far-start : (s : Standing) (piece text : List ℕ) → SoFar s s piece piece text text
 so_far-start s piece text = record {
@@ -282,14 +384,19 @@ feeds-any Now Later settles piece before now status feeds = record { text = feed
 
 -- ---- the end of the input
 
-pub finish-none : (s : Standing) (text : List ℕ) → kept_by s.unfinished ≡ [] → Finishes (settling_of s) text text statuses.Done
+pub finish-none : (s : Standing) (text : List ℕ) → kept_by s.unfinished ≡ [] → Finishes (settling_of s) text text (status_by s.any_refused)
 finish-none s text none = record {
   text = [];
   added = sym (append-nil text);
   ends =
-      ap (λ (t : List ℕ). settles_from s.command s.joiner.joins s.number s.at at_end (t ++ [])) none
-      ∙ settles-none s.command s.joiner.joins s.number s.at at_end;
+      ap (λ (t : List ℕ). settles_from s.command s.any_refused s.joiner.joins s.number s.at at_end (t ++ [])) none
+      ∙ settles-none s.command s.any_refused s.joiner.joins s.number s.at at_end;
 }
+
+pub finish-done : (s : Standing) (text : List ℕ) → keeps_going s.command ≡ false → IsSound s → kept_by s.unfinished ≡ []
+    → Finishes (settling_of s) text text statuses.Done
+finish-done s text plain sound none =
+    subst (λ (any : Bool). Finishes (settling_of s) text text (status_by any)) (sound.clean plain) (finish-none s text none)
 
 pub finish-cut : (s : Standing) (bundle : Unfinished) (at : ℕ) (before now : List ℕ) → s.unfinished ≡ Some bundle
     → HasBegun bundle → front_in bundle (kept_of bundle) ≡ cut_short at
@@ -298,9 +405,9 @@ finish-cut s bundle at before now is begun front added = record {
   text = refused_line s.number (s.at + at) (codes "Truncated");
   added = added;
   ends =
-      ap (λ (u : Option Unfinished). settles_from s.command s.joiner.joins s.number s.at at_end (kept_by u ++ [])) is
-      ∙ ap (settles_from s.command s.joiner.joins s.number s.at at_end) (append-nil (kept_of bundle))
-      ∙ settles-cut s.command s.joiner.joins s.number s.at at_end (kept_of bundle) at begun.some (front-kept bundle begun ∙ front);
+      ap (λ (u : Option Unfinished). settles_from s.command s.any_refused s.joiner.joins s.number s.at at_end (kept_by u ++ [])) is
+      ∙ ap (settles_from s.command s.any_refused s.joiner.joins s.number s.at at_end) (append-nil (kept_of bundle))
+      ∙ settles-cut s.command s.any_refused s.joiner.joins s.number s.at at_end (kept_of bundle) at begun.some (front-kept bundle begun ∙ front);
 }
 
 -- octets that are cut short somewhere are some

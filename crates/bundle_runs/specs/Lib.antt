@@ -6,6 +6,7 @@ pub mod Convert
 pub mod Fragments
 pub mod Answering
 pub mod Laws
+pub mod Keeping
 -- what only ties code to these
 pub mod Legal
 pub mod Given

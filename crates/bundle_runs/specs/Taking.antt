@@ -1,9 +1,11 @@
 -- Where the reading of bundles stands, and what a piece makes of it.
-use Rattle.std.specs.Prelude.{◌≡◌, ◌≢◌, ℕ, ◌+◌, ◌*◌, ◌<◌, ◌≤◌, List, [], ◌++◌, length, drop, slice_index, Option, None, Some, IfSome, IsSomeAnd, false}
+use Rattle.std.specs.Prelude.{◌≡◌, ◌≢◌, ℕ, ◌+◌, ◌*◌, ◌<◌, ◌≤◌, List, [], ◌++◌, length, drop, slice_index, Option, None, Some, IfSome, IsSomeAnd, Bool, true, false}
 use Rattle.wire_fields.specs.Reading.{IsOctets}
 use Rattle.edge_traits.specs.declared.status.Status.TheVariants as statuses
 use Rattle.fragments.specs.Joining.{Joining}
 use Rattle.command_frame.specs.Task.{Settling, over, GoesOnTo}
+use Rattle.bundle_runs.specs.declared.commands.command.Command.{Command}
+use Rattle.bundle_runs.specs.declared.commands.command.Command.TheVariants.{KeepConverting, KeepCutting, KeepJoining}
 use Rattle.bundle_runs.specs.declared.front.Bundle.{Bundle}
 use Rattle.bundle_runs.specs.declared.given.Given.{Given}
 use Rattle.bundle_runs.specs.declared.given.Given.TheVariants.{Whole, Part, Refused}
@@ -87,7 +89,8 @@ kept_by (Some bundle) = kept_of bundle
 
 -- what the octets still to come settle
 abbrev pub settling_of : Standing → Settling
-settling_of s ends more = settles_from s.command s.joiner.joins s.number s.at ends (kept_by s.unfinished ++ more)
+settling_of s ends more =
+    settles_from s.command s.any_refused s.joiner.joins s.number s.at ends (kept_by s.unfinished ++ more)
 
 -- what octets settle that are followed by those to come
 abbrev pub settling_after : Standing → List ℕ → Settling
@@ -97,6 +100,13 @@ settling_after s octets ends more = settling_of s ends (octets ++ more)
 abbrev pub Stands : Standing → Settling → Type 0
 Stands s settles = settles ≡ settling_of s
 
+-- the commands that keep going
+abbrev pub keeps_going : Command → Bool
+keeps_going KeepConverting = true
+keeps_going (KeepCutting most) = true
+keeps_going KeepJoining = true
+keeps_going _ = false
+
 -- the counts are in range, and there was memory
 pub record IsSound (s : Standing) : Type 0 where
   pub begun : IfSome s.unfinished HasBegun
@@ -104,6 +114,7 @@ pub record IsSound (s : Standing) : Type 0 where
   pub within : s.at + s.taken ≤ 67108864
   pub counted : s.number ≤ s.at + 1
   pub memory : s.joiner.spent ≡ false
+  pub clean : keeps_going s.command ≡ false → s.any_refused ≡ false
 
 -- ---- a step
 
@@ -111,6 +122,7 @@ pub record IsSound (s : Standing) : Type 0 where
 abbrev pub with_unfinished : Standing → Option Unfinished → Standing
 with_unfinished s unfinished = record {
   command = s.command;
+  any_refused = s.any_refused;
   joiner = s.joiner;
   number = s.number;
   at = s.at;
@@ -118,10 +130,23 @@ with_unfinished s unfinished = record {
   unfinished = unfinished;
 }
 
+-- or nothing but whether a bundle was refused
+abbrev pub with_refused : Standing → Bool → Standing
+with_refused s any_refused = record {
+  command = s.command;
+  any_refused = any_refused;
+  joiner = s.joiner;
+  number = s.number;
+  at = s.at;
+  taken = s.taken;
+  unfinished = s.unfinished;
+}
+
 -- or nothing but the joiner
 abbrev pub with_joiner : Standing → Joining → Standing
 with_joiner s joiner = record {
   command = s.command;
+  any_refused = s.any_refused;
   joiner = joiner;
   number = s.number;
   at = s.at;
@@ -133,6 +158,7 @@ with_joiner s joiner = record {
 abbrev pub passed : Standing → ℕ → Standing
 passed s used = record {
   command = s.command;
+  any_refused = s.any_refused;
   joiner = s.joiner;
   number = s.number + 1;
   at = s.at + (s.taken + used);
@@ -144,6 +170,7 @@ passed s used = record {
 abbrev pub waiting : Standing → ℕ → Standing
 waiting s more = record {
   command = s.command;
+  any_refused = s.any_refused;
   joiner = s.joiner;
   number = s.number;
   at = s.at;

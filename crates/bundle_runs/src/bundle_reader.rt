@@ -1,13 +1,13 @@
 //! Bundles of either version, end to end, as they come.
-ghost use Rattle.std.specs.Prelude.{◌≡◌, ◌+◌, ◌<◌, ◌≤◌, ◌++◌, None, Some, [], false, length, slice_index, IfOk, OnOk, OnErr};
+ghost use Rattle.std.specs.Prelude.{◌≡◌, ◌+◌, ◌<◌, ◌≤◌, ◌++◌, None, Some, [], false, true, length, slice_index, IfOk, OnOk, OnErr};
 ghost use Rattle.std.specs.String.{string_bytes};
 ghost use Rattle.edge_traits.specs.Outcome.{IsAnswer};
 ghost use Rattle.command_frame.specs.Task.{Feeds, Finishes};
-ghost use Rattle.bundle_runs.specs.Answering.{settles_from};
+ghost use Rattle.bundle_runs.specs.Answering.{settles_from, status_by};
 ghost use Rattle.bundle_runs.specs.Front.{word_of};
 ghost use Rattle.bundle_runs.specs.WrittenLines.{refused_line};
 ghost use Rattle.bundle_runs.specs.Given.{IsRead};
-ghost use Rattle.bundle_runs.specs.Taking.{kept_by, settling_of, passed, waiting, BeginsWith, IsSound, Took, Steps, Stands};
+ghost use Rattle.bundle_runs.specs.Taking.{kept_by, keeps_going, settling_of, passed, with_refused, waiting, BeginsWith, IsSound, Took, Steps, Stands};
 
 use crate::commands::command::Command;
 use crate::front::{Bundle, Cause};
@@ -44,6 +44,8 @@ impl Model for BundleReader {
 #[derive(Drop)]
 pub struct Standing {
     command: Command,
+    /// Whether the command refused a bundle, after which the run went on.
+    any_refused: bool,
     /// The fragments that came, where the command is `join`.
     joiner: BundleJoiner,
     /// Which bundle of the input is the next to end, from 1.
@@ -68,7 +70,7 @@ pub(crate) enum Next {
 impl BundleReader {
     /// Nothing came yet. It takes no memory.
     pub fn new(alloc: Global, command: Command) -> BundleReader
-        ensures stands { ⟦<BundleReader as Task>⟧.Stands result (settles_from command [] 1 0) }
+        ensures stands { ⟦<BundleReader as Task>⟧.Stands result (settles_from command false [] 1 0) }
         ensures fresh { ⟦<BundleReader as Task>⟧.Began result → ⊥ }
     {
         BundleReader {
@@ -108,6 +110,7 @@ impl Standing {
         ensures sound { IsSound result }
         ensures is { result ≡ record {
           command = command;
+          any_refused = false;
           joiner = record { joins = []; spent = false };
           number = 1;
           at = 0;
@@ -117,6 +120,7 @@ impl Standing {
     {
         Standing {
             command,
+            any_refused: false,
             joiner: BundleJoiner::new(alloc),
             number: 1,
             at: 0,
@@ -159,14 +163,26 @@ impl Standing {
     {
         self.taken = 0;
         match self.unfinished.take() {
-            None => Ok(Status::Done),
+            None => Ok(self.status()),
             Some(mut unfinished) => match unfinished.finish() {
-                None => Ok(Status::Done),
+                None => Ok(self.status()),
                 Some(at) => {
                     write_refused(text, self.number, self.at + at, "Truncated")?;
                     Ok(Status::Refused)
                 }
             },
+        }
+    }
+
+    /// How the run ends where no octet is left.
+    fn status(&self) -> Status
+        ensures is { result ≡ status_by self.now.any_refused }
+        ensures answer { IsAnswer result }
+    {
+        if self.any_refused {
+            Status::Refused
+        } else {
+            Status::Done
         }
     }
 
@@ -184,7 +200,7 @@ impl Standing {
                     None => Ok(self.pass(used)),
                     Some(cause) => {
                         write_turned_down(text, self.number, cause.word())?;
-                        Ok(Next::End)
+                        Ok(self.turn_down(used))
                     }
                 }
             }
@@ -257,6 +273,21 @@ impl Standing {
             self.unfinished = None;
         }
         Next::After(used)
+    }
+
+    /// It is valid, has ended after so many octets more, and the command refuses it.
+    fn turn_down(&mut self, used: usize) -> Next
+        requires few { self.old.at + (self.old.taken + used) ≤ 67108864 }
+        requires counted { self.old.number ≤ 67108864 }
+        ensures ends { keeps_going self.old.command ≡ false → result ≡ Next.End }
+        ensures next { keeps_going self.old.command ≡ true → result ≡ Next.After used }
+        ensures is { keeps_going self.old.command ≡ true → self.new ≡ passed (with_refused self.old true) used }
+    {
+        if !self.command.keeps_going() {
+            return Next::End;
+        }
+        self.any_refused = true;
+        self.pass(used)
     }
 
     /// So many octets more don't end it.

@@ -1,5 +1,5 @@
 //! `check`, which wants no bundle and keeps none, as the octets of its input come.
-ghost use Rattle.std.specs.Prelude.{◌≡◌, ◌+◌, ◌<◌, ◌≤◌, ◌++◌, None, Some, [], length, slice_index, IfOk, OnOk, OnErr, IsSomeAnd};
+ghost use Rattle.std.specs.Prelude.{◌≡◌, ◌+◌, ◌<◌, ◌≤◌, ◌++◌, None, Some, [], false, length, slice_index, IfOk, OnOk, OnErr, IsSomeAnd};
 ghost use Rattle.std.specs.String.{string_bytes};
 ghost use Rattle.edge_traits.specs.Outcome.{IsAnswer};
 ghost use Rattle.command_frame.specs.Task.{Feeds, Finishes};
@@ -64,7 +64,7 @@ pub struct Checking {
 impl CheckReader {
     /// Nothing came yet. It takes no memory.
     pub fn new(alloc: Global) -> CheckReader
-        ensures stands { ⟦<CheckReader as Task>⟧.Stands result (settles_from Check [] 1 0) }
+        ensures stands { ⟦<CheckReader as Task>⟧.Stands result (settles_from Check false [] 1 0) }
         ensures fresh { ⟦<CheckReader as Task>⟧.Began result → ⊥ }
     {
         CheckReader {

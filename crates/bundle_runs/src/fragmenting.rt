@@ -2,7 +2,7 @@
 ghost use Rattle.std.specs.Prelude.{◌≡◌, ◌<◌, false, IfOk, OnOk};
 ghost use Rattle.std.specs.String.{string_bytes};
 ghost use Rattle.fragment_lines.specs.Lines.{Writes};
-ghost use Rattle.bundle_runs.specs.Fragments.{piece_size, pieces_said, join_said};
+ghost use Rattle.bundle_runs.specs.Fragments.{piece_size, pieces_said, join_said, joins_left};
 ghost use Rattle.bundle_runs.specs.Legal.{IsLegal};
 
 use crate::front::Bundle;
@@ -46,6 +46,9 @@ pub fn join(
     requires memory { joiner.old.spent ≡ false }
     ensures said { IfOk result (Writes (join_said joiner.old.joins bundle.now)
         (string_bytes text.old) (string_bytes text.new) joiner.new.joins) }
+
+    // Also where the bundle is turned down.
+    ensures left { OnOk result (joiner.new.joins ≡ joins_left joiner.old.joins bundle.now) }
     ensures memory { OnOk result (joiner.new.spent ≡ false) }
 {
     match bundle {

@@ -1,11 +1,13 @@
 //! The answer, in the words of the two formats.
 ghost use Rattle.bundle_runs.specs.Answering.{settles};
 ghost use Rattle.bundle_runs.specs.Laws.{TakesBundle6, TakesBundle7, StopsAt6, StopsAt7, EndsInside6, EndsInside7, StopsAtVersion, EndsAfterLast, EarliestOctetDecides};
+ghost use Rattle.bundle_runs.specs.Keeping.{SameWithoutRefusals, WritesMore, DoneOnlyTogether};
 ghost use Rattle.bundle_runs.specs.declared.commands.command.Command.{Command};
 
 /// Where a bundle stands at the front of the octets that are left, the answer to them is what the
 /// command says of it and then the answer to the octets after it; where the command refuses it, the
-/// line that says so and the run's end. Octets that are refused for a cause end the run by such a
+/// line that says so and the run's end, or where the command keeps going the answer to the octets after
+/// it, by a run that isn't done at its end. Octets that are refused for a cause end the run by such a
 /// line too, and so does a first octet that names no version, at its own place. Where they end inside
 /// a bundle they settle nothing while the input goes on, and at its end the bundle is refused as
 /// truncated. Where none are left the run is done with the input.
@@ -24,4 +26,12 @@ pub fn answers_bundle_by_bundle()
 /// and once they settle how the run ends, nothing that follows changes it.
 pub fn earliest_place_decides()
     ensures { (command : Command) → EarliestOctetDecides (settles command) }
+{}
+
+/// A command that keeps going writes first what the same command writes whose run the first refusal ends.
+/// Where no bundle is refused both answers are the same, and only then may it be done.
+pub fn keeps_going_after_refusals()
+    ensures same { SameWithoutRefusals }
+    ensures more { WritesMore }
+    ensures done { DoneOnlyTogether }
 {}

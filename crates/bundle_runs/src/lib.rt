@@ -6,7 +6,8 @@
 //! octets of the bundle of the other version that it becomes, `cut` its pieces, and `join` what comes of
 //! it beside the fragments before it. The first octet of a bundle names its version. The first bundle that
 //! doesn't decode ends the run, with a line that says which one it is, the place in the input and the
-//! cause; so does the first that isn't translated or cut, and its line has no place. What the joiner
+//! cause; so does the first that isn't translated or cut, and its line has no place; but a command that
+//! keeps going answers the bundles after that too, and its run is refused at its end. What the joiner
 //! refuses has a line like any other.
 //!
 //! What a command answers is one definition from octets to the text and the status
@@ -38,5 +39,5 @@ pub use bundle_reader::BundleReader;
 pub use commands::bundles::bundles;
 pub use commands::command::Command;
 pub use front::{Bundle, Cause};
-pub use laws::{answers_bundle_by_bundle, earliest_place_decides};
+pub use laws::{answers_bundle_by_bundle, earliest_place_decides, keeps_going_after_refusals};
 pub use show_reader::ShowReader;

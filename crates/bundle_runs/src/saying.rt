@@ -1,8 +1,8 @@
 //! What a command says of a bundle.
-ghost use Rattle.std.specs.Prelude.{◌≡◌, false, IfOk, OnOk};
+ghost use Rattle.std.specs.Prelude.{◌≡◌, false, IfOk, OnOk, IfSome};
 ghost use Rattle.std.specs.String.{string_bytes};
 ghost use Rattle.fragment_lines.specs.Lines.{Writes};
-ghost use Rattle.bundle_runs.specs.Answering.{step_of};
+ghost use Rattle.bundle_runs.specs.Answering.{step_of, leaves_of};
 ghost use Rattle.bundle_runs.specs.Legal.{IsLegal};
 
 use crate::commands::command::Command;
@@ -13,7 +13,8 @@ use crate::written_lines::{write_check, write_show};
 use fragment_lines::{BundleJoiner, TurnedDown};
 use std::alloc::{AllocError, Global};
 
-/// Writes what a command says of a bundle of so many octets, or says why it refuses the bundle.
+/// Writes what a command says of a bundle of so many octets, or says why it refuses the bundle. A command
+/// that keeps going goes on after a refusal with the joiner as it is then.
 pub fn say(
     alloc: Global,
     command: Command,
@@ -26,6 +27,8 @@ pub fn say(
     requires memory { joiner.old.spent ≡ false }
     ensures said { IfOk result (Writes (step_of command joiner.old.joins bundle.now size)
         (string_bytes text.old) (string_bytes text.new) joiner.new.joins) }
+    ensures leaves { OnOk result (IfSome (leaves_of command joiner.old.joins bundle.now)
+        (λ now. joiner.new.joins ≡ now)) }
     ensures memory { OnOk result (joiner.new.spent ≡ false) }
 {
     match command {
@@ -37,8 +40,8 @@ pub fn say(
             write_show(text, bundle)?;
             Ok(None)
         }
-        Command::Convert => convert(alloc, text, bundle),
-        Command::Cut(most) => cut(alloc, text, bundle, most),
-        Command::Join => join(joiner, text, bundle),
+        Command::Convert | Command::KeepConverting => convert(alloc, text, bundle),
+        Command::Cut(most) | Command::KeepCutting(most) => cut(alloc, text, bundle, most),
+        Command::Join | Command::KeepJoining => join(joiner, text, bundle),
     }
 }

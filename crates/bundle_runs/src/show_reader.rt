@@ -1,5 +1,5 @@
 //! `show`, which tells a bundle of version 6 out of its octets, as the octets of its input come.
-ghost use Rattle.std.specs.Prelude.{◌≡◌, ◌+◌, ◌<◌, ◌≤◌, ◌++◌, List, ℕ, None, [], length, IfOk, OnErr, OnOk};
+ghost use Rattle.std.specs.Prelude.{◌≡◌, ◌+◌, ◌<◌, ◌≤◌, ◌++◌, List, ℕ, None, [], false, length, IfOk, OnErr, OnOk};
 ghost use Rattle.std.specs.String.{string_bytes};
 ghost use Rattle.edge_traits.specs.Outcome.{IsAnswer};
 ghost use Rattle.command_frame.specs.PartTask.{FeedsPart, LeavesDue, TellsPart, LeavesFewer};
@@ -68,7 +68,7 @@ pub struct Showing {
 impl ShowReader {
     /// Nothing came yet. It takes no memory.
     pub fn new(alloc: Global) -> ShowReader
-        ensures stands { ⟦<ShowReader as PartTask>⟧.Stands result [] (settles_from Show [] 1 0) }
+        ensures stands { ⟦<ShowReader as PartTask>⟧.Stands result [] (settles_from Show false [] 1 0) }
         ensures none_due { ⟦<ShowReader as PartTask>⟧.parts result ≡ 0 }
         ensures fresh { ⟦<ShowReader as PartTask>⟧.Began result → ⊥ }
     {
@@ -123,7 +123,7 @@ impl PartTask for ShowReader {
 impl Showing {
     /// No octet came.
     fn new(alloc: Global) -> Showing
-        ensures stands { StandsShowing result [] (settles_from Show [] 1 0) }
+        ensures stands { StandsShowing result [] (settles_from Show false [] 1 0) }
         ensures none_due { result.telling ≡ None }
         ensures fresh { result.begun ≡ None }
     {
@@ -142,7 +142,7 @@ impl Showing {
     #[cold]
     #[inline(never)]
     fn reset(&mut self, alloc: Global)
-        ensures stands { StandsShowing self.new [] (settles_from Show [] 1 0) }
+        ensures stands { StandsShowing self.new [] (settles_from Show false [] 1 0) }
         ensures none_due { self.new.telling ≡ None }
         ensures fresh { self.new.begun ≡ None }
     {

@@ -13,7 +13,8 @@ use std::alloc::Global;
 /// Reads the source, and writes to the sink what the command says of each bundle, before it reads on.
 ///
 /// The run ends with `Refused` after the line of the first bundle that doesn't decode, or that the
-/// command refuses, and with
+/// command refuses. One that keeps going goes on after a bundle that it refuses, and then ends with
+/// `Refused` after the last one. The run ends with
 /// `Limit` after the last bundle within 67,108,864 octets where the source has more. A read or a
 /// write that fails ends it with `ReadFault` or `WriteFault`, and want of memory with `Memory`.
 pub fn bundles<S: Source, K: Sink>(

@@ -5,7 +5,7 @@ use Rattle.bundle_runs.proofs.bundle_reader.Standing.finish.Goals as goal
 
 pub returns-in-None-clause-finished : goal.returns-in-None-clause-finished
 returns-in-None-clause-finished c =
-    finish-none c.args.self.now _ (ap kept_by (sym c.take.ensures.value ∙ c.in-None.is))
+    rw c.status.ensures.is (finish-none c.args.self.now _ (ap kept_by (sym c.take.ensures.value ∙ c.in-None.is)))
 
 pub overflow_add-self : goal.overflow_add-self
 overflow_add-self c =

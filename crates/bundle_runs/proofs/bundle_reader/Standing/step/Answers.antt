@@ -1,6 +1,6 @@
 use Rattle.std.proofs.Common.{arith}
 use Rattle.bundle_runs.specs.Given.{IsRead}
-use Rattle.bundle_runs.proofs.TakingLemmas.{whole-room, refused-room, step-said, step-turned-down, step-refused, refuse-ends}
+use Rattle.bundle_runs.proofs.TakingLemmas.{whole-room, refused-room, step-part, step-said, step-refusal, step-refused, refuse-ends}
 use Rattle.bundle_runs.proofs.bundle_reader.Standing.step.Goals as goal
 
 pub overflow_add-size : goal.overflow_add-size
@@ -27,11 +27,23 @@ returns-in-None c =
     c.requires.some c.requires.room c.in-Whole.bundle c.in-Whole.used c.say.new.joiner _ _ (rw c.in-Whole.is at c.in_ok-bundle.ensures)
     (rw c.in-None.is at c.in_ok-say-in-Whole.ensures.said) c.in_ok-say-in-Whole.ensures.memory)
 
+pub returns-in-Part : goal.returns-in-Part
+returns-in-Part c =
+    rw (c.wait.ensures.next, c.wait.ensures.is)
+    (step-part IsRead c.args.self.now c.decoded.new.self c.args.left.now c.requires.sound (λ i. omega (arith, c.type_inv.left i))
+    c.requires.some c.requires.room _ (rw c.in-Part.is at c.in_ok-bundle.ensures))
+
+pub turn_down-requires-clause-few : goal.turn_down-requires-clause-few
+turn_down-requires-clause-few c =
+    (whole-room IsRead c.args.self.now c.decoded.new.self c.args.left.now c.requires.sound (λ i. omega (arith, c.type_inv.left i))
+    c.requires.some c.requires.room c.in-Whole.bundle c.in-Whole.used (rw c.in-Whole.is at c.in_ok-bundle.ensures)).0
+
 pub returns-in-Whole : goal.returns-in-Whole
 returns-in-Whole c =
-    step-turned-down c.args.self.now c.decoded.new.self c.args.left.now c.requires.sound (λ i. omega (arith, c.type_inv.left i))
-    c.requires.some c.requires.room c.in-Whole.bundle c.in-Whole.used c.say.new.joiner.joins c.in-Some.cause _ _ _ (rw c.in-Whole.is at c.in_ok-bundle.ensures)
-    (rw c.in-Some.is at c.in_ok-say-in-Whole.ensures.said) (rw c.word.ensures at c.in_ok-write_turned_down-in-Some.ensures)
+    step-refusal c.args.self.now c.decoded.new.self c.args.left.now c.requires.sound (λ i. omega (arith, c.type_inv.left i))
+    c.requires.some c.requires.room _ c.turn_down.result c.in-Whole.bundle c.in-Whole.used c.say.new.joiner c.in-Some.cause _ _ _ (rw c.in-Whole.is at c.in_ok-bundle.ensures)
+    (rw c.in-Some.is at c.in_ok-say-in-Whole.ensures.said) c.in_ok-say-in-Whole.ensures.leaves c.in_ok-say-in-Whole.ensures.memory
+    (rw c.word.ensures at c.in_ok-write_turned_down-in-Some.ensures) c.turn_down.ensures.ends c.turn_down.ensures.next c.turn_down.ensures.is
 
 pub returns : goal.returns
 returns c =

@@ -1,6 +1,6 @@
 use Rattle.std.proofs.Common.{◌≡◌, None, length, refl, rules, arith}
 use Rattle.std.proofs.lemmas.List.{take_rest, length-drop}
-use Rattle.bundle_runs.proofs.ShowStepLemmas.{shows-kept, so-far-more, so-far-all, so-far-due}
+use Rattle.bundle_runs.proofs.ShowStepLemmas.{shows-kept, so-far-more, so-far-all, so-far-due, so-far-stop}
 use Rattle.bundle_runs.proofs.show_reader.Showing.take.Goals as goal
 
 pub returns-then-is_some-clause-showing : goal.returns-then-is_some-clause-showing
@@ -32,6 +32,11 @@ bundles-preserved c =
           so-far-more old c.bundles.self c.show.new.self c.args.piece.now c.bundles.left.now c.in-After.used _ _ _ c.bundles.invariant.none_due
           (c.bundles.invariant.so_far old shows) step;
     })
+
+pub returns-in-End-clause-fed : goal.returns-in-End-clause-fed
+returns-in-End-clause-fed c = λ old shows.
+    so-far-stop old c.bundles.self c.show.new.self c.args.piece.now c.bundles.left.now _ _ _ c.bundles.invariant.none_due
+    (c.bundles.invariant.so_far old shows) (rw c.in-End.is at c.in_ok-used.ensures)
 
 pub returns-clause-fed : goal.returns-clause-fed
 returns-clause-fed c = λ old shows.

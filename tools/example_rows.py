@@ -57,13 +57,13 @@ def of_bundles(name):
     yield row_of(f"convert of {name}", ["convert"], octets, text, status)
 
 
-def of_worlds():
-    """The rows of the stories on a path."""
-    for name in sorted(os.listdir(os.path.join(EXAMPLES, "worlds"))):
-        story, kind = os.path.splitext(f"worlds/{name}")
+def of_stories(word, folder):
+    """The rows of the stories on a path, or on a link."""
+    for name in sorted(os.listdir(os.path.join(EXAMPLES, folder))):
+        story, kind = os.path.splitext(f"{folder}/{name}")
         if kind == ".script":
             given, wanted = octets_in(story + kind), octets_in(f"{story}.transcript")
-            yield row_of(f"world of {story}", ["world"], given, wanted)
+            yield row_of(f"{word} of {story}", [word], given, wanted)
 
 
 def example_rows():
@@ -75,4 +75,5 @@ def example_rows():
     yield received("bundles.pcap", "".join(ups))
     yield from of_bundles("bundles-6.bin")
     yield from of_bundles("bundles-7.bin")
-    yield from of_worlds()
+    yield from of_stories("world", "worlds")
+    yield from of_stories("link", "links")

@@ -35,6 +35,7 @@ sys.path.insert(0, os.path.join(ROOT, "tools"))
 import format_model
 import fragment_model
 import gateway_model
+import link_model
 import ltp_model
 import make_scripts
 import translate_model
@@ -204,6 +205,15 @@ def made_worlds(seed, count):
         yield row
 
 
+def made_links(seed, count):
+    """Rows whose input is a made script of `link`, and whose output is the model's."""
+    for at, made_row in enumerate(link_model.made_rows(int(count) // 5, int(seed)), 1):
+        row = Row(f"made link {at} of seed {seed}: {made_row['input'][:60]!r}..", [b"link"])
+        row.input, row.output = [made_row["input"].encode()], [made_row["output"].encode()]
+        row.status = made_row["status"]
+        yield row
+
+
 def files():
     """The files of rows, one a command."""
     return [os.path.join(ROWS, name) for name in sorted(os.listdir(ROWS)) if re.fullmatch("[a-z]+", name)]
@@ -212,7 +222,7 @@ def files():
 def all_made(inputs, scripts):
     """All rows that are made: of these seeds and counts, of inputs and of scripts."""
     for rows in (made_rows(*inputs), made_translations(*inputs), made_fragments(*inputs), made_scripts(*scripts),
-                 made_worlds(*scripts)):
+                 made_links(*scripts), made_worlds(*scripts)):
         yield from rows
 
 

@@ -149,6 +149,34 @@ audit    1000000 lines, 9000000 octets a line
         passes: "passes a limit",
     },
     CommandText {
+        word: "link",
+        usage: "\
+fimdahol link < SCRIPT            replays a script on one link, which may be open at times alone
+",
+        writes: "\
+link reads a script of one LTP link between a first engine and a second, and writes what happens
+there, at f and s. Its first line is link SEGMENT TIMEOUT LIMIT CAP START; lines window FROM TO may
+follow, in which alone the link is open; then send first HEX or send second HEX (an end sends a
+block), deliver K or clock MS; and as the last one, where there is one, drain. Timers stand still
+while the link is closed
+  sent K ROUTE HEX               datagram K was sent: f>s or s>f
+  up PLACE SESSION HEX           a block came whole, in this session
+  note PLACE NAME ..             as of node
+  refused PLACE CAUSE, refused deliver, refused closed         nothing is sent, or delivered
+  at MS                          the drain is at this moment, where there are windows
+  end EVENTS                     the drain is over, after so many deliveries and clocks
+  stop EVENTS                    the last window ended before it was over
+  refused line LINE CAUSE        last, where a line is no event, or a window is out of order: Window
+",
+        limits: "\
+link     1000000 lines, 9000000 octets a line, a clock of 4611686018427387903 ms,
+           268435456 octets of datagrams, 4096 windows
+",
+        wants: "link reads standard input: fimdahol link < FILE",
+        passes: "sets the clock past 4611686018427387903, \
+            or leaves more than 268435456 octets of datagrams",
+    },
+    CommandText {
         word: "world",
         usage: "\
 fimdahol world < SCRIPT           replays a script on an old node, the gateway and a new node

@@ -20,6 +20,8 @@ use Rattle.node_run.proofs.RunLemmas.{answers_lines}
 use Rattle.audit_run.specs.Audited.{audit_rules}
 use Rattle.audit_run.specs.Audited as audit
 use Rattle.node_run.specs.RedParts.{AnswersLines}
+use Rattle.link_run.specs.Link.{link_rules, no_link}
+use Rattle.link_run.specs.Link as link
 use Rattle.world_run.specs.World.{world_rules, no_path}
 use Rattle.world_run.specs.World as world
 use Rattle.world_run.specs.Headline.{KeepsHeadline, WorldsKeepHeadline}
@@ -53,6 +55,9 @@ audit-front : (own peer : ℕ) → EarliestDecides (within most_input (audit.set
 audit-front own peer =
     within-front most_input (audit.settles own peer) (lines_from-front audit_rules 1 (audit.begins own peer))
 
+link-front : EarliestDecides (within most_input link.settles)
+link-front = within-front most_input link.settles (lines_from-front link_rules 1 no_link)
+
 world-front : EarliestDecides (within most_input world.settles)
 world-front = within-front most_input world.settles (lines_from-front world_rules 1 no_path)
 
@@ -61,6 +66,7 @@ command-front commands.Receive = λ ends taken more octets. receive-front the_li
 command-front (commands.Bundles command) = earliest_decides command
 command-front (commands.Node own peer) = λ ends taken more octets. node-front own peer ends taken more
 command-front (commands.Audit own peer) = λ ends taken more octets. audit-front own peer ends taken more
+command-front commands.Link = λ ends taken more octets. link-front ends taken more
 command-front commands.World = λ ends taken more octets. world-front ends taken more
 command-front (commands.Make seed count) = tt
 command-front (commands.Serve gate count) = tt
@@ -160,6 +166,7 @@ command-keeps headline (commands.Bundles command) status before now ran = nothin
 command-keeps headline (commands.Node own peer) status before now ran =
     on-told before.reads.left _ _ (node-keeps own peer status now.reads.left before.writes.held now.writes.held) ran.ran.wrote
 command-keeps headline (commands.Audit own peer) status before now ran = nothing-told before.reads.left
+command-keeps headline commands.Link status before now ran = nothing-told before.reads.left
 command-keeps headline commands.World status before now ran =
     on-told before.reads.left _ _ (world-keeps headline status now.reads.left before.writes.held now.writes.held) ran.ran.wrote
 command-keeps headline (commands.Make seed count) status before now ran = nothing-told before.reads.left

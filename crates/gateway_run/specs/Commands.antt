@@ -12,6 +12,7 @@ use Rattle.node_run.specs.Node.{node_party}
 use Rattle.node_run.specs.Node as node
 use Rattle.node_run.specs.RedParts.{AnswersLines}
 use Rattle.audit_run.specs.Audited as audit
+use Rattle.link_run.specs.Link as link
 use Rattle.world_run.specs.World as world
 use Rattle.world_run.specs.Headline.{KeepsHeadline}
 use Rattle.make_run.specs.Making as make
@@ -36,6 +37,7 @@ one_word word =
     else if is_word word (codes "show") then Some (commands.Bundles Show)
     else if is_word word (codes "convert") then Some (commands.Bundles Convert)
     else if is_word word (codes "join") then Some (commands.Bundles Join)
+    else if is_word word (codes "link") then Some commands.Link
     else if is_word word (codes "world") then Some commands.World
     else None
 
@@ -123,6 +125,7 @@ rules_of commands.Receive = reads (within most_input (receive.settles the_limits
 rules_of (commands.Bundles command) = reads (bundles.settles command)
 rules_of (commands.Node own peer) = reads (within most_input (node.settles own peer))
 rules_of (commands.Audit own peer) = reads (within most_input (audit.settles own peer))
+rules_of commands.Link = reads (within most_input link.settles)
 rules_of commands.World = reads (within most_input world.settles)
 rules_of (commands.Make seed count) = writes (make.answer_of seed count)
 rules_of (commands.Serve gate count) = acts (serve_turns gate count)
@@ -146,6 +149,7 @@ law_of (commands.Bundles command) input = no_law
 law_of (commands.Node own peer) input =
     keeps (λ text ending. AnswersLines (node_party own peer) most_input input text)
 law_of (commands.Audit own peer) input = no_law
+law_of commands.Link input = no_law
 law_of commands.World input = keeps (KeepsHeadline most_input input)
 law_of (commands.Make seed count) input = no_law
 law_of (commands.Serve gate count) input = no_law
@@ -158,6 +162,7 @@ IsSound commands.Receive = Unit {0}
 IsSound (commands.Bundles command) = Unit {0}
 IsSound (commands.Node own peer) = own ≢ peer
 IsSound (commands.Audit own peer) = own ≢ peer
+IsSound commands.Link = Unit {0}
 IsSound commands.World = Unit {0}
 IsSound (commands.Make seed count) = count ≤ 1000
 IsSound (commands.Serve gate count) = Unit {0}

@@ -4,5 +4,6 @@ mod SetupLemmas
 mod DrainLemmas
 mod StepLemmas
 mod StartLemmas
+mod EndingLemmas
 mod TurnLemmas
 mod LineLemmas

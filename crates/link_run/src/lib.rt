@@ -6,8 +6,6 @@
 //!
 //! Timers run on contact time, which stands still while the link is closed. Without a window the
 //! link is always open.
-//!
-//! The program doesn't run it yet: `link` isn't among its words.
 #![tactic(auto)]
 
 mod always;

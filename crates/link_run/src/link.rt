@@ -1,12 +1,12 @@
 //! A link, told by lines.
 
-ghost use Rattle.std.specs.Prelude.{◌≡◌, ◌<◌, ◌≤◌, ◌^◌, ◌++◌, ◌∷◌, ℕ, List, [], IfOk, IfSome};
+ghost use Rattle.std.specs.Prelude.{◌≡◌, ◌<◌, ◌≤◌, ◌^◌, ◌++◌, ◌∷◌, ℕ, List, [], length, IfOk, IfSome};
 ghost use Rattle.std.specs.String.{string_bytes};
 ghost use Rattle.command_frame.specs.Stops.{IsStop};
 ghost use Rattle.command_frame.specs.Lines.{TurnsAs, ends_run};
 ghost use Rattle.contact_plan.specs.Fault.{plan_fault};
 ghost use Rattle.edge_traits.specs.declared.status.Status.TheVariants as statuses;
-ghost use Rattle.link_run.specs.Link.{LinkCourse, LinkSetup, LinkStart, LinkState, delivers, drains, later_said, link_line, link_rules, link_turn, no_link, passes_to, planned_line, sends, start_in, start_turn, window_turn};
+ghost use Rattle.link_run.specs.Link.{LinkCourse, LinkSetup, LinkStart, LinkState, delivers, drains, later_said, link_ending, link_line, link_rules, link_turn, no_link, passes_to, planned_line, sends, start_in, start_turn, window_turn};
 ghost use Rattle.link_run.specs.Shows.{Answers, IsUnset, PlannedAs, RunsAs, ShowsLink, StandsFor};
 ghost use Rattle.link_run.specs.WrittenLines.{refusal_line, refused_line};
 
@@ -54,7 +54,10 @@ pub struct Link {
 impl Link {
     /// No line came yet.
     pub fn new(alloc: Global) -> Link
-        ensures { ⟦<Link as LineStep>⟧.Shows result no_link }
+        ensures stands { ⟦<Link as LineStep>⟧.Shows result no_link }
+        // Memory is wanted of an input without lines only for the line that refuses it.
+        ensures fresh { (state : LinkState) → ⟦<Link as LineStep>⟧.Shows result state
+            → ⟦<Link as LineStep>⟧.Began result → 0 < length (link_ending state).text }
     {
         Link {
             alloc,

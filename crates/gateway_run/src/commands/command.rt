@@ -30,6 +30,8 @@ pub enum Command<'w> {
     Node { own: u64, peer: u64 },
     /// `audit OWN PEER`: a recorded exchange of an engine with its peer, judged by rules.
     Audit { own: u64, peer: u64 },
+    /// `link`: a script on one link, which may be open at times alone.
+    Link,
     /// `world`: a script on a whole path, from an old node over the gate to a new one.
     World,
     /// `make SEED COUNT`: a script of so many bundles that is drawn, and played.
@@ -103,6 +105,7 @@ pub fn run_command<S: Source, K: Sink, L: Link, C: Clock>(
         Command::Audit { own, peer } => {
             run_lines(alloc, AuditLines::new(alloc, *own, *peer), source, sink)
         }
+        Command::Link => run_lines(alloc, link_run::Link::new(alloc), source, sink),
         Command::World => run_part_lines(alloc, World::new(alloc), source, sink),
         Command::Make { seed, count } => {
             ended_with(make(alloc, *seed, *count, sink), Passed::Script)
@@ -124,6 +127,7 @@ fn one_word<'w>(word: &[u8]) -> Option<Command<'w>>
         _ if word == b"show".as_slice() => Some(Command::Bundles(bundle_runs::Command::Show)),
         _ if word == b"convert".as_slice() => Some(Command::Bundles(bundle_runs::Command::Convert)),
         _ if word == b"join".as_slice() => Some(Command::Bundles(bundle_runs::Command::Join)),
+        _ if word == b"link".as_slice() => Some(Command::Link),
         _ if word == b"world".as_slice() => Some(Command::World),
         _ => None,
     }

@@ -3,7 +3,8 @@
 
 use Rattle.std.specs.Prelude.{ℕ, ◌+◌, ◌-◌, ◌^◌, Bool, true, false, nat_lt, nat_le, List, [], ◌∷◌, ◌++◌}
 use Rattle.std.specs.Prelude.{length, map, slice_get, Option, None, Some, Result, Ok, Err, codes}
-use Rattle.std.specs.Prelude.{if◌then◌else◌}
+use Rattle.std.specs.Prelude.{if◌then◌else◌, nat_eq}
+use Rattle.std.specs.List.{starts_with}
 use Rattle.edge_traits.specs.declared.status.Status.TheVariants as statuses
 use Rattle.edge_traits.specs.Settled.{Settled}
 use Rattle.command_frame.specs.Task.{Settling}
@@ -51,6 +52,11 @@ first_said line = if is_link_line line then link_event_of line else Err faults.W
 
 abbrev pub later_said : List ℕ → Result LinkEvent LineFault
 later_said line = if is_link_line line then Err faults.Word else link_event_of line
+
+-- once an event came, a window isn't allowed either, whatever its numbers are
+abbrev pub running_said : List ℕ → Result LinkEvent LineFault
+running_said line =
+    if starts_with nat_eq line (codes "window ") then Err faults.Word else later_said line
 
 abbrev pub start_said : Result LinkEvent LineFault → Result LinkStart LineFault
 start_said (Ok (events.Link segment timeout limit cap start)) = Ok (record {
@@ -260,7 +266,7 @@ start_turn n (Err fault) = ends_run (refusal_line n fault) statuses.Refused
 abbrev pub link_turn : ℕ → LinkState → List ℕ → Turn LinkState
 link_turn n no_link line = start_turn n (start_in line)
 link_turn n (planned start windows) line = planned_line n start windows (later_said line)
-link_turn n (on_link s c) line = link_line n s c (later_said line)
+link_turn n (on_link s c) line = link_line n s c (running_said line)
 link_turn n drained line = ends_run (refused_line n (codes "AfterDrain")) statuses.Refused
 
 -- an input without lines is refused, for want of a first line

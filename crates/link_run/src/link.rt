@@ -13,7 +13,7 @@ ghost use Rattle.link_run.specs.WrittenLines.{refusal_line, refused_line};
 use crate::on_link::Running;
 use crate::planned::{NO_MOMENT, Planned};
 use crate::running;
-use crate::script::{SetUp, end_named, read_later, read_start, window_of};
+use crate::script::{SetUp, end_named, read_later, read_running, read_start, window_of};
 use crate::written_lines::{write_refusal, write_refused_line};
 use command_frame::LineStep;
 use contact_plan::{Plan, PlanFault, Window};
@@ -83,7 +83,7 @@ fn step(
         Course::Unset => begin(alloc, number, line, text),
         Course::Plans(planned) => plan(alloc, planned, number, line, text),
         Course::Runs(running) => {
-            let said = read_later(alloc, line)?;
+            let said = read_running(alloc, line)?;
             answer(alloc, running, number, said, text)
         }
         Course::Over => {

@@ -3,7 +3,7 @@
 ghost use Rattle.std.specs.Prelude.{◌≡◌, ◌≤◌, IfOk};
 ghost use Rattle.ltp_segment.specs.PolicyViews.{policy_value};
 ghost use Rattle.replay_script.specs.Events.{Reads};
-ghost use Rattle.link_run.specs.Link.{end_named, first_said, later_said, start_in};
+ghost use Rattle.link_run.specs.Link.{end_named, first_said, later_said, running_said, start_in};
 ghost use Rattle.link_run.specs.Shows.{ReadsStart, window_in};
 
 use contact_plan::Window;
@@ -83,6 +83,19 @@ pub(crate) fn read_later(
             fault => Ok(Err(fault)),
         },
     }
+}
+
+/// What a line says once an event came, or why it is refused: then a window isn't allowed either.
+pub(crate) fn read_running(
+    alloc: Global,
+    line: &[u8],
+) -> Result<Result<LinkEvent, LineFault>, AllocError>
+    ensures { IfOk result (λ said. said ≡ running_said line.now) }
+{
+    if line.starts_with(b"window ".as_slice()) {
+        return Ok(Err(LineFault::Word));
+    }
+    read_later(alloc, line)
 }
 
 /// The window that a line gives.

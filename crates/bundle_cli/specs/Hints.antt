@@ -8,15 +8,16 @@ use Rattle.bundle_cli.specs.declared.hint.Hint.{Hint}
 use Rattle.bundle_cli.specs.declared.hint.Hint.TheVariants.{Empty, Capture, Compressed, Marked, Json, HexFile}
 use Rattle.bundle_cli.specs.declared.hint.Hint.TheVariants.{HexFilePrefix, LineEnd, Text, CrLf, BlankLine}
 use Rattle.bundle_cli.specs.declared.hint.Hint.TheVariants.{Comment, Binary, Tab, EmptyWord, UpperCase, Prefix}
-use Rattle.bundle_cli.specs.declared.hint.Hint.TheVariants.{Spaced, Odd, Digits, ScriptLine, BundleLine}
+use Rattle.bundle_cli.specs.declared.hint.Hint.TheVariants.{Spaced, SpacedWord, Odd, Digits, ScriptLine, BundleLine}
 use Rattle.bundle_cli.specs.declared.hint.Hint.TheVariants.{BareHex, WorldLine, NodeSaid, NodeClock, NodeWords}
 use Rattle.bundle_cli.specs.declared.hint.Hint.TheVariants.{NoPath, SecondPath, PathWords, Gate, Segment}
 use Rattle.bundle_cli.specs.declared.hint.Hint.TheVariants.{Timeout, Limit, Cut, Start, Cap, SendSide}
 use Rattle.bundle_cli.specs.declared.hint.Hint.TheVariants.{NodeLine, WorldSaid, AfterDrain, WorldNumber}
-use Rattle.bundle_cli.specs.declared.hint.Hint.TheVariants.{WorldWords}
+use Rattle.bundle_cli.specs.declared.hint.Hint.TheVariants.{WorldWords, ExchangeWords, NoLink, LinkStart}
+use Rattle.bundle_cli.specs.declared.hint.Hint.TheVariants.{LinkWindow, LinkNumber, LinkWords}
 use Rattle.bundle_cli.specs.declared.hinting.Refused.{Refused}
-use Rattle.bundle_cli.specs.declared.hinting.Reads.{Reads}
-use Rattle.bundle_cli.specs.declared.hinting.Reads.TheVariants.{Datagrams, Bundles, Events, Script}
+use Rattle.bundle_cli.specs.declared.reads.Reads.{Reads}
+use Rattle.bundle_cli.specs.declared.reads.Reads.TheVariants.{Datagrams, Bundles, Events, Exchange, Script, Windows}
 use Rattle.bundle_cli.specs.Looks.{begins, is_capture, is_compressed, is_marked, is_hex, is_spaced_hex, begins_in_hex}
 use Rattle.bundle_cli.specs.Looks.{begins_with_0x, has_no_text, has_tab, ends_with, is_line_end}
 use Rattle.bundle_cli.specs.Looks.{first_word, after_word, has_empty_word, begins_in_upper_case}
@@ -37,12 +38,18 @@ is_on_bundles word =
     bytes_eq word (codes "check") || bytes_eq word (codes "show") || bytes_eq word (codes "convert")
     || bytes_eq word (codes "cut") || bytes_eq word (codes "join")
 
+-- `record` reads what `node` reads
+abbrev pub is_on_events : List ℕ → Bool
+is_on_events word = bytes_eq word (codes "node") || bytes_eq word (codes "record")
+
 -- by its word; other words than these name none that reads
 abbrev pub reads_of : List ℕ → Option Reads
 reads_of word =
     if bytes_eq word (codes "receive") then Some Datagrams
-    else if bytes_eq word (codes "node") then Some Events
+    else if is_on_events word then Some Events
+    else if bytes_eq word (codes "audit") then Some Exchange
     else if bytes_eq word (codes "world") then Some Script
+    else if bytes_eq word (codes "link") then Some Windows
     else if is_on_bundles word then Some Bundles
     else None
 
@@ -50,7 +57,9 @@ abbrev pub is_lines : Reads → Bool
 is_lines Bundles = false
 is_lines Datagrams = true
 is_lines Events = true
+is_lines Exchange = true
 is_lines Script = true
+is_lines Windows = true
 
 -- ---- what is no input of any command
 
@@ -94,6 +103,14 @@ hex_hint hex =
     else if is_spaced_hex hex then Spaced
     else Digits
 
+-- hex that isn't hex, after the words of a line, which single spaces separate
+abbrev pub last_word_hint : List ℕ → Hint
+last_word_hint hex =
+    if begins_with_0x hex then Prefix
+    else if is_hex hex then Odd
+    else if is_spaced_hex hex then SpacedWord
+    else Digits
+
 -- the first one that there is
 abbrev pub or_else : Option Hint → Option Hint → Option Hint
 or_else None second = second
@@ -113,7 +130,7 @@ datagram_hint cause text =
     else if begins text (codes "06") || begins text (codes "9f") || begins text (codes "9F") then Some BundleLine
     else None
 
--- ---- node and world
+-- ---- node, audit, world and link
 
 -- a line that no command reads, or whose words aren't separated as words are
 abbrev pub words_hint : List ℕ → Option Hint
@@ -136,9 +153,9 @@ is_of_world text =
 
 abbrev pub node_word_hint : List ℕ → Hint
 node_word_hint text =
-    if begins text (codes "in ") then Spaced
+    if begins text (codes "in ") then SpacedWord
     else if is_of_world text then WorldLine
-    else if begins text (codes "send ") then Spaced
+    else if begins text (codes "send ") then SpacedWord
     else if is_hex text then BareHex
     else if node_says text then NodeSaid
     else if begins_in_upper_case text then UpperCase
@@ -146,9 +163,28 @@ node_word_hint text =
 
 abbrev pub event_hint : List ℕ → List ℕ → Hint
 event_hint cause text =
-    if is_cause cause (codes "Hex") then hex_hint (after_word text)
+    if is_cause cause (codes "Hex") then last_word_hint (after_word text)
     else if is_cause cause (codes "Number") then NodeClock
     else node_word_hint text
+
+-- an entry of an exchange that can't be read
+abbrev pub entry_word_hint : List ℕ → Hint
+entry_word_hint text =
+    if begins text (codes "in ") || begins text (codes "out ") then SpacedWord
+    else if is_hex text then BareHex
+    else if begins_in_upper_case text then UpperCase
+    else ExchangeWords
+
+abbrev pub unread_entry_hint : List ℕ → List ℕ → Hint
+unread_entry_hint cause text =
+    if is_cause cause (codes "Hex") then last_word_hint (after_word text) else entry_word_hint text
+
+-- of an entry that breaks a rule nothing is said
+abbrev pub entry_hint : List ℕ → List ℕ → Option Hint
+entry_hint cause text =
+    if is_cause cause (codes "Hex") || is_cause cause (codes "Word")
+    then or_else (words_hint text) (Some (unread_entry_hint cause text))
+    else None
 
 abbrev pub world_says : List ℕ → Bool
 world_says text =
@@ -172,7 +208,7 @@ abbrev pub world_word_hint : List ℕ → Bool → Hint
 world_word_hint text is_first =
     if begins text (codes "path ") then if is_first then PathWords else SecondPath
     else if is_first then NoPath
-    else if is_send text then Spaced
+    else if is_send text then SpacedWord
     else if begins text (codes "send") then SendSide
     else if begins text (codes "in ") then NodeLine
     else if world_says text then WorldSaid
@@ -183,10 +219,27 @@ abbrev pub script_hint : Refusal → Hint
 script_hint refusal =
     if is_cause refusal.cause (codes "AfterDrain") then AfterDrain
     else if is_cause refusal.cause (codes "Name") then Gate
-    else if is_cause refusal.cause (codes "Hex") then hex_hint (after_word (after_word refusal.text))
+    else if is_cause refusal.cause (codes "Hex") then last_word_hint (after_word (after_word refusal.text))
     else if not (is_cause refusal.cause (codes "Number")) then world_word_hint refusal.text refusal.is_first
     else if refusal.is_first then path_hint (after_word (after_word refusal.text))
     else WorldNumber
+
+abbrev pub link_word_hint : List ℕ → Bool → Hint
+link_word_hint text is_first =
+    if is_first then NoLink
+    else if begins text (codes "send first ") || begins text (codes "send second ") then SpacedWord
+    else if begins_in_upper_case text then UpperCase
+    else LinkWords
+
+-- a line that `link` refuses
+abbrev pub link_hint : Refusal → Hint
+link_hint refusal =
+    if is_cause refusal.cause (codes "AfterDrain") then AfterDrain
+    else if is_cause refusal.cause (codes "Window") then LinkWindow
+    else if is_cause refusal.cause (codes "Hex") then last_word_hint (after_word (after_word refusal.text))
+    else if not (is_cause refusal.cause (codes "Number")) then link_word_hint refusal.text refusal.is_first
+    else if refusal.is_first then LinkStart
+    else LinkNumber
 
 -- ---- all of it
 
@@ -194,7 +247,9 @@ unfoldable pub line_hint : Reads → Refusal → Option Hint
 line_hint Bundles refusal = bundle_hint refusal.cause refusal.text
 line_hint Datagrams refusal = or_else (any_line_hint refusal.text) (datagram_hint refusal.cause refusal.text)
 line_hint Events refusal = or_else (words_hint refusal.text) (Some (event_hint refusal.cause refusal.text))
+line_hint Exchange refusal = entry_hint refusal.cause refusal.text
 line_hint Script refusal = or_else (words_hint refusal.text) (Some (script_hint refusal))
+line_hint Windows refusal = or_else (words_hint refusal.text) (Some (link_hint refusal))
 
 -- an input that begins so, and what was refused of it, where that is known
 abbrev pub hint_of : Reads → List ℕ → Option Refusal → Option Hint
@@ -212,11 +267,11 @@ abbrev pub line_of : Hint → List ℕ
 line_of Empty = codes "fimdahol: the input is empty; 'fimdahol --help' says what each command reads\n"
 line_of Capture = codes "fimdahol: the input is a capture; what its datagrams carry comes by: tshark -r FILE -T fields -e udp.payload 'udp.dstport == 1113' | fimdahol receive\n"
 line_of Compressed = codes "fimdahol: the input is compressed; unpack it first, as by gunzip, unxz or unzstd\n"
-line_of Marked = codes "fimdahol: the input begins with a byte order mark, which no command reads; of UTF-8 it is three octets: tail -c +4 FILE\n"
+line_of Marked = codes "fimdahol: the input begins with a byte order mark, which no command reads; of UTF-8 it is three octets: tail -c +4 FILE; UTF-16 is made UTF-8 by: iconv -f UTF-16 -t UTF-8 FILE\n"
 line_of Json = codes "fimdahol: this is JSON, as show writes it, which no command reads\n"
 line_of HexFile = codes "fimdahol: this is hex, and octets are wanted: xxd -r -p FILE | fimdahol check\n"
-line_of HexFilePrefix = codes "fimdahol: this is hex after 0x, and octets are wanted: sed 's/0x//g' FILE | xxd -r -p | fimdahol check\n"
-line_of LineEnd = codes "fimdahol: a line feed follows the last bundle; printf writes none, where echo does: head -c -1 FILE leaves it out\n"
+line_of HexFilePrefix = codes "fimdahol: this is hex after 0x, and octets are wanted: sed 's/0[xX]//g' FILE | xxd -r -p | fimdahol check\n"
+line_of LineEnd = codes "fimdahol: a line's end follows the last bundle; printf writes none, where echo does: head -c -1 FILE leaves the last octet out\n"
 line_of Text = codes "fimdahol: this is text, and octets of bundles are wanted; those of base64 come by: base64 -d FILE | fimdahol check\n"
 line_of CrLf = codes "fimdahol: the line ends with CR LF, and LF is wanted: tr -d '\\r' < FILE leaves the CR out\n"
 line_of BlankLine = codes "fimdahol: the line is empty, which says nothing; grep . FILE leaves such lines out\n"
@@ -225,7 +280,7 @@ line_of Binary = codes "fimdahol: the line is no text; octets are written in hex
 line_of Tab = codes "fimdahol: the line has a tab; words are separated by single spaces\n"
 line_of EmptyWord = codes "fimdahol: the line has a space too many; words are separated by single spaces, and none stands at the end\n"
 line_of UpperCase = codes "fimdahol: the line begins in upper case; the words of a script are in lower case\n"
-line_of Prefix = codes "fimdahol: the hex has 0x before it, and is wanted without: sed 's/0x//g' FILE\n"
+line_of Prefix = codes "fimdahol: the hex has 0x before it, and is wanted without: sed 's/0[xX]//g' FILE\n"
 line_of Spaced = codes "fimdahol: the hex has spaces, tabs, colons or minuses in it, and is wanted without: tr -d ' \\t:-' < FILE\n"
 line_of Odd = codes "fimdahol: the hex has an odd number of digits, and an octet is two\n"
 line_of Digits = codes "fimdahol: octets are written in hex: digits 0 to 9 and a to f\n"
@@ -252,6 +307,13 @@ line_of WorldSaid = codes "fimdahol: the line is one that world writes, and none
 line_of AfterDrain = codes "fimdahol: drain is the last line of a script\n"
 line_of WorldNumber = codes "fimdahol: K and MS are whole numbers in decimal, without zeros in front: deliver K, clock MS\n"
 line_of WorldWords = codes "fimdahol: a line is one of: send old HEX, send new HEX, deliver K, clock MS, drain\n"
+line_of SpacedWord = codes "fimdahol: the hex of a line is one word, without spaces, tabs, colons or minuses in it\n"
+line_of ExchangeWords = codes "fimdahol: a line is one of: in HEX, out HEX\n"
+line_of NoLink = codes "fimdahol: the first line is to be: link SEGMENT TIMEOUT LIMIT CAP START\n"
+line_of LinkStart = codes "fimdahol: SEGMENT is 512 to 8192, in octets; TIMEOUT is 1 to 3600000, CAP from TIMEOUT on to 3600000, and START any, in whole ms; LIMIT is 1 to 100\n"
+line_of LinkWindow = codes "fimdahol: a window ends after it begins, by 4611686018427387904 at the latest, and begins at or after the end of the one before it; there are at most 4096\n"
+line_of LinkNumber = codes "fimdahol: FROM, TO, K and MS are whole numbers in decimal, without zeros in front: window FROM TO, deliver K, clock MS\n"
+line_of LinkWords = codes "fimdahol: a line is one of: window FROM TO, before all others; send first HEX, send second HEX, deliver K, clock MS, drain\n"
 
 -- ---- what only ties code to these
 

@@ -78,9 +78,10 @@ has_tab octets = list_any (λ octet. octet == 9) octets
 abbrev pub ends_with : ℕ → List ℕ → Bool
 ends_with last octets = nat_lt 0 (length octets) && slice_index octets (length octets - 1) == last
 
--- nothing but a line's end
+-- nothing but a line's end, or what is left of one without its last octet
 abbrev pub is_line_end : List ℕ → Bool
-is_line_end octets = bytes_eq octets (codes "\n") || bytes_eq octets (codes "\r\n")
+is_line_end octets =
+    bytes_eq octets (codes "\n") || bytes_eq octets (codes "\r\n") || bytes_eq octets (codes "\r")
 
 -- ---- words, which single spaces separate
 
@@ -102,9 +103,11 @@ first_word octets = up_to octets (position is_space octets)
 abbrev pub after_word : List ℕ → List ℕ
 after_word octets = past octets (position is_space octets)
 
--- a space at the end, or two after the first word: each makes an empty word
+-- a space at the end, or two after the first or the second word: each makes an empty word
 abbrev pub has_empty_word : List ℕ → Bool
-has_empty_word octets = ends_with 32 octets || begins (after_word octets) (codes " ")
+has_empty_word octets =
+    ends_with 32 octets || begins (after_word octets) (codes " ")
+    || begins (after_word (after_word octets)) (codes " ")
 
 -- a letter in upper case at the beginning
 abbrev pub begins_in_upper_case : List ℕ → Bool

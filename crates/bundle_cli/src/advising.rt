@@ -3,7 +3,8 @@
 
 use crate::given::{Given, Tail};
 use crate::hint::Hint;
-use crate::hinting::{Reads, Refused, hint, hint_of_done};
+use crate::hinting::{Refused, hint, hint_of_done};
+use crate::reads::Reads;
 use crate::refusal::{Spot, refusal};
 use crate::slip::{Slip, slip_in};
 use crate::sockets::Ends;

@@ -91,6 +91,20 @@ pub enum Hint {
     WorldNumber,
     /// No line of `world`.
     WorldWords,
+    /// A script's hex with something between the digits.
+    SpacedWord,
+    /// No line of `audit`.
+    ExchangeWords,
+    /// Another first line of `link`.
+    NoLink,
+    /// A number of a link that is out of its range.
+    LinkStart,
+    /// Windows that are no plan.
+    LinkWindow,
+    /// No number, in a line of `link`.
+    LinkNumber,
+    /// No line of `link`.
+    LinkWords,
 }
 
 impl Hint {
@@ -109,17 +123,17 @@ impl Hint {
                 "fimdahol: the input is compressed; unpack it first, as by gunzip, unxz or unzstd\n"
             }
             Hint::Marked => {
-                "fimdahol: the input begins with a byte order mark, which no command reads; of UTF-8 it is three octets: tail -c +4 FILE\n"
+                "fimdahol: the input begins with a byte order mark, which no command reads; of UTF-8 it is three octets: tail -c +4 FILE; UTF-16 is made UTF-8 by: iconv -f UTF-16 -t UTF-8 FILE\n"
             }
             Hint::Json => "fimdahol: this is JSON, as show writes it, which no command reads\n",
             Hint::HexFile => {
                 "fimdahol: this is hex, and octets are wanted: xxd -r -p FILE | fimdahol check\n"
             }
             Hint::HexFilePrefix => {
-                "fimdahol: this is hex after 0x, and octets are wanted: sed 's/0x//g' FILE | xxd -r -p | fimdahol check\n"
+                "fimdahol: this is hex after 0x, and octets are wanted: sed 's/0[xX]//g' FILE | xxd -r -p | fimdahol check\n"
             }
             Hint::LineEnd => {
-                "fimdahol: a line feed follows the last bundle; printf writes none, where echo does: head -c -1 FILE leaves it out\n"
+                "fimdahol: a line's end follows the last bundle; printf writes none, where echo does: head -c -1 FILE leaves the last octet out\n"
             }
             Hint::Text => {
                 "fimdahol: this is text, and octets of bundles are wanted; those of base64 come by: base64 -d FILE | fimdahol check\n"
@@ -144,7 +158,7 @@ impl Hint {
                 "fimdahol: the line begins in upper case; the words of a script are in lower case\n"
             }
             Hint::Prefix => {
-                "fimdahol: the hex has 0x before it, and is wanted without: sed 's/0x//g' FILE\n"
+                "fimdahol: the hex has 0x before it, and is wanted without: sed 's/0[xX]//g' FILE\n"
             }
             Hint::Spaced => {
                 "fimdahol: the hex has spaces, tabs, colons or minuses in it, and is wanted without: tr -d ' \\t:-' < FILE\n"
@@ -207,6 +221,25 @@ impl Hint {
             }
             Hint::WorldWords => {
                 "fimdahol: a line is one of: send old HEX, send new HEX, deliver K, clock MS, drain\n"
+            }
+            Hint::SpacedWord => {
+                "fimdahol: the hex of a line is one word, without spaces, tabs, colons or minuses in it\n"
+            }
+            Hint::ExchangeWords => { "fimdahol: a line is one of: in HEX, out HEX\n" }
+            Hint::NoLink => {
+                "fimdahol: the first line is to be: link SEGMENT TIMEOUT LIMIT CAP START\n"
+            }
+            Hint::LinkStart => {
+                "fimdahol: SEGMENT is 512 to 8192, in octets; TIMEOUT is 1 to 3600000, CAP from TIMEOUT on to 3600000, and START any, in whole ms; LIMIT is 1 to 100\n"
+            }
+            Hint::LinkWindow => {
+                "fimdahol: a window ends after it begins, by 4611686018427387904 at the latest, and begins at or after the end of the one before it; there are at most 4096\n"
+            }
+            Hint::LinkNumber => {
+                "fimdahol: FROM, TO, K and MS are whole numbers in decimal, without zeros in front: window FROM TO, deliver K, clock MS\n"
+            }
+            Hint::LinkWords => {
+                "fimdahol: a line is one of: window FROM TO, before all others; send first HEX, send second HEX, deliver K, clock MS, drain\n"
             }
         }
     }

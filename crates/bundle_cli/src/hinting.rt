@@ -1,9 +1,10 @@
 //! Which hint an input gives that a command refused.
-ghost use Rattle.std.specs.Prelude.{◌≡◌};
+ghost use Rattle.std.specs.Prelude.{◌≡◌, Some};
 ghost use Rattle.bundle_cli.specs.Hints.{file_hint, bundle_hint, any_line_hint, hex_hint, is_script_line, datagram_hint, words_hint};
 ghost use Rattle.bundle_cli.specs.Hints.{node_says, is_of_world, node_word_hint, event_hint, world_says, is_send, cap_hint, path_hint};
 ghost use Rattle.bundle_cli.specs.Hints.{world_word_hint, script_hint, line_hint, hint_of, refusal_of, refusal_in};
-ghost use Rattle.bundle_cli.specs.Hints.{reads_of, is_lines, is_on_bundles, done_hint};
+ghost use Rattle.bundle_cli.specs.Hints.{done_hint, last_word_hint};
+ghost use Rattle.bundle_cli.specs.Hints.{entry_word_hint, unread_entry_hint, entry_hint, or_else, link_word_hint, link_hint};
 
 use crate::hint::Hint;
 use crate::looks::{
@@ -11,60 +12,8 @@ use crate::looks::{
     has_empty_word, has_no_text, has_tab, is_capture, is_compressed, is_hex, is_line_end,
     is_marked, is_spaced_hex,
 };
+use crate::reads::Reads;
 use replay_script::number_in;
-
-/// What a command reads.
-#[derive(Clone, Copy, Debug, PartialEq, Eq, Drop)]
-pub enum Reads {
-    /// `receive`: a datagram in hex a line.
-    Datagrams,
-    /// `check`, `show`, `convert`, `cut` and `join`: octets of bundles.
-    Bundles,
-    /// `node`: lines of what happens at one end of a link.
-    Events,
-    /// `world`: a script.
-    Script,
-}
-
-impl Reads {
-    /// What the command of this word reads, where it reads anything.
-    pub fn of(word: &[u8]) -> Option<Reads>
-        ensures { result ≡ reads_of word.now }
-    {
-        if word == b"receive".as_slice() {
-            Some(Reads::Datagrams)
-        } else if word == b"node".as_slice() {
-            Some(Reads::Events)
-        } else if word == b"world".as_slice() {
-            Some(Reads::Script)
-        } else if is_on_bundles(word) {
-            Some(Reads::Bundles)
-        } else {
-            None
-        }
-    }
-
-    /// Whether that is lines.
-    pub fn is_lines(self) -> bool
-        ensures { result ≡ is_lines self }
-    {
-        match self {
-            Reads::Bundles => false,
-            Reads::Datagrams | Reads::Events | Reads::Script => true,
-        }
-    }
-}
-
-/// Whether the word is that of a command on bundles.
-fn is_on_bundles(word: &[u8]) -> bool
-    ensures { result ≡ is_on_bundles word.now }
-{
-    word == b"check".as_slice()
-        || word == b"show".as_slice()
-        || word == b"convert".as_slice()
-        || word == b"cut".as_slice()
-        || word == b"join".as_slice()
-}
 
 /// What was refused of an input.
 #[derive(Clone, Copy, Debug)]
@@ -131,9 +80,14 @@ fn line_hint(reads: Reads, refused: Refused<'_>) -> Option<Hint>
             Some(hint) => Some(hint),
             None => Some(event_hint(refused.cause, refused.text)),
         },
+        Reads::Exchange => entry_hint(refused.cause, refused.text),
         Reads::Script => match words_hint(refused.text) {
             Some(hint) => Some(hint),
             None => Some(script_hint(refused)),
+        },
+        Reads::Windows => match words_hint(refused.text) {
+            Some(hint) => Some(hint),
+            None => Some(link_hint(refused)),
         },
     }
 }
@@ -188,6 +142,21 @@ fn hex_hint(hex: &[u8]) -> Hint
         Hint::Odd
     } else if is_spaced_hex(hex) {
         Hint::Spaced
+    } else {
+        Hint::Digits
+    }
+}
+
+/// Hex that isn't hex, after the words of a line.
+fn last_word_hint(hex: &[u8]) -> Hint
+    ensures { result ≡ last_word_hint hex.now }
+{
+    if begins_with_0x(hex) {
+        Hint::Prefix
+    } else if is_hex(hex) {
+        Hint::Odd
+    } else if is_spaced_hex(hex) {
+        Hint::SpacedWord
     } else {
         Hint::Digits
     }
@@ -269,11 +238,11 @@ fn node_word_hint(text: &[u8]) -> Hint
     ensures { result ≡ node_word_hint text.now }
 {
     if begins(text, b"in ".as_slice()) {
-        Hint::Spaced
+        Hint::SpacedWord
     } else if is_of_world(text) {
         Hint::WorldLine
     } else if begins(text, b"send ".as_slice()) {
-        Hint::Spaced
+        Hint::SpacedWord
     } else if is_hex(text) {
         Hint::BareHex
     } else if node_says(text) {
@@ -290,11 +259,58 @@ fn event_hint(cause: &[u8], text: &[u8]) -> Hint
     ensures { result ≡ event_hint cause.now text.now }
 {
     if cause == b"Hex".as_slice() {
-        hex_hint(after_word(text))
+        last_word_hint(after_word(text))
     } else if cause == b"Number".as_slice() {
         Hint::NodeClock
     } else {
         node_word_hint(text)
+    }
+}
+
+/// Words that are no entry of an exchange.
+fn entry_word_hint(text: &[u8]) -> Hint
+    ensures { result ≡ entry_word_hint text.now }
+{
+    if begins(text, b"in ".as_slice()) || begins(text, b"out ".as_slice()) {
+        Hint::SpacedWord
+    } else if is_hex(text) {
+        Hint::BareHex
+    } else if begins_in_upper_case(text) {
+        Hint::UpperCase
+    } else {
+        Hint::ExchangeWords
+    }
+}
+
+/// An entry that can't be read.
+fn unread_entry_hint(cause: &[u8], text: &[u8]) -> Hint
+    ensures { result ≡ unread_entry_hint cause.now text.now }
+{
+    if cause == b"Hex".as_slice() {
+        last_word_hint(after_word(text))
+    } else {
+        entry_word_hint(text)
+    }
+}
+
+/// An entry that can't be read, or whose words aren't separated as words are.
+fn unread_hint(cause: &[u8], text: &[u8]) -> Option<Hint>
+    ensures { result ≡ or_else (words_hint text.now) (Some (unread_entry_hint cause.now text.now)) }
+{
+    match words_hint(text) {
+        Some(hint) => Some(hint),
+        None => Some(unread_entry_hint(cause, text)),
+    }
+}
+
+/// An entry that `audit` refuses. Of one that breaks a rule nothing is said.
+fn entry_hint(cause: &[u8], text: &[u8]) -> Option<Hint>
+    ensures { result ≡ entry_hint cause.now text.now }
+{
+    if cause == b"Hex".as_slice() || cause == b"Word".as_slice() {
+        unread_hint(cause, text)
+    } else {
+        None
     }
 }
 
@@ -355,7 +371,7 @@ fn world_word_hint(text: &[u8], is_first: bool) -> Hint
     } else if is_first {
         Hint::NoPath
     } else if is_send(text) {
-        Hint::Spaced
+        Hint::SpacedWord
     } else if begins(text, b"send".as_slice()) {
         Hint::SendSide
     } else if begins(text, b"in ".as_slice()) {
@@ -378,12 +394,46 @@ fn script_hint(refused: Refused<'_>) -> Hint
     } else if refused.cause == b"Name".as_slice() {
         Hint::Gate
     } else if refused.cause == b"Hex".as_slice() {
-        hex_hint(after_word(after_word(refused.text)))
+        last_word_hint(after_word(after_word(refused.text)))
     } else if refused.cause != b"Number".as_slice() {
         world_word_hint(refused.text, refused.is_first)
     } else if refused.is_first {
         path_hint(after_word(after_word(refused.text)))
     } else {
         Hint::WorldNumber
+    }
+}
+
+/// Words that are no line of `link`.
+fn link_word_hint(text: &[u8], is_first: bool) -> Hint
+    ensures { result ≡ link_word_hint text.now is_first }
+{
+    if is_first {
+        Hint::NoLink
+    } else if begins(text, b"send first ".as_slice()) || begins(text, b"send second ".as_slice()) {
+        Hint::SpacedWord
+    } else if begins_in_upper_case(text) {
+        Hint::UpperCase
+    } else {
+        Hint::LinkWords
+    }
+}
+
+/// A line that `link` refuses.
+fn link_hint(refused: Refused<'_>) -> Hint
+    ensures { result ≡ link_hint (refusal_of refused.entry) }
+{
+    if refused.cause == b"AfterDrain".as_slice() {
+        Hint::AfterDrain
+    } else if refused.cause == b"Window".as_slice() {
+        Hint::LinkWindow
+    } else if refused.cause == b"Hex".as_slice() {
+        last_word_hint(after_word(after_word(refused.text)))
+    } else if refused.cause != b"Number".as_slice() {
+        link_word_hint(refused.text, refused.is_first)
+    } else if refused.is_first {
+        Hint::LinkStart
+    } else {
+        Hint::LinkNumber
     }
 }

@@ -121,11 +121,11 @@ pub fn ends_with(last: u8, octets: &[u8]) -> bool
     0 < octets.len() && octets[octets.len() - 1] == last
 }
 
-/// Whether they are nothing but a line's end.
+/// Whether they are nothing but a line's end, or what is left of one without its last octet.
 pub fn is_line_end(octets: &[u8]) -> bool
     ensures { result ≡ is_line_end octets.now }
 {
-    octets == b"\n".as_slice() || octets == b"\r\n".as_slice()
+    octets == b"\n".as_slice() || octets == b"\r\n".as_slice() || octets == b"\r".as_slice()
 }
 
 /// Whether the first octet is a letter in upper case.
@@ -162,9 +162,12 @@ pub fn after_word(octets: &[u8]) -> &[u8]
     }
 }
 
-/// Whether a space stands at the end, or two after the first word.
+/// Whether a space stands at the end, or two after the first or the second word.
 pub fn has_empty_word(octets: &[u8]) -> bool
     ensures { result ≡ has_empty_word octets.now }
 {
-    ends_with(b' ', octets) || after_word(octets).starts_with(b" ".as_slice())
+    let words = after_word(octets);
+    ends_with(b' ', octets)
+        || words.starts_with(b" ".as_slice())
+        || after_word(words).starts_with(b" ".as_slice())
 }

@@ -15,6 +15,7 @@ mod hint;
 mod hinting;
 mod limit;
 mod looks;
+mod reads;
 mod refusal;
 mod remembering;
 mod slip;

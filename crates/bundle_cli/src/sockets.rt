@@ -110,9 +110,9 @@ fn joined(socket: &UdpSocket, peer: &str) -> io::Result<Ends> {
     Ok(Ends { own, peer })
 }
 
-/// Refuses port 0.
+/// Refuses port 0, with however many zeros.
 fn has_port<'w>(name: &'static str, address: &'w str) -> Result<(), Unusable<'w>> {
-    if address.as_bytes().ends_with(b":0".as_slice()) {
+    if address.ends_with('0') && address.trim_end_matches('0').ends_with(':') {
         return Err(Unusable {
             name,
             address,

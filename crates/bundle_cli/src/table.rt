@@ -25,7 +25,8 @@ pub const COMMANDS: &[CommandText] = &[
     CommandText {
         word: "receive",
         usage: "\
-fimdahol receive < DATAGRAMS      hands up the red parts of recorded LTP datagrams
+fimdahol receive [--keep-going] < DATAGRAMS
+                                    hands up the red parts of recorded LTP datagrams
 ",
         writes: "\
 receive reads one datagram in hex a line and writes
@@ -34,12 +35,14 @@ receive reads one datagram in hex a line and writes
   skip LINE                      where a segment is no red piece of service 1, or comes after
                                  its red part was handed up
   refused line LINE Hex          last, where a line is no hex
-  refused line LINE AT CAUSE     last, where a datagram is no segment, and where
+  refused line LINE AT CAUSE     last, where a datagram is no segment, and where; with
+                                 --keep-going the next line is read, and the status is 1 at
+                                 the end
 ",
         limits: "\
 receive  1000000 lines, 9000000 octets a line, 64 unfinished sessions
 ",
-        wants: "receive reads standard input: fimdahol receive < FILE",
+        wants: "receive reads standard input: fimdahol receive [--keep-going] < FILE",
         passes: "leaves more than 64 sessions unfinished",
     },
     CommandText {
@@ -59,7 +62,8 @@ and write
   NotFragment, TooLarge, TotalDiffers, Full    by join, of a bundle that isn't joined
   refused BUNDLE AT CAUSE        last, where a bundle isn't one, and where in the input
   refused BUNDLE CAUSE           last, by convert, cut and join, where a bundle can't be
-                                 translated, or by cut must not be cut
+                                 translated, or by cut must not be cut; with --keep-going
+                                 the next bundle is answered, and the status is 1 at the end
 ",
         limits: "",
         wants: "check reads standard input: fimdahol check < FILE",
@@ -68,41 +72,45 @@ and write
     CommandText {
         word: "show",
         usage: "\
-fimdahol show < BUNDLES           shows the values of each recorded bundle as JSON
+fimdahol show [--keep-going] < BUNDLES
+                                    shows the values of each recorded bundle as JSON
 ",
         writes: "",
         limits: "",
-        wants: "show reads standard input: fimdahol show < FILE",
+        wants: "show reads standard input: fimdahol show [--keep-going] < FILE",
         passes: "passes a limit",
     },
     CommandText {
         word: "convert",
         usage: "\
-fimdahol convert < BUNDLES        writes each recorded bundle in the other version
+fimdahol convert [--keep-going] < BUNDLES
+                                    writes each recorded bundle in the other version
 ",
         writes: "",
         limits: "",
-        wants: "convert reads standard input: fimdahol convert < FILE",
+        wants: "convert reads standard input: fimdahol convert [--keep-going] < FILE",
         passes: "passes a limit",
     },
     CommandText {
         word: "cut",
         usage: "\
-fimdahol cut SIZE < BUNDLES       cuts each recorded bundle into pieces
+fimdahol cut SIZE [--keep-going] < BUNDLES
+                                    cuts each recorded bundle into pieces
 ",
         writes: "",
         limits: "",
-        wants: "cut wants one number, from 1 to 4194304: fimdahol cut SIZE < FILE",
+        wants: "cut wants one number, from 1 to 4194304: fimdahol cut SIZE [--keep-going] < FILE",
         passes: "passes a limit",
     },
     CommandText {
         word: "join",
         usage: "\
-fimdahol join < BUNDLES           puts recorded pieces together
+fimdahol join [--keep-going] < BUNDLES
+                                    puts recorded pieces together
 ",
         writes: "",
         limits: "",
-        wants: "join reads standard input: fimdahol join < FILE",
+        wants: "join reads standard input: fimdahol join [--keep-going] < FILE",
         passes: "passes a limit",
     },
     CommandText {
@@ -126,6 +134,25 @@ node     1000000 lines, 9000000 octets a line, a clock of 4611686018427387903 ms
 ",
         wants: "node wants two different numbers, from 1 to 4294967295: \
             fimdahol node OWN PEER < EVENTS",
+        passes: "sets the clock past 4611686018427387903",
+    },
+    CommandText {
+        word: "record",
+        usage: "\
+fimdahol record OWN PEER < EVENTS
+                                    is the same end, and writes its exchange for audit
+",
+        writes: "\
+record reads what node reads, and writes what comes and what the engine sends:
+  in HEX                         a datagram came
+  out HEX                        a datagram is sent
+  refused line LINE CAUSE        last, where a line is no event
+",
+        limits: "\
+record   1000000 lines, 9000000 octets a line, a clock of 4611686018427387903 ms
+",
+        wants: "record wants two different numbers, from 1 to 4294967295: \
+            fimdahol record OWN PEER < EVENTS",
         passes: "sets the clock past 4611686018427387903",
     },
     CommandText {

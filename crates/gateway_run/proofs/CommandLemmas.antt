@@ -17,6 +17,10 @@ use Rattle.bundle_runs.proofs.LawLemmas.{earliest_decides}
 use Rattle.node_run.specs.Node.{node_rules, begins, node_party}
 use Rattle.node_run.specs.Node as node
 use Rattle.node_run.proofs.RunLemmas.{answers_lines}
+use Rattle.record_run.specs.Record.{record_rules}
+use Rattle.record_run.specs.Record as recording
+use Rattle.record_run.specs.Exchange.{AreEngines, WritesExchange}
+use Rattle.record_run.proofs.ExchangeLemmas.{writes_exchange}
 use Rattle.audit_run.specs.Audited.{audit_rules}
 use Rattle.audit_run.specs.Audited as audit
 use Rattle.node_run.specs.RedParts.{AnswersLines}
@@ -34,6 +38,8 @@ use Rattle.gateway_run.specs.declared.commands.command.Command.TheVariants as co
 use Rattle.gateway_run.specs.declared.commands.passed.Passed.{Passed}
 use Rattle.gateway_run.specs.Receive.{Limits, the_limits, receive_rules}
 use Rattle.gateway_run.specs.Receive as receive
+use Rattle.gateway_run.specs.KeepReceiving.{keep_receiving_rules, nothing_received}
+use Rattle.gateway_run.specs.KeepReceiving as keep_receiving
 use Rattle.gateway_run.specs.ReceiverLaw.{KeepsReceiverLaw}
 use Rattle.gateway_run.specs.Rules.{Rules, reads, writes, acts}
 use Rattle.gateway_run.specs.Commands.{keeps, rules_of, law_of}
@@ -47,9 +53,17 @@ use Rattle.gateway_run.proofs.TranscriptLemmas.{received-law}
 pub receive-front : (limits : Limits) (most : ℕ) → EarliestDecides (within most (receive.settles limits))
 receive-front limits most = within-front most (receive.settles limits) (lines_from-front (receive_rules limits) 1 [])
 
+keep_receiving-front : EarliestDecides (within most_input (keep_receiving.settles the_limits))
+keep_receiving-front =
+    within-front most_input (keep_receiving.settles the_limits) (lines_from-front (keep_receiving_rules the_limits) 1 nothing_received)
+
 node-front : (own peer : ℕ) → EarliestDecides (within most_input (node.settles own peer))
 node-front own peer =
     within-front most_input (node.settles own peer) (lines_from-front node_rules 1 (begins (node_party own peer)))
+
+record-front : (own peer : ℕ) → EarliestDecides (within most_input (recording.settles own peer))
+record-front own peer =
+    within-front most_input (recording.settles own peer) (lines_from-front record_rules 1 (begins (node_party own peer)))
 
 audit-front : (own peer : ℕ) → EarliestDecides (within most_input (audit.settles own peer))
 audit-front own peer =
@@ -63,8 +77,10 @@ world-front = within-front most_input world.settles (lines_from-front world_rule
 
 pub command-front : (command : Command) → DecidesEarliest (rules_of command)
 command-front commands.Receive = λ ends taken more octets. receive-front the_limits most_input ends taken more
+command-front commands.KeepReceiving = λ ends taken more octets. keep_receiving-front ends taken more
 command-front (commands.Bundles command) = earliest_decides command
 command-front (commands.Node own peer) = λ ends taken more octets. node-front own peer ends taken more
+command-front (commands.Record own peer) = λ ends taken more octets. record-front own peer ends taken more
 command-front (commands.Audit own peer) = λ ends taken more octets. audit-front own peer ends taken more
 command-front commands.Link = λ ends taken more octets. link-front ends taken more
 command-front commands.World = λ ends taken more octets. world-front ends taken more
@@ -151,6 +167,15 @@ node-keeps own peer status left before now input =
     (λ text ending. AnswersLines (node_party own peer) most_input input text) answered.status answered.is answered.law
     status left before now
 
+record-keeps : (own peer : ℕ) (status : Status) (left before now : Option (List ℕ)) (input : List ℕ)
+    → Wrote (within most_input (recording.settles own peer)) status input left before now
+    → IsLawful (law_of (commands.Record own peer) input) status before now
+record-keeps own peer status left before now input =
+    let written = writes_exchange own peer most_input input in
+    lawful (within most_input (recording.settles own peer)) (record-front own peer) input
+    (λ text ending. AreEngines own peer → WritesExchange own peer text) written.status written.is written.law
+    status left before now
+
 world-keeps : WorldsKeepHeadline → (status : Status) (left before now : Option (List ℕ)) (input : List ℕ)
     → Wrote (within most_input world.settles) status input left before now → IsLawful (law_of commands.World input) status before now
 world-keeps headline status left before now input =
@@ -162,9 +187,12 @@ command-keeps : {S K L C : Type 0} → WorldsKeepHeadline → (command : Command
     → RanBy (rules_of command) status before now → KeepsLaw (Some command) status before now
 command-keeps headline commands.Receive status before now ran =
     on-told before.reads.left _ _ (receive-keeps status now.reads.left before.writes.held now.writes.held) ran.ran.wrote
+command-keeps headline commands.KeepReceiving status before now ran = nothing-told before.reads.left
 command-keeps headline (commands.Bundles command) status before now ran = nothing-told before.reads.left
 command-keeps headline (commands.Node own peer) status before now ran =
     on-told before.reads.left _ _ (node-keeps own peer status now.reads.left before.writes.held now.writes.held) ran.ran.wrote
+command-keeps headline (commands.Record own peer) status before now ran =
+    on-told before.reads.left _ _ (record-keeps own peer status now.reads.left before.writes.held now.writes.held) ran.ran.wrote
 command-keeps headline (commands.Audit own peer) status before now ran = nothing-told before.reads.left
 command-keeps headline commands.Link status before now ran = nothing-told before.reads.left
 command-keeps headline commands.World status before now ran =

@@ -9,3 +9,4 @@ pub mod SessionsLemmas
 pub mod WordLemmas
 pub mod CommandLemmas
 pub mod HexLemmas
+pub mod KeepReceivingLemmas

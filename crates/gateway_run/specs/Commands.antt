@@ -6,12 +6,15 @@ use Rattle.edge_traits.specs.Content.{most_input}
 use Rattle.edge_traits.specs.declared.status.Status.{Status}
 use Rattle.command_frame.specs.Within.{within}
 use Rattle.replay_script.specs.Events.{gate_of, number_in}
-use Rattle.bundle_runs.specs.declared.commands.command.Command.TheVariants.{Check, Show, Convert, Cut, Join}
+use Rattle.bundle_runs.specs.declared.commands.command.Command.TheVariants.{Check, Show, Convert, Cut, Join, KeepConverting, KeepCutting, KeepJoining}
+use Rattle.bundle_runs.specs.declared.commands.command.Command as bundle_commands
 use Rattle.bundle_runs.specs.Answering as bundles
 use Rattle.node_run.specs.Node.{node_party}
 use Rattle.node_run.specs.Node as node
 use Rattle.node_run.specs.RedParts.{AnswersLines}
 use Rattle.audit_run.specs.Audited as audit
+use Rattle.record_run.specs.Record as recording
+use Rattle.record_run.specs.Exchange.{AreEngines, WritesExchange}
 use Rattle.link_run.specs.Link as link
 use Rattle.world_run.specs.World as world
 use Rattle.world_run.specs.Headline.{KeepsHeadline}
@@ -21,6 +24,7 @@ use Rattle.gateway_run.specs.declared.commands.command.Command.{Command}
 use Rattle.gateway_run.specs.declared.commands.command.Command.TheVariants as commands
 use Rattle.gateway_run.specs.Receive as receive
 use Rattle.gateway_run.specs.Receive.{the_limits}
+use Rattle.gateway_run.specs.KeepReceiving as keep_receiving
 use Rattle.gateway_run.specs.ReceiverLaw.{KeepsReceiverLaw}
 use Rattle.gateway_run.specs.Rules.{Rules, reads, writes, acts}
 
@@ -41,13 +45,29 @@ one_word word =
     else if is_word word (codes "world") then Some commands.World
     else None
 
+-- The commands on bundles go on after a bundle that they refuse where this is the last word. `show` refuses
+-- none.
+abbrev pub is_keep_going : List ℕ → Bool
+is_keep_going word = is_word word (codes "--keep-going")
+
+abbrev pub keeping_of : List ℕ → Option Command
+keeping_of word =
+    if is_word word (codes "receive") then Some commands.KeepReceiving
+    else if is_word word (codes "show") then Some (commands.Bundles Show)
+    else if is_word word (codes "convert") then Some (commands.Bundles KeepConverting)
+    else if is_word word (codes "join") then Some (commands.Bundles KeepJoining)
+    else None
+
 -- the sizes of the pieces of `cut` are from 1 to 4,194,304
-abbrev pub pieces_of : Option ℕ → Option Command
-pieces_of None = None
-pieces_of (Some size) = Some (commands.Bundles (Cut size))
+abbrev pub pieces_of : (ℕ → bundle_commands.Command) → Option ℕ → Option Command
+pieces_of cut None = None
+pieces_of cut (Some size) = Some (commands.Bundles (cut size))
 
 abbrev pub cut_of : (size : List ℕ) → Option Command
-cut_of size = pieces_of (number_in 1 4194304 size)
+cut_of size = pieces_of Cut (number_in 1 4194304 size)
+
+abbrev pub keep_cutting_of : (size last : List ℕ) → Option Command
+keep_cutting_of size last = if is_keep_going last then pieces_of KeepCutting (number_in 1 4194304 size) else None
 
 -- the ends of the link of `node` have two different numbers, from 1 to 4,294,967,295
 abbrev pub two_ends : Option ℕ → Option ℕ → Option Command
@@ -58,7 +78,16 @@ two_ends (Some own) (Some peer) = if own == peer then None else Some (commands.N
 abbrev pub node_of : (own peer : List ℕ) → Option Command
 node_of own peer = two_ends (number_in 1 4294967295 own) (number_in 1 4294967295 peer)
 
--- so have the engines whose exchange `audit` judges
+-- so have those of `record`, which is one end of a link too
+abbrev pub two_recorded : Option ℕ → Option ℕ → Option Command
+two_recorded None peer = None
+two_recorded (Some own) None = None
+two_recorded (Some own) (Some peer) = if own == peer then None else Some (commands.Record own peer)
+
+abbrev pub record_of : (own peer : List ℕ) → Option Command
+record_of own peer = two_recorded (number_in 1 4294967295 own) (number_in 1 4294967295 peer)
+
+-- and the engines whose exchange `audit` judges
 abbrev pub two_engines : Option ℕ → Option ℕ → Option Command
 two_engines None peer = None
 two_engines (Some own) None = None
@@ -92,12 +121,17 @@ serve_of gate old_bind old_peer new_bind new_peer count =
     then gate_and_count (gate_of gate) (number_in 1 1000000000 count) else None
 
 -- the commands of two words, of three and of seven
-abbrev pub two_words : (word size : List ℕ) → Option Command
-two_words word size = if is_word word (codes "cut") then cut_of size else None
+abbrev pub two_words : (word second : List ℕ) → Option Command
+two_words word second =
+    if is_keep_going second then keeping_of word
+    else if is_word word (codes "cut") then cut_of second
+    else None
 
 abbrev pub three_words : (word second third : List ℕ) → Option Command
 three_words word second third =
-    if is_word word (codes "node") then node_of second third
+    if is_word word (codes "cut") then keep_cutting_of second third
+    else if is_word word (codes "node") then node_of second third
+    else if is_word word (codes "record") then record_of second third
     else if is_word word (codes "audit") then audit_of second third
     else if is_word word (codes "make") then make_of second third
     else None
@@ -122,8 +156,10 @@ command_of (word ∷ a ∷ b ∷ c ∷ d ∷ e ∷ f ∷ more ∷ words) = None
 
 abbrev pub rules_of : Command → Rules
 rules_of commands.Receive = reads (within most_input (receive.settles the_limits))
+rules_of commands.KeepReceiving = reads (within most_input (keep_receiving.settles the_limits))
 rules_of (commands.Bundles command) = reads (bundles.settles command)
 rules_of (commands.Node own peer) = reads (within most_input (node.settles own peer))
+rules_of (commands.Record own peer) = reads (within most_input (recording.settles own peer))
 rules_of (commands.Audit own peer) = reads (within most_input (audit.settles own peer))
 rules_of commands.Link = reads (within most_input link.settles)
 rules_of commands.World = reads (within most_input world.settles)
@@ -139,15 +175,19 @@ pub data Law : Type 1 where
   keeps : (List ℕ → Status → Type 0) → Law
 
 -- Of `receive` the receiver's law. Of `node` that the events which its first lines say are
--- answered; that their red parts keep the receiver's law is a law of `node_run`. Of `world` that
+-- answered; that their red parts keep the receiver's law is a law of `node_run`. Of `record` that
+-- its lines are those of a recording in which no entry that went out breaks a rule. Of `world` that
 -- the events of its script are answered, and those of a drain; that its `up` lines are blocks that
 -- came whole, as they were sent, and once; and that a drain from a path that is hopeful and has
 -- room completes the sessions.
 abbrev pub law_of : Command → List ℕ → Law
 law_of commands.Receive input = keeps (KeepsReceiverLaw the_limits most_input input)
+law_of commands.KeepReceiving input = no_law
 law_of (commands.Bundles command) input = no_law
 law_of (commands.Node own peer) input =
     keeps (λ text ending. AnswersLines (node_party own peer) most_input input text)
+law_of (commands.Record own peer) input =
+    keeps (λ text ending. AreEngines own peer → WritesExchange own peer text)
 law_of (commands.Audit own peer) input = no_law
 law_of commands.Link input = no_law
 law_of commands.World input = keeps (KeepsHeadline most_input input)
@@ -159,8 +199,10 @@ law_of (commands.Serve gate count) input = no_law
 -- what the words leave of the ranges of numbers, and of a name
 abbrev pub IsSound : Command → Type 0
 IsSound commands.Receive = Unit {0}
+IsSound commands.KeepReceiving = Unit {0}
 IsSound (commands.Bundles command) = Unit {0}
 IsSound (commands.Node own peer) = own ≢ peer
+IsSound (commands.Record own peer) = own ≢ peer
 IsSound (commands.Audit own peer) = own ≢ peer
 IsSound commands.Link = Unit {0}
 IsSound commands.World = Unit {0}

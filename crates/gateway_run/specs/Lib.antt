@@ -11,6 +11,7 @@ pub mod WrittenLines
 pub mod Receive
 pub mod RedPart
 pub mod ReceiverLaw
+pub mod KeepReceiving
 -- what only ties code to these
 pub mod Views
 pub mod OpenPart

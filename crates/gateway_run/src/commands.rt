@@ -2,6 +2,7 @@
 
 pub mod command;
 pub mod gate_name;
+pub mod keep_receiving;
 pub mod lines;
 pub mod passed;
 pub mod receive;

@@ -6,6 +6,7 @@ ghost use Rattle.gateway_run.specs.ReceiverLaw.{IsFrontOfBlock};
 ghost use Rattle.edge_traits.specs.Settled.{EarliestDecides};
 ghost use Rattle.command_frame.specs.Within.{within};
 ghost use Rattle.gateway_run.specs.Receive.{Limits, settles};
+ghost use Rattle.gateway_run.specs.KeepReceiving.{SameUnlessRefused};
 ghost use Rattle.gateway_run.specs.Commands.{rules_of};
 ghost use Rattle.gateway_run.specs.Runs.{DecidesEarliest};
 ghost use Rattle.gateway_run.specs.declared.commands.command.Command.{Command};
@@ -22,4 +23,9 @@ pub fn red_part_is_front_of_block()
 pub fn earliest_place_decides()
     ensures receive { (limits : Limits) (most : ℕ) → EarliestDecides (within most (settles limits)) }
     ensures commands { (command : Command) → DecidesEarliest (rules_of command) }
+{}
+
+/// Where `receive` refuses no line, it answers the same with `--keep-going`.
+pub fn keep_receiving_changes_refusals_alone()
+    ensures { (limits : Limits) (most : ℕ) (input : List ℕ) → SameUnlessRefused limits most input }
 {}

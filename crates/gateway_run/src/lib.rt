@@ -25,4 +25,6 @@ mod written_lines;
 pub use commands::passed::{Ended, Passed};
 pub use commands::run::{run, run_told};
 pub use commands::word::Word;
-pub use laws::{earliest_place_decides, red_part_is_front_of_block};
+pub use laws::{
+    earliest_place_decides, keep_receiving_changes_refusals_alone, red_part_is_front_of_block,
+};

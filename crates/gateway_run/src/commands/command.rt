@@ -2,9 +2,10 @@
 ghost use Rattle.std.specs.Prelude.{◌≡◌, Some, IfSome};
 ghost use Rattle.gateway_run.specs.Edge.{edge_of};
 ghost use Rattle.gateway_run.specs.Runs.{RanNamed, NamesLimit};
-ghost use Rattle.gateway_run.specs.Commands.{command_of, one_word, three_words, cut_of, node_of, audit_of, make_of, serve_of, is_address, IsSound};
+ghost use Rattle.gateway_run.specs.Commands.{command_of, one_word, two_words, three_words, keeping_of, cut_of, keep_cutting_of, node_of, record_of, audit_of, make_of, serve_of, is_address, IsSound};
 
 use crate::commands::gate_name::GateName;
+use crate::commands::keep_receiving::KeepReceiving;
 use crate::commands::lines::{run_lines, run_part_lines};
 use crate::commands::passed::{Ended, Passed, ended_with};
 use crate::commands::receive::Receive;
@@ -15,6 +16,7 @@ use bundle_runs::bundles;
 use edge_traits::{Clock, Link, Sink, Source};
 use make_run::make;
 use node_run::Node;
+use record_run::RecordLines;
 use replay_script::number_in;
 use std::alloc::Global;
 use world_run::World;
@@ -24,10 +26,14 @@ use world_run::World;
 pub enum Command<'w> {
     /// `receive`: hands up the red parts of recorded datagrams.
     Receive,
+    /// `receive --keep-going`: the same, and goes on after a line that it refuses.
+    KeepReceiving,
     /// `check`, `show`, `convert`, `cut SIZE` and `join`: what is said of recorded bundles.
     Bundles(bundle_runs::Command),
     /// `node OWN PEER`: one end of a link, by the numbers of its engine and of its peer's.
     Node { own: u64, peer: u64 },
+    /// `record OWN PEER`: one end of a link, whose exchange is recorded.
+    Record { own: u64, peer: u64 },
     /// `audit OWN PEER`: a recorded exchange of an engine with its peer, judged by rules.
     Audit { own: u64, peer: u64 },
     /// `link`: a script on one link, which may be open at times alone.
@@ -63,7 +69,7 @@ pub fn command_named(words: &[Word]) -> Option<Command<'_>>
 {
     match words {
         [word] => one_word(word.octets()),
-        [word, size] if word.octets() == b"cut".as_slice() => cut_named(size.octets()),
+        [word, second] => two_words(word.octets(), second.octets()),
         [word, a, b] => three_words(word.octets(), a.octets(), b.octets()),
         [word, gate, old_bind, old_peer, new_bind, new_peer, count]
             if word.octets() == b"serve".as_slice() => serve_named(
@@ -96,11 +102,15 @@ pub fn run_command<S: Source, K: Sink, L: Link, C: Clock>(
 {
     match command {
         Command::Receive => run_lines(alloc, Receive::new(alloc), source, sink),
+        Command::KeepReceiving => run_lines(alloc, KeepReceiving::new(alloc), source, sink),
         Command::Bundles(command) => {
             ended_with(bundles(alloc, *command, source, sink), Passed::Size)
         }
         Command::Node { own, peer } => {
             run_lines(alloc, Node::new(alloc, *own, *peer), source, sink)
+        }
+        Command::Record { own, peer } => {
+            run_lines(alloc, RecordLines::new(alloc, *own, *peer), source, sink)
         }
         Command::Audit { own, peer } => {
             run_lines(alloc, AuditLines::new(alloc, *own, *peer), source, sink)
@@ -133,13 +143,45 @@ fn one_word<'w>(word: &[u8]) -> Option<Command<'w>>
     }
 }
 
+/// The command of two words.
+fn two_words<'w>(word: &[u8], second: &[u8]) -> Option<Command<'w>>
+    ensures exact { result ≡ two_words word.now second.now }
+    ensures sound { IfSome result IsSound }
+{
+    match word {
+        _ if second == b"--keep-going".as_slice() => keeping_named(word),
+        _ if word == b"cut".as_slice() => cut_named(second),
+        _ => None,
+    }
+}
+
+/// The command that keeps going. `show` refuses no bundle.
+fn keeping_named<'w>(word: &[u8]) -> Option<Command<'w>>
+    ensures exact { result ≡ keeping_of word.now }
+    ensures sound { IfSome result IsSound }
+{
+    match word {
+        _ if word == b"receive".as_slice() => Some(Command::KeepReceiving),
+        _ if word == b"show".as_slice() => Some(Command::Bundles(bundle_runs::Command::Show)),
+        _ if word == b"convert".as_slice() => {
+            Some(Command::Bundles(bundle_runs::Command::KeepConverting))
+        }
+        _ if word == b"join".as_slice() => {
+            Some(Command::Bundles(bundle_runs::Command::KeepJoining))
+        }
+        _ => None,
+    }
+}
+
 /// The command of three words.
 fn three_words<'w>(word: &[u8], a: &[u8], b: &[u8]) -> Option<Command<'w>>
     ensures exact { result ≡ three_words word.now a.now b.now }
     ensures sound { IfSome result IsSound }
 {
     match word {
+        _ if word == b"cut".as_slice() => keep_cutting_named(a, b),
         _ if word == b"node".as_slice() => node_named(a, b),
+        _ if word == b"record".as_slice() => record_named(a, b),
         _ if word == b"audit".as_slice() => audit_named(a, b),
         _ if word == b"make".as_slice() => make_named(a, b),
         _ => None,
@@ -155,6 +197,18 @@ fn cut_named<'w>(size: &[u8]) -> Option<Command<'w>>
     Some(Command::Bundles(bundle_runs::Command::Cut(size)))
 }
 
+/// The pieces of this size, where the last word is that the run keeps going.
+fn keep_cutting_named<'w>(size: &[u8], last: &[u8]) -> Option<Command<'w>>
+    ensures exact { result ≡ keep_cutting_of size.now last.now }
+    ensures sound { IfSome result IsSound }
+{
+    if last != b"--keep-going".as_slice() {
+        return None;
+    }
+    let size = number_in(1, MOST_SIZE, size)?;
+    Some(Command::Bundles(bundle_runs::Command::KeepCutting(size)))
+}
+
 /// The end of a link that has these numbers: they are different.
 fn node_named<'w>(own: &[u8], peer: &[u8]) -> Option<Command<'w>>
     ensures exact { result ≡ node_of own.now peer.now }
@@ -166,6 +220,19 @@ fn node_named<'w>(own: &[u8], peer: &[u8]) -> Option<Command<'w>>
         return None;
     }
     Some(Command::Node { own, peer })
+}
+
+/// The end of a link, recorded, that has these numbers: they are different.
+fn record_named<'w>(own: &[u8], peer: &[u8]) -> Option<Command<'w>>
+    ensures exact { result ≡ record_of own.now peer.now }
+    ensures sound { IfSome result IsSound }
+{
+    let own = number_in(1, MOST_NUMBER, own)?;
+    let peer = number_in(1, MOST_NUMBER, peer)?;
+    if own == peer {
+        return None;
+    }
+    Some(Command::Record { own, peer })
 }
 
 /// The exchange of an engine of the first number with one of the second: they are different.

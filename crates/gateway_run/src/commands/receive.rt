@@ -46,6 +46,23 @@ impl Receive {
             sessions: no_sessions(alloc),
         }
     }
+
+    /// Answers line `number`, which is within the limits. One that ends the run leaves what is kept
+    /// as it was.
+    pub fn answer(
+        &mut self,
+        number: u64,
+        line: &[u8],
+        text: &mut String,
+    ) -> Result<Option<Status>, AllocError>
+        ensures status { IfOk result (λ ends. IfSome ends IsStop) }
+        ensures turn { (kept : List Kept) → ShowsFew self.old.sessions kept
+            → IfOk result (TurnsAs (ShowsFew self.new.sessions) (content_turn the_limits number kept (content_of_line line.now))
+            (string_bytes text.old) (string_bytes text.new)) }
+        ensures left { IfOk result (λ ends. IfSome ends (λ status. self.new ≡ self.old)) }
+    {
+        answer_content(self.alloc, number, line, &mut self.sessions, text)
+    }
 }
 
 impl LineStep for Receive {
@@ -71,7 +88,7 @@ impl LineStep for Receive {
         line: &[u8],
         text: &mut String,
     ) -> Result<Option<Status>, AllocError> {
-        answer_content(self.alloc, number, line, &mut self.sessions, text)
+        self.answer(number, line, text)
     }
 
     fn finish(&mut self, _text: &mut String) -> Result<Status, AllocError> {
@@ -92,6 +109,7 @@ fn answer_content(
     ensures turn { (kept : List Kept) → ShowsFew sessions.old kept
         → IfOk result (TurnsAs (ShowsFew sessions.new) (content_turn the_limits number kept (content_of_line line.now))
         (string_bytes text.old) (string_bytes text.new)) }
+    ensures left { IfOk result (λ ends. IfSome ends (λ status. sessions.new ≡ sessions.old)) }
 {
     if !is_hex(line) {
         write_no_hex(text, number)?;
@@ -116,6 +134,7 @@ fn answer_datagram(
         (string_bytes text.old) (string_bytes text.new)) }
     ensures memory { (kept : List Kept) → ShowsFew sessions.old kept
         → OnErr result (WantsMemory (content_turn the_limits number kept (segment_content (segment_of datagram.now)))) }
+    ensures left { IfOk result (λ ends. IfSome ends (λ status. sessions.new ≡ sessions.old)) }
 {
     match content_of(datagram) {
         LineContent::NoSegment(fault) => {
@@ -144,6 +163,7 @@ fn answer_piece(
         (string_bytes text.old) (string_bytes text.new)) }
     ensures memory { (kept : List Kept) → ShowsFew sessions.old kept
         → OnErr result (WantsMemory (content_turn the_limits number kept (red (red_piece piece.now)))) }
+    ensures left { IfOk result (λ ends. IfSome ends (λ status. sessions.new ≡ sessions.old)) }
 {
     if is_one_too_many(sessions, piece, MOST_SESSIONS) {
         return Ok(Some(Status::Limit));

@@ -64,11 +64,12 @@ pub fn run_told<S: Source, K: Sink, L: Link, C: Clock>(
 
     // `receive` hands up exactly the red parts that become whole, and ends where a line is refused
     // or a limit is passed. `node` answers the events that its lines say, whose red parts keep the
-    // same law (`node_run::laws`). `world` answers the events of its script, and each of its `up`
-    // lines is a block that came whole, as it was sent, and once: at either end a piece of what
-    // becomes of one bundle that the other end sent, or a report on one that it sent itself. From a
-    // path that is hopeful and has room a last line `drain` completes the sessions, in no more
-    // events than they cost.
+    // same law (`node_run::laws`). `record` writes a recording in which no datagram that went out
+    // breaks a rule of an exchange (`record_run::laws`). `world` answers the events of its script,
+    // and each of its `up` lines is a block that came whole, as it was sent, and once: at either
+    // end a piece of what becomes of one bundle that the other end sent, or a report on one that it
+    // sent itself. From a path that is hopeful and has room a last line `drain` completes the
+    // sessions, in no more events than they cost.
     ensures keeps_law { KeepsLaw (command_of words.now) result.status
         (edge_of S.Source K.Sink L.Link C.Clock source.old sink.old old_link.old new_link.old clock.old)
         (edge_of S.Source K.Sink L.Link C.Clock source.new sink.new old_link.new new_link.new clock.new) }

@@ -3,7 +3,7 @@ each row.
 
 A run takes half a second beside the program's own time, so there are as many `rt try` side by side
 as processors and memory allow, each with its share of the rows. What such a run can't be given, or
-can't answer, is told with its reason: it is for the built program alone.
+can't answer in seconds, is told with its reason: it is for the built program alone.
 """
 import os
 import re
@@ -19,7 +19,8 @@ MOST_SIDE_BY_SIDE = 4
 MEMORY = 2_500_000_000     # of one `rt try`, most of it while the program is compiled
 SECONDS = 300              # of one run: beside other work some take more than a minute
 MOST_OUTPUT = 1 << 20
-MOST_LINES = 100_000       # of input: a million take a minute of processor time
+MOST_INPUT = 1 << 20       # 8 MiB take half a minute of processor time
+BULK = "another program"   # rows so named are a fifth of all, and tell of no rule of their own
 ENDED = re.compile(rb"case=(\w+) run=ended status=(\d+) ")
 CASE = re.compile(rb"case=(\w+) ")
 
@@ -32,8 +33,10 @@ def reason(row):
         return f"standard output goes to {row.sink}"
     if len(row.wanted()) > MOST_OUTPUT:
         return "the answer is longer than 1 MiB"
-    if row.given().count(b"\n") > MOST_LINES:
-        return "the input has more than 100,000 lines"
+    if len(row.given()) > MOST_INPUT:
+        return "the input is longer than 1 MiB"
+    if row.name.startswith(BULK):
+        return "they are bulk, made by another program"
     if any(b"\n" in word or word == b"{}" for word in row.words):
         return "a word stands on no line"
     return None

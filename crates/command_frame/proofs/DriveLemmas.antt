@@ -18,7 +18,7 @@ use Rattle.command_frame.proofs.WithinLemmas.{within-low, within-text, within-no
 
 -- ---- by the input
 
-on_input : (P : List ℕ → Type 0) (left now : Option (List ℕ)) (taken cut : List ℕ) → Consumes left now (taken ++ cut)
+pub on_input : (P : List ℕ → Type 0) (left now : Option (List ℕ)) (taken cut : List ℕ) → Consumes left now (taken ++ cut)
     → ((rest : List ℕ) → P (taken ++ (cut ++ rest))) → IfSome left P
 on_input P None now taken cut read all = tt
 on_input P (Some input) None taken cut read all = absurd read
@@ -26,7 +26,7 @@ on_input P (Some input) (Some rest) taken cut read all =
     let same : input ≡ taken ++ (cut ++ rest) = read ∙ append_assoc taken cut rest in
     rw same (all rest)
 
-on_end : (P : List ℕ → Type 0) (left now : Option (List ℕ)) (taken : List ℕ) → Consumes left now taken → IsAtEnd now → P taken → IfSome left P
+pub on_end : (P : List ℕ → Type 0) (left now : Option (List ℕ)) (taken : List ℕ) → Consumes left now taken → IsAtEnd now → P taken → IfSome left P
 on_end P None now taken read ends all = tt
 on_end P (Some input) None taken read ends all = absurd read
 on_end P (Some input) (Some rest) taken read ends all =

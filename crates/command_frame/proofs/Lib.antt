@@ -4,4 +4,6 @@ pub mod HandingLemmas
 pub mod DriveLemmas
 pub mod LinesLemmas
 pub mod PartLinesLemmas
+pub mod LimitsLemmas
+pub mod LimitsRunLemmas
 pub mod FrontLemmas

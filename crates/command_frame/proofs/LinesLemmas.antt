@@ -117,11 +117,11 @@ module _ {S : Type 0} (rules : LineRules S) where
   unfolding lines_from lines_settle
   lines-last n state first some plain = rw (append-nil first, open-some first some plain) refl
 
-  inside-line : (n : ℕ) (line : List ℕ) → 0 < length line → opens_past rules n line ≡ false
+  pub inside-line : (n : ℕ) (line : List ℕ) → 0 < length line → opens_past rules n line ≡ false
       → (nat_lt rules.lines n || nat_lt rules.octets (length line)) ≡ false
   inside-line n line some inside = grind (arith, nat_tests)
 
-  fresh-inside : (n : ℕ) → opens_past rules n [] ≡ false
+  pub fresh-inside : (n : ℕ) → opens_past rules n [] ≡ false
   fresh-inside n = grind (arith, nat_tests)
 
   -- ---- the reader of lines

@@ -20,7 +20,7 @@ unfolding within
 within-long most settles ends octets long = rw (lt-ltb most (length octets) long) refl
 
 -- the first octets of an input that goes on, where those that came are within them
-front-past : (most : ℕ) (came more : List ℕ) → length came ≤ most → take most (came ++ more) ≡ came ++ take (most - length came) more
+pub front-past : (most : ℕ) (came more : List ℕ) → length came ≤ most → take most (came ++ more) ≡ came ++ take (most - length came) more
 front-past most came more low =
     let same : most ≡ length came + (most - length came) = omega (arith, low) in
     ap (λ (n : ℕ). take n (came ++ more)) same ∙ take-append-add came more (most - length came)

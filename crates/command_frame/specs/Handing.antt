@@ -6,7 +6,9 @@ use Rattle.edge_traits.specs.Content.{Gains, GainsFront}
 use Rattle.edge_traits.specs.Faults.{NoneFailed, LastFailed}
 use Rattle.edge_traits.specs.Outcome.{SinkTells, EndsAs}
 use Rattle.edge_traits.specs.Settled.{at_end}
+use Rattle.command_frame.specs.declared.line_passed.LinePassed.{LinePassed}
 use Rattle.command_frame.specs.Task.{Settling, GoesOnTo, Takes}
+use Rattle.command_frame.specs.Limits.{Limiting, HasPassed, LeadsOn}
 
 -- ---- the text that is due
 
@@ -75,3 +77,16 @@ HandedEnd Began settles before now statuses.Memory =
     Began × GainsFront before.held now.held (settles at_end []).text × NoneFailed before.calls now.calls
 HandedEnd Began settles before now statuses.Usage = ⊥
 HandedEnd Began settles before now statuses.ReadFault = ⊥
+
+-- ---- the limits on lines
+
+-- the octets of a piece pass no limit, or this one where they end the run with a limit
+abbrev pub HandedWithin : (Limiting → Type 0) → Option LinePassed → Limiting → List ℕ → Option Status → Type 0
+HandedWithin Awaits passed limits piece None = LeadsOn Awaits passed limits piece
+HandedWithin Awaits passed limits piece (Some statuses.Limit) = HasPassed limits piece passed
+HandedWithin Awaits passed limits piece (Some statuses.Done) = Unit {0}
+HandedWithin Awaits passed limits piece (Some statuses.Refused) = Unit {0}
+HandedWithin Awaits passed limits piece (Some statuses.Usage) = Unit {0}
+HandedWithin Awaits passed limits piece (Some statuses.ReadFault) = Unit {0}
+HandedWithin Awaits passed limits piece (Some statuses.WriteFault) = Unit {0}
+HandedWithin Awaits passed limits piece (Some statuses.Memory) = Unit {0}

@@ -1,12 +1,14 @@
 -- A command that hands on in parts the text that its octets settle.
-use Rattle.std.specs.Prelude.{◌≡◌, ℕ, ◌<◌, ◌≤◌, List, [], ◌++◌, length, take, Bool, true, false, None, Some}
+use Rattle.std.specs.Prelude.{◌≡◌, ℕ, ◌<◌, ◌≤◌, List, [], ◌++◌, length, take, Bool, true, false, Option, None, Some}
 use Rattle.command_frame.specs.declared.part_task.Taken.{Taken}
 use Rattle.command_frame.specs.declared.part_task.Taken.TheVariants.{All, Due, Ends}
 use Rattle.command_frame.specs.declared.turned.Turned.{Turned}
 use Rattle.command_frame.specs.declared.turned.Turned.TheVariants as turned
 use Rattle.edge_traits.specs.Settled.{at_end, put_before}
 use Rattle.command_frame.specs.Stops.{IsStop}
+use Rattle.command_frame.specs.declared.line_passed.LinePassed.{LinePassed}
 use Rattle.command_frame.specs.Task.{Settling, Takes, Finishes}
+use Rattle.command_frame.specs.Limits.{Limiting, HasPassed, LeadsOn, EndsWithin}
 
 -- how a task stands: this text is due, and after it the octets still to come settle that
 abbrev pub Owing : Type 1
@@ -81,3 +83,22 @@ abbrev pub BeganBefore : Type 0 → Type 0 → Turned → Type 0
 BeganBefore Before Now turned.Passes = Now → Before
 BeganBefore Before Now turned.Owes = Before
 BeganBefore Before Now (turned.Ends status) = Unit {0}
+
+-- ---- the limits on lines
+
+-- how a task stands to them: this text is due, and the octets still to come pass these
+abbrev pub Awaiting : Type 1
+Awaiting = List ℕ → Limiting → Type 0
+
+-- the octets of a piece that were taken pass no limit, or this one where they end the run
+abbrev pub TakesWithin : Awaiting → Option LinePassed → Limiting → List ℕ → Taken → Type 0
+TakesWithin Awaits passed limits piece All = LeadsOn (Awaits []) passed limits piece
+TakesWithin Awaits passed limits piece (Due used) =
+    (due : List ℕ) × LeadsOn (Awaits due) passed limits (take used piece)
+TakesWithin Awaits passed limits piece (Ends status) = HasPassed limits piece passed
+
+-- the input ended, and with it octets that were kept: they pass no limit, or this one
+abbrev pub LastWithin : Awaiting → Option LinePassed → Limiting → Turned → Type 0
+LastWithin Awaits passed limits turned.Passes = EndsWithin (Awaits []) limits
+LastWithin Awaits passed limits turned.Owes = (due : List ℕ) × EndsWithin (Awaits due) limits
+LastWithin Awaits passed limits (turned.Ends status) = limits at_end [] ≡ passed

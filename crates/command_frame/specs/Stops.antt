@@ -1,4 +1,4 @@
--- How octets end a run before the input ends.
+-- How a run ends before its input ends.
 use Rattle.edge_traits.specs.declared.status.Status.{Status}
 use Rattle.edge_traits.specs.declared.status.Status.TheVariants as statuses
 
@@ -11,3 +11,13 @@ IsStop statuses.Usage = ⊥
 IsStop statuses.ReadFault = ⊥
 IsStop statuses.WriteFault = ⊥
 IsStop statuses.Memory = ⊥
+
+-- a run ends so where a write failed, or for want of memory
+abbrev pub IsFailure : Status → Type 0
+IsFailure statuses.WriteFault = Unit {0}
+IsFailure statuses.Memory = Unit {0}
+IsFailure statuses.Done = ⊥
+IsFailure statuses.Refused = ⊥
+IsFailure statuses.Usage = ⊥
+IsFailure statuses.ReadFault = ⊥
+IsFailure statuses.Limit = ⊥

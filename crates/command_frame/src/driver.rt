@@ -1,11 +1,14 @@
 //! The loop that every command runs in which reads, and the one of a command that writes each answer whole.
-ghost use Rattle.std.specs.Prelude.{◌≡◌, ℕ, List, [], None};
+ghost use Rattle.std.specs.Prelude.{◌≡◌, ℕ, List, [], Option, None, IfSome};
 ghost use Rattle.std.specs.String.{string_bytes};
 ghost use Rattle.edge_traits.specs.Content.{most_input};
 ghost use Rattle.edge_traits.specs.Outcome.{Ran, IsAnswer, source_tells, sink_tells};
+ghost use Rattle.edge_traits.specs.Settled.{at_end};
+ghost use Rattle.command_frame.specs.declared.line_passed.LinePassed.{LinePassed};
 ghost use Rattle.command_frame.specs.Task.{Settling, IsQuiet, WritesOfNothing, Finishes};
 ghost use Rattle.command_frame.specs.Within.{within};
-ghost use Rattle.command_frame.specs.Handing.{Handed, HandedEnd};
+ghost use Rattle.command_frame.specs.Limits.{Limiting, IsWithin, limits_within};
+ghost use Rattle.command_frame.specs.Handing.{Handed, HandedEnd, HandedWithin};
 
 use crate::task::Task;
 use edge_traits::{Failed, MOST_INPUT, Sink, Source, Status, read_once, write_all};
@@ -41,6 +44,12 @@ pub(crate) trait Hands<T> {
     // The task may be told octets.
     ghost Ready: { T → Type 0 };
 
+    // The octets still to come pass these limits on lines, and no text is due.
+    ghost Awaits: { T → Limiting → Type 0 };
+
+    // The limit on lines that ended the run.
+    ghost passed: { T → Option LinePassed };
+
     /// Writes all that the octets of a piece settle: how the run ends, where they settle that too or
     /// something failed.
     fn hand<K: Sink>(task: &mut T, piece: &[u8], text: &mut String, sink: &mut K) -> Option<Status>
@@ -48,13 +57,17 @@ pub(crate) trait Hands<T> {
         ensures ready { result ≡ None → Ready task.new }
         ensures handed { (settles : Settling) → Stands task.old settles → IsQuiet settles
             → Handed (Stands task.new) settles piece.now
-            (sink_tells K.held K.faults K.failing sink.old) (sink_tells K.held K.faults K.failing sink.new) result };
+            (sink_tells K.held K.faults K.failing sink.old) (sink_tells K.held K.faults K.failing sink.new) result }
+        ensures within { (limits : Limiting) → IsWithin (Awaits task.old) (passed task.old) limits
+            → HandedWithin (Awaits task.new) (passed task.new) limits piece.now result };
 
     /// Writes all that the end of the input settles: how the run ends.
     fn close<K: Sink>(task: &mut T, text: &mut String, sink: &mut K) -> Status
         requires { Ready task.old }
-        ensures { (settles : Settling) → Stands task.old settles → HandedEnd (Began task.old) settles
-            (sink_tells K.held K.faults K.failing sink.old) (sink_tells K.held K.faults K.failing sink.new) result };
+        ensures ended { (settles : Settling) → Stands task.old settles → HandedEnd (Began task.old) settles
+            (sink_tells K.held K.faults K.failing sink.old) (sink_tells K.held K.faults K.failing sink.new) result }
+        ensures within { (limits : Limiting) → Awaits task.old limits → result ≡ Status.Limit
+            → limits at_end [] ≡ passed task.new };
 }
 
 /// Runs a task of a kind that was told nothing yet.
@@ -66,9 +79,11 @@ pub(crate) fn drive_by<H: Hands<T>, T, S: Source, K: Sink>(
 ) -> Status
     requires ready { H.Ready task.old }
     requires fresh { (settles : Settling) → H.Stands task.old settles → H.Began task.old → WritesOfNothing settles }
-    ensures { (settles : Settling) → H.Stands task.old settles → IsQuiet settles → Ran (within most_input settles) result
+    ensures ran { (settles : Settling) → H.Stands task.old settles → IsQuiet settles → Ran (within most_input settles) result
         (source_tells S.left S.faults S.failing source.old) (source_tells S.left S.faults S.failing source.new)
         (sink_tells K.held K.faults K.failing sink.old) (sink_tells K.held K.faults K.failing sink.new) }
+    ensures passed { (limits : Limiting) → IsWithin (H.Awaits task.old) (H.passed task.old) limits → result ≡ Status.Limit
+        → IfSome (S.left source.old) (λ input. limits_within most_input limits input ≡ H.passed task.new) }
 {
     let mut text = String::new(alloc);
     let mut buffer = [0u8; BUFFER];
@@ -100,6 +115,10 @@ impl<T: Task> Hands<T> for Whole {
     ghost Began = { λ t. T.Began t };
 
     ghost Ready = { λ t. Unit {0} };
+
+    ghost Awaits = { λ t limits. ⊥ };
+
+    ghost passed = { λ t. None };
 
     fn hand<K: Sink>(
         task: &mut T,

@@ -12,17 +12,19 @@
 //! both run the one loop (`drive_by`), which leaves to the kind of task what is done with a piece and with
 //! the end.
 //!
-//! A command that answers line by line gives a `LineStep`, which answers one line. `LineReader` is
-//! the task over it: it holds the numbers of lines, the limits on them, and the last line's end. A
-//! `PartLineStep` may leave the text of a line to be told in parts, and `PartLineReader` is the part task
-//! over it, on which `LineReader` stands.
+//! A command that answers line by line gives a `LineStep`, which answers one line, or a
+//! `PartLineStep`, which may leave the text of a line to be told in parts; `AtOnce` makes the first
+//! the second. `PartLineReader` is the part task over it: it holds the numbers of lines, the limits
+//! on them, and the last line's end. `drive_lines` runs it, and answers which limit was passed.
 #![tactic(auto)]
 
+mod at_once;
 mod driver;
 mod input_lines;
 mod laws;
+mod line_driver;
+mod line_passed;
 mod line_step;
-mod lines;
 mod part_driver;
 mod part_line_step;
 mod part_lines;
@@ -30,13 +32,15 @@ mod part_task;
 mod task;
 mod turned;
 
+pub use at_once::AtOnce;
 pub use driver::drive;
 pub use laws::{earliest_place_decides_by_lines, earliest_place_decides_within};
+pub use line_driver::{LinesEnded, drive_lines};
+pub use line_passed::LinePassed;
 pub use line_step::LineStep;
-pub use lines::LineReader;
 pub use part_driver::drive_parts;
 pub use part_line_step::PartLineStep;
-pub use part_lines::{LinePassed, PartLineReader};
+pub use part_lines::PartLineReader;
 pub use part_task::{PartTask, Taken};
 pub use task::Task;
 pub use turned::Turned;

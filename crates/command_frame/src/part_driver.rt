@@ -1,10 +1,13 @@
 //! The loop of a command that hands on its text in parts.
-ghost use Rattle.std.specs.Prelude.{◌≡◌, ◌<◌, ℕ, List, [], None};
+ghost use Rattle.std.specs.Prelude.{◌≡◌, ◌<◌, ℕ, List, [], None, Some, IfSome};
 ghost use Rattle.edge_traits.specs.Content.{most_input};
 ghost use Rattle.edge_traits.specs.Outcome.{Ran, source_tells, sink_tells};
+ghost use Rattle.command_frame.specs.Stops.{IsFailure};
 ghost use Rattle.command_frame.specs.Task.{Settling, IsQuiet, WritesOfNothing};
+ghost use Rattle.edge_traits.specs.Settled.{at_end};
 ghost use Rattle.command_frame.specs.Within.{within};
-ghost use Rattle.command_frame.specs.Handing.{Told, Handed, HandedEnd};
+ghost use Rattle.command_frame.specs.Limits.{Limiting, IsWithin, limits_within};
+ghost use Rattle.command_frame.specs.Handing.{Told, Handed, HandedEnd, HandedWithin};
 
 use crate::driver::{Hands, drive_by, write_last};
 use crate::part_task::{PartTask, Taken};
@@ -23,9 +26,13 @@ pub fn drive_parts<T: PartTask, S: Source, K: Sink>(
 ) -> Status
     requires none_due { T.parts task.old ≡ 0 }
     requires fresh { (settles : Settling) → T.Stands task.old [] settles → T.Began task.old → WritesOfNothing settles }
-    ensures { (settles : Settling) → T.Stands task.old [] settles → IsQuiet settles → Ran (within most_input settles) result
+    ensures ran { (settles : Settling) → T.Stands task.old [] settles → IsQuiet settles → Ran (within most_input settles) result
         (source_tells S.left S.faults S.failing source.old) (source_tells S.left S.faults S.failing source.new)
         (sink_tells K.held K.faults K.failing sink.old) (sink_tells K.held K.faults K.failing sink.new) }
+    // Where the run ended with a limit, the task has the one on lines that the input passes; where it
+    // passes none, it is too long.
+    ensures passed { (limits : Limiting) → IsWithin (T.Awaits task.old []) (T.passed task.old) limits → result ≡ Status.Limit
+        → IfSome (S.left source.old) (λ input. limits_within most_input limits input ≡ T.passed task.new) }
 {
     drive_by::<Parts, T, S, K>(alloc, task, source, sink)
 }
@@ -39,6 +46,10 @@ impl<T: PartTask> Hands<T> for Parts {
     ghost Began = { λ t. T.Began t };
 
     ghost Ready = { λ t. T.parts t ≡ 0 };
+
+    ghost Awaits = { λ t. T.Awaits t [] };
+
+    ghost passed = { T.passed };
 
     fn hand<K: Sink>(
         task: &mut T,
@@ -71,8 +82,10 @@ impl<T: PartTask> Hands<T> for Parts {
 /// Writes what the end of the input settles, where nothing is kept that is told in parts.
 fn end_whole<T: PartTask, K: Sink>(task: &mut T, text: &mut String, sink: &mut K) -> Status
     requires { T.parts task.old ≡ 0 }
-    ensures { (settles : Settling) → T.Stands task.old [] settles → HandedEnd (T.Began task.old) settles
+    ensures ended { (settles : Settling) → T.Stands task.old [] settles → HandedEnd (T.Began task.old) settles
         (sink_tells K.held K.faults K.failing sink.old) (sink_tells K.held K.faults K.failing sink.new) result }
+    ensures within { (limits : Limiting) → T.Awaits task.old [] limits → result ≡ Status.Limit
+        → limits at_end [] ≡ T.passed task.new }
 {
     text.clear();
     match task.end(text) {
@@ -94,6 +107,8 @@ fn hand_on<T: PartTask, K: Sink>(
     ensures handed { (settles : Settling) → T.Stands task.old [] settles → IsQuiet settles
         → Handed (T.Stands task.new []) settles piece.now
         (sink_tells K.held K.faults K.failing sink.old) (sink_tells K.held K.faults K.failing sink.new) result }
+    ensures within { (limits : Limiting) → IsWithin (T.Awaits task.old []) (T.passed task.old) limits
+        → HandedWithin (T.Awaits task.new []) (T.passed task.new) limits piece.now result }
 {
     let mut left = piece;
     'pieces: while !left.is_empty() {
@@ -123,6 +138,10 @@ fn tell_all<T: PartTask, K: Sink>(task: &mut T, text: &mut String, sink: &mut K)
     ensures told { (due : List ℕ) (settles : Settling) → T.Stands task.old due settles
         → Told (T.Stands task.new [] settles) due
         (sink_tells K.held K.faults K.failing sink.old) (sink_tells K.held K.faults K.failing sink.new) result }
+    ensures within { (due : List ℕ) (limits : Limiting) → T.Awaits task.old due limits
+        → result ≡ None → T.Awaits task.new [] limits }
+    ensures kept { T.passed task.new ≡ T.passed task.old }
+    ensures fault { IfSome result IsFailure }
 {
     let mut more = true;
     'telling: while more {

@@ -1,14 +1,16 @@
 //! Lines that are answered as they come: their numbers, and the limits on them.
-ghost use Rattle.std.specs.Prelude.{◌≡◌, ◌^◌, false, ◌<◌, ◌++◌, ◌∷◌, ◌+◌, ◌||◌, ◌⊎◌, nat_lt, List, ℕ, [], IfOk, OnErr, OnOk, length};
+ghost use Rattle.std.specs.Prelude.{◌≡◌, ◌^◌, false, ◌<◌, ◌++◌, ◌∷◌, ◌+◌, ◌||◌, ◌⊎◌, nat_lt, List, ℕ, [], None, Some, IfOk, OnErr, OnOk, length};
 ghost use Rattle.std.specs.String.{string_bytes};
 ghost use Rattle.edge_traits.specs.Outcome.{IsAnswer};
 ghost use Rattle.command_frame.specs.InputLines.{ended_part};
 ghost use Rattle.command_frame.specs.Task.{Settling, WritesOfNothing, Feeds};
 ghost use Rattle.command_frame.specs.Lines.{InLine, by_lines};
-ghost use Rattle.command_frame.specs.PartTask.{LeavesTurn, TakesLast};
-ghost use Rattle.command_frame.specs.PartLines.{FeedsLine};
+ghost use Rattle.command_frame.specs.Limits.{Limiting, IsWithin, past_limit, limits_by_lines, turned_limit, InLimits};
+ghost use Rattle.command_frame.specs.PartTask.{LeavesTurn, TakesLast, LastWithin};
+ghost use Rattle.command_frame.specs.PartLines.{FeedsLine, FeedsWithin, KeepsWithin};
 
 use crate::input_lines::cut_line;
+use crate::line_passed::LinePassed;
 use crate::part_line_step::PartLineStep;
 use crate::part_task::{PartTask, Taken};
 use crate::turned::Turned;
@@ -23,19 +25,7 @@ pub struct PartLineReader<L: PartLineStep + Drop> {
     step: L,
     number: u64,
     rest: Vec<u8>,
-    stopped: bool,
-    asked: u64,
-}
-
-/// Which limit on lines ended a run.
-#[derive(Clone, Copy, Debug, PartialEq, Eq, Drop)]
-pub enum LinePassed {
-    /// There are more lines than may be.
-    Lines,
-    /// This line is longer than one may be.
-    Length { line: u64 },
-    /// This line passes a limit of the command itself.
-    Own { line: u64 },
+    passed: Option<LinePassed>,
 }
 
 impl<L: PartLineStep + Drop> PartLineReader<L> {
@@ -44,6 +34,9 @@ impl<L: PartLineStep + Drop> PartLineReader<L> {
         ensures stands { (start : L.State) → L.Shows step [] start
             → ⟦<PartLineReader<L> as PartTask>⟧.Stands result [] (by_lines L.rules start) }
         ensures none_due { ⟦<PartLineReader<L> as PartTask>⟧.parts result ≡ L.parts step }
+        ensures within { (start : L.State) → L.Shows step [] start
+            → IsWithin (⟦<PartLineReader<L> as PartTask>⟧.Awaits result []) (⟦<PartLineReader<L> as PartTask>⟧.passed result)
+            (limits_by_lines L.rules start) }
         ensures fresh { ((state : L.State) → L.Shows step [] state → L.Began step → 0 < length (L.rules.finish state).text)
             → (settles : Settling) → ⟦<PartLineReader<L> as PartTask>⟧.Stands result [] settles
             → ⟦<PartLineReader<L> as PartTask>⟧.Began result → WritesOfNothing settles }
@@ -52,24 +45,15 @@ impl<L: PartLineStep + Drop> PartLineReader<L> {
             step,
             number: 1,
             rest: Vec::new(alloc),
-            stopped: false,
-            asked: 0,
+            passed: None,
         }
     }
 
-    /// Which limit on lines ended the run, where one did. It is for a person to read, and no clause
-    /// says more of it.
-    pub fn passed(&self) -> Option<LinePassed> {
-        if !self.stopped {
-            return None;
-        }
-        if self.asked > 0 {
-            return Some(LinePassed::Own { line: self.asked });
-        }
-        if self.number > u64::from(self.step.most_lines()) {
-            return Some(LinePassed::Lines);
-        }
-        Some(LinePassed::Length { line: self.number })
+    /// The limit on lines that ended the run, where one did.
+    pub fn passed(&self) -> Option<LinePassed>
+        ensures { result ≡ ⟦<PartLineReader<L> as PartTask>⟧.passed self.now }
+    {
+        self.passed
     }
 }
 
@@ -79,6 +63,10 @@ impl<L: PartLineStep + Drop> PartTask for PartLineReader<L> {
     ghost Began = { λ r. (0 < length r.rest.items) ⊎ L.Began r.step };
 
     ghost parts = { λ r. L.parts r.step };
+
+    ghost Awaits = { λ r due. InLimits L.rules (L.Shows r.step due) r.number r.rest.items r.passed };
+
+    ghost passed = { λ r. r.passed };
 
     fn take(&mut self, piece: &[u8], text: &mut String) -> Result<Taken, AllocError> {
         let mut left = piece;
@@ -135,6 +123,8 @@ fn end_line<L: PartLineStep + Drop>(
     ensures leaves { IfOk result (LeavesTurn (L.parts reader.new.step)) }
     ensures fed { (settles : Settling) → ⟦<PartLineReader<L> as PartTask>⟧.Stands reader.old [] settles → IfOk result
         (FeedsLine (⟦<PartLineReader<L> as PartTask>⟧.Stands reader.new) settles (last.now ++ 10 ∷ []) (string_bytes text.old) (string_bytes text.new)) }
+    ensures within { (limits : Limiting) → ⟦<PartLineReader<L> as PartTask>⟧.Awaits reader.old [] limits → IfOk result
+        (FeedsWithin (⟦<PartLineReader<L> as PartTask>⟧.Awaits reader.new) reader.new.passed limits (last.now ++ 10 ∷ [])) }
 {
     if is_past(reader, last.len()) {
         return Ok(Turned::Ends(stop_past(reader)));
@@ -143,8 +133,7 @@ fn end_line<L: PartLineStep + Drop>(
     let turned = reader
         .step
         .line(reader.number, reader.rest.as_slice(), text)?;
-    reader.asked = reader.number;
-    reader.stopped = ends_run(turned);
+    reader.passed = turned_limit(reader.number, turned);
     reader.rest.clear();
     reader.number += 1;
     Ok(turned)
@@ -161,20 +150,23 @@ fn last_line<L: PartLineStep + Drop>(
     ensures leaves { IfOk result (LeavesTurn (L.parts reader.new.step)) }
     ensures ended { (settles : Settling) → ⟦<PartLineReader<L> as PartTask>⟧.Stands reader.old [] settles → IfOk result
         (TakesLast (⟦<PartLineReader<L> as PartTask>⟧.Stands reader.new) settles (string_bytes text.old) (string_bytes text.new)) }
+    ensures within { (limits : Limiting) → ⟦<PartLineReader<L> as PartTask>⟧.Awaits reader.old [] limits → IfOk result
+        (LastWithin (⟦<PartLineReader<L> as PartTask>⟧.Awaits reader.new) reader.new.passed limits) }
 {
     let number = reader.number;
     let turned = reader.step.line(number, reader.rest.as_slice(), text)?;
-    reader.asked = number;
-    reader.stopped = ends_run(turned);
+    reader.passed = turned_limit(number, turned);
     reader.rest.clear();
     Ok(turned)
 }
 
-/// Whether the run ends with a line.
-fn ends_run(turned: Turned) -> bool {
+/// The limit of the command's own that line `number` passed, where that ended the run.
+fn turned_limit(number: u64, turned: Turned) -> Option<LinePassed>
+    ensures { result ≡ turned_limit number turned }
+{
     match turned {
-        Turned::Ends(_) => true,
-        Turned::Passes | Turned::Owes => false,
+        Turned::Ends(Status::Limit) => Some(LinePassed::Own { line: number }),
+        _ => None,
     }
 }
 
@@ -188,6 +180,8 @@ fn keep<L: PartLineStep + Drop>(
     ensures step { reader.new.step ≡ reader.old.step }
     ensures fed { (settles : Settling) (text : List ℕ) → ⟦<PartLineReader<L> as PartTask>⟧.Stands reader.old [] settles → IfOk result
         (Feeds (⟦<PartLineReader<L> as PartTask>⟧.Stands reader.new []) settles octets.now text text) }
+    ensures within { (limits : Limiting) → ⟦<PartLineReader<L> as PartTask>⟧.Awaits reader.old [] limits → IfOk result
+        (KeepsWithin (⟦<PartLineReader<L> as PartTask>⟧.Awaits reader.new []) reader.new.passed limits octets.now) }
 {
     if is_past(reader, octets.len()) {
         return Ok(Some(stop_past(reader)));
@@ -196,14 +190,26 @@ fn keep<L: PartLineStep + Drop>(
     Ok(None)
 }
 
-/// The line that is kept passes a limit: the run ends, and nothing else is changed.
+/// The line that is kept passes a limit: the run ends, and which limit it was is all that is changed.
 fn stop_past<L: PartLineStep + Drop>(reader: &mut PartLineReader<L>) -> Status
     ensures limit { result ≡ Status.Limit }
     ensures step { reader.new.step ≡ reader.old.step }
+    ensures passed { reader.new.passed ≡ past_limit L.rules reader.old.number }
 {
-    reader.asked = 0;
-    reader.stopped = true;
+    reader.passed = Some(past_limit(reader));
     Status::Limit
+}
+
+/// The limit of a line that is one too many or too long.
+fn past_limit<L: PartLineStep + Drop>(reader: &PartLineReader<L>) -> LinePassed
+    ensures { Some result ≡ past_limit L.rules reader.now.number }
+{
+    match reader.number > u64::from(reader.step.most_lines()) {
+        true => LinePassed::Lines,
+        false => LinePassed::Length {
+            line: reader.number,
+        },
+    }
 }
 
 /// Whether the line that is kept passes a limit with so many octets more.

@@ -1,5 +1,5 @@
 use Rattle.command_frame.proofs.HandingLemmas.{closed-memory}
 use Rattle.command_frame.proofs.part_driver.end_whole.Goals as goal
 
-pub returns-in-Err : goal.returns-in-Err
-returns-in-Err g c = λ settles stands. closed-memory _ settles _ c.in-Err.ensures.memory
+pub returns-in-Err-clause-ended : goal.returns-in-Err-clause-ended
+returns-in-Err-clause-ended g c = λ settles stands. closed-memory _ settles _ c.in-Err.ensures.memory

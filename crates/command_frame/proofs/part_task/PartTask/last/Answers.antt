@@ -11,3 +11,6 @@ returns-clause-ended g c = λ settles stands. record {
   stands = stands;
   ends = refl;
 }
+
+pub returns-clause-within : goal.returns-clause-within
+returns-clause-within g c = λ limits awaits. record { later = limits; awaits = awaits; ends = refl }

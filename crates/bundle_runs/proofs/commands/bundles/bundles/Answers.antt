@@ -12,7 +12,7 @@ returns-in-Check g c = rw c.in-Check.is (record {
 
 pub returns-in-Show : goal.returns-in-Show
 returns-in-Show g c = rw c.in-Show.is (record {
-  ran = c.drive_parts.ensures (settles_from Show false [] 1 0) c.new-reader-in-Show.ensures.stands (settles-none Show false [] 1 0 goes_on);
+  ran = c.drive_parts.ensures.ran (settles_from Show false [] 1 0) c.new-reader-in-Show.ensures.stands (settles-none Show false [] 1 0 goes_on);
 })
 
 pub returns-in_default : goal.returns-in_default

@@ -1,40 +1,31 @@
 -- What a word says, judged without memory.
 
-use Rattle.std.proofs.Common.{◌≡◌, ℕ, ◌%◌, Bool, true, false, ◌&&◌, List, length, drop, Option, None, Some, is_some, Result, Ok, Err, refl, arith, codes, nat_le}
+use Rattle.std.proofs.Common.{◌≡◌, ℕ, Bool, true, false, ◌&&◌, List, length, drop, Option, None, Some, is_some, is_ok, Result, Ok, Err, refl, codes, nat_le}
 use Rattle.std.specs.List.{list_all}
 use Rattle.std.specs.Str.{bytes_eq}
-use Rattle.std.proofs.lemmas.List.Sums.{AllPass-from_list_all, list_all-from_AllPass}
-use Rattle.hex.specs.Hex.{decode_of, is_hex_digit}
+use Rattle.hex.specs.Hex.{decode_of}
 use Rattle.hex.specs.declared.FromHexError.{FromHexError}
-use Rattle.hex.proofs.HexLemmas.{decode_of-ok, decode_of-digits, decode_of-odd}
 use Rattle.endpoint.specs.declared.fault.EndpointFault.TheVariants as causes
 use Rattle.std.specs.Option.{ok_or}
 use Rattle.endpoint.specs.Endpoints.{begins, is_ssp, is_visible}
 use Rattle.endpoint.specs.Numeral.{pair_of}
 use Rattle.endpoint.specs.Reading.{read_text, dtn_named, ipn_named}
-use Rattle.replay_script.specs.Events.{gate_of, hex_of, other_than_null}
+use Rattle.replay_script.specs.Events.{gate_of, hex_of, octets_in, other_than_null}
 use Rattle.replay_script.specs.Ties.{is_gate_text}
 
 -- ---- hex
 
-pub even-hex : (text : List ℕ) → length text % 2 ≡ 0 → list_all is_hex_digit text ≡ is_some (hex_of text)
+pub hex-is : (text : List ℕ) → is_ok (decode_of text) ≡ is_some (hex_of text)
 unfolding hex_of
-even-hex text even = by_test (list_all is_hex_digit text) refl
+hex-is text = by_result (decode_of text)
   where
-    by_result : (r : Result (List ℕ) FromHexError) → decode_of text ≡ r → list_all is_hex_digit text ≡ false → false ≡ is_some (hex_of text)
-    by_result (Ok bytes) is bad =
-        let good : list_all is_hex_digit text ≡ true = list_all-from_AllPass is_hex_digit text (decode_of-ok text bytes is).1 in cc
-    by_result (Err e) is bad = rw is refl
+    by_result : (r : Result (List ℕ) FromHexError) → is_ok r ≡ is_some (octets_in r)
+    by_result (Ok octets) = refl
+    by_result (Err fault) = refl
 
-    by_test : (b : Bool) → list_all is_hex_digit text ≡ b → b ≡ is_some (hex_of text)
-    by_test true all =
-        let (bytes, is) = decode_of-digits text even (AllPass-from_list_all is_hex_digit text all) in
-        rw is refl
-    by_test false bad = by_result (decode_of text) refl bad
-
-pub odd-hex : (text : List ℕ) → (length text % 2 ≡ 0 → ⊥) → false ≡ is_some (hex_of text)
+pub hex-octets : (text octets : List ℕ) → decode_of text ≡ Ok octets → hex_of text ≡ Some octets
 unfolding hex_of
-odd-hex text odd = rw (decode_of-odd text (omega arith)) refl
+hex-octets text octets is = rw is refl
 
 -- ---- a gate's name
 

@@ -1,8 +1,6 @@
 -- The words of a line, one after another.
 
-use Rattle.std.proofs.Common.{◌≡◌, ℕ, List, [], ◌∷◌, ◌++◌, codes, Option, None, Some, refl, sym, ap, ◌∙◌, append_assoc}
-use Rattle.std.proofs.lemmas.List.{append-nil}
-use Rattle.hex.specs.Hex.{encode_lower}
+use Rattle.std.proofs.Common.{◌≡◌, ℕ, List, [], ◌∷◌, ◌++◌, codes, Option, refl, sym, ap, ◌∙◌, append_assoc}
 use Rattle.replay_script.specs.declared.line.Line.{Line}
 use Rattle.replay_script.specs.declared.line.Line.TheVariants as lines
 use Rattle.replay_script.specs.Words.{after_spaces, spaced}
@@ -59,47 +57,6 @@ begins (lines.Out datagram) = record { first = codes "out"; rest = _; is = refl 
 begins (lines.Green session offset last body) = record { first = codes "green"; rest = _; is = refl }
 begins (lines.LinkNote old send) = record { first = codes "note"; rest = _; is = refl }
 begins (lines.RefusedLine line at cause) = record { first = codes "refused"; rest = _; is = refl }
-
-spaced-more : (words : List (List ℕ)) (word : List ℕ) → Begins words → spaced (words ++ word ∷ []) ≡ (spaced words ++ codes " ") ++ word
-spaced-more words word b =
-    ap (λ ws. spaced (ws ++ word ∷ [])) b.is
-    ∙ (ap (λ t. b.first ++ t) (after_spaces-append b.rest (word ∷ [])
-    ∙ ap (λ t. after_spaces b.rest ++ (32 ∷ t)) (append-nil word))
-    ∙ (sym (append_assoc b.first (after_spaces b.rest) (32 ∷ word))
-    ∙ (ap (λ ws. spaced ws ++ (32 ∷ word)) (sym b.is)
-    ∙ sym (append_assoc (spaced words) (codes " ") word))))
-
-pub line-octets : (line : Line) (octets : List ℕ) → Some octets ≡ octets_of line
-    → (spaced (head_of line) ++ codes " ") ++ (encode_lower octets ++ codes "\n") ≡ line_text line
-unfolding line_text
-line-octets line octets is =
-    rw (sym is)
-    (sym (append_assoc (spaced (head_of line) ++ codes " ") (encode_lower octets) (codes "\n"))
-    ∙ ap (λ t. t ++ codes "\n") (sym (spaced-more (head_of line) (encode_lower octets) (begins line))))
-
-pub line-words : (line : Line) → None ≡ octets_of line → spaced (head_of line) ++ codes "\n" ≡ line_text line
-unfolding line_text
-line-words line is = rw (sym is) (ap (λ ws. spaced ws ++ codes "\n") (sym (append-nil (head_of line))))
-
--- ---- a line as it is written
-
-pub octets-written : (line : Line) (octets out now head digits empty text more : List ℕ) → Some octets ≡ octets_of line
-    → empty ≡ [] → text ≡ empty ++ spaced (head_of line) → more ≡ text ++ codes " " → head ≡ more → digits ≡ encode_lower octets
-    → now ≡ out ++ (head ++ (digits ++ codes "\n")) → now ≡ out ++ line_text line
-octets-written line octets out now head digits empty text more is none words space same hex all =
-    let written : head ≡ spaced (head_of line) ++ codes " " =
-    same ∙ (space ∙ ap (λ t. t ++ codes " ") (words ∙ ap (λ t. t ++ spaced (head_of line)) none)) in
-    all
-    ∙ ap (λ t. out ++ t) (ap (λ h. h ++ (digits ++ codes "\n")) written
-    ∙ (ap (λ d. (spaced (head_of line) ++ codes " ") ++ (d ++ codes "\n")) hex ∙ line-octets line octets is))
-
-pub words-written : (line : Line) (out now head digits empty text : List ℕ) → None ≡ octets_of line
-    → empty ≡ [] → text ≡ empty ++ spaced (head_of line) → head ≡ text → digits ≡ []
-    → now ≡ out ++ (head ++ (digits ++ codes "\n")) → now ≡ out ++ line_text line
-words-written line out now head digits empty text is none words same nothing all =
-    let written : head ≡ spaced (head_of line) = same ∙ (words ∙ ap (λ t. t ++ spaced (head_of line)) none) in
-    all
-    ∙ ap (λ t. out ++ t) (ap (λ d. head ++ (d ++ codes "\n")) nothing ∙ (ap (λ h. h ++ codes "\n") written ∙ line-words line is))
 
 -- ---- a line as it is pushed to a text
 

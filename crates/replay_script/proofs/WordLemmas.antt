@@ -1,6 +1,6 @@
 -- The words of a line, cut at its first space.
 
-use Rattle.std.proofs.Common.{ap, ◌∙◌, ◌≡◌, ℕ, ◌+◌, Bool, true, false, List, [], ◌∷◌, ◌++◌, length, take, drop, ltb, None, Some, refl, arith}
+use Rattle.std.proofs.Common.{ap, ◌∙◌, ◌≡◌, ℕ, ◌+◌, Bool, true, false, List, [], ◌∷◌, ◌++◌, length, take, drop, ltb, Option, None, Some, refl, arith}
 use Rattle.std.proofs.lemmas.Bool.{ltb-true, ltb-false}
 use Rattle.std.proofs.lemmas.List.{append-nil}
 use Rattle.std.proofs.lemmas.List.Elements.{All-head, All-tail}
@@ -31,6 +31,20 @@ words-none text is = by (ltb (position_or_len is_space text) (length text)) refl
     by false past =
         let all = ltb-false (position_or_len is_space text) (length text) past in
         slice_split_none is_space text (λ k d low. fails_before_first is_space text k d (omega (arith, all, low)))
+
+-- there is always a first word
+pub record HasFirst (words : List (List ℕ)) : Type 0 where
+  pub first : List ℕ
+  pub rest : List (List ℕ)
+  pub is : words ≡ first ∷ rest
+
+pub words-any : (text : List ℕ) → HasFirst (words_of text)
+words-any text = by_space (position is_space text) refl
+  where
+    by_space : (o : Option ℕ) → position is_space text ≡ o → HasFirst (words_of text)
+    by_space None is = record { first = text; rest = []; is = words-none text is }
+    by_space (Some at) is =
+        record { first = take at text; rest = words_of (drop (at + 1) text); is = words-some text at is }
 
 -- ---- the laws
 

@@ -1,14 +1,17 @@
 -- What the lines of a script for two engines on a link say: which event, or why a line says none. The
 -- refusals are tested in the order of `LineFault`.
 
-use Rattle.std.specs.Prelude.{ℕ, Bool, true, false, List, [], ◌∷◌, codes, Option, None, Some, Result}
-use Rattle.std.specs.Prelude.{Ok, Err, if◌then◌else◌}
+use Rattle.std.specs.Prelude.{ℕ, Bool, true, false, nat_lt, List, [], ◌∷◌, length, drop, codes}
+use Rattle.std.specs.Prelude.{Option, None, Some, Result, Ok, Err, if◌then◌else◌}
+use Rattle.endpoint.specs.Endpoints.{begins}
 use Rattle.endpoint.specs.Numeral.{number_of}
 use Rattle.replay_script.specs.declared.fault.LineFault.{LineFault}
 use Rattle.replay_script.specs.declared.fault.LineFault.TheVariants as faults
 use Rattle.replay_script.specs.declared.link.LinkEvent.{LinkEvent}
 use Rattle.replay_script.specs.declared.link.LinkEvent.TheVariants as events
 use Rattle.replay_script.specs.declared.link.LinkNumbers.{LinkNumbers}
+use Rattle.replay_script.specs.declared.picks.PickWord.{PickWord}
+use Rattle.replay_script.specs.declared.picks.PickWord.TheVariants as picks
 use Rattle.replay_script.specs.Events.{begins_with, hex_of, joined, number_in, number_line, or_fault}
 use Rattle.replay_script.specs.Words.{is_word, words_of}
 
@@ -88,10 +91,38 @@ link_send_line words =
     or_fault (link_send_words words) faults.Word (λ send.
     or_fault (hex_of send.1) faults.Hex (λ body. Ok (events.Send send.0 body)))
 
--- no word after the first
+-- ---- drain
+
+-- a datagram that comes once more, by its number
+abbrev pub old_pick : List ℕ → Option PickWord
+old_pick word =
+    if begins (codes "o") word then joined (number_of (drop 1 word)) (λ k. Some (picks.Old k))
+    else None
+
+-- what comes next in a drain: the oldest new datagram of the first end, that of the second, or an
+-- old one
+abbrev pub pick_of : List ℕ → Option PickWord
+pick_of word =
+    if is_word word (codes "f") then Some picks.First
+    else if is_word word (codes "s") then Some picks.Second
+    else old_pick word
+
+-- the picks of words that are all such
+unfoldable pub picks_of : List (List ℕ) → Option (List PickWord)
+picks_of [] = Some []
+picks_of (word ∷ words) =
+    joined (pick_of word) (λ pick. joined (picks_of words) (λ picks. Some (pick ∷ picks)))
+
+-- picks, at most 100,000; how many there are is looked at first
+abbrev pub picks_line : List (List ℕ) → Result LinkEvent LineFault
+picks_line words =
+    if nat_lt 100000 (length words) then Err faults.Word
+    else or_fault (picks_of words) faults.Number (λ picks. Ok (events.DrainBy picks))
+
+-- the words of a line `drain`, after the first: none, or picks
 abbrev pub link_drain_line : List (List ℕ) → Result LinkEvent LineFault
 link_drain_line [] = Ok events.Drain
-link_drain_line (word ∷ words) = Err faults.Word
+link_drain_line (word ∷ words) = picks_line (word ∷ words)
 
 -- ---- a line
 

@@ -10,7 +10,8 @@ use Rattle.replay_script.specs.declared.link.LinkTexts.{LinkTexts}
 use Rattle.replay_script.specs.declared.link_judging.LinkSaid.{LinkSaid}
 use Rattle.replay_script.specs.declared.link_judging.LinkSaid.TheVariants as said
 use Rattle.replay_script.specs.Events.{hex_of, or_fault}
-use Rattle.replay_script.specs.LinkEvents.{LinkWords, link_event}
+use Rattle.replay_script.specs.LinkEvents.{LinkWords, link_event, picks_of}
+use Rattle.replay_script.specs.Words.{words_of}
 
 abbrev pub link_value : LinkTexts → LinkWords
 link_value t = record {
@@ -30,6 +31,8 @@ link_event_in (said.Send first hex) =
 link_event_in (said.Deliver k) = Ok (events.Deliver k)
 link_event_in (said.Clock now) = Ok (events.Clock now)
 link_event_in said.Drain = Ok events.Drain
+link_event_in (said.DrainBy picks) =
+    or_fault (picks_of (words_of picks.now)) faults.Number (λ p. Ok (events.DrainBy p))
 
 -- the same of a line that may be refused
 abbrev pub link_seen : Result LinkSaid LineFault → Result LinkEvent LineFault

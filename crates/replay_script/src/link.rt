@@ -12,12 +12,13 @@ use crate::hexadecimal::octets_in;
 use crate::link_judging::{LinkSaid, judge_link};
 use crate::numeral::{number, number_in};
 use crate::path::{LEAST_SEGMENT, LIMIT, MOST_SEGMENT, WAIT};
+use crate::picks::{PickWords, picks_in};
 use crate::words::Words;
 use endpoint::Octets;
 use std::alloc::Global;
 
 /// A line of a script for two engines on a link, which may be open in windows alone.
-#[derive(Debug, Drop, PartialEq, Eq)]
+#[derive(Debug, Drop)]
 pub enum LinkEvent {
     /// `link`: what the run stands on. Its line is the first one.
     Link {
@@ -64,6 +65,13 @@ pub enum LinkEvent {
     /// `drain`: all that is sent from now on arrives, until nothing is left to do. Its line is the
     /// last one.
     Drain,
+
+    /// `drain` and picks: the same, but what arrives next is what the picks say, and after them
+    /// the oldest. It is meant for a link that is always open.
+    DrainBy {
+        /// The picks, at least one and at most 100,000.
+        picks: PickWords,
+    },
 }
 
 /// The words of a line `link` after the first.
@@ -172,5 +180,8 @@ fn link_owned(alloc: Global, said: LinkSaid<'_>) -> Result<LinkEvent, LineFault>
         LinkSaid::Deliver { k } => LinkEvent::Deliver { k },
         LinkSaid::Clock { now } => LinkEvent::Clock { now },
         LinkSaid::Drain => LinkEvent::Drain,
+        LinkSaid::DrainBy { picks } => LinkEvent::DrainBy {
+            picks: picks_in(alloc, picks)?,
+        },
     })
 }

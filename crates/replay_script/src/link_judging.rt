@@ -4,14 +4,16 @@ ghost use Rattle.std.specs.Prelude.{◌≡◌, IfOk, IsOk};
 ghost use Rattle.std.specs.Option.{option_map};
 ghost use Rattle.replay_script.specs.Events.{number_word};
 ghost use Rattle.replay_script.specs.LinkEvents.{end_of, link_drain_line, link_event_of, link_line};
-ghost use Rattle.replay_script.specs.LinkEvents.{link_send_line, link_send_words, two_words};
-ghost use Rattle.replay_script.specs.LinkEvents.{window_line};
+ghost use Rattle.replay_script.specs.LinkEvents.{link_send_line, link_send_words, picks_line};
+ghost use Rattle.replay_script.specs.LinkEvents.{two_words, window_line};
 ghost use Rattle.replay_script.specs.LinkTies.{link_event_in, link_seen, pair_value, words_value};
+ghost use Rattle.replay_script.specs.Words.{words_of};
 
 use crate::fault::LineFault;
 use crate::hexadecimal::is_hex;
 use crate::link::{LinkNumbers, LinkTexts};
 use crate::numeral::number;
+use crate::picks::{are_picks, has_more_words};
 use crate::words::Words;
 
 /// What a line says, with what it lends.
@@ -23,7 +25,11 @@ pub(crate) enum LinkSaid<'a> {
     Deliver { k: u64 },
     Clock { now: u64 },
     Drain,
+    DrainBy { picks: &'a [u8] },
 }
+
+/// The most picks of a line.
+const MOST_PICKS: u64 = 100_000;
 
 /// What a line says.
 #[tactic(auto, unfolding(crate::specs::LinkEvents::link_event_of))]
@@ -143,9 +149,22 @@ fn drain(words: Words<'_>) -> Result<LinkSaid<'_>, LineFault>
     ensures exact { link_seen result ≡ link_drain_line words.entry }
     ensures said { IfOk result (λ said. IsOk (link_event_in said)) }
 {
-    let mut words = words;
-    if words.next().is_some() {
+    match words.rest() {
+        Some(picks) => drain_by(picks),
+        None => Ok(LinkSaid::Drain),
+    }
+}
+
+/// A line `drain` with picks, by the text of these.
+fn drain_by(picks: &[u8]) -> Result<LinkSaid<'_>, LineFault>
+    ensures exact { link_seen result ≡ picks_line (words_of picks.now) }
+    ensures said { IfOk result (λ said. IsOk (link_event_in said)) }
+{
+    if has_more_words(picks, MOST_PICKS) {
         return Err(LineFault::Word);
     }
-    Ok(LinkSaid::Drain)
+    if !are_picks(picks) {
+        return Err(LineFault::Number);
+    }
+    Ok(LinkSaid::DrainBy { picks })
 }

@@ -5,6 +5,7 @@ ghost use Rattle.std.specs.Option.{option_map};
 ghost use Rattle.std.specs.List.{position};
 ghost use Rattle.replay_script.specs.Words.{words_of, is_space};
 ghost use Rattle.replay_script.specs.Events.{one_word};
+ghost use Rattle.replay_script.specs.Ties.{words_left};
 
 use std::marker::Model;
 
@@ -44,6 +45,14 @@ impl<'a> Words<'a> {
         };
         self.rest = Some(&rest[at + 1..]);
         Some(&rest[..at])
+    }
+
+    /// The line from the next word on, where there is one.
+    pub fn rest(self) -> Option<&'a [u8]>
+        ensures { words_left result ≡ self.entry }
+    {
+        let Words { rest } = self;
+        rest
     }
 
     /// The next word, where it is the last one.

@@ -17,16 +17,9 @@ pub fn write_line(alloc: Global, line: &Line, out: &mut Vec<u8>) -> Result<(), A
     ensures ok { OnOk result (out.new.items ≡ out.old.items ++ line_text line.now) }
     ensures err { OnErr result (out.new.items ≡ out.old.items) }
 {
-    let mut head = String::new(alloc);
-    write_head(&mut head, line)?;
-    match line.octets() {
-        Some(octets) => {
-            head.push(' ')?;
-            let digits = hex::encode(alloc, octets)?;
-            append(out, head.as_bytes(), digits.as_bytes())
-        }
-        None => append(out, head.as_bytes(), b"".as_slice()),
-    }
+    let mut text = String::new(alloc);
+    push_line(alloc, line, &mut text)?;
+    out.extend_from_slice(text.as_bytes())
 }
 
 /// Appends a line to a text, LF included. After a refusal the text may have a part of it.
@@ -45,37 +38,12 @@ fn write_octets(alloc: Global, text: &mut String, octets: Option<&[u8]>) -> Resu
 {
     match octets {
         Some(octets) => {
-            let digits = hex::encode(alloc, octets)?;
+            let mut digits = String::new(alloc);
+            hex_text::write_hex(&mut digits, octets)?;
             write!(text, " {digits}")
         }
         None => Ok(()),
     }
-}
-
-/// Appends two texts and LF, or nothing.
-fn append(out: &mut Vec<u8>, head: &[u8], digits: &[u8]) -> Result<(), AllocError>
-    ensures ok { OnOk result (out.new.items
-        ≡ out.old.items ++ (head.now ++ (digits.now ++ codes "\n"))) }
-    ensures err { OnErr result (out.new.items ≡ out.old.items) }
-{
-    let before = out.len();
-    let appended = extend(out, head, digits);
-    if appended.is_err() {
-        out.truncate(before);
-    }
-    appended
-}
-
-/// Appends two texts and LF, or a part of that.
-fn extend(out: &mut Vec<u8>, head: &[u8], digits: &[u8]) -> Result<(), AllocError>
-    ensures ok { OnOk result (out.new.items
-        ≡ out.old.items ++ (head.now ++ (digits.now ++ codes "\n"))) }
-    ensures kept { take (length out.old.items) out.new.items ≡ out.old.items }
-{
-    out.extend_from_slice(head)?;
-    out.extend_from_slice(digits)?;
-    out.push(b'\n')?;
-    Ok(())
 }
 
 /// Appends the words of a line before its octets.

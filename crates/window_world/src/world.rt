@@ -80,6 +80,14 @@ impl WindowWorld {
         self.moment
     }
 
+    /// The two engines and what was sent, at contact time, moved and not copied.
+    pub fn into_link(self) -> LinkWorld
+        ensures { result ≡ self.link }
+    {
+        let WindowWorld { link, .. } = self;
+        link
+    }
+
     /// Whether the link is open now. It takes no memory.
     pub fn is_open(&self) -> bool
         ensures { result ≡ is_open self.now.plan self.now.moment }

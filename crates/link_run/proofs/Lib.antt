@@ -7,3 +7,10 @@ mod StartLemmas
 mod EndingLemmas
 mod TurnLemmas
 mod LineLemmas
+mod StepsLemmas
+pub mod PicksMade
+mod PickedLemmas
+mod PlainLemmas
+mod TellLemmas
+mod PlayLemmas
+mod LawLemmas

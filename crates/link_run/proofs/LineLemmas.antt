@@ -1,6 +1,6 @@
 -- Lines of a script, one by one.
 
-use Rattle.std.proofs.Common.{◌≡◌, ◌≢◌, ℕ, ◌+◌, Bool, true, false, List, [], ◌∷◌, ◌++◌, length, map, Option, None, Some, Result, Ok, Err, if◌then◌else◌, nat_lt, nat_le, codes, refl, sym, ◌∙◌, ap, subst}
+use Rattle.std.proofs.Common.{◌≡◌, ◌≢◌, ℕ, ◌+◌, Bool, true, false, List, [], ◌∷◌, ◌++◌, length, map, Option, None, Some, Result, Ok, Err, IfOk, if◌then◌else◌, nat_lt, nat_le, codes, refl, sym, ◌∙◌, ap, subst}
 use Rattle.std.specs.List.{slice_get}
 use Rattle.edge_traits.specs.declared.status.Status.{Status}
 use Rattle.edge_traits.specs.declared.status.Status.TheVariants as statuses
@@ -22,11 +22,13 @@ use Rattle.contact_plan.specs.Windows.{elapsed, is_open}
 use Rattle.replay_script.specs.declared.fault.LineFault.{LineFault}
 use Rattle.replay_script.specs.declared.link.LinkEvent.{LinkEvent}
 use Rattle.replay_script.specs.declared.link.LinkEvent.TheVariants as events
+use Rattle.link_run.specs.declared.link.Course.{Course}
 use Rattle.link_run.specs.declared.link.Course.TheVariants as courses
+use Rattle.link_run.specs.declared.planned.Planned.{Planned}
 use Rattle.link_run.specs.declared.on_link.Running.{Running}
-use Rattle.link_run.specs.Link.{LinkCourse, LinkSetup, LinkStart, LinkState, delivered, delivers, drained, event_turn, link_course, link_line, link_setup, most_sent, no_link, no_moment, on_link, only_says, passes_to, planned, planned_line, sends, submitted, window_turn}
-use Rattle.link_run.specs.Shows.{StandsFor, Stood, window_in}
-use Rattle.link_run.specs.WrittenLines.{closed_refusal, octets_sent, send_refusal, told_text}
+use Rattle.link_run.specs.Link.{LinkCourse, LinkSetup, LinkStart, LinkState, are_given, delivered, delivers, drained, event_turn, later_said, link_course, link_line, link_setup, link_turn, most_sent, no_link, no_moment, on_link, only_says, passes_to, planned, planned_line, sends, submitted, window_turn, without_picks}
+use Rattle.link_run.specs.Shows.{Answers, PlannedAs, StandsFor, Stood, window_in}
+use Rattle.link_run.specs.WrittenLines.{closed_refusal, octets_sent, refused_line, send_refusal, told_text}
 
 -- ---- a window that is refused
 
@@ -115,6 +117,7 @@ other-line n start windows (Ok (events.Send first body)) is = refl
 other-line n start windows (Ok (events.Deliver k)) is = refl
 other-line n start windows (Ok (events.Clock now)) is = refl
 other-line n start windows (Ok events.Drain) is = refl
+other-line n start windows (Ok (events.DrainBy picks)) is = refl
 other-line n start windows (Err fault) is = refl
 
 pub window-line : (n : ℕ) (start : LinkStart) (windows : List Window) (said : Result LinkEvent LineFault) (window : Window) → window_in said ≡ Some window
@@ -129,4 +132,25 @@ window-line n start windows (Ok (events.Send first body)) window is = absurd (cc
 window-line n start windows (Ok (events.Deliver k)) window is = absurd (cc)
 window-line n start windows (Ok (events.Clock now)) window is = absurd (cc)
 window-line n start windows (Ok events.Drain) window is = absurd (cc)
+window-line n start windows (Ok (events.DrainBy picks)) window is = absurd (cc)
 window-line n start windows (Err fault) window is = absurd (cc)
+
+-- ---- what a line brings about, by what the code keeps
+
+pub turn-plans : (E : Type 0) (p : Planned) (state : LinkState) (result : Result (Course × Option Status) E) (n : ℕ) (line before now : List ℕ)
+    → StandsFor (courses.Plans p) state
+    → ((start : LinkStart) (windows : List Window) → PlannedAs p start windows
+    → IfOk result (Answers (planned_line n start windows (without_picks (are_given windows) line (later_said line))) before now))
+    → IfOk result (Answers (link_turn n state line) before now)
+turn-plans E p no_link result n line before now stands turns = absurd stands
+turn-plans E p (planned start windows) result n line before now stands turns = turns start windows stands
+turn-plans E p (on_link s c) result n line before now stands turns = absurd stands
+turn-plans E p drained result n line before now stands turns = absurd stands
+
+pub turn-over : (state : LinkState) (n : ℕ) (line before now : List ℕ) → StandsFor courses.Over state
+    → now ≡ before ++ refused_line n (codes "AfterDrain")
+    → Answers (link_turn n state line) before now (courses.Over, Some statuses.Refused)
+turn-over no_link n line before now stands added = absurd stands
+turn-over (planned start windows) n line before now stands added = absurd stands
+turn-over (on_link s c) n line before now stands added = absurd stands
+turn-over drained n line before now stands added = (added, refl)

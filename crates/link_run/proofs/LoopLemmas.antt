@@ -50,7 +50,7 @@ timed-front (suc i) (x ∷ xs) = let rest = timed-front i xs in omega (arith, re
 
 -- ---- texts
 
-joined : (start text now front one whole : List ℕ) → text ≡ start ++ front → now ≡ text ++ one → whole ≡ front ++ one → now ≡ start ++ whole
+pub joined : (start text now front one whole : List ℕ) → text ≡ start ++ front → now ≡ text ++ one → whole ≡ front ++ one → now ≡ start ++ whole
 joined start text now front one whole so_far written is =
     written ∙ (ap (λ t. t ++ one) so_far ∙ (append_assoc start front one ∙ ap (λ t. start ++ t) (sym is)))
 

@@ -12,8 +12,8 @@ use Rattle.ltp_world.specs.Values.{WorldValue, parties_of}
 use Rattle.contact_plan.specs.declared.window.Window.{Window}
 use Rattle.contact_plan.specs.Windows.{IsPlan, elapsed}
 use Rattle.window_world.specs.Values.{RunsOnContact, WindowValue, begins_on}
-use Rattle.link_run.specs.Link.{LinkStart, always, link_course, link_parties, link_setup}
-use Rattle.link_run.specs.Shows.{StandsOn, are_given}
+use Rattle.link_run.specs.Link.{LinkStart, always, are_given, link_course, link_parties, link_setup}
+use Rattle.link_run.specs.Shows.{StandsOn}
 
 pub no-windows : IsPlan []
 no-windows = record { few = omega arith; order = tt }
@@ -21,7 +21,7 @@ no-windows = record { few = omega arith; order = tt }
 always-is-plan : IsPlan always
 always-is-plan = record { few = omega arith; order = (omega arith, omega arith, omega arith, tt) }
 
-parties-are : (start : LinkStart) (windows : List Window) → (link_setup start windows).parties ≡ link_parties start.policy
+pub parties-are : (start : LinkStart) (windows : List Window) → (link_setup start windows).parties ≡ link_parties start.policy
 parties-are start [] = refl
 parties-are start (w ∷ ws) = refl
 

@@ -1,14 +1,15 @@
 -- What the first line of a script says, where it sets up a link.
 
-use Rattle.std.proofs.Common.{◌≡◌, ℕ, ◌≤◌, ◌&&◌, nat_le, Bool, true, false, List, [], ◌∷◌, codes, Option, None, Some, Result, Ok, Err, inl, inr, refl, sym, arith, if◌then◌else◌}
+use Rattle.std.proofs.Common.{◌≡◌, ℕ, ◌≤◌, ◌&&◌, nat_le, nat_lt, length, Bool, true, false, List, [], ◌∷◌, codes, Option, None, Some, Result, Ok, Err, inl, inr, refl, sym, arith, if◌then◌else◌}
 use Rattle.std.proofs.lemmas.Bool.Decides.{nat_tests}
 use Rattle.endpoint.specs.Numeral.{number_of}
 use Rattle.replay_script.specs.declared.fault.LineFault.{LineFault}
 use Rattle.replay_script.specs.declared.fault.LineFault.TheVariants as faults
 use Rattle.replay_script.specs.declared.link.LinkEvent.{LinkEvent}
 use Rattle.replay_script.specs.declared.link.LinkEvent.TheVariants as events
+use Rattle.replay_script.specs.declared.picks.PickWord.{PickWord}
 use Rattle.replay_script.specs.Events.{Reads, hex_of, joined, number_in, number_line, number_word, or_fault, with_number, within}
-use Rattle.replay_script.specs.LinkEvents.{LinkWords, is_link_line, link_drain_line, link_event, link_event_by, link_event_of, link_line, link_numbers, link_send_line, link_send_words, link_words, two_words, window_line}
+use Rattle.replay_script.specs.LinkEvents.{LinkWords, is_link_line, link_drain_line, link_event, link_event_by, link_event_of, link_line, link_numbers, link_send_line, link_send_words, link_words, picks_of, two_words, window_line}
 use Rattle.replay_script.specs.Words.{is_word, words_of}
 use Rattle.link_run.specs.Link.{first_said}
 
@@ -134,9 +135,14 @@ module _ (segment timeout limit longest start : ℕ) where
   no_clock (Ok now) is = absurd (cc)
   no_clock (Err fault) is = absurd (cc)
 
+  no_picks : (b : Bool) (picks : Option (List PickWord)) → (if b then Err faults.Word else or_fault picks faults.Number (λ p. Ok (events.DrainBy p))) ≡ Ok event → Sound
+  no_picks true picks is = absurd (cc)
+  no_picks false None is = absurd (cc)
+  no_picks false (Some picks) is = absurd (cc)
+
   no_drain : (words : List (List ℕ)) → link_drain_line words ≡ Ok event → Sound
   no_drain [] is = absurd (cc)
-  no_drain (word ∷ words) is = absurd (cc)
+  no_drain (word ∷ words) is = no_picks (nat_lt 100000 (length (word ∷ words))) (picks_of (word ∷ words)) is
 
   by_first : (words : List (List ℕ)) (link window send deliver clock drain : Bool)
       → (if link then link_line words
@@ -170,6 +176,9 @@ module _ (segment timeout limit longest start : ℕ) where
       by_test : (t : Bool) → (if t then link_event_of line else Err faults.Word) ≡ Ok event → link_event_of line ≡ Ok event
       by_test true is = is
       by_test false is = absurd (cc)
+
+  pub sound_said : (line : List ℕ) → first_said line ≡ Ok event → Sound
+  sound_said line is = link_sound line (first_event line is)
 
   pub was_said : (line : List ℕ) → Reads (first_said line) (Ok event) → first_said line ≡ Ok event
   was_said line (inl is) = sym is

@@ -217,11 +217,11 @@ module _ (E : Type 0) (v v' : WindowValue) (octets octets' : ℕ) (s : LinkSetup
 
 -- ---- a drain
 
-setup-is : (v : WindowValue) (octets : ℕ) (s : LinkSetup) (c : LinkCourse) → StandsOn v octets s c
+pub setup-is : (v : WindowValue) (octets : ℕ) (s : LinkSetup) (c : LinkCourse) → StandsOn v octets s c
     → record { parties = parties_of v.link; windows = s.windows; plan = v.plan } ≡ s
 setup-is v octets s c stands = rw (← stands.parties, ← stands.plan) refl
 
-course-is : (v : WindowValue) (octets : ℕ) (s : LinkSetup) (c : LinkCourse) (stands : StandsOn v octets s c)
+pub course-is : (v : WindowValue) (octets : ℕ) (s : LinkSetup) (c : LinkCourse) (stands : StandsOn v octets s c)
     → record { world = link_after v.link stands.events; moment = v.moment; octets = octets } ≡ c
 course-is v octets s c stands = rw (← stands.world, ← stands.moment, ← stands.sent) refl
 

@@ -1,10 +1,11 @@
 -- What `link` writes: the first line of the input sets up a link, lines after it may give its windows,
 -- and each line after those is an event there; the last one may drain the link.
 
-use Rattle.std.specs.Prelude.{ℕ, ◌+◌, ◌-◌, ◌^◌, Bool, true, false, nat_lt, nat_le, List, [], ◌∷◌, ◌++◌}
+use Rattle.std.specs.Prelude.{ℕ, ◌+◌, ◌-◌, ◌^◌, Bool, true, false, ◌&&◌, nat_lt, nat_le, List, []}
+use Rattle.std.specs.Prelude.{◌∷◌, ◌++◌}
 use Rattle.std.specs.Prelude.{length, map, slice_get, Option, None, Some, Result, Ok, Err, codes}
 use Rattle.std.specs.Prelude.{if◌then◌else◌, nat_eq}
-use Rattle.std.specs.List.{starts_with}
+use Rattle.std.specs.List.{list_any, starts_with}
 use Rattle.edge_traits.specs.declared.status.Status.TheVariants as statuses
 use Rattle.edge_traits.specs.Settled.{Settled}
 use Rattle.command_frame.specs.Task.{Settling}
@@ -15,12 +16,14 @@ use Rattle.ltp_session.specs.World.{Event, World, clock, deliver, happens, run, 
 use Rattle.ltp_session.specs.World.{Sent as LinkSent}
 use Rattle.drain_laws.specs.Clean.{link_deadline}
 use Rattle.drain_laws.specs.Effects.{effects_at}
+use Rattle.pick_laws.specs.Picks.{Crossing, Pick, Turn as PickTurn, after_picks, after_turns}
+use Rattle.pick_laws.specs.Picks.{crosses_at, events_of, next_turn, picked_turns}
 use Rattle.ltp_engine.specs.Refused.{refusal_of, submit_word}
 use Rattle.ltp_segment.specs.declared.session.TheConstants.{BLOCK_MAX}
 use Rattle.ltp_world.specs.declared.effects.EndEffects.{EndEffects}
 use Rattle.ltp_world.specs.declared.ends.End.{End}
 use Rattle.ltp_world.specs.declared.ends.End.TheVariants as ends
-use Rattle.ltp_world.specs.Drain.{told_of}
+use Rattle.ltp_world.specs.Drain.{done_in, told_of}
 use Rattle.ltp_world.specs.Ends.{link_end}
 use Rattle.ltp_world.specs.Steps.{submission_at}
 use Rattle.contact_plan.specs.declared.fault.PlanFault.{PlanFault}
@@ -35,9 +38,10 @@ use Rattle.replay_script.specs.LinkEvents.{is_link_line, link_event_of}
 use Rattle.window_world.specs.declared.effects.At.{At}
 use Rattle.window_world.specs.Drain.{contact_of}
 use Rattle.window_world.specs.Made.{drain_events}
-use Rattle.link_run.specs.WrittenLines.{closed_refusal, deliver_refusal, last_line, octets_sent}
-use Rattle.link_run.specs.WrittenLines.{octets_timed, refusal_line, refused_line, send_refusal}
-use Rattle.link_run.specs.WrittenLines.{timed_text, told_text}
+use Rattle.link_run.specs.Picks.{is_past, said_picks, turns_after}
+use Rattle.link_run.specs.WrittenLines.{closed_refusal, deliver_refusal, end_line, last_line}
+use Rattle.link_run.specs.WrittenLines.{octets_sent, octets_steps, octets_timed, refusal_line}
+use Rattle.link_run.specs.WrittenLines.{refused_line, send_refusal, steps_text, timed_text, told_text}
 
 -- ---- what a line says, or why it is refused
 
@@ -58,6 +62,11 @@ abbrev pub running_said : List ℕ → Result LinkEvent LineFault
 running_said line =
     if starts_with nat_eq line (codes "window ") then Err faults.Word else later_said line
 
+-- where windows were given, a drain has no picks, whatever these are
+abbrev pub without_picks : Bool → List ℕ → Result LinkEvent LineFault → Result LinkEvent LineFault
+without_picks windows line said =
+    if windows && starts_with nat_eq line (codes "drain ") then Err faults.Word else said
+
 abbrev pub start_said : Result LinkEvent LineFault → Result LinkStart LineFault
 start_said (Ok (events.Link segment timeout limit cap start)) = Ok (record {
   policy = record { segment = segment; timeout = timeout; limit = limit; cap = cap };
@@ -68,6 +77,7 @@ start_said (Ok (events.Send first body)) = Err faults.Word
 start_said (Ok (events.Deliver k)) = Err faults.Word
 start_said (Ok (events.Clock now)) = Err faults.Word
 start_said (Ok events.Drain) = Err faults.Word
+start_said (Ok (events.DrainBy picks)) = Err faults.Word
 start_said (Err fault) = Err fault
 
 unfoldable pub start_in : List ℕ → Result LinkStart LineFault
@@ -93,6 +103,11 @@ pub record LinkSetup : Type 0 where
   pub parties : Party × Party
   pub windows : Bool
   pub plan : List Window
+
+-- whether there is a window
+abbrev pub are_given : List Window → Bool
+are_given [] = false
+are_given (window ∷ windows) = true
 
 abbrev pub always : List Window
 always = record { from = 0; to = 2 ^ 62 } ∷ []
@@ -229,6 +244,43 @@ abbrev pub drains : LinkSetup → LinkCourse → Turn LinkState
 drains s c =
     drains_by s c (drain_made s c) (link_deadline (run s.parties c.world (drain_made s c)))
 
+-- ---- a drain with picks
+
+-- the turns of the picks, and those after them
+abbrev pub picks_turns : LinkSetup → LinkCourse → List Pick → List PickTurn
+picks_turns s c picks =
+    picked_turns s.parties (crosses_at c.world) picks
+    ++ turns_after no_moment s.parties (after_picks s.parties (crosses_at c.world) picks)
+
+-- what is new after them, and how the link stands
+abbrev pub picks_end : LinkSetup → LinkCourse → List Pick → Crossing
+picks_end s c picks =
+    after_turns s.parties (after_picks s.parties (crosses_at c.world) picks)
+    (turns_after no_moment s.parties (after_picks s.parties (crosses_at c.world) picks))
+
+-- what the ends do at their events
+abbrev pub picks_done : LinkSetup → LinkCourse → List PickTurn → List (List EndEffects)
+picks_done s c turns = done_in s.parties c.world (events_of turns)
+
+abbrev pub steps_end : LinkCourse → List (List EndEffects) → List ℕ
+steps_end c steps = steps_text (length c.world.sent) steps ++ end_line (length steps)
+
+-- it ends where no turn can follow; one that would set the clock too late is a limit
+abbrev pub picked_by : LinkCourse → List (List EndEffects) → Option PickTurn → Turn LinkState
+picked_by c steps None = if_kept (c.octets + octets_steps steps) (steps_end c steps) drained
+picked_by c steps (Some late) = ends_run [] statuses.Limit
+
+abbrev pub picks_late : LinkSetup → LinkCourse → List Pick → Bool
+picks_late s c picks =
+    list_any (is_past no_moment) (events_of (picked_turns s.parties (crosses_at c.world) picks))
+
+abbrev pub drains_by_picks : LinkSetup → LinkCourse → List Pick → Turn LinkState
+drains_by_picks s c picks =
+    if picks_late s c picks then ends_run [] statuses.Limit
+    else
+    picked_by c (picks_done s c (picks_turns s c picks))
+    (next_turn (picks_end s c picks).world (picks_end s c picks).new)
+
 -- ---- a line
 
 -- a line that is no event is refused
@@ -241,6 +293,7 @@ link_line n s c (Ok (events.Send first body)) = sends s c (end_named first) body
 link_line n s c (Ok (events.Deliver k)) = delivers s c k
 link_line n s c (Ok (events.Clock now)) = passes_to s c now
 link_line n s c (Ok events.Drain) = drains s c
+link_line n s c (Ok (events.DrainBy picks)) = drains_by_picks s c (said_picks picks)
 link_line n s c (Err fault) = ends_run (refusal_line n fault) statuses.Refused
 
 -- a window more, where the plan with it has no fault
@@ -265,8 +318,10 @@ start_turn n (Err fault) = ends_run (refusal_line n fault) statuses.Refused
 
 abbrev pub link_turn : ℕ → LinkState → List ℕ → Turn LinkState
 link_turn n no_link line = start_turn n (start_in line)
-link_turn n (planned start windows) line = planned_line n start windows (later_said line)
-link_turn n (on_link s c) line = link_line n s c (running_said line)
+link_turn n (planned start windows) line =
+    planned_line n start windows (without_picks (are_given windows) line (later_said line))
+link_turn n (on_link s c) line =
+    link_line n s c (without_picks s.windows line (running_said line))
 link_turn n drained line = ends_run (refused_line n (codes "AfterDrain")) statuses.Refused
 
 -- an input without lines is refused, for want of a first line

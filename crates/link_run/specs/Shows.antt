@@ -1,6 +1,6 @@
 -- What ties the code to the definition.
 
-use Rattle.std.specs.Prelude.{◌≡◌, ℕ, ◌-◌, ◌^◌, ◌≤◌, Bool, true, false, List, [], ◌∷◌, ◌++◌, Option, None, Some, Result, Ok, Err, min}
+use Rattle.std.specs.Prelude.{◌≡◌, ℕ, ◌-◌, ◌^◌, ◌≤◌, Bool, true, false, List, ◌++◌, Option, None, Some, Result, Ok, Err, min}
 use Rattle.edge_traits.specs.declared.status.Status.{Status}
 use Rattle.command_frame.specs.Lines.{Turn, TurnsAs}
 use Rattle.drain_laws.specs.Left.{AreTimed}
@@ -27,7 +27,7 @@ use Rattle.link_run.specs.declared.link.Course.TheVariants as courses
 use Rattle.link_run.specs.declared.planned.Planned.{Planned}
 use Rattle.link_run.specs.declared.on_link.Running.{Running}
 use Rattle.link_run.specs.declared.script.SetUp.{SetUp}
-use Rattle.link_run.specs.Link.{LinkCourse, LinkSetup, LinkStart, LinkState, drained, most_sent, no_link, on_link, planned}
+use Rattle.link_run.specs.Link.{LinkCourse, LinkSetup, LinkStart, LinkState, are_given, drained, most_sent, no_link, on_link, planned}
 
 -- a count that stays at 2^64 - 1 where it would pass that
 abbrev pub capped : ℕ → ℕ
@@ -70,11 +70,6 @@ Stood v octets no_link = ⊥
 Stood v octets (planned start windows) = ⊥
 Stood v octets (on_link s c) = StandsOn v octets s c
 Stood v octets drained = ⊥
-
--- whether there is a window
-abbrev pub are_given : List Window → Bool
-are_given [] = false
-are_given (window ∷ windows) = true
 
 -- what the code keeps of a link before its first event
 pub record PlannedAs (p : Planned) (start : LinkStart) (windows : List Window) : Type 0 where
@@ -136,6 +131,7 @@ window_in (Ok (events.Send first body)) = None
 window_in (Ok (events.Deliver k)) = None
 window_in (Ok (events.Clock now)) = None
 window_in (Ok events.Drain) = None
+window_in (Ok (events.DrainBy picks)) = None
 window_in (Err fault) = None
 
 -- the first line says this, or is refused; where memory ran out nothing is said of it

@@ -106,6 +106,19 @@ abbrev pub octets_timed : List At → ℕ
 octets_timed [] = 0
 octets_timed (at ∷ ats) = octets_sent at.effects + octets_timed ats
 
+-- events without their moments, where so many datagrams were sent before
+unfoldable pub steps_text : ℕ → List (List EndEffects) → List ℕ
+steps_text k [] = []
+steps_text k (tolds ∷ steps) = told_text k tolds ++ steps_text (k + count_sent tolds) steps
+
+abbrev pub count_steps : List (List EndEffects) → ℕ
+count_steps [] = 0
+count_steps (tolds ∷ steps) = count_sent tolds + count_steps steps
+
+abbrev pub octets_steps : List (List EndEffects) → ℕ
+octets_steps [] = 0
+octets_steps (tolds ∷ steps) = octets_sent tolds + octets_steps steps
+
 -- a drain ended after so many events; or the plan of the windows ended it
 abbrev pub end_line : ℕ → List ℕ
 end_line n = line_of (codes "end" ∷ decimal n ∷ [])

@@ -2,10 +2,11 @@
 
 ghost use Rattle.std.specs.Prelude.{◌≡◌, ◌+◌};
 ghost use Rattle.link_run.specs.Shows.{capped};
-ghost use Rattle.link_run.specs.WrittenLines.{count_sent, count_timed, octets_of, octets_sent, octets_timed};
+ghost use Rattle.link_run.specs.WrittenLines.{count_sent, count_steps, count_timed, octets_of};
+ghost use Rattle.link_run.specs.WrittenLines.{octets_sent, octets_steps, octets_timed};
 
 use endpoint::Octets;
-use ltp_world::EndEffects;
+use ltp_world::{EndEffects, WorldEffects};
 use window_world::At;
 
 /// These octets and those of some datagrams.
@@ -59,6 +60,28 @@ pub(crate) fn add_timed(octets: u64, ats: &[At]) -> u64
     let mut sum = octets;
     'each: for at in ats {
         sum = add_sent(sum, at.effects.as_slice());
+    }
+    sum
+}
+
+/// So many datagrams, and those that ends sent at one event after the other.
+pub(crate) fn count_steps(count: u64, steps: &[WorldEffects]) -> u64
+    ensures { result ≡ capped (count + count_steps steps.now) }
+{
+    let mut sum = count;
+    'each: for step in steps {
+        sum = count_sent(sum, step.as_slice());
+    }
+    sum
+}
+
+/// These octets and those that ends sent at one event after the other.
+pub(crate) fn add_steps(octets: u64, steps: &[WorldEffects]) -> u64
+    ensures { result ≡ capped (octets + octets_steps steps.now) }
+{
+    let mut sum = octets;
+    'each: for step in steps {
+        sum = add_sent(sum, step.as_slice());
     }
     sum
 }

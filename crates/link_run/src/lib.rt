@@ -10,8 +10,10 @@
 
 mod always;
 mod counting;
+pub mod laws;
 mod link;
 mod on_link;
+mod picked;
 mod planned;
 mod running;
 mod script;

@@ -6,20 +6,21 @@ ghost use Rattle.command_frame.specs.Stops.{IsStop};
 ghost use Rattle.command_frame.specs.Lines.{TurnsAs, ends_run};
 ghost use Rattle.contact_plan.specs.Fault.{plan_fault};
 ghost use Rattle.edge_traits.specs.declared.status.Status.TheVariants as statuses;
-ghost use Rattle.link_run.specs.Link.{LinkCourse, LinkSetup, LinkStart, LinkState, delivers, drains, later_said, link_ending, link_line, link_rules, link_turn, no_link, passes_to, planned_line, sends, start_in, start_turn, window_turn};
+ghost use Rattle.link_run.specs.Link.{LinkCourse, LinkSetup, LinkStart, LinkState, are_given, delivers, drains, drains_by_picks, later_said, link_ending, link_line, link_rules, link_turn, no_link, passes_to, planned_line, sends, start_in, start_turn, window_turn, without_picks};
+ghost use Rattle.link_run.specs.Picks.{said_picks};
 ghost use Rattle.link_run.specs.Shows.{Answers, IsUnset, PlannedAs, RunsAs, ShowsLink, StandsFor};
 ghost use Rattle.link_run.specs.WrittenLines.{refusal_line, refused_line};
 
 use crate::on_link::Running;
 use crate::planned::{NO_MOMENT, Planned};
-use crate::running;
-use crate::script::{SetUp, end_named, read_later, read_running, read_start, window_of};
+use crate::script::{SetUp, end_named, read_planned, read_running, read_start, window_of};
 use crate::written_lines::{write_refusal, write_refused_line};
+use crate::{picked, running};
 use command_frame::LineStep;
 use contact_plan::{Plan, PlanFault, Window};
 use edge_traits::Status;
 use ltp_world::End;
-use replay_script::{LineFault, LinkEvent};
+use replay_script::{LineFault, LinkEvent, PickWord};
 use std::alloc::{AllocError, Global};
 
 /// The most lines of an input.
@@ -83,7 +84,7 @@ fn step(
         Course::Unset => begin(alloc, number, line, text),
         Course::Plans(planned) => plan(alloc, planned, number, line, text),
         Course::Runs(running) => {
-            let said = read_running(alloc, line)?;
+            let said = read_running(alloc, running.windows, line)?;
             answer(alloc, running, number, said, text)
         }
         Course::Over => {
@@ -133,10 +134,11 @@ fn plan(
 ) -> Result<(Course, Option<Status>), AllocError>
     ensures stops { IfOk result (λ answer. IfSome answer.1 IsStop) }
     ensures turn { (start : LinkStart) (windows : List Window) → PlannedAs planned start windows
-        → IfOk result (Answers (planned_line number start windows (later_said line.now))
+        → IfOk result (Answers (planned_line number start windows
+        (without_picks (are_given windows) line.now (later_said line.now)))
         (string_bytes text.old) (string_bytes text.new)) }
 {
-    let said = read_later(alloc, line)?;
+    let said = read_planned(alloc, planned.windows, line)?;
     match window_of(&said) {
         Some(window) => add(alloc, planned, window, number, text),
         None => answer(alloc, planned.begins(alloc)?, number, said, text),
@@ -192,6 +194,7 @@ fn answer(
         Ok(LinkEvent::Deliver { k }) => deliver(alloc, running, k, text),
         Ok(LinkEvent::Clock { now }) => pass(alloc, running, now, text),
         Ok(LinkEvent::Drain) => drain(alloc, running, text),
+        Ok(LinkEvent::DrainBy { picks }) => drain_by(alloc, running, picks.as_slice(), text),
         Ok(LinkEvent::Link { .. }) => refuse(alloc, running, number, LineFault::Word, text),
         Ok(LinkEvent::Window { .. }) => refuse(alloc, running, number, LineFault::Word, text),
         Err(fault) => refuse(alloc, running, number, fault, text),
@@ -312,6 +315,23 @@ fn drain(
         octets,
     } = running;
     let ends = running::drain(alloc, &mut world, windows, octets, text)?;
+    Ok((Course::Over, ends))
+}
+
+/// The same, and picks say what comes next.
+fn drain_by(
+    alloc: Global,
+    running: Running,
+    picks: &[PickWord],
+    text: &mut String,
+) -> Result<(Course, Option<Status>), AllocError>
+    ensures stops { IfOk result (λ answer. IfSome answer.1 IsStop) }
+    ensures turn { (s : LinkSetup) (c : LinkCourse) → RunsAs running s c
+        → IfOk result (Answers (drains_by_picks s c (said_picks picks.now))
+        (string_bytes text.old) (string_bytes text.new)) }
+{
+    let Running { world, octets, .. } = running;
+    let ends = picked::drain_by(alloc, world, octets, picks, text)?;
     Ok((Course::Over, ends))
 }
 

@@ -20,7 +20,7 @@ use std::alloc::{AllocError, Global};
 use window_world::{WindowDeliver, WindowDrained, WindowSubmit, WindowWorld};
 
 /// The most octets of all datagrams that were sent.
-const MOST_SENT: u64 = 1 << 28;
+pub(crate) const MOST_SENT: u64 = 1 << 28;
 
 /// An end submits a block, all of it red.
 pub(crate) fn send(

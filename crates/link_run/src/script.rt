@@ -4,6 +4,7 @@ ghost use Rattle.std.specs.Prelude.{◌≡◌, ◌≤◌, IfOk};
 ghost use Rattle.ltp_segment.specs.PolicyViews.{policy_value};
 ghost use Rattle.replay_script.specs.Events.{Reads};
 ghost use Rattle.link_run.specs.Link.{end_named, first_said, later_said, running_said, start_in};
+ghost use Rattle.link_run.specs.Link.{without_picks};
 ghost use Rattle.link_run.specs.Shows.{ReadsStart, window_in};
 
 use contact_plan::Window;
@@ -85,17 +86,33 @@ pub(crate) fn read_later(
     }
 }
 
-/// What a line says once an event came, or why it is refused: then a window isn't allowed either.
-pub(crate) fn read_running(
+/// What a line after the first says, or why it is refused: where windows were given, a drain has no
+/// picks.
+pub(crate) fn read_planned(
     alloc: Global,
+    windows: bool,
     line: &[u8],
 ) -> Result<Result<LinkEvent, LineFault>, AllocError>
-    ensures { IfOk result (λ said. said ≡ running_said line.now) }
+    ensures { IfOk result (λ said. said ≡ without_picks windows line.now (later_said line.now)) }
+{
+    if windows && line.starts_with(b"drain ".as_slice()) {
+        return Ok(Err(LineFault::Word));
+    }
+    read_later(alloc, line)
+}
+
+/// The same once an event came: then a window isn't allowed either.
+pub(crate) fn read_running(
+    alloc: Global,
+    windows: bool,
+    line: &[u8],
+) -> Result<Result<LinkEvent, LineFault>, AllocError>
+    ensures { IfOk result (λ said. said ≡ without_picks windows line.now (running_said line.now)) }
 {
     if line.starts_with(b"window ".as_slice()) {
         return Ok(Err(LineFault::Word));
     }
-    read_later(alloc, line)
+    read_planned(alloc, windows, line)
 }
 
 /// The window that a line gives.

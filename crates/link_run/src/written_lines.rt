@@ -3,14 +3,14 @@
 ghost use Rattle.std.specs.Prelude.{◌≡◌, ◌++◌, ◌+◌, ◌∷◌, ◌<◌, ◌^◌, [], Some, Bool, length, codes, OnOk};
 ghost use Rattle.std.specs.List.{flat_map};
 ghost use Rattle.std.specs.String.{string_bytes};
-ghost use Rattle.link_run.specs.WrittenLines.{at_line, closed_refusal, count_sent, count_timed, deliver_refusal, if_moved, last_line, note_lines, out_lines, refusal_line, refused_line, route_of, send_refusal, sent_line, sent_lines, site_of, timed_text, told_text, up_line, up_lines};
+ghost use Rattle.link_run.specs.WrittenLines.{at_line, closed_refusal, count_sent, count_steps, count_timed, deliver_refusal, if_moved, last_line, note_lines, out_lines, refusal_line, refused_line, route_of, send_refusal, sent_line, sent_lines, site_of, steps_text, timed_text, told_text, up_line, up_lines};
 ghost use Rattle.note_lines.specs.NoteLines.{note_line};
 
 use crate::counting::count_sent;
 use endpoint::Octets;
 use ltp_engine::Up;
 use ltp_segment::Note;
-use ltp_world::{End, EndEffects};
+use ltp_world::{End, EndEffects, WorldEffects};
 use note_lines::{details_of, push_note};
 use replay_script::{Line, LineFault, Route, Site, push_line};
 use std::alloc::{AllocError, Global};
@@ -183,6 +183,25 @@ pub(crate) fn write_timed(
         let tolds = at.effects.as_slice();
         write_told(alloc, text, k, tolds)?;
         shown = at.now;
+        k = count_sent(k, tolds);
+    }
+    Ok(())
+}
+
+/// Writes what ends do at events of a drain, one after the other.
+pub(crate) fn write_steps(
+    alloc: Global,
+    text: &mut String,
+    before: u64,
+    steps: &[WorldEffects],
+) -> Result<(), AllocError>
+    ensures { before + count_steps steps.now < 2 ^ 64 → OnOk result (string_bytes text.new
+        ≡ string_bytes text.old ++ steps_text before steps.now) }
+{
+    let mut k = before;
+    'each: for step in steps {
+        let tolds = step.as_slice();
+        write_told(alloc, text, k, tolds)?;
         k = count_sent(k, tolds);
     }
     Ok(())

@@ -1,0 +1,445 @@
+-- What the lines after the windows settle on a link, by what they say.
+
+use Rattle.std.proofs.Common.{◌≡◌, ℕ, ◌+◌, Bool, true, false, ◌&&◌, ◌||◌, nat_lt, nat_le, nat_eq, List, [], ◌∷◌, ◌++◌, length, map, codes, Option, None, Some, Result, Ok, Err, refl, sym, ap, ◌∙◌, append_assoc, arith, subst, if◌then◌else◌}
+use Rattle.std.proofs.lemmas.Bool.Decides.{nat_tests}
+use Rattle.std.proofs.lemmas.List.{append-nil, length-append, length-map, map-append}
+use Rattle.std.specs.List.{slice_get, starts_with}
+use Rattle.std.specs.Option.{option_map}
+use Rattle.std.specs.Fmt.{decimal}
+use Rattle.edge_traits.specs.declared.status.Status.{Status}
+use Rattle.edge_traits.specs.declared.status.Status.TheVariants as statuses
+use Rattle.edge_traits.specs.Settled.{Settled}
+use Rattle.command_frame.specs.InputLines.{ended_part}
+use Rattle.command_frame.specs.Lines.{passes, ends_run, turn_at, after_turn}
+use Rattle.ltp_session.specs.Engine.{EngineStep, Party, Reply, SubmitFault, submit_step, submits}
+use Rattle.ltp_session.specs.World.{Sent as LinkSent}
+use Rattle.ltp_session.specs.World.{End as LinkEnd}
+use Rattle.ltp_session.specs.World.{Event, World, at_end, clock, deliver, happens, replies, run, starts_world, submit, submitted as submitted_world, unless_refused}
+use Rattle.drain_laws.specs.Clean.{link_deadline}
+use Rattle.drain_laws.specs.Effects.{effects_at}
+use Rattle.drain_laws.specs.Hopeful.{IsReached}
+use Rattle.drain_laws.specs.Left.{AreTimed}
+use Rattle.pick_laws.specs.Picks.{Crossing, Pick, Placed, Turn as PickTurn, after_pick, after_picks, after_turns, as_turns, crosses_at, events_of, next_turn, pick_turn, picked_turns}
+use Rattle.pick_laws.specs.PickedRuns.{run_events}
+use Rattle.ltp_engine.specs.Refused.{refusal_of, submit_word}
+use Rattle.ltp_world.specs.Drain.{done_in, told_of}
+use Rattle.ltp_world.specs.Ends.{link_end}
+use Rattle.ltp_world.specs.Steps.{submission_at}
+use Rattle.ltp_world.proofs.DrainLemmas.{run-append}
+use Rattle.ltp_world.proofs.RestLemmas.{turns-world}
+use Rattle.contact_plan.specs.Windows.{elapsed, is_open, total}
+use Rattle.replay_script.specs.declared.fault.LineFault.{LineFault}
+use Rattle.replay_script.specs.declared.fault.LineFault.TheVariants as faults
+use Rattle.replay_script.specs.declared.link.LinkEvent.{LinkEvent}
+use Rattle.replay_script.specs.declared.link.LinkEvent.TheVariants as events
+use Rattle.replay_script.specs.declared.picks.PickWord.{PickWord}
+use Rattle.window_world.specs.Made.{EndsBy}
+use Rattle.window_world.proofs.MadeLemmas.{drains-are-made}
+use Rattle.link_run.specs.Law.{DrainMakes, IsPickedDrain, if_drain, made_by, makes, moment_after}
+use Rattle.link_run.specs.Link.{LinkCourse, LinkSetup, LinkState, ats_of, delivered, delivers, drain_made, drain_text, drained, drains, drains_by, drains_by_picks, end_named, event_turn, if_kept, later_said, link_line, link_rules, most_sent, no_moment, on_link, only_says, passes_to, picked_by, picks_done, picks_end, picks_late, picks_turns, running_said, sends, steps_end, submitted, without_picks}
+use Rattle.link_run.specs.Picks.{EndsTurns, said_picks, turns_after}
+use Rattle.link_run.specs.WrittenLines.{at_line, closed_refusal, deliver_refusal, end_line, last_line, octets_sent, octets_timed, refusal_line, send_refusal, steps_text, timed_text, told_text}
+use Rattle.link_run.proofs.PicksMade.{turns-made}
+use Rattle.link_run.proofs.PickedLemmas.{goes-at}
+use Rattle.link_run.proofs.PlainLemmas.{decimal-plain, submit-plain}
+use Rattle.link_run.proofs.TellLemmas.{HasLines, Told, and_then, both-have, closed-has, event-has, none-has, nothing, other-line, refusal-has, shut-plain, told-append, told-more, told-none, told_at, told_in, undelivered-has, unsent-has}
+
+-- ---- what some lines settle, where the clock shows a moment
+
+pub record Plays (s : LinkSetup) (w : World) (moment : ℕ) (lines : List (List ℕ)) (settled : Settled) : Type 0 where
+  pub said : List LinkEvent
+  pub drain : Option LinkEvent
+  pub later : List (List ℕ)
+  pub left : List (List ℕ)
+  pub lines_are : lines ≡ later ++ left
+  pub says : map later_said later ≡ map Ok (said ++ if_drain drain)
+  pub made : List Event
+  pub drains : DrainMakes s (run s.parties w (made_by s moment said)) drain made
+  pub ending : Status
+  pub ends : settled.ends ≡ Some ending
+  pub has : HasLines settled.text (told_in s.parties w (made_by s moment said ++ made))
+
+-- nothing more is told
+pub record Closes (settled : Settled) : Type 0 where
+  pub ending : Status
+  pub ends : settled.ends ≡ Some ending
+  pub has : HasLines settled.text nothing
+
+pub stops : (s : LinkSetup) (w : World) (moment : ℕ) (lines : List (List ℕ)) (text : List ℕ) (status : Status) → HasLines text nothing
+    → Plays s w moment lines (record { text = text; ends = Some status })
+unfolding made_by
+stops s w moment lines text status has = record {
+  said = [];
+  drain = None;
+  later = [];
+  left = lines;
+  lines_are = refl;
+  says = refl;
+  made = [];
+  drains = refl;
+  ending = status;
+  ends = refl;
+  has = rw (told-none s.parties w) has;
+}
+
+then-nothing : (a : Told) → and_then a nothing ≡ a
+then-nothing a = rw (append-nil a.ups, append-nil a.notes) refl
+
+told-one : (parties : Party × Party) (w : World) (event : Event) → told_in parties w (event ∷ []) ≡ told_at parties w event
+told-one parties w event =
+    told-more parties w event [] ∙ (ap (and_then (told_at parties w event)) (told-none parties (happens parties w event)) ∙ then-nothing (told_at parties w event))
+
+-- ---- what a line says, wherever it stands
+
+pub said-later : (windows : Bool) (line : List ℕ) (said : Result LinkEvent LineFault) (e : LinkEvent) → without_picks windows line said ≡ Ok e → said ≡ Ok e
+said-later windows line said e is = by_test (windows && starts_with nat_eq line (codes "drain ")) is
+  where
+    by_test : (b : Bool) → (if b then Err faults.Word else said) ≡ Ok e → said ≡ Ok e
+    by_test true is = absurd (cc)
+    by_test false is = is
+
+running-later : (line : List ℕ) (e : LinkEvent) → running_said line ≡ Ok e → later_said line ≡ Ok e
+running-later line e is = by_test (starts_with nat_eq line (codes "window ")) is
+  where
+    by_test : (b : Bool) → (if b then Err faults.Word else later_said line) ≡ Ok e → later_said line ≡ Ok e
+    by_test true is = absurd (cc)
+    by_test false is = is
+
+-- ---- one line more
+
+module _ (s : LinkSetup) (w : World) (moment : ℕ) (line : List ℕ) (lines : List (List ℕ)) where
+  goes_on : (e : LinkEvent) (text : List ℕ) (later : Settled) → later_said line ≡ Ok e → HasLines text (told_in s.parties w (makes s moment e))
+      → Plays s (run s.parties w (makes s moment e)) (moment_after moment e) lines later
+      → Plays s w moment (line ∷ lines) (record { text = text ++ later.text; ends = later.ends })
+  unfolding made_by
+  goes_on e text later is has rest = record {
+    said = e ∷ rest.said;
+    drain = rest.drain;
+    later = line ∷ rest.later;
+    left = rest.left;
+    lines_are = ap (λ ls. line ∷ ls) rest.lines_are;
+    says = rw (is, rest.says) refl;
+    made = rest.made;
+    drains = subst (λ (x : World). DrainMakes s x rest.drain rest.made)
+        (sym (run-append s.parties w (makes s moment e) (made_by s (moment_after moment e) rest.said))) rest.drains;
+    ending = rest.ending;
+    ends = rest.ends;
+    has = subst (HasLines (text ++ later.text))
+        (sym (told-append s.parties w (makes s moment e) (made_by s (moment_after moment e) rest.said ++ rest.made))
+        ∙ ap (told_in s.parties w) (sym (append_assoc (makes s moment e) (made_by s (moment_after moment e) rest.said) rest.made)))
+        (both-have text later.text _ _ has rest.has);
+  }
+
+  -- by the events that the line makes
+  goes_as : (e : LinkEvent) (es : List Event) (then_at : ℕ) (text : List ℕ) (later : Settled) → later_said line ≡ Ok e → makes s moment e ≡ es
+      → moment_after moment e ≡ then_at → HasLines text (told_in s.parties w es) → Plays s (run s.parties w es) then_at lines later
+      → Plays s w moment (line ∷ lines) (record { text = text ++ later.text; ends = later.ends })
+  goes_as e es then_at text later is makes_es at has rest =
+      goes_on e text later is (subst (λ xs. HasLines text (told_in s.parties w xs)) (sym makes_es) has)
+      (subst (λ xs. Plays s (run s.parties w xs) (moment_after moment e) lines later) (sym makes_es)
+      (subst (λ n. Plays s (run s.parties w es) n lines later) (sym at) rest))
+
+  limit : Plays s w moment (line ∷ lines) (record { text = []; ends = Some statuses.Limit })
+  limit = stops s w moment (line ∷ lines) [] statuses.Limit none-has
+
+  -- the link is drained, and these events were made
+  drained_so : (e : LinkEvent) (made : List Event) (text : List ℕ) (settled : Settled) → later_said line ≡ Ok e → DrainMakes s w (Some e) made
+      → HasLines text (told_in s.parties w made) → Closes settled
+      → Plays s w moment (line ∷ lines) (record { text = text ++ settled.text; ends = settled.ends })
+  unfolding made_by
+  drained_so e made text settled is makes_made has rest = record {
+    said = [];
+    drain = Some e;
+    later = line ∷ [];
+    left = lines;
+    lines_are = refl;
+    says = rw is refl;
+    made = made;
+    drains = makes_made;
+    ending = rest.ending;
+    ends = rest.ends;
+    has = subst (HasLines (text ++ settled.text)) (then-nothing (told_in s.parties w made)) (both-have text settled.text _ _ has rest.has);
+  }
+
+-- ---- an event that is refused does nothing
+
+refused-stays : (parties : Party × Party) (w : World) (end : LinkEnd) (block : List ℕ) (fault : SubmitFault)
+    → submission_at parties w end block (length block) ≡ Err fault
+    → (happens parties w (submit end block (length block)) ≡ w) × (effects_at parties w (submit end block (length block)) ≡ [])
+unfolding submitted_world
+refused-stays parties w end block fault is =
+    let all : nat_le (length block) (length block) ≡ true = grind (arith, nat_tests) in
+    (rw all (by_reply (submits (at_end parties end) (at_end w.engines end) block (length block) w.now) is), rw (all, is) refl)
+  where
+    by_reply : (r : Result Reply SubmitFault) → submit_step (at_end parties end) (at_end w.engines end) r ≡ Err fault
+        → replies w end (record { originator = (at_end parties end).own; number = (at_end w.engines end).next }) (unless_refused r) ≡ w
+    by_reply (Ok reply) is = absurd (cc)
+    by_reply (Err fault) is = refl
+
+quiet-told : (parties : Party × Party) (w : World) (end : LinkEnd) (block : List ℕ) → effects_at parties w (submit end block (length block)) ≡ []
+    → told_in parties w (submit end block (length block) ∷ []) ≡ nothing
+quiet-told parties w end block is = told-one parties w (submit end block (length block)) ∙ rw is refl
+
+-- ---- the texts of a drain
+
+ending-plain : ended_part (codes "end") ≡ []
+unfolding ended_part
+ending-plain = refl
+
+stopping-plain : ended_part (codes "stop") ≡ []
+unfolding ended_part
+stopping-plain = refl
+
+moving-plain : ended_part (codes "at") ≡ []
+unfolding ended_part
+moving-plain = refl
+
+end-has : (n : ℕ) → HasLines (end_line n) nothing
+end-has n = other-line (codes "end" ∷ decimal n ∷ []) (ending-plain, (decimal-plain n, tt)) refl refl
+
+last-has : (plan_ends : Bool) (n : ℕ) → HasLines (last_line plan_ends n) nothing
+last-has true n = other-line (codes "stop" ∷ decimal n ∷ []) (stopping-plain, (decimal-plain n, tt)) refl refl
+last-has false n = end-has n
+
+moved-has : (windows same : Bool) (now : ℕ) → HasLines (if windows then (if same then [] else at_line now) else []) nothing
+moved-has true true now = none-has
+moved-has true false now = other-line (codes "at" ∷ decimal now ∷ []) (moving-plain, (decimal-plain now, tt)) refl refl
+moved-has false same now = none-has
+
+timed-has : (s : LinkSetup) (w : World) (made : List Event) (windows : Bool) (moment k : ℕ)
+    → HasLines (timed_text windows moment k (ats_of s w made)) (told_in s.parties w made)
+unfolding ats_of timed_text
+timed-has s w [] windows moment k = rw (told-none s.parties w) none-has
+timed-has s w (x ∷ xs) windows moment k =
+    rw (told-more s.parties w x xs)
+    (both-have _ _ _ _
+    (both-have _ _ nothing _ (moved-has windows _ _) (event-has s.parties w x k))
+    (timed-has s (happens s.parties w x) xs windows _ _))
+
+steps-has : (parties : Party × Party) (w : World) (made : List Event) (k : ℕ) → HasLines (steps_text k (done_in parties w made)) (told_in parties w made)
+unfolding done_in steps_text
+steps-has parties w [] k = rw (told-none parties w) none-has
+steps-has parties w (x ∷ xs) k =
+    rw (told-more parties w x xs) (both-have _ _ _ _ (event-has parties w x k) (steps-has parties (happens parties w x) xs _))
+
+-- ---- the runs of a drain with picks
+
+picks-world : (parties : Party × Party) (d : Crossing) (picks : List Pick) → (after_picks parties d picks).world ≡ run parties d.world (events_of (picked_turns parties d picks))
+unfolding after_picks picked_turns
+picks-world parties d [] = refl
+picks-world parties d (pick ∷ picks) = by_turn (pick_turn d pick) (picks-world parties (after_pick parties d (pick_turn d pick)) picks)
+  where
+    by_turn : (o : Option PickTurn)
+        → (after_picks parties (after_pick parties d o) picks).world
+        ≡ run parties (after_pick parties d o).world (events_of (picked_turns parties (after_pick parties d o) picks))
+        → (after_picks parties (after_pick parties d o) picks).world
+        ≡ run parties d.world (events_of (as_turns o ++ picked_turns parties (after_pick parties d o) picks))
+    by_turn None rest = rest
+    by_turn (Some t) rest = rest
+
+over-of : (w : World) (new : List Placed) → next_turn w new ≡ None → (new ≡ []) × (link_deadline w ≡ None)
+over-of w [] none = (refl, by_due (link_deadline w) refl none)
+  where
+    by_due : (due : Option ℕ) → link_deadline w ≡ due → option_map {U = PickTurn} (λ now. record { event = clock now; left = [] }) due ≡ None → link_deadline w ≡ None
+    by_due None is none = is
+    by_due (Some now) is none = absurd (cc)
+over-of w (e ∷ es) none = absurd (cc)
+
+module _ (s : LinkSetup) (w : World) (picks : List Pick) (timed : AreTimed s.parties) (reached : IsReached s.parties w) where
+  abbrev rest : List PickTurn
+  rest = turns_after no_moment s.parties (after_picks s.parties (crosses_at w) picks)
+
+  ends : EndsTurns no_moment s.parties (after_picks s.parties (crosses_at w) picks) (turns_after no_moment s.parties (after_picks s.parties (crosses_at w) picks))
+  ends = turns-made no_moment s.parties (after_picks s.parties (crosses_at w) picks) timed (goes-at s.parties w picks reached)
+
+  leads-to : (after_turns s.parties (after_picks s.parties (crosses_at w) picks) (turns_after no_moment s.parties (after_picks s.parties (crosses_at w) picks))).world
+      ≡ run s.parties w (run_events s.parties w picks (turns_after no_moment s.parties (after_picks s.parties (crosses_at w) picks)))
+  leads-to =
+      turns-world s.parties (after_picks s.parties (crosses_at w) picks) rest
+      ∙ (ap (λ (x : World). run s.parties x (events_of rest)) (picks-world s.parties (crosses_at w) picks)
+      ∙ (sym (run-append s.parties w (events_of (picked_turns s.parties (crosses_at w) picks)) (events_of rest))
+      ∙ ap (run s.parties w) (sym (map-append (λ (t : PickTurn). t.event) (picked_turns s.parties (crosses_at w) picks) rest))))
+
+  pub picked-drain : next_turn (after_turns s.parties (after_picks s.parties (crosses_at w) picks) (turns_after no_moment s.parties (after_picks s.parties (crosses_at w) picks))).world
+      (after_turns s.parties (after_picks s.parties (crosses_at w) picks) (turns_after no_moment s.parties (after_picks s.parties (crosses_at w) picks))).new ≡ None
+      → IsPickedDrain s.parties w picks (run_events s.parties w picks (turns_after no_moment s.parties (after_picks s.parties (crosses_at w) picks)))
+  picked-drain none =
+      let over = over-of (after_turns s.parties (after_picks s.parties (crosses_at w) picks) rest).world (after_turns s.parties (after_picks s.parties (crosses_at w) picks) rest).new none in
+      record {
+        run = record {
+          rest = turns_after no_moment s.parties (after_picks s.parties (crosses_at w) picks);
+          goes_on = ends.next;
+          count = sym (length-append (picked_turns s.parties (crosses_at w) picks) rest)
+              ∙ sym (length-map (picked_turns s.parties (crosses_at w) picks ++ rest) (λ (t : PickTurn). t.event));
+          over = record { none_new = over.0; no_timer = over.1 };
+          leads = leads-to;
+        };
+        events = refl;
+      }
+
+-- ---- a line by what it says
+
+-- one event more leads to another such world
+step-reached : (parties : Party × Party) (w : World) (event : Event) → IsReached parties w → IsReached parties (happens parties w event)
+step-reached parties w event reached = record {
+  events = reached.events ++ event ∷ [];
+  leads = run-append parties (starts_world parties) reached.events (event ∷ []) ∙ ap (λ (l : World). happens parties l event) reached.leads;
+}
+
+module _ (s : LinkSetup) (c : LinkCourse) (n : ℕ) (line : List ℕ) (lines : List (List ℕ)) (settle : LinkState → Settled)
+    (timed : AreTimed s.parties) (reached : IsReached s.parties c.world)
+    (rest : (c' : LinkCourse) → IsReached s.parties c'.world → Plays s c'.world c'.moment lines (settle (on_link s c')))
+    (over : Closes (settle drained)) where
+  abbrev Here : Settled → Type 0
+  Here settled = Plays s c.world c.moment (line ∷ lines) settled
+
+  only : (e : LinkEvent) (es : List Event) (text : List ℕ) → later_said line ≡ Ok e → makes s c.moment e ≡ es → moment_after c.moment e ≡ c.moment
+      → run s.parties c.world es ≡ c.world → told_in s.parties c.world es ≡ nothing → HasLines text nothing
+      → Plays s c.world c.moment (line ∷ lines) (after_turn (only_says s c text) settle)
+  only e es text is makes_es at stays quiet has =
+      goes_as s c.world c.moment line lines e es c.moment text (settle (on_link s c)) is makes_es at
+      (subst (HasLines text) (sym quiet) has)
+      (subst (λ (x : World). Plays s x c.moment lines (settle (on_link s c))) (sym stays) (rest c reached))
+
+  happened : (e : LinkEvent) (event : Event) (moment : ℕ) → later_said line ≡ Ok e → makes s c.moment e ≡ event ∷ [] → moment_after c.moment e ≡ moment
+      → Plays s c.world c.moment (line ∷ lines) (after_turn (event_turn s c event moment) settle)
+  happened e event moment is makes_it at = by_kept (nat_lt most_sent (c.octets + octets_sent (map told_of (effects_at s.parties c.world event))))
+    where
+      by_kept : (b : Bool) → Plays s c.world c.moment (line ∷ lines) (after_turn (if b then ends_run [] statuses.Limit
+          else passes (told_text (length c.world.sent) (map told_of (effects_at s.parties c.world event)))
+          (on_link s (record { world = happens s.parties c.world event; moment = moment; octets = c.octets + octets_sent (map told_of (effects_at s.parties c.world event)) }))) settle)
+      by_kept true = limit s c.world c.moment line lines
+      by_kept false =
+          goes_as s c.world c.moment line lines e (event ∷ []) moment _ _ is makes_it at
+          (subst (HasLines (told_text (length c.world.sent) (map told_of (effects_at s.parties c.world event)))) (sym (told-one s.parties c.world event))
+          (event-has s.parties c.world event (length c.world.sent)))
+          (rest (record { world = happens s.parties c.world event; moment = moment; octets = c.octets + octets_sent (map told_of (effects_at s.parties c.world event)) })
+          (step-reached s.parties c.world event reached))
+
+  sent_turn : (first : Bool) (body : List ℕ) → later_said line ≡ Ok (events.Send first body)
+      → Plays s c.world c.moment (line ∷ lines) (after_turn (sends s c (end_named first) body) settle)
+  sent_turn first body is = by_open (is_open s.plan c.moment) refl
+    where
+      event : Event
+      event = submit (link_end (end_named first)) body (length body)
+
+      by_step : (r : Result EngineStep SubmitFault) → submission_at s.parties c.world (link_end (end_named first)) body (length body) ≡ r
+          → makes s c.moment (events.Send first body) ≡ submit (link_end (end_named first)) body (length body) ∷ []
+          → Plays s c.world c.moment (line ∷ lines) (after_turn (submitted s c (end_named first) body r) settle)
+      by_step (Ok step) was makes_it = happened (events.Send first body) (submit (link_end (end_named first)) body (length body)) c.moment is makes_it refl
+      by_step (Err fault) was makes_it =
+          let stays = refused-stays s.parties c.world (link_end (end_named first)) body fault was in
+          only (events.Send first body) (submit (link_end (end_named first)) body (length body) ∷ []) (send_refusal (end_named first) (submit_word (refusal_of fault))) is makes_it refl
+          stays.0 (quiet-told s.parties c.world (link_end (end_named first)) body stays.1) (unsent-has (end_named first) (submit_word (refusal_of fault)) (submit-plain fault))
+
+      by_open : (b : Bool) → is_open s.plan c.moment ≡ b
+          → Plays s c.world c.moment (line ∷ lines) (after_turn (if b
+          then submitted s c (end_named first) body (submission_at s.parties c.world (link_end (end_named first)) body (length body))
+          else only_says s c (send_refusal (end_named first) (codes "Closed"))) settle)
+      by_open true opens = by_step (submission_at s.parties c.world (link_end (end_named first)) body (length body)) refl (rw opens refl)
+      by_open false shut = only (events.Send first body) [] (send_refusal (end_named first) (codes "Closed")) is (rw shut refl) refl refl (told-none s.parties c.world)
+          (unsent-has (end_named first) (codes "Closed") shut-plain)
+
+  delivered_turn : (k : ℕ) → later_said line ≡ Ok (events.Deliver k) → Plays s c.world c.moment (line ∷ lines) (after_turn (delivers s c k) settle)
+  delivered_turn k is = by_open (is_open s.plan c.moment) refl
+    where
+      by_got : (got : Option LinkSent) → slice_get c.world.sent k ≡ got → makes s c.moment (events.Deliver k) ≡ deliver k ∷ []
+          → Plays s c.world c.moment (line ∷ lines) (after_turn (delivered s c k got) settle)
+      by_got None none makes_it =
+          only (events.Deliver k) (deliver k ∷ []) deliver_refusal is makes_it refl (rw none refl)
+          (told-one s.parties c.world (deliver k) ∙ rw none refl) undelivered-has
+      by_got (Some d) some makes_it = happened (events.Deliver k) (deliver k) c.moment is makes_it refl
+
+      by_open : (b : Bool) → is_open s.plan c.moment ≡ b
+          → Plays s c.world c.moment (line ∷ lines) (after_turn (if b then delivered s c k (slice_get c.world.sent k) else only_says s c closed_refusal) settle)
+      by_open true opens = by_got (slice_get c.world.sent k) refl (rw opens refl)
+      by_open false shut = only (events.Deliver k) [] closed_refusal is (rw shut refl) refl refl (told-none s.parties c.world) closed-has
+
+  passed_turn : (now : ℕ) → later_said line ≡ Ok (events.Clock now) → Plays s c.world c.moment (line ∷ lines) (after_turn (passes_to s c now) settle)
+  passed_turn now is = by_late (nat_le no_moment now)
+    where
+      by_back : (b : Bool) → nat_lt now c.moment ≡ b
+          → Plays s c.world c.moment (line ∷ lines) (after_turn (if b then only_says s c [] else event_turn s c (clock (elapsed s.plan now)) now) settle)
+      by_back true back = only (events.Clock now) [] [] is (rw back refl) (rw back refl) refl (told-none s.parties c.world) none-has
+      by_back false on = happened (events.Clock now) (clock (elapsed s.plan now)) now is (rw on refl) (rw on refl)
+
+      by_late : (b : Bool) → Plays s c.world c.moment (line ∷ lines)
+          (after_turn (if b then ends_run [] statuses.Limit else if nat_lt now c.moment then only_says s c [] else event_turn s c (clock (elapsed s.plan now)) now) settle)
+      by_late true = limit s c.world c.moment line lines
+      by_late false = by_back (nat_lt now c.moment) refl
+
+  -- what a drain makes is written, unless it passes the limit
+  kept_so : (e : LinkEvent) (made : List Event) (octets : ℕ) (text : List ℕ) → later_said line ≡ Ok e → DrainMakes s c.world (Some e) made
+      → HasLines text (told_in s.parties c.world made)
+      → Plays s c.world c.moment (line ∷ lines) (after_turn (if_kept octets text drained) settle)
+  kept_so e made octets text is makes_made has = by_kept (nat_lt most_sent octets)
+    where
+      by_kept : (b : Bool) → Plays s c.world c.moment (line ∷ lines) (after_turn (if b then ends_run [] statuses.Limit else passes text drained) settle)
+      by_kept true = limit s c.world c.moment line lines
+      by_kept false = drained_so s c.world c.moment line lines e made text (settle drained) is makes_made has over
+
+  drained_turn : later_said line ≡ Ok events.Drain → Plays s c.world c.moment (line ∷ lines) (after_turn (drains s c) settle)
+  drained_turn is = by_due (link_deadline (run s.parties c.world (drain_made s c)))
+    where
+      made_so : EndsBy (total s.plan) s.parties c.world (length c.world.sent) (drain_made s c)
+      made_so = drains-are-made s.parties c.world (total s.plan) (length c.world.sent) timed reached
+
+      text-has : (plan_ends : Bool) → HasLines (drain_text s c (drain_made s c) plan_ends) (told_in s.parties c.world (drain_made s c))
+      text-has plan_ends =
+          subst (HasLines (drain_text s c (drain_made s c) plan_ends)) (then-nothing (told_in s.parties c.world (drain_made s c)))
+          (both-have _ _ _ _ (timed-has s c.world (drain_made s c) s.windows c.moment (length c.world.sent)) (last-has plan_ends (length (drain_made s c))))
+
+      by_windows : (b : Bool) → Plays s c.world c.moment (line ∷ lines)
+          (after_turn (if b then if_kept (c.octets + octets_timed (ats_of s c.world (drain_made s c))) (drain_text s c (drain_made s c) true) drained else ends_run [] statuses.Limit) settle)
+      by_windows true = kept_so events.Drain (drain_made s c) _ _ is made_so (text-has true)
+      by_windows false = limit s c.world c.moment line lines
+
+      by_due : (due : Option ℕ) → Plays s c.world c.moment (line ∷ lines) (after_turn (drains_by s c (drain_made s c) due) settle)
+      by_due None = kept_so events.Drain (drain_made s c) _ _ is made_so (text-has false)
+      by_due (Some deadline) = by_windows s.windows
+
+  picked_turn : (words : List PickWord) → later_said line ≡ Ok (events.DrainBy words) → Plays s c.world c.moment (line ∷ lines) (after_turn (drains_by_picks s c (said_picks words)) settle)
+  picked_turn words is = by_late (picks_late s c (said_picks words))
+    where
+      made : List Event
+      made = run_events s.parties c.world (said_picks words) (turns_after no_moment s.parties (after_picks s.parties (crosses_at c.world) (said_picks words)))
+
+      text-has : HasLines (steps_end c (picks_done s c (picks_turns s c (said_picks words)))) (told_in s.parties c.world (run_events s.parties c.world (said_picks words) (turns_after no_moment s.parties (after_picks s.parties (crosses_at c.world) (said_picks words)))))
+      text-has =
+          subst (HasLines (steps_end c (picks_done s c (picks_turns s c (said_picks words))))) (then-nothing (told_in s.parties c.world made))
+          (both-have _ _ _ _ (steps-has s.parties c.world made (length c.world.sent)) (end-has _))
+
+      by_next : (o : Option PickTurn) → next_turn (picks_end s c (said_picks words)).world (picks_end s c (said_picks words)).new ≡ o
+          → Plays s c.world c.moment (line ∷ lines) (after_turn (picked_by c (picks_done s c (picks_turns s c (said_picks words))) o) settle)
+      by_next None none =
+          kept_so (events.DrainBy words) (run_events s.parties c.world (said_picks words) (turns_after no_moment s.parties (after_picks s.parties (crosses_at c.world) (said_picks words)))) _ _ is
+          (picked-drain s c.world (said_picks words) timed reached none) text-has
+      by_next (Some t) some = limit s c.world c.moment line lines
+
+      by_late : (b : Bool) → Plays s c.world c.moment (line ∷ lines) (after_turn (if b then ends_run [] statuses.Limit
+          else picked_by c (picks_done s c (picks_turns s c (said_picks words))) (next_turn (picks_end s c (said_picks words)).world (picks_end s c (said_picks words)).new)) settle)
+      by_late true = limit s c.world c.moment line lines
+      by_late false = by_next (next_turn (picks_end s c (said_picks words)).world (picks_end s c (said_picks words)).new) refl
+
+  refused : (fault : LineFault) → Plays s c.world c.moment (line ∷ lines) (record { text = refusal_line n fault; ends = Some statuses.Refused })
+  refused fault = stops s c.world c.moment (line ∷ lines) (refusal_line n fault) statuses.Refused (refusal-has n fault)
+
+  pub turned : (said : Result LinkEvent LineFault) → ((e : LinkEvent) → said ≡ Ok e → later_said line ≡ Ok e)
+      → Plays s c.world c.moment (line ∷ lines) (after_turn (link_line n s c said) settle)
+  turned (Ok (events.Link segment timeout most cap start)) is = refused faults.Word
+  turned (Ok (events.Window from to)) is = refused faults.Word
+  turned (Ok (events.Send first body)) is = sent_turn first body (is (events.Send first body) refl)
+  turned (Ok (events.Deliver k)) is = delivered_turn k (is (events.Deliver k) refl)
+  turned (Ok (events.Clock now)) is = passed_turn now (is (events.Clock now) refl)
+  turned (Ok events.Drain) is = drained_turn (is events.Drain refl)
+  turned (Ok (events.DrainBy words)) is = picked_turn words (is (events.DrainBy words) refl)
+  turned (Err fault) is = refused fault
+
+  pub line_turned : Plays s c.world c.moment (line ∷ lines) (after_turn (turn_at link_rules n (on_link s c) line) settle)
+  unfolding turn_at
+  line_turned = by_past (nat_lt link_rules.lines n || nat_lt link_rules.octets (length line))
+    where
+      by_past : (t : Bool) → Plays s c.world c.moment (line ∷ lines) (after_turn (if t then ends_run [] statuses.Limit
+          else link_line n s c (without_picks s.windows line (running_said line))) settle)
+      by_past true = limit s c.world c.moment line lines
+      by_past false = turned (without_picks s.windows line (running_said line)) (λ e is. running-later line e (said-later s.windows line (running_said line) e is))

@@ -1,0 +1,35 @@
+//! What `link` writes of every script, and what a drain with picks is. Each law is the contract of a
+//! function that does nothing but cite those of a link.
+
+ghost use Rattle.link_run.specs.Law.{LinksKeepLaw};
+ghost use Rattle.link_run.specs.Picks.{TurnsAreMade, TurnsAreOne};
+
+/// After the picks of a drain turns lead to where no other can follow, or where a clock would be set
+/// to any moment that one likes, or to a later one. `turns_after` computes them: its counts are enough.
+pub fn turns_are_made()
+    ensures { TurnsAreMade }
+{}
+
+/// Whoever makes turns until then makes these.
+pub fn turns_are_one()
+    ensures { TurnsAreOne }
+{}
+
+/// Whatever the input: the `up` lines of what is written are red parts that were handed up, each whole
+/// and as a line `send` has it, and once; the notes are those of the engines; and from where the link
+/// is hopeful and has room a drain completes the sessions. It has no more events than they cost, however
+/// many gaps lie between; and with picks three more at most for each old datagram that comes once
+/// more.
+pub fn links_keep_law()
+    ensures { LinksKeepLaw }
+{
+    link_laws::laws::red_parts_are_fronts_once();
+    drain_laws::laws::clean_events_are_few();
+    drain_laws::laws::clean_runs_complete();
+    drain_laws::laws::nothing_is_left_where_none_follows();
+    pick_laws::laws::crossing_events_are_few();
+    pick_laws::laws::crossing_runs_complete();
+    pick_laws::laws::copies_cost_three();
+    pick_laws::laws::copies_cost_their_sessions();
+    pick_laws::laws::copied_runs_complete();
+}

@@ -4,7 +4,8 @@ use Rattle.std.proofs.lemmas.List.Sums.{AllPass-from_list_all, list_all-from_All
 use Rattle.std.specs.List.{list_all}
 use Rattle.hex.specs.Hex.{decode_of, is_hex_digit}
 use Rattle.hex.specs.declared.FromHexError.{FromHexError}
-use Rattle.hex.proofs.HexLemmas.{decode_of-ok, decode_of-digits, decode_of-odd}
+use Rattle.hex.proofs.HexLemmas.{decode_of-digits, decode_of-odd}
+pub use Rattle.hex.proofs.HexLemmas.{decode_of-ok}
 
 pub even-hex : (text : List ℕ) → length text % 2 ≡ 0 → list_all is_hex_digit text ≡ is_ok (decode_of text)
 even-hex text even = by_test (list_all is_hex_digit text) refl

@@ -9,7 +9,7 @@ use Rattle.std.specs.Str.{IsUtf8, bytes_eq}
 use Rattle.endpoint.specs.declared.name.Endpoint.{Endpoint}
 use Rattle.endpoint.specs.declared.name.Endpoint.TheVariants.{Null, Ipn, Dtn}
 use Rattle.endpoint.specs.Endpoints.{IsEndpoint, is_visible, is_ssp, scheme_of, ssp_of}
-use Rattle.hex.specs.Hex.{encode_with, encode_lower, lower_digits, IsBytes}
+use Rattle.hex_text.specs.Hex.{encode_with, encode_lower, lower_digits, IsBytes}
 use Rattle.hex_text.proofs.DigitLemmas.{is_low, low-ascii}
 use Rattle.json.specs.Print.{escape_byte, escape, quoted}
 

@@ -1,7 +1,7 @@
 -- Telling a bundle part by part.
 use Rattle.std.proofs.Common.{◌≡◌, ℕ, ◌+◌, ◌<◌, ◌≤◌, Bool, true, false, List, [], ◌∷◌, ◌++◌, length, take, drop, codes, refl, sym, ◌∙◌, ap, arith, append_assoc, append-nil, length-append}
 use Rattle.std.proofs.lemmas.List.{take-append-drop, length-take-le, nil_from_length}
-use Rattle.hex.specs.Hex.{encode_lower, encode_with, IsBytes}
+use Rattle.hex_text.specs.Hex.{encode_lower, encode_with, IsBytes}
 use Rattle.endpoint.specs.declared.name.Endpoint.{Endpoint}
 use Rattle.std.specs.Prelude.{if◌then◌else◌, OnOk, Result, Ok, Err}
 use Rattle.serde_json.specs.Written.{comma_if, compact_text}
@@ -24,7 +24,7 @@ use Rattle.bundle_json.specs.Json.{name, block6, bundle6}
 use Rattle.bundle_json.specs.Commas.{with_commas}
 use Rattle.bundle_json.specs.Laid.{LiesAt, ValueOf as ValueIn, IsPair, Names, SpellsBlock, ShowsPrimary, ShowsBlock, BlocksLie, texts_in}
 use Rattle.bundle6.specs.Table.{offsets}
-use Rattle.bundle_json.specs.Telling.{head_text, primary_text, blocks_text, refs_text, body_text, AtRefs, Left, Tells}
+use Rattle.bundle_json.specs.Telling.{closing_text, head_text, primary_text, blocks_text, refs_text, body_text, AtRefs, Left, Tells}
 use Rattle.hex_text.proofs.DigitLemmas.{encode_lower-append}
 use Rattle.bundle_json.proofs.ObjectLemmas.{bundle6-text, block6-text}
 use Rattle.bundle_json.proofs.WalkLemmas.{lies-parts, lies-long, lies-after, block-long, blocks-are, next-ref}
@@ -357,3 +357,24 @@ pub tells-more-ok : {E : Type 0} (octets : List ℕ) (old mid new : Telling6) (b
     → ((later : List ℕ) → Left octets mid later → OnOk result (Tells octets mid new between now later)) → OnOk result (Tells octets old new before now rest)
 tells-more-ok octets old mid new before between now rest (Ok done) first more = tells-more octets old mid new before between now rest first more
 tells-more-ok octets old mid new before between now rest (Err e) first more = tt
+
+-- ---- the last block, where it has no references
+
+-- its end and the primary block are told at once
+pub tells-closing : (octets : List ℕ) (old : Telling6) (view : BlockView) (before now rest : List ℕ)
+    → old.stage ≡ stages.Body view → Left octets old rest → view.after ≤ old.at → view.count ≡ 0 → length octets ≤ view.after
+    → ((value : Primary6) → ShowsPrimary octets old.primary value → now ≡ before ++ closing_text view.flags view.kind value)
+    → Tells octets old (At old stages.Over view.after) before now rest
+tells-closing octets old view before now rest is left past none last written =
+    let head = before ++ head_text view.flags view.kind in
+    let close = head ++ codes "]}" in
+    let refs = At old (stages.Refs view.count false view.after) view.refs in
+    let block = At old (stages.Block true) view.after in
+    tells-more octets old refs (At old stages.Over view.after) before head now rest
+    (tells-head octets old view before head rest is left past refl)
+    (λ more stands. tells-more octets refs block (At old stages.Over view.after) head close now more
+    (tells-end octets refs view.count view.after false head close more refl stands none refl)
+    (λ later ends. tells-primary octets block true close now later refl ends last
+    (λ value shows. written value shows
+    ∙ sym (append_assoc before (head_text view.flags view.kind) (codes "]}" ++ primary_text value))
+    ∙ sym (append_assoc head (codes "]}") (primary_text value)))))

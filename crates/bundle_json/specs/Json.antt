@@ -1,6 +1,6 @@
 -- A bundle as JSON: an object, whose keys stand in alphabetical order.
 use Rattle.std.specs.Prelude.{ℕ, List, [], ◌∷◌, ◌++◌, map, codes, Option, Some, None}
-use Rattle.hex.specs.Hex.{encode_lower}
+use Rattle.hex_text.specs.Hex.{encode_lower}
 use Rattle.serde_json.specs.Data.{Data, null, number, string, array, object, unsigned, no_items, item, Members, no_members, member}
 use Rattle.serde_json.specs.View.{items_of}
 use Rattle.endpoint.specs.declared.name.Endpoint.{Endpoint}

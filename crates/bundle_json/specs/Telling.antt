@@ -1,7 +1,7 @@
 -- What is left to tell of a bundle of version 6, whose octets are at hand.
 use Rattle.std.specs.Prelude.{◌≡◌, ℕ, ◌+◌, ◌-◌, ◌*◌, ◌<◌, List, [], ◌++◌, length, drop, codes, Bool, true, false}
 use Rattle.std.specs.Fmt.{decimal}
-use Rattle.hex.specs.Hex.{encode_lower}
+use Rattle.hex_text.specs.Hex.{encode_lower}
 use Rattle.endpoint.specs.declared.name.Endpoint.{Endpoint}
 use Rattle.serde_json.specs.Written.{compact_text}
 use Rattle.bundle6.specs.declared.primary.Primary6.{Primary6}
@@ -11,7 +11,7 @@ use Rattle.bundle_json.specs.declared.telling6.Telling6.{Telling6}
 use Rattle.bundle_json.specs.declared.telling6.Stage.{Stage}
 use Rattle.bundle_json.specs.declared.telling6.Stage.TheVariants as stages
 use Rattle.bundle_json.specs.Json.{name, block6}
-use Rattle.bundle_json.specs.Frames.{head6}
+use Rattle.bundle_json.specs.Frames.{empty, head6}
 use Rattle.bundle_json.specs.Commas.{with_commas}
 use Rattle.bundle_json.specs.Laid.{LiesAt, AreRefs, ShowsPrimary, ShowsBlock, BlocksLie, texts_in}
 
@@ -19,12 +19,16 @@ use Rattle.bundle_json.specs.Laid.{LiesAt, AreRefs, ShowsPrimary, ShowsBlock, Bl
 
 -- what stands after the blocks: the text of the bundle without them but for its front
 unfoldable pub primary_text : Primary6 → List ℕ
-primary_text primary = drop 11 (compact_text (head6 primary))
+primary_text primary = drop 11 (compact_text (head6 empty primary))
 
 -- what stands between the octets of a block and its references
 abbrev pub head_text : (flags kind : ℕ) → List ℕ
 head_text flags kind =
     codes "\",\"flags\":" ++ (decimal flags ++ (codes ",\"kind\":" ++ (decimal kind ++ codes ",\"refs\":[")))
+
+-- what stands after the octets of a last block without references
+abbrev pub closing_text : (flags kind : ℕ) → Primary6 → List ℕ
+closing_text flags kind primary = head_text flags kind ++ (codes "]}" ++ primary_text primary)
 
 -- blocks, and what stands after them
 abbrev pub blocks_text : Bool → List Block6 → Primary6 → List ℕ

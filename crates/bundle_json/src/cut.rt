@@ -1,13 +1,16 @@
 //! Where the texts that `serde_json` writes are cut, and a block's octets, which go in there.
 ghost use Rattle.std.specs.Prelude.{◌≡◌, ◌++◌, List, ℕ, OnOk};
 ghost use Rattle.std.specs.String.{string_bytes};
-ghost use Rattle.hex.specs.Hex.{IsBytes, encode_lower};
+ghost use Rattle.hex_text.specs.Hex.{IsBytes, encode_lower};
 
 use hex_text::write_hex;
 use std::alloc::AllocError;
 
 /// What an object begins with, up to its first block.
 pub(crate) const BLOCKS: &str = r#"{"blocks":["#;
+
+/// What an object begins with that has one block, up to the octets of the block.
+pub(crate) const LAST: &str = r#"{"blocks":[{"body":""#;
 
 /// What a block begins with, up to its octets.
 pub(crate) const BODY: &str = r#"{"body":""#;

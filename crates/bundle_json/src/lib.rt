@@ -4,11 +4,13 @@
 //! part by part out of its octets. The text is what `serde_json` writes of the object: no space, the
 //! keys in alphabetical order. An endpoint is its text, and octets are hex in lower case.
 //!
-//! `serde_json` writes the object without its blocks, each block without its octets and references,
-//! and each name. Its texts are cut where these go in, so that no more than one of them is kept.
+//! `serde_json` writes the object with its last block alone, each other block, and each reference. Octets
+//! and references stay out of these texts, which are cut where they go in, so that no more than one of
+//! them is kept.
 #![tactic(auto)]
 
 mod cut;
+mod ipn;
 mod list;
 mod name;
 mod shown;

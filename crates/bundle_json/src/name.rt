@@ -1,15 +1,16 @@
 //! Endpoints by their texts.
-ghost use Rattle.std.specs.Prelude.{◌≡◌, ◌++◌, codes, IfOk, OnOk};
+ghost use Rattle.std.specs.Prelude.{◌≡◌, ◌++◌, codes, IfOk};
 ghost use Rattle.std.specs.List.{position};
 ghost use Rattle.std.specs.Option.{option_map};
 ghost use Rattle.std.specs.String.{string_bytes};
 ghost use Rattle.bundle6.specs.Names.{is_nul, text_at, numbered};
 ghost use Rattle.endpoint.specs.Endpoints.{IsEndpoint, text_of};
 ghost use Rattle.bundle_json.specs.Json.{name};
+ghost use Rattle.bundle_json.specs.Frames.{said};
 ghost use Rattle.bundle_json.specs.Laid.{Names, AreVisible, pair_of};
 
 use crate::list::Shown;
-use crate::shown::write_string;
+use crate::shown::write_name;
 use crate::walk::Pair;
 use endpoint::Endpoint;
 use std::alloc::{AllocError, Global};
@@ -22,26 +23,37 @@ impl Shown for Endpoint {
 
     fn show(&self, text: &mut String) -> Result<(), AllocError> {
         let name = name_of(*text.allocator(), self)?;
-        write_string(text, name.as_str())
+        write_name(text, &name)
     }
 }
 
+/// An endpoint's text. That of two numbers is spelled where it is sent, and takes no memory.
+#[derive(Drop)]
+pub(crate) enum Spelled {
+    Null,
+    Ipn { node: u64, service: u64 },
+    Text(String),
+}
+
 /// An endpoint's text.
-pub(crate) fn name_of(alloc: Global, endpoint: &Endpoint) -> Result<String, AllocError>
+pub(crate) fn name_of(alloc: Global, endpoint: &Endpoint) -> Result<Spelled, AllocError>
     requires { IsEndpoint endpoint.now }
-    ensures { IfOk result (λ name. string_bytes name ≡ text_of endpoint.now) }
+    ensures { IfOk result (λ name. said name ≡ text_of endpoint.now) }
 {
     match endpoint {
-        Endpoint::Null => String::from_str(alloc, "dtn:none"),
-        Endpoint::Ipn { node, service } => format!(in alloc; "ipn:{node}.{service}"),
+        Endpoint::Null => Ok(Spelled::Null),
+        Endpoint::Ipn { node, service } => Ok(Spelled::Ipn {
+            node: *node,
+            service: *service,
+        }),
         Endpoint::Dtn(ssp) => joined(alloc, b"dtn", ssp.as_slice()),
     }
 }
 
 /// The text of the endpoint that two numbers name; another where they name none.
-pub(crate) fn named(alloc: Global, dictionary: &[u8], pair: Pair) -> Result<String, AllocError>
+pub(crate) fn named(alloc: Global, dictionary: &[u8], pair: Pair) -> Result<Spelled, AllocError>
     ensures { (endpoint : Endpoint) → Names dictionary.now pair endpoint
-        → IfOk result (λ name. string_bytes name ≡ text_of endpoint) }
+        → IfOk result (λ name. said name ≡ text_of endpoint) }
 {
     if dictionary.is_empty() {
         return name_of(alloc, &numbered(pair));
@@ -49,9 +61,9 @@ pub(crate) fn named(alloc: Global, dictionary: &[u8], pair: Pair) -> Result<Stri
     match text_in(dictionary, pair.scheme) {
         Some(scheme) => match text_in(dictionary, pair.ssp) {
             Some(ssp) => joined(alloc, scheme, ssp),
-            None => Ok(String::new(alloc)),
+            None => Ok(Spelled::Null),
         },
-        None => Ok(String::new(alloc)),
+        None => Ok(Spelled::Null),
     }
 }
 
@@ -67,16 +79,16 @@ fn numbered(pair: Pair) -> Endpoint
 }
 
 /// A scheme and a scheme-specific part of visible octets, with the colon between them.
-fn joined(alloc: Global, scheme: &[u8], ssp: &[u8]) -> Result<String, AllocError>
+fn joined(alloc: Global, scheme: &[u8], ssp: &[u8]) -> Result<Spelled, AllocError>
     ensures { AreVisible scheme.now → AreVisible ssp.now
-        → IfOk result (λ name. string_bytes name ≡ scheme.now ++ (codes ":" ++ ssp.now)) }
+        → IfOk result (λ name. said name ≡ scheme.now ++ (codes ":" ++ ssp.now)) }
 {
     let room = scheme.len().saturating_add(ssp.len()).saturating_add(1);
     let mut name = String::with_capacity(alloc, room)?;
     name.push_str(visible(scheme))?;
     name.push_str(":")?;
     name.push_str(visible(ssp))?;
-    Ok(name)
+    Ok(Spelled::Text(name))
 }
 
 /// Visible octets as text.

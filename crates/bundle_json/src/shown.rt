@@ -1,5 +1,5 @@
-//! What `serde_json` writes of a bundle: the object without its blocks, a block without its octets and
-//! references, and a name. What stays out goes in where the texts are cut.
+//! What `serde_json` writes of a bundle: the object with its last block alone or with none, a block without
+//! its octets and references, and a name. What stays out goes in where the texts are cut.
 ghost use Rattle.std.specs.Prelude.{◌≡◌, ◌++◌, [], Some, IfOk, OnOk};
 ghost use Rattle.std.specs.String.{string_bytes};
 ghost use Rattle.serde.specs.Event.{Log, Logs, field_key};
@@ -9,8 +9,10 @@ ghost use Rattle.serde_json.specs.Events.{SendsValue, SendsMembers};
 ghost use Rattle.serde_json.specs.Sent.{IsTextOf};
 ghost use Rattle.serde_json.specs.Written.{compact_text};
 ghost use Rattle.bundle_json.specs.Json.{two, part};
-ghost use Rattle.bundle_json.specs.Frames.{empty, rest_members, head6_shown, head7_shown, frame6, frame7};
+ghost use Rattle.bundle_json.specs.Frames.{empty, one, last_block, said, rest_members, head6_shown, head7_shown, frame6, frame7};
 
+use crate::ipn::send_ipn;
+use crate::name::Spelled;
 use endpoint::Fragment;
 use serde::{Described, Serialize, Serializer};
 use std::alloc::{AllocError, Global};
@@ -23,6 +25,14 @@ pub(crate) struct Two(pub(crate) u64, pub(crate) u64);
 #[derive(Clone, Copy, Drop)]
 struct Empty;
 
+/// The last block of version 6, or none, as an array.
+#[derive(Clone, Copy, Drop)]
+struct Last6(Option<Frame6>);
+
+/// The last block of version 7, as an array.
+#[derive(Clone, Copy, Drop)]
+struct Last7(Frame7);
+
 /// A fragment: its offset and the total, or `null` where there is none.
 #[derive(Clone, Copy, Drop)]
 struct Part(Option<Fragment>);
@@ -30,26 +40,28 @@ struct Part(Option<Fragment>);
 /// What an object ends with in both versions: its members from the destination on.
 #[derive(Drop)]
 pub(crate) struct Rest {
-    pub(crate) destination: String,
+    pub(crate) destination: Spelled,
     pub(crate) flags: u64,
     pub(crate) fragment: Option<Fragment>,
     pub(crate) lifetime: u64,
-    pub(crate) report_to: String,
-    pub(crate) source: String,
+    pub(crate) report_to: Spelled,
+    pub(crate) source: Spelled,
     pub(crate) version: u8,
 }
 
-/// A bundle of version 6 without its blocks.
+/// A bundle of version 6 without its blocks, or with the last of them alone.
 #[derive(Drop)]
 pub(crate) struct Head6 {
+    pub(crate) last: Option<Frame6>,
     pub(crate) creation: Two,
-    pub(crate) custodian: String,
+    pub(crate) custodian: Spelled,
     pub(crate) rest: Rest,
 }
 
-/// A bundle of version 7 without its blocks.
+/// A bundle of version 7 with the last of its blocks alone.
 #[derive(Drop)]
 pub(crate) struct Head7 {
+    pub(crate) last: Frame7,
     pub(crate) crc: u8,
     pub(crate) creation: Two,
     pub(crate) rest: Rest,
@@ -110,19 +122,19 @@ impl Frame7 {
     }
 }
 
-/// Writes a string, in quotes and with its escapes.
-pub(crate) fn write_string(text: &mut String, octets: &str) -> Result<(), AllocError>
-    ensures { OnOk result (string_bytes text.new ≡ string_bytes text.old ++ compact_text (string octets.now)) }
+/// Writes a name, in quotes and with its escapes.
+pub(crate) fn write_name(text: &mut String, name: &Spelled) -> Result<(), AllocError>
+    ensures { OnOk result (string_bytes text.new ≡ string_bytes text.old ++ compact_text (string (said name.now))) }
 {
-    let written = string_text(*text.allocator(), octets)?;
+    let written = name_text(*text.allocator(), name)?;
     text.push_str(written.as_str())
 }
 
-/// The text of a string.
-fn string_text(alloc: Global, octets: &str) -> Result<String, AllocError>
-    ensures { IfOk result (λ text. string_bytes text ≡ compact_text (string octets.now)) }
+/// The text of a name.
+fn name_text(alloc: Global, name: &Spelled) -> Result<String, AllocError>
+    ensures { IfOk result (λ text. string_bytes text ≡ compact_text (string (said name.now))) }
 {
-    json_text(alloc, &octets)
+    json_text(alloc, name)
 }
 
 /// The JSON text of a value. Nothing but want of memory refuses one.
@@ -146,6 +158,20 @@ fn send<S: Serializer, T: Serialize>(out: &mut S, key: &str, value: &T) -> Resul
     value.serialize(out)
 }
 
+impl Described for Spelled {
+    ghost writes = { λ name. SendsValue (string (said name)) };
+}
+
+impl Serialize for Spelled {
+    fn serialize<S: Serializer>(&self, out: &mut S) -> Result<(), S::Error> {
+        match self {
+            Spelled::Null => out.str("dtn:none"),
+            Spelled::Ipn { node, service } => send_ipn(out, *node, *service),
+            Spelled::Text(text) => out.str(text.as_str()),
+        }
+    }
+}
+
 impl Described for Two {
     ghost writes = { λ pair. SendsValue (two pair.0 pair.1) };
 }
@@ -166,6 +192,35 @@ impl Described for Empty {
 impl Serialize for Empty {
     fn serialize<S: Serializer>(&self, out: &mut S) -> Result<(), S::Error> {
         out.begin_seq(Some(0))?;
+        out.end_seq()
+    }
+}
+
+impl Described for Last6 {
+    ghost writes = { λ last. SendsValue (last_block last.0) };
+}
+
+impl Serialize for Last6 {
+    fn serialize<S: Serializer>(&self, out: &mut S) -> Result<(), S::Error> {
+        match &self.0 {
+            None => Empty.serialize(out),
+            Some(frame) => {
+                out.begin_seq(Some(1))?;
+                frame.serialize(out)?;
+                out.end_seq()
+            }
+        }
+    }
+}
+
+impl Described for Last7 {
+    ghost writes = { λ last. SendsValue (one (frame7 last.0.crc last.0.flags last.0.kind last.0.number)) };
+}
+
+impl Serialize for Last7 {
+    fn serialize<S: Serializer>(&self, out: &mut S) -> Result<(), S::Error> {
+        out.begin_seq(Some(1))?;
+        self.0.serialize(out)?;
         out.end_seq()
     }
 }
@@ -206,7 +261,7 @@ impl Described for Head6 {
 impl Serialize for Head6 {
     fn serialize<S: Serializer>(&self, out: &mut S) -> Result<(), S::Error> {
         out.begin_map(Some(10))?;
-        send(out, "blocks", &Empty)?;
+        send(out, "blocks", &Last6(self.last))?;
         send(out, "creation", &self.creation)?;
         send(out, "custodian", &self.custodian)?;
         self.rest.send(out)
@@ -220,7 +275,7 @@ impl Described for Head7 {
 impl Serialize for Head7 {
     fn serialize<S: Serializer>(&self, out: &mut S) -> Result<(), S::Error> {
         out.begin_map(Some(10))?;
-        send(out, "blocks", &Empty)?;
+        send(out, "blocks", &Last7(self.last))?;
         send(out, "crc", &self.crc)?;
         send(out, "creation", &self.creation)?;
         self.rest.send(out)

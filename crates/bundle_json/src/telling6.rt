@@ -1,18 +1,18 @@
 //! Telling a bundle of version 6 part by part, out of its octets.
-ghost use Rattle.std.specs.Prelude.{◌≡◌, ◌++◌, ◌<◌, ℕ, List, [], codes, if◌then◌else◌, IfOk, OnOk, true, false};
+ghost use Rattle.std.specs.Prelude.{◌≡◌, ◌++◌, ◌<◌, ◌≤◌, ℕ, List, [], length, codes, if◌then◌else◌, IfOk, OnOk, true, false};
 ghost use Rattle.std.specs.String.{string_bytes};
 ghost use Rattle.serde_json.specs.Written.{compact_text};
 ghost use Rattle.bundle6.specs.declared.bundle.Bundle6.{Bundle6};
 ghost use Rattle.bundle6.specs.declared.primary.Primary6.{Primary6};
 ghost use Rattle.bundle6.specs.Legal.{Spells6};
 ghost use Rattle.bundle_json.specs.Json.{bundle6};
-ghost use Rattle.bundle_json.specs.Frames.{head6};
-ghost use Rattle.bundle_json.specs.Telling.{Left, Tells, steps_left, head_text, primary_text};
+ghost use Rattle.bundle_json.specs.Frames.{head6, last_block};
+ghost use Rattle.bundle_json.specs.Telling.{Left, Tells, steps_left, closing_text, head_text, primary_text};
 ghost use Rattle.bundle_json.specs.Laid.{ShowsPrimary};
 
-use crate::cut::{BLOCKS, BODY, REFS_END, write_between};
+use crate::cut::{BLOCKS, BODY, LAST, REFS_END, write_between};
 use crate::name::named;
-use crate::shown::{Frame6, Head6, Rest, Two, write_string};
+use crate::shown::{Frame6, Head6, Rest, Two, write_name};
 use crate::walk::{BlockView, PrimaryView, block, pair_at, part_of, primary};
 use hex_text::write_hex;
 use std::alloc::{AllocError, Global};
@@ -152,6 +152,9 @@ impl Telling6 {
             self.at += size;
             return Ok(());
         }
+        if view.count == 0 && view.after >= octets.len() {
+            return self.close(octets, view, text);
+        }
         write_head(text, view.flags, view.kind)?;
         self.at = view.refs;
         self.stage = Stage::Refs {
@@ -159,6 +162,24 @@ impl Telling6 {
             later: false,
             after: view.after,
         };
+        Ok(())
+    }
+
+    /// What stands after the octets of the last block, where it has no references.
+    fn close(&mut self, octets: &[u8], view: BlockView, text: &mut String) -> Result<(), AllocError>
+        requires stage { self.old.stage ≡ Stage.Body view }
+        requires told { view.after ≤ self.old.at }
+        requires last { (view.count ≡ 0) × (length octets.now ≤ view.after) }
+        ensures { (rest : List ℕ) → Left octets.now self.old rest → OnOk result
+            (Tells octets.now self.old self.new (string_bytes text.old) (string_bytes text.new) rest) }
+    {
+        let last = Frame6 {
+            flags: view.flags,
+            kind: view.kind,
+        };
+        write_closing(octets, &self.primary, last, text)?;
+        self.at = view.after;
+        self.stage = Stage::Over;
         Ok(())
     }
 
@@ -184,7 +205,7 @@ impl Telling6 {
         let (pair, at) = pair_at(octets, self.at);
         text.push_str(comma(later))?;
         let name = named(*text.allocator(), self.primary.texts.lent(octets), pair)?;
-        write_string(text, name.as_str())?;
+        write_name(text, &name)?;
         self.at = at;
         self.stage = Stage::Refs {
             left: left - 1,
@@ -227,17 +248,37 @@ fn write_primary(octets: &[u8], view: &PrimaryView, text: &mut String) -> Result
     ensures { (primary : Primary6) → ShowsPrimary octets.now view.now primary
         → OnOk result (string_bytes text.new ≡ string_bytes text.old ++ primary_text primary) }
 {
-    let head_text = head(*text.allocator(), octets, view)?;
+    let head_text = head(*text.allocator(), octets, view, None)?;
     write_between(text, head_text.as_str(), BLOCKS, "")
 }
 
-/// The text without the blocks.
-fn head(alloc: Global, octets: &[u8], view: &PrimaryView) -> Result<String, AllocError>
+/// What stands after the octets of a last block without references.
+fn write_closing(
+    octets: &[u8],
+    view: &PrimaryView,
+    last: Frame6,
+    text: &mut String,
+) -> Result<(), AllocError>
     ensures { (primary : Primary6) → ShowsPrimary octets.now view.now primary
-        → IfOk result (λ text. string_bytes text ≡ compact_text (head6 primary)) }
+        → OnOk result (string_bytes text.new ≡ string_bytes text.old ++ closing_text last.flags last.kind primary) }
+{
+    let head_text = head(*text.allocator(), octets, view, Some(last))?;
+    write_between(text, head_text.as_str(), LAST, "")
+}
+
+/// The text with the last block alone, without its octets, or with no block.
+fn head(
+    alloc: Global,
+    octets: &[u8],
+    view: &PrimaryView,
+    last: Option<Frame6>,
+) -> Result<String, AllocError>
+    ensures { (primary : Primary6) → ShowsPrimary octets.now view.now primary
+        → IfOk result (λ text. string_bytes text ≡ compact_text (head6 (last_block last) primary)) }
 {
     let dictionary = view.texts.lent(octets);
     let head = Head6 {
+        last,
         creation: Two(view.seconds, view.sequence),
         custodian: named(alloc, dictionary, view.names.custodian)?,
         rest: Rest {

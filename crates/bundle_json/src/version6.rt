@@ -4,7 +4,7 @@ ghost use Rattle.std.specs.String.{string_bytes};
 ghost use Rattle.serde_json.specs.Written.{compact_text};
 ghost use Rattle.bundle6.specs.Legal.{IsLegal, IsLegalPrimary, IsLegalBlock};
 ghost use Rattle.bundle_json.specs.Json.{block6, bundle6};
-ghost use Rattle.bundle_json.specs.Frames.{head6_shown, head6};
+ghost use Rattle.bundle_json.specs.Frames.{empty, head6_shown, head6};
 
 use crate::cut::{BLOCKS, BODY, REFS_END, write_between, write_octets};
 use crate::list::{Shown, write_items};
@@ -27,9 +27,10 @@ pub fn write6(text: &mut String, bundle: &Bundle6) -> Result<(), AllocError>
 /// The text without the blocks.
 fn head(alloc: Global, primary: &Primary6) -> Result<String, AllocError>
     requires { IsLegalPrimary primary.now }
-    ensures { IfOk result (λ text. string_bytes text ≡ compact_text (head6 primary.now)) }
+    ensures { IfOk result (λ text. string_bytes text ≡ compact_text (head6 empty primary.now)) }
 {
     let head = Head6 {
+        last: None,
         creation: Two(primary.seconds, primary.sequence),
         custodian: name_of(alloc, &primary.custodian)?,
         rest: Rest {

@@ -6,11 +6,11 @@ ghost use Rattle.bundle7.specs.Legal.{IsLegal7, IsLegalPrimary};
 ghost use Rattle.bundle_json.specs.Json.{block7, bundle7};
 ghost use Rattle.bundle_json.specs.Frames.{head7};
 
-use crate::cut::{BLOCKS, BODY, write_between, write_octets};
+use crate::cut::{BLOCKS, BODY, LAST, write_between, write_octets};
 use crate::list::{Shown, write_items};
 use crate::name::name_of;
 use crate::shown::{Frame7, Head7, Rest, Two};
-use bundle7::{Block7, Bundle7, Primary7};
+use bundle7::{Block7, Bundle7};
 use std::alloc::{AllocError, Global};
 
 /// Appends the JSON text of a bundle of version 7. Where memory runs out, a part of it may stand there.
@@ -18,20 +18,29 @@ pub fn write7(text: &mut String, bundle: &Bundle7) -> Result<(), AllocError>
     requires { IsLegal7 bundle.now }
     ensures { OnOk result (string_bytes text.new ≡ string_bytes text.old ++ compact_text (bundle7 bundle.now)) }
 {
-    let head_text = head(*text.allocator(), &bundle.primary)?;
+    let head_text = head(*text.allocator(), bundle)?;
     text.push_str(BLOCKS)?;
     let comma = write_items(text, bundle.exts.as_slice())?;
     text.push_str(comma)?;
-    bundle.payload.show(text)?;
-    write_between(text, head_text.as_str(), BLOCKS, "")
+    text.push_str(BODY)?;
+    write_octets(text, bundle.payload.body.as_slice())?;
+    write_between(text, head_text.as_str(), LAST, "")
 }
 
-/// The text without the blocks.
-fn head(alloc: Global, primary: &Primary7) -> Result<String, AllocError>
-    requires { IsLegalPrimary primary.now }
-    ensures { IfOk result (λ text. string_bytes text ≡ compact_text (head7 primary.now)) }
+/// The text with the payload alone, without its octets.
+fn head(alloc: Global, bundle: &Bundle7) -> Result<String, AllocError>
+    requires { IsLegalPrimary bundle.now.primary }
+    ensures { IfOk result (λ text. string_bytes text ≡ compact_text (head7 bundle.now)) }
 {
+    let primary = &bundle.primary;
+    let payload = &bundle.payload;
     let head = Head7 {
+        last: Frame7 {
+            crc: payload.crc,
+            flags: payload.flags,
+            kind: payload.kind,
+            number: payload.number,
+        },
         crc: primary.crc,
         creation: Two(primary.millis, primary.sequence),
         rest: Rest {

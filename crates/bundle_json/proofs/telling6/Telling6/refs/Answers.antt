@@ -13,6 +13,6 @@ pub returns : goal.returns
 returns c = λ rest left.
     tells-ref c.args.octets.now c.args.self.now c.args.left _ c.args.after c.args.later c.pair_at-at.result _ _ _ rest c.requires left
     (omega (arith, c.if-left-eq0.false)) c.pair_at-at.ensures (rw c.comma.ensures at c.in_ok-push_str-2.ensures.bytes)
-    (λ endpoint named. c.in_ok-write_string.ensures
+    (λ endpoint named. c.in_ok-write_name.ensures
     ∙ ap (λ v. string_bytes c.push_str-2.new.self ++ compact_text (string v))
-    (c.as_str.ensures.value ∙ c.in_ok-name.ensures endpoint (rw (c.lent.ensures left.shows.order left.shows.inside) named)))
+    (c.in_ok-name.ensures endpoint (rw (c.lent.ensures left.shows.order left.shows.inside) named)))

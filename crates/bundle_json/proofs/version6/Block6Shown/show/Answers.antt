@@ -1,6 +1,6 @@
 use Rattle.std.proofs.Common.{codes, false, ◌∙◌}
 use Rattle.std.specs.String.{string_bytes}
-use Rattle.hex.specs.Hex.{IsBytes, encode_lower}
+use Rattle.hex_text.specs.Hex.{IsBytes, encode_lower}
 use Rattle.serde_json.specs.Written.{compact_text}
 use Rattle.bundle_json.specs.Json.{name, block6}
 use Rattle.bundle_json.specs.Commas.{with_commas}

@@ -1,6 +1,6 @@
 use Rattle.std.proofs.Common.{codes, ◌∙◌}
 use Rattle.std.proofs.lemmas.Result.{on_ok_weaker}
-use Rattle.hex.specs.Hex.{IsBytes, encode_lower}
+use Rattle.hex_text.specs.Hex.{IsBytes, encode_lower}
 use Rattle.bundle_json.proofs.ObjectLemmas.{frame7-text, block7-text, after_body7, three-pieces, to-end}
 use Rattle.bundle_json.proofs.version7.Block7Shown.show.Goals as goal
 

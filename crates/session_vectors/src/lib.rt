@@ -1,5 +1,5 @@
-//! The tables of tests of the sessions: one of a sender, one of a receiver, and exchanges that are
-//! audited.
+//! The tables of tests of the sessions: one of a sender, one of a receiver, exchanges that are
+//! audited, and what an engine records of its own.
 //!
 //! A row has a moment, the datagram that comes then or none, and what the session answers: the
 //! datagrams that it sends, in hex, what it hands up, its note, and when its timer is due. What is
@@ -16,6 +16,8 @@ mod answers;
 mod exchanges;
 #[cfg(test)]
 mod receiving;
+#[cfg(test)]
+mod recordings;
 #[cfg(test)]
 mod reports;
 #[cfg(test)]

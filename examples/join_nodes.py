@@ -8,6 +8,8 @@ import os
 import subprocess
 import sys
 
+if sys.argv[1:] == ["--help"]:
+    sys.exit(__doc__)
 HERE = os.path.dirname(os.path.abspath(__file__))
 PROGRAM = sys.argv[1] if sys.argv[1:] else os.path.join(HERE, "..", "crates", "bundle_cli", "out", "bundle_cli")
 if not os.access(PROGRAM, os.X_OK):

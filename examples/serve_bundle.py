@@ -17,6 +17,8 @@ from ltp_model import read_segment, written
 from make_bundles import block6
 from make_bundles import bundle6 as spelled6
 
+if sys.argv[1:] == ["--help"]:
+    sys.exit(__doc__)
 PROGRAM = sys.argv[1] if sys.argv[1:] else os.path.join(HERE, "..", "crates", "bundle_cli", "out", "bundle_cli")
 if not os.access(PROGRAM, os.X_OK):
     sys.exit("serve_bundle: the program isn't built: run ./fimdahol --build first")

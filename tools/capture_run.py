@@ -84,7 +84,8 @@ def run(path, options):
 
 
 def main(words):
-    file, words = (words[0], words[1:]) if words else (None, words)
+    is_named = words[:1] and not words[0].startswith("-")
+    file, words = (words[0], words[1:]) if is_named else (None, words)
     options = options_of(program_of(words)[1], OPTIONS) if file else None
     if options is None:
         sys.stderr.write(__doc__.split("\n\n")[1] + "\n")

@@ -43,6 +43,9 @@ def crc32c(octets):
 
 
 def main(words):
+    if words == ["--help"]:
+        print(__doc__)
+        return 0
     if words:
         octets = bytes.fromhex("".join(words))
         print(f"{crc16(octets):04x} {crc32c(octets):08x}")

@@ -1,4 +1,4 @@
-"""Rows of what README shows: the examples, each with what it has to give.
+"""Rows of what docs/examples.md shows: the examples, each with what it has to give.
 
 What is wanted comes from the lines of docs/examples.md, from the models, from the tables that the bundles were
 made of, and from the transcripts beside the scripts, and never from what the program printed.

@@ -121,6 +121,6 @@ def main(words):
 
 
 if __name__ == "__main__":
-    if len(sys.argv) not in (2, 4):
+    if len(sys.argv) not in (2, 4) or sys.argv[1] == "--help":
         sys.exit(__doc__)
     main(sys.argv[1:])

@@ -487,7 +487,7 @@ def vectors(path):
 
 
 def main(words):
-    if not words:
+    if not words or words[0] == "--help":
         sys.stderr.write(__doc__.split("\n\n")[1] + "\n")
         return 2
     if words[0] == "--make":

@@ -299,7 +299,8 @@ class Progress:
             count, _, rest = str(self).partition(" crates, ")
             under_way = f"{', '.join(names)} under way, " if names else ""
             line = f"proved {count} crates, {under_way}{rest}"
-            width = shutil.get_terminal_size().columns - 1
+            # (Python before 3.11 says 0 of a terminal that doesn't tell its width)
+            width = (shutil.get_terminal_size().columns or 80) - 1
             sys.stderr.write(f"\r{line[:width]}\033[K")
             sys.stderr.flush()
 

@@ -17,11 +17,16 @@ use Rattle.ltp_session.specs.World.{ArePeers, Event, World, clock, deliver, firs
 use Rattle.link_laws.specs.Laws.{RedPartsAreFronts}
 use Rattle.link_laws.specs.Log.{Submission, submission_of, submissions, submissions_at}
 use Rattle.link_laws.proofs.ListLemmas.{all-append}
+use Rattle.link_laws.proofs.LogLemmas.{red_parts_are_fronts}
+use Rattle.drain_laws.proofs.CompletionLemmas.{clean-completes, clean-few}
+use Rattle.drain_laws.proofs.DrainedLemmas.{none-left}
 use Rattle.drain_laws.specs.Clean.{AreClean, AreCleanFrom, IsDrained, clean_event, link_deadline, passed, passed_after}
 use Rattle.drain_laws.specs.Completion.{CleanEventsAreFew, CleanRunsComplete, IsComplete, IsReady}
 use Rattle.drain_laws.specs.Effects.{effects_in}
 use Rattle.drain_laws.specs.Hopeful.{AreAlike, Hopeful, IsReached, Room}
 use Rattle.drain_laws.specs.Left.{AreTimed}
+use Rattle.pick_laws.proofs.CopyEnds.{copied-completes, copied-costs, copied-few}
+use Rattle.pick_laws.proofs.CrossingRuns.{crossing-completes, crossing-few}
 use Rattle.pick_laws.specs.CopyCosts.{CopiesCostTheirSessions}
 use Rattle.pick_laws.specs.PickedRuns.{CopiedRunsComplete, CopiesCostThree, CrossingEventsAreFew, CrossingRunsComplete, IsCopiedRun, NoneTurnedAway}
 use Rattle.pick_laws.specs.Picks.{AreNext, Crossing, Pick, Turn as PickTurn, after_pick, after_picks, after_turn as after_picked, as_turns, copies, crosses_at, events_of, is_old, old_copy, oldest_of, pick_turn, picked_turns}
@@ -35,15 +40,16 @@ use Rattle.replay_script.specs.declared.fault.LineFault.{LineFault}
 use Rattle.replay_script.specs.declared.fault.LineFault.TheVariants as faults
 use Rattle.replay_script.specs.declared.link.LinkEvent.{LinkEvent}
 use Rattle.replay_script.specs.declared.link.LinkEvent.TheVariants as events
-use Rattle.window_world.specs.Made.{EndsBy}
-use Rattle.link_run.specs.Law.{CompletesByPicks, CompletesInTime, DrainCompletes, DrainMakes, EndsLawfully, IsPickedDrain, IsSent, LinksKeepLaw, PlaysNothing, PlaysScript, link_by, made_by, makes, moment_after, note_text, notes_of, says_window, script_events, up_text}
+use Rattle.window_world.specs.Made.{EndsBy, IsOverBy}
+use Rattle.link_run.specs.Law.{TellsEnd, stop_lines_in, CompletesByPicks, CompletesInTime, DrainCompletes, DrainMakes, EndsLawfully, IsPickedDrain, IsSent, LinksKeepLaw, PlaysNothing, PlaysScript, link_by, made_by, makes, moment_after, note_text, notes_of, says_window, script_events, up_text}
 use Rattle.link_run.specs.Link.{LinkCourse, LinkSetup, LinkStart, LinkState, are_given, drained, end_named, first_said, later_said, link_course, link_line, link_parties, link_rules, link_setup, no_link, no_moment, on_link, planned, planned_line, settles, start_in, start_said, start_turn, window_turn, without_picks}
 use Rattle.link_run.specs.Picks.{said_picks}
 use Rattle.link_run.specs.WrittenLines.{refusal_line, refused_line}
-use Rattle.link_run.proofs.PlayLemmas.{Closes, Plays, line_turned, said-later, stops, turned}
+use Rattle.link_run.proofs.FewLemmas.{said-few}
+use Rattle.link_run.proofs.PlayLemmas.{Closes, HasFewPicks, Plays, line_turned, said-later, stops, turned}
 use Rattle.link_run.proofs.SetupLemmas.{parties-are}
 use Rattle.link_run.proofs.StartLemmas.{SoundLink, sound_said}
-use Rattle.link_run.proofs.TellLemmas.{HasLines, alone, and_then, told_at, late-plain, none-has, nothing, refusal-has, refused-has, told-more, told_in, window-plain}
+use Rattle.link_run.proofs.TellLemmas.{with_ends, HasLines, alone, and_then, told_at, late-plain, none-has, nothing, refusal-has, refused-has, told-more, told_in, window-plain}
 
 -- how the run ends after the last line, wherever that leaves the link
 pub record EndsLines (ending : LinkState → Settled) : Type 0 where
@@ -361,6 +367,14 @@ pub record Laws : Type 0 where
   pub theirs : CopiesCostTheirSessions
   pub copied_complete : CopiedRunsComplete
 
+-- where a drain is over and no timer runs, no clean event can follow
+none-clean : (w : World) (c top : ℕ) → IsOverBy top (clean_event w c) → link_deadline w ≡ None → clean_event w c ≡ None
+none-clean w c top over none = by_test (nat_lt c (length w.sent)) over
+  where
+    by_test : (b : Bool) → IsOverBy top (if b then Some (deliver c) else option_map clock (link_deadline w)) → (if b then Some (deliver c) else option_map clock (link_deadline w)) ≡ None
+    by_test true over = absurd over
+    by_test false over = rw none refl
+
 module _ (laws : Laws) (s : LinkSetup) (w : World) (peers : ArePeers s.parties) (alike : AreAlike s.parties) (reached : IsReached s.parties w) where
   ready : Hopeful s.parties w → Room w → IsReady s.parties w
   ready hopeful room = record { peers = peers; alike = alike; reached = reached; hopeful = hopeful; room = room }
@@ -373,40 +387,40 @@ module _ (laws : Laws) (s : LinkSetup) (w : World) (peers : ArePeers s.parties) 
       count = refl;
       clean = ends.clean;
       leads = refl;
-      drained = laws.drained s.parties w made ends.clean none;
+      drained = laws.drained s.parties w made ends.clean (none-clean (run s.parties w made) (passed (length w.sent) made) (total s.plan) ends.over none);
     });
   }
 
-  by_picks : (picks : List Pick) (made : List Event) → IsPickedDrain s.parties w picks made → Hopeful s.parties w → Room w → CompletesByPicks s w picks made
-  by_picks picks made drain hopeful room = record {
+  by_picks : (picks : List Pick) (made : List Event) → copies s.parties (crosses_at w) picks ≤ 100000 → IsPickedDrain s.parties w picks made → Hopeful s.parties w → Room w → CompletesByPicks s w picks made
+  by_picks picks made few drain hopeful room = record {
     crossing = λ new. (
       laws.crossing_few s.parties w picks (length made) (run s.parties w made) (ready hopeful room) new drain.run,
       subst (λ (x : List Event). IsComplete s.parties w x (run s.parties w made)) (sym drain.events)
           (laws.crossing_complete s.parties w picks (length made) (run s.parties w made) (ready hopeful room) new drain.run),
     );
-    tight = λ few spared. (
-      laws.three s.parties w picks (length made) (run s.parties w made) (ready hopeful room) (copied few spared),
+    tight = λ spared. (
+      laws.three s.parties w picks (length made) (run s.parties w made) (ready hopeful room) (copied spared),
       subst (λ (x : List Event). IsComplete s.parties w x (run s.parties w made)) (sym drain.events)
-          (laws.copied_complete s.parties w picks (length made) (run s.parties w made) (ready hopeful room) (copied few spared)),
+          (laws.copied_complete s.parties w picks (length made) (run s.parties w made) (ready hopeful room) (copied spared)),
     );
-    wide = λ few spared. laws.theirs s.parties w picks (length made) (run s.parties w made) (ready hopeful room) (copied few spared);
+    wide = λ spared. laws.theirs s.parties w picks (length made) (run s.parties w made) (ready hopeful room) (copied spared);
   } where
-    copied : copies s.parties (crosses_at w) picks ≤ 100000 → NoneTurnedAway (effects_in s.parties w made) → IsCopiedRun s.parties w picks (length made) (run s.parties w made)
-    copied few spared = record {
+    copied : NoneTurnedAway (effects_in s.parties w made) → IsCopiedRun s.parties w picks (length made) (run s.parties w made)
+    copied spared = record {
       run = drain.run;
       few = few;
       spared = subst (λ (x : List Event). NoneTurnedAway (effects_in s.parties w x)) drain.events spared;
     }
 
-  pub completes : (drain : Option LinkEvent) (made : List Event) → DrainMakes s w drain made → DrainCompletes s w drain made
-  completes None made makes_made = tt
-  completes (Some events.Drain) made makes_made = λ hopeful room. in_time made makes_made hopeful room
-  completes (Some (events.DrainBy words)) made makes_made = λ hopeful room. by_picks _ made makes_made hopeful room
-  completes (Some (events.Link segment timeout limit cap start)) made makes_made = tt
-  completes (Some (events.Window from to)) made makes_made = tt
-  completes (Some (events.Send first body)) made makes_made = tt
-  completes (Some (events.Deliver k)) made makes_made = tt
-  completes (Some (events.Clock now)) made makes_made = tt
+  pub completes : (drain : Option LinkEvent) (made : List Event) → HasFewPicks drain → DrainMakes s w drain made → DrainCompletes s w drain made
+  completes None made few makes_made = tt
+  completes (Some events.Drain) made few makes_made = λ hopeful room. in_time made makes_made hopeful room
+  completes (Some (events.DrainBy words)) made few makes_made = λ hopeful room. by_picks (said_picks words) made (said-few s.parties (crosses_at w) words few) makes_made hopeful room
+  completes (Some (events.Link segment timeout limit cap start)) made few makes_made = tt
+  completes (Some (events.Window from to)) made few makes_made = tt
+  completes (Some (events.Send first body)) made few makes_made = tt
+  completes (Some (events.Deliver k)) made few makes_made = tt
+  completes (Some (events.Clock now)) made few makes_made = tt
 
 -- ---- a link is set up
 
@@ -416,7 +430,12 @@ data Settles (lines : List (List ℕ)) (settled : Settled) : Type 0 where
   on_none : (ending : Status) → settled.ends ≡ Some ending → PlaysNothing settled.text → Settles lines settled
 
 tells-nothing : (text : List ℕ) → HasLines text nothing → PlaysNothing text
-tells-nothing text has = record { ups = alone (codes "up ") text [] has.ups; notes = alone (codes "note ") text [] has.notes }
+tells-nothing text has = record {
+  ups = alone (codes "up ") text [] has.ups;
+  notes = alone (codes "note ") text [] has.notes;
+  ends = alone (codes "end ") text [] has.ends;
+  stops = alone (codes "stop ") text [] has.stops;
+}
 
 -- engines at their beginning do nothing when their clock is set
 quiet-start : (parties : Party × Party) (now : ℕ) → told_at parties (starts_world parties) (clock now) ≡ nothing
@@ -428,6 +447,8 @@ quiet-start parties now = by_test (nat_lt now (starts_world parties).now)
       notes = map note_text (flat_map notes_of (if b then [] else
           record { end = first_end; effects = (tick_step parties.0 (starts_world parties).engines.0 now).effects }
           ∷ record { end = second_end; effects = (tick_step parties.1 (starts_world parties).engines.1 now).effects } ∷ []));
+      ends = [];
+      stops = [];
     } ≡ nothing
     by_test true = refl
     by_test false = refl
@@ -460,9 +481,13 @@ module _ (laws : Laws) where
         drains = plans.plays.drains;
         ups = alone (codes "up ") settled.text _ has.ups;
         notes = alone (codes "note ") settled.text _ has.notes;
+        end = subst (λ ls. TellsEnd (link_setup start plans.more) (link_by (link_setup start plans.more) (script_events (link_setup start plans.more) start.now plans.plays.said))
+            plans.plays.drain plans.plays.made ls (stop_lines_in settled.text)) (sym (alone (codes "end ") settled.text plans.plays.ends_in has.ends))
+            (subst (λ ls. TellsEnd (link_setup start plans.more) (link_by (link_setup start plans.more) (script_events (link_setup start plans.more) start.now plans.plays.said))
+            plans.plays.drain plans.plays.made plans.plays.ends_in ls) (sym (alone (codes "stop ") settled.text plans.plays.stops_in has.stops)) plans.plays.tells);
         fronts = laws.fronts (link_setup start plans.more).parties (script_events (link_setup start plans.more) start.now plans.plays.said ++ plans.plays.made) fits.peers;
         sent = sent;
-        completes = completes laws (link_setup start plans.more) _ fits.peers fits.alike reached plans.plays.drain plans.plays.made plans.plays.drains;
+        completes = completes laws (link_setup start plans.more) _ fits.peers fits.alike reached plans.plays.drain plans.plays.made plans.plays.few plans.plays.drains;
       })
     where
       fits : FitParties (link_setup start plans.more).parties
@@ -471,9 +496,9 @@ module _ (laws : Laws) where
       reached : IsReached (link_setup start plans.more).parties (link_by (link_setup start plans.more) (script_events (link_setup start plans.more) start.now plans.plays.said))
       reached = record { events = script_events (link_setup start plans.more) start.now plans.plays.said; leads = refl }
 
-      has : HasLines settled.text (told_in (link_setup start plans.more).parties (starts_world (link_setup start plans.more).parties)
-          (script_events (link_setup start plans.more) start.now plans.plays.said ++ plans.plays.made))
-      has = subst (HasLines settled.text) (told-clock (link_setup start plans.more).parties (elapsed (link_setup start plans.more).plan start.now) (made_by (link_setup start plans.more) start.now plans.plays.said ++ plans.plays.made)) plans.plays.has
+      has : HasLines settled.text (with_ends (told_in (link_setup start plans.more).parties (starts_world (link_setup start plans.more).parties)
+          (script_events (link_setup start plans.more) start.now plans.plays.said ++ plans.plays.made)) plans.plays.ends_in plans.plays.stops_in)
+      has = subst (λ a. HasLines settled.text (with_ends a plans.plays.ends_in plans.plays.stops_in)) (told-clock (link_setup start plans.more).parties (elapsed (link_setup start plans.more).plan start.now) (made_by (link_setup start plans.more) start.now plans.plays.said ++ plans.plays.made)) plans.plays.has
 
       sent : AreSent plans.plays.said (submissions (link_setup start plans.more).parties (starts_world (link_setup start plans.more).parties)
           (script_events (link_setup start plans.more) start.now plans.plays.said ++ plans.plays.made))
@@ -533,7 +558,7 @@ kept : (most : ℕ) (input : List ℕ) → Settles (lines_within most input) (wi
 kept most input (on_a_link ending ends plays) = record { ending = ending; ends = ends; law = inl plays }
 kept most input (on_none ending ends nothing_told) = record { ending = ending; ends = ends; law = inr nothing_told }
 
-pub keep_law : Laws → LinksKeepLaw
+keep_law : Laws → LinksKeepLaw
 unfolding within lines_within
 keep_law laws most input = kept most input (by_test (nat_lt most (length input)))
   where
@@ -545,3 +570,16 @@ keep_law laws most input = kept most input (by_test (nat_lt most (length input))
     by_test false =
         rw (from-end link_rules 1 no_link input)
         (all_settled laws link_rules.finish input-ends (lines_of input) (on_none statuses.Refused refl (tells-nothing (refusal_line 1 faults.Word) (refusal-has 1 faults.Word))))
+
+pub links-keep-law : LinksKeepLaw
+links-keep-law = keep_law (record {
+  fronts = red_parts_are_fronts;
+  few = clean-few;
+  complete = clean-completes;
+  drained = none-left;
+  crossing_few = crossing-few;
+  crossing_complete = crossing-completes;
+  three = copied-few;
+  theirs = copied-costs;
+  copied_complete = copied-completes;
+})

@@ -10,7 +10,8 @@ mod LineLemmas
 mod StepsLemmas
 pub mod PicksMade
 mod PickedLemmas
+mod FewLemmas
 mod PlainLemmas
 mod TellLemmas
 mod PlayLemmas
-mod LawLemmas
+pub mod LawLemmas

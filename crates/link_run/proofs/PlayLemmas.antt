@@ -1,6 +1,6 @@
 -- What the lines after the windows settle on a link, by what they say.
 
-use Rattle.std.proofs.Common.{◌≡◌, ℕ, ◌+◌, Bool, true, false, ◌&&◌, ◌||◌, nat_lt, nat_le, nat_eq, List, [], ◌∷◌, ◌++◌, length, map, codes, Option, None, Some, Result, Ok, Err, refl, sym, ap, ◌∙◌, append_assoc, arith, subst, if◌then◌else◌}
+use Rattle.std.proofs.Common.{◌≡◌, ℕ, ◌+◌, ◌≤◌, Bool, true, false, ◌&&◌, ◌||◌, nat_lt, nat_le, nat_eq, List, [], ◌∷◌, ◌++◌, length, map, codes, Option, None, Some, Result, Ok, Err, refl, sym, ap, ◌∙◌, append_assoc, arith, subst, if◌then◌else◌}
 use Rattle.std.proofs.lemmas.Bool.Decides.{nat_tests}
 use Rattle.std.proofs.lemmas.List.{append-nil, length-append, length-map, map-append}
 use Rattle.std.specs.List.{slice_get, starts_with}
@@ -25,7 +25,7 @@ use Rattle.ltp_engine.specs.Refused.{refusal_of, submit_word}
 use Rattle.ltp_world.specs.Drain.{done_in, told_of}
 use Rattle.ltp_world.specs.Ends.{link_end}
 use Rattle.ltp_world.specs.Steps.{submission_at}
-use Rattle.ltp_world.proofs.DrainLemmas.{run-append}
+use Rattle.ltp_world.proofs.DrainLemmas.{length-done, run-append}
 use Rattle.ltp_world.proofs.RestLemmas.{turns-world}
 use Rattle.contact_plan.specs.Windows.{elapsed, is_open, total}
 use Rattle.replay_script.specs.declared.fault.LineFault.{LineFault}
@@ -35,14 +35,26 @@ use Rattle.replay_script.specs.declared.link.LinkEvent.TheVariants as events
 use Rattle.replay_script.specs.declared.picks.PickWord.{PickWord}
 use Rattle.window_world.specs.Made.{EndsBy}
 use Rattle.window_world.proofs.MadeLemmas.{drains-are-made}
-use Rattle.link_run.specs.Law.{DrainMakes, IsPickedDrain, if_drain, made_by, makes, moment_after}
+use Rattle.link_run.specs.Law.{DrainMakes, TellsEnd, TellsLast, end_text, stop_text, IsPickedDrain, if_drain, made_by, makes, moment_after}
 use Rattle.link_run.specs.Link.{LinkCourse, LinkSetup, LinkState, ats_of, delivered, delivers, drain_made, drain_text, drained, drains, drains_by, drains_by_picks, end_named, event_turn, if_kept, later_said, link_line, link_rules, most_sent, no_moment, on_link, only_says, passes_to, picked_by, picks_done, picks_end, picks_late, picks_turns, running_said, sends, steps_end, submitted, without_picks}
 use Rattle.link_run.specs.Picks.{EndsTurns, said_picks, turns_after}
-use Rattle.link_run.specs.WrittenLines.{at_line, closed_refusal, deliver_refusal, end_line, last_line, octets_sent, octets_timed, refusal_line, send_refusal, steps_text, timed_text, told_text}
+use Rattle.link_run.specs.WrittenLines.{at_line, closed_refusal, deliver_refusal, end_line, octets_sent, octets_timed, refusal_line, send_refusal, steps_text, stop_line, timed_text, told_text}
 use Rattle.link_run.proofs.PicksMade.{turns-made}
 use Rattle.link_run.proofs.PickedLemmas.{goes-at}
+use Rattle.link_run.proofs.FewLemmas.{few-picks}
 use Rattle.link_run.proofs.PlainLemmas.{decimal-plain, submit-plain}
-use Rattle.link_run.proofs.TellLemmas.{HasLines, Told, and_then, both-have, closed-has, event-has, none-has, nothing, other-line, refusal-has, shut-plain, told-append, told-more, told-none, told_at, told_in, undelivered-has, unsent-has}
+use Rattle.link_run.proofs.TellLemmas.{end-line-has, stop-line-has, with_ends, HasLines, Told, and_then, both-have, closed-has, event-has, none-has, nothing, other-line, refusal-has, shut-plain, told-append, told-more, told-none, told_at, told_in, undelivered-has, unsent-has}
+
+-- at most 100,000 picks
+abbrev pub HasFewPicks : Option LinkEvent → Type 0
+HasFewPicks (Some (events.DrainBy picks)) = length picks ≤ 100000
+HasFewPicks (Some events.Drain) = Unit {0}
+HasFewPicks None = Unit {0}
+HasFewPicks (Some (events.Link segment timeout limit cap start)) = Unit {0}
+HasFewPicks (Some (events.Window from to)) = Unit {0}
+HasFewPicks (Some (events.Send first body)) = Unit {0}
+HasFewPicks (Some (events.Deliver k)) = Unit {0}
+HasFewPicks (Some (events.Clock now)) = Unit {0}
 
 -- ---- what some lines settle, where the clock shows a moment
 
@@ -57,7 +69,11 @@ pub record Plays (s : LinkSetup) (w : World) (moment : ℕ) (lines : List (List 
   pub drains : DrainMakes s (run s.parties w (made_by s moment said)) drain made
   pub ending : Status
   pub ends : settled.ends ≡ Some ending
-  pub has : HasLines settled.text (told_in s.parties w (made_by s moment said ++ made))
+  pub ends_in : List (List ℕ)
+  pub stops_in : List (List ℕ)
+  pub tells : TellsEnd s (run s.parties w (made_by s moment said)) drain made ends_in stops_in
+  pub few : HasFewPicks drain
+  pub has : HasLines settled.text (with_ends (told_in s.parties w (made_by s moment said ++ made)) ends_in stops_in)
 
 -- nothing more is told
 pub record Closes (settled : Settled) : Type 0 where
@@ -79,11 +95,15 @@ stops s w moment lines text status has = record {
   drains = refl;
   ending = status;
   ends = refl;
+  ends_in = [];
+  stops_in = [];
+  tells = (refl, refl);
+  few = tt;
   has = rw (told-none s.parties w) has;
 }
 
 then-nothing : (a : Told) → and_then a nothing ≡ a
-then-nothing a = rw (append-nil a.ups, append-nil a.notes) refl
+then-nothing a = rw (append-nil a.ups, append-nil a.notes, append-nil a.ends, append-nil a.stops) refl
 
 told-one : (parties : Party × Party) (w : World) (event : Event) → told_in parties w (event ∷ []) ≡ told_at parties w event
 told-one parties w event =
@@ -124,7 +144,12 @@ module _ (s : LinkSetup) (w : World) (moment : ℕ) (line : List ℕ) (lines : L
         (sym (run-append s.parties w (makes s moment e) (made_by s (moment_after moment e) rest.said))) rest.drains;
     ending = rest.ending;
     ends = rest.ends;
-    has = subst (HasLines (text ++ later.text))
+    ends_in = rest.ends_in;
+    stops_in = rest.stops_in;
+    tells = subst (λ (x : World). TellsEnd s x rest.drain rest.made rest.ends_in rest.stops_in)
+        (sym (run-append s.parties w (makes s moment e) (made_by s (moment_after moment e) rest.said))) rest.tells;
+    few = rest.few;
+    has = subst (λ a. HasLines (text ++ later.text) (with_ends a rest.ends_in rest.stops_in))
         (sym (told-append s.parties w (makes s moment e) (made_by s (moment_after moment e) rest.said ++ rest.made))
         ∙ ap (told_in s.parties w) (sym (append_assoc (makes s moment e) (made_by s (moment_after moment e) rest.said) rest.made)))
         (both-have text later.text _ _ has rest.has);
@@ -143,11 +168,12 @@ module _ (s : LinkSetup) (w : World) (moment : ℕ) (line : List ℕ) (lines : L
   limit = stops s w moment (line ∷ lines) [] statuses.Limit none-has
 
   -- the link is drained, and these events were made
-  drained_so : (e : LinkEvent) (made : List Event) (text : List ℕ) (settled : Settled) → later_said line ≡ Ok e → DrainMakes s w (Some e) made
-      → HasLines text (told_in s.parties w made) → Closes settled
+  drained_so : (e : LinkEvent) (made : List Event) (text : List ℕ) (settled : Settled) (ends stops : List (List ℕ)) → later_said line ≡ Ok e → DrainMakes s w (Some e) made
+      → TellsEnd s w (Some e) made ends stops → HasFewPicks (Some e)
+      → HasLines text (with_ends (told_in s.parties w made) ends stops) → Closes settled
       → Plays s w moment (line ∷ lines) (record { text = text ++ settled.text; ends = settled.ends })
   unfolding made_by
-  drained_so e made text settled is makes_made has rest = record {
+  drained_so e made text settled ends stops is makes_made tells few has rest = record {
     said = [];
     drain = Some e;
     later = line ∷ [];
@@ -158,7 +184,11 @@ module _ (s : LinkSetup) (w : World) (moment : ℕ) (line : List ℕ) (lines : L
     drains = makes_made;
     ending = rest.ending;
     ends = rest.ends;
-    has = subst (HasLines (text ++ settled.text)) (then-nothing (told_in s.parties w made)) (both-have text settled.text _ _ has rest.has);
+    ends_in = ends;
+    stops_in = stops;
+    tells = tells;
+    few = few;
+    has = subst (HasLines (text ++ settled.text)) (then-nothing (with_ends (told_in s.parties w made) ends stops)) (both-have text settled.text _ _ has rest.has);
   }
 
 -- ---- an event that is refused does nothing
@@ -194,16 +224,19 @@ moving-plain : ended_part (codes "at") ≡ []
 unfolding ended_part
 moving-plain = refl
 
-end-has : (n : ℕ) → HasLines (end_line n) nothing
-end-has n = other-line (codes "end" ∷ decimal n ∷ []) (ending-plain, (decimal-plain n, tt)) refl refl
+end-has : (n : ℕ) → HasLines (end_line n) (with_ends nothing (end_text n ∷ []) [])
+end-has n = end-line-has (codes "end" ∷ decimal n ∷ []) (ending-plain, (decimal-plain n, tt)) refl refl refl refl
 
-last-has : (plan_ends : Bool) (n : ℕ) → HasLines (last_line plan_ends n) nothing
-last-has true n = other-line (codes "stop" ∷ decimal n ∷ []) (stopping-plain, (decimal-plain n, tt)) refl refl
-last-has false n = end-has n
+stop-has : (n : ℕ) → HasLines (stop_line n) (with_ends nothing [] (stop_text n ∷ []))
+stop-has n = stop-line-has (codes "stop" ∷ decimal n ∷ []) (stopping-plain, (decimal-plain n, tt)) refl refl refl refl
+
+-- after what a drain did
+then-ends : (a : Told) (ends stops : List (List ℕ)) → a.ends ≡ [] → a.stops ≡ [] → and_then a (with_ends nothing ends stops) ≡ with_ends a ends stops
+then-ends a ends stops none never = rw (append-nil a.ups, append-nil a.notes, none, never) refl
 
 moved-has : (windows same : Bool) (now : ℕ) → HasLines (if windows then (if same then [] else at_line now) else []) nothing
 moved-has true true now = none-has
-moved-has true false now = other-line (codes "at" ∷ decimal now ∷ []) (moving-plain, (decimal-plain now, tt)) refl refl
+moved-has true false now = other-line (codes "at" ∷ decimal now ∷ []) (moving-plain, (decimal-plain now, tt)) refl refl refl refl
 moved-has false same now = none-has
 
 timed-has : (s : LinkSetup) (w : World) (made : List Event) (windows : Bool) (moment k : ℕ)
@@ -369,51 +402,64 @@ module _ (s : LinkSetup) (c : LinkCourse) (n : ℕ) (line : List ℕ) (lines : L
       by_late false = by_back (nat_lt now c.moment) refl
 
   -- what a drain makes is written, unless it passes the limit
-  kept_so : (e : LinkEvent) (made : List Event) (octets : ℕ) (text : List ℕ) → later_said line ≡ Ok e → DrainMakes s c.world (Some e) made
-      → HasLines text (told_in s.parties c.world made)
+  kept_so : (e : LinkEvent) (made : List Event) (octets : ℕ) (text : List ℕ) (ends stops : List (List ℕ)) → later_said line ≡ Ok e
+      → DrainMakes s c.world (Some e) made → TellsEnd s c.world (Some e) made ends stops → HasFewPicks (Some e)
+      → HasLines text (with_ends (told_in s.parties c.world made) ends stops)
       → Plays s c.world c.moment (line ∷ lines) (after_turn (if_kept octets text drained) settle)
-  kept_so e made octets text is makes_made has = by_kept (nat_lt most_sent octets)
+  kept_so e made octets text ends stops is makes_made tells few has = by_kept (nat_lt most_sent octets)
     where
       by_kept : (b : Bool) → Plays s c.world c.moment (line ∷ lines) (after_turn (if b then ends_run [] statuses.Limit else passes text drained) settle)
       by_kept true = limit s c.world c.moment line lines
-      by_kept false = drained_so s c.world c.moment line lines e made text (settle drained) is makes_made has over
+      by_kept false = drained_so s c.world c.moment line lines e made text (settle drained) ends stops is makes_made tells few has over
 
   drained_turn : later_said line ≡ Ok events.Drain → Plays s c.world c.moment (line ∷ lines) (after_turn (drains s c) settle)
-  drained_turn is = by_due (link_deadline (run s.parties c.world (drain_made s c)))
+  drained_turn is = by_due (link_deadline (run s.parties c.world (drain_made s c))) refl
     where
       made_so : EndsBy (total s.plan) s.parties c.world (length c.world.sent) (drain_made s c)
       made_so = drains-are-made s.parties c.world (total s.plan) (length c.world.sent) timed reached
 
-      text-has : (plan_ends : Bool) → HasLines (drain_text s c (drain_made s c) plan_ends) (told_in s.parties c.world (drain_made s c))
-      text-has plan_ends =
-          subst (HasLines (drain_text s c (drain_made s c) plan_ends)) (then-nothing (told_in s.parties c.world (drain_made s c)))
-          (both-have _ _ _ _ (timed-has s c.world (drain_made s c) s.windows c.moment (length c.world.sent)) (last-has plan_ends (length (drain_made s c))))
+      over-has : HasLines (drain_text s c (drain_made s c) false) (with_ends (told_in s.parties c.world (drain_made s c)) (end_text (length (drain_made s c)) ∷ []) [])
+      over-has =
+          subst (HasLines (drain_text s c (drain_made s c) false)) (then-ends (told_in s.parties c.world (drain_made s c)) (end_text (length (drain_made s c)) ∷ []) [] refl refl)
+          (both-have _ _ _ _ (timed-has s c.world (drain_made s c) s.windows c.moment (length c.world.sent)) (end-has (length (drain_made s c))))
 
-      by_windows : (b : Bool) → Plays s c.world c.moment (line ∷ lines)
+      stopped-has : HasLines (drain_text s c (drain_made s c) true) (with_ends (told_in s.parties c.world (drain_made s c)) [] (stop_text (length (drain_made s c)) ∷ []))
+      stopped-has =
+          subst (HasLines (drain_text s c (drain_made s c) true)) (then-ends (told_in s.parties c.world (drain_made s c)) [] (stop_text (length (drain_made s c)) ∷ []) refl refl)
+          (both-have _ _ _ _ (timed-has s c.world (drain_made s c) s.windows c.moment (length c.world.sent)) (stop-has (length (drain_made s c))))
+
+      by_windows : (b : Bool) (deadline : ℕ) → link_deadline (run s.parties c.world (drain_made s c)) ≡ Some deadline → Plays s c.world c.moment (line ∷ lines)
           (after_turn (if b then if_kept (c.octets + octets_timed (ats_of s c.world (drain_made s c))) (drain_text s c (drain_made s c) true) drained else ends_run [] statuses.Limit) settle)
-      by_windows true = kept_so events.Drain (drain_made s c) _ _ is made_so (text-has true)
-      by_windows false = limit s c.world c.moment line lines
+      by_windows true deadline due =
+          kept_so events.Drain (drain_made s c) _ _ [] (stop_text (length (drain_made s c)) ∷ []) is made_so
+          (subst (λ d. TellsLast d (length (drain_made s c)) [] (stop_text (length (drain_made s c)) ∷ [])) (sym due) (refl, refl)) tt stopped-has
+      by_windows false deadline due = limit s c.world c.moment line lines
 
-      by_due : (due : Option ℕ) → Plays s c.world c.moment (line ∷ lines) (after_turn (drains_by s c (drain_made s c) due) settle)
-      by_due None = kept_so events.Drain (drain_made s c) _ _ is made_so (text-has false)
-      by_due (Some deadline) = by_windows s.windows
+      by_due : (due : Option ℕ) → link_deadline (run s.parties c.world (drain_made s c)) ≡ due
+          → Plays s c.world c.moment (line ∷ lines) (after_turn (drains_by s c (drain_made s c) due) settle)
+      by_due None none =
+          kept_so events.Drain (drain_made s c) _ _ (end_text (length (drain_made s c)) ∷ []) [] is made_so
+          (subst (λ d. TellsLast d (length (drain_made s c)) (end_text (length (drain_made s c)) ∷ []) []) (sym none) (refl, refl)) tt over-has
+      by_due (Some deadline) due = by_windows s.windows deadline due
 
   picked_turn : (words : List PickWord) → later_said line ≡ Ok (events.DrainBy words) → Plays s c.world c.moment (line ∷ lines) (after_turn (drains_by_picks s c (said_picks words)) settle)
   picked_turn words is = by_late (picks_late s c (said_picks words))
     where
-      made : List Event
-      made = run_events s.parties c.world (said_picks words) (turns_after no_moment s.parties (after_picks s.parties (crosses_at c.world) (said_picks words)))
+      -- as many events as steps
+      counts : length (picks_done s c (picks_turns s c (said_picks words))) ≡ length (run_events s.parties c.world (said_picks words) (turns_after no_moment s.parties (after_picks s.parties (crosses_at c.world) (said_picks words))))
+      counts = length-done s.parties c.world (run_events s.parties c.world (said_picks words) (turns_after no_moment s.parties (after_picks s.parties (crosses_at c.world) (said_picks words))))
 
-      text-has : HasLines (steps_end c (picks_done s c (picks_turns s c (said_picks words)))) (told_in s.parties c.world (run_events s.parties c.world (said_picks words) (turns_after no_moment s.parties (after_picks s.parties (crosses_at c.world) (said_picks words)))))
+      text-has : HasLines (steps_end c (picks_done s c (picks_turns s c (said_picks words)))) (with_ends (told_in s.parties c.world (run_events s.parties c.world (said_picks words) (turns_after no_moment s.parties (after_picks s.parties (crosses_at c.world) (said_picks words))))) (end_text (length (run_events s.parties c.world (said_picks words) (turns_after no_moment s.parties (after_picks s.parties (crosses_at c.world) (said_picks words))))) ∷ []) [])
       text-has =
-          subst (HasLines (steps_end c (picks_done s c (picks_turns s c (said_picks words))))) (then-nothing (told_in s.parties c.world made))
-          (both-have _ _ _ _ (steps-has s.parties c.world made (length c.world.sent)) (end-has _))
+          subst (HasLines (steps_end c (picks_done s c (picks_turns s c (said_picks words))))) (then-ends (told_in s.parties c.world (run_events s.parties c.world (said_picks words) (turns_after no_moment s.parties (after_picks s.parties (crosses_at c.world) (said_picks words))))) (end_text (length (run_events s.parties c.world (said_picks words) (turns_after no_moment s.parties (after_picks s.parties (crosses_at c.world) (said_picks words))))) ∷ []) [] refl refl)
+          (both-have _ _ _ _ (steps-has s.parties c.world (run_events s.parties c.world (said_picks words) (turns_after no_moment s.parties (after_picks s.parties (crosses_at c.world) (said_picks words)))) (length c.world.sent))
+          (subst (λ n. HasLines (end_line (length (picks_done s c (picks_turns s c (said_picks words))))) (with_ends nothing (end_text n ∷ []) [])) counts (end-has _)))
 
       by_next : (o : Option PickTurn) → next_turn (picks_end s c (said_picks words)).world (picks_end s c (said_picks words)).new ≡ o
           → Plays s c.world c.moment (line ∷ lines) (after_turn (picked_by c (picks_done s c (picks_turns s c (said_picks words))) o) settle)
       by_next None none =
-          kept_so (events.DrainBy words) (run_events s.parties c.world (said_picks words) (turns_after no_moment s.parties (after_picks s.parties (crosses_at c.world) (said_picks words)))) _ _ is
-          (picked-drain s c.world (said_picks words) timed reached none) text-has
+          kept_so (events.DrainBy words) (run_events s.parties c.world (said_picks words) (turns_after no_moment s.parties (after_picks s.parties (crosses_at c.world) (said_picks words)))) _ _ (end_text (length (run_events s.parties c.world (said_picks words) (turns_after no_moment s.parties (after_picks s.parties (crosses_at c.world) (said_picks words))))) ∷ []) [] is
+          (picked-drain s c.world (said_picks words) timed reached none) (refl, refl) (few-picks words line is) text-has
       by_next (Some t) some = limit s c.world c.moment line lines
 
       by_late : (b : Bool) → Plays s c.world c.moment (line ∷ lines) (after_turn (if b then ends_run [] statuses.Limit

@@ -15,7 +15,7 @@ use Rattle.link_run.specs.Link.{first_said}
 
 -- ---- values that are there
 
-unless_fault : {X Y : Type 0} (o : Option X) (fault : LineFault) (f : X → Result Y LineFault) (y : Y) → or_fault o fault f ≡ Ok y
+pub unless_fault : {X Y : Type 0} (o : Option X) (fault : LineFault) (f : X → Result Y LineFault) (y : Y) → or_fault o fault f ≡ Ok y
     → (x : X) × (o ≡ Some x) × (f x ≡ Ok y)
 unless_fault None fault f y is = absurd (cc)
 unless_fault (Some x) fault f y is = (x, refl, is)

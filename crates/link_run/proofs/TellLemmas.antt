@@ -68,36 +68,69 @@ module _ (front : List ℕ) (words : List (List ℕ)) (plain : PlainWords words)
 
 -- ---- the two kinds of lines that are told apart
 
--- of red parts, and of notes
+-- of red parts, of notes, and of ends of drains, by themselves and by the plan
 pub record Told : Type 0 where
   pub ups : List (List ℕ)
   pub notes : List (List ℕ)
+  pub ends : List (List ℕ)
+  pub stops : List (List ℕ)
 
 abbrev pub nothing : Told
-nothing = record { ups = []; notes = [] }
+nothing = record { ups = []; notes = []; ends = []; stops = [] }
 
 abbrev pub and_then : Told → Told → Told
-and_then a b = record { ups = a.ups ++ b.ups; notes = a.notes ++ b.notes }
+and_then a b = record { ups = a.ups ++ b.ups; notes = a.notes ++ b.notes; ends = a.ends ++ b.ends; stops = a.stops ++ b.stops }
 
 -- the lines of a text are these
 pub record HasLines (text : List ℕ) (told : Told) : Type 0 where
   pub ups : Has (codes "up ") text told.ups
   pub notes : Has (codes "note ") text told.notes
+  pub ends : Has (codes "end ") text told.ends
+  pub stops : Has (codes "stop ") text told.stops
 
 pub none-has : HasLines [] nothing
-none-has = record { ups = λ rest. refl; notes = λ rest. refl }
+none-has = record { ups = λ rest. refl; notes = λ rest. refl; ends = λ rest. refl; stops = λ rest. refl }
 
 pub both-have : (first more : List ℕ) (a b : Told) → HasLines first a → HasLines more b → HasLines (first ++ more) (and_then a b)
 both-have first more a b has have = record {
   ups = has-both (codes "up ") first more a.ups b.ups has.ups have.ups;
   notes = has-both (codes "note ") first more a.notes b.notes has.notes have.notes;
+  ends = has-both (codes "end ") first more a.ends b.ends has.ends have.ends;
+  stops = has-both (codes "stop ") first more a.stops b.stops has.stops have.stops;
 }
 
 pub other-line : (words : List (List ℕ)) → PlainWords words → begins (codes "up ") (spaced words) ≡ false
-    → begins (codes "note ") (spaced words) ≡ false → HasLines (line_of words) nothing
-other-line words plain up note = record {
+    → begins (codes "note ") (spaced words) ≡ false → begins (codes "end ") (spaced words) ≡ false
+    → begins (codes "stop ") (spaced words) ≡ false → HasLines (line_of words) nothing
+other-line words plain up note end stop = record {
   ups = has-other (codes "up ") words plain up;
   notes = has-other (codes "note ") words plain note;
+  ends = has-other (codes "end ") words plain end;
+  stops = has-other (codes "stop ") words plain stop;
+}
+
+-- a text in which a drain ends tells its lines too
+abbrev pub with_ends : Told → List (List ℕ) → List (List ℕ) → Told
+with_ends a ends stops = record { ups = a.ups; notes = a.notes; ends = ends; stops = stops }
+
+pub end-line-has : (words : List (List ℕ)) → PlainWords words → begins (codes "up ") (spaced words) ≡ false
+    → begins (codes "note ") (spaced words) ≡ false → begins (codes "end ") (spaced words) ≡ true
+    → begins (codes "stop ") (spaced words) ≡ false → HasLines (line_of words) (with_ends nothing (spaced words ∷ []) [])
+end-line-has words plain up note end stop = record {
+  ups = has-other (codes "up ") words plain up;
+  notes = has-other (codes "note ") words plain note;
+  ends = has-one (codes "end ") words plain end;
+  stops = has-other (codes "stop ") words plain stop;
+}
+
+pub stop-line-has : (words : List (List ℕ)) → PlainWords words → begins (codes "up ") (spaced words) ≡ false
+    → begins (codes "note ") (spaced words) ≡ false → begins (codes "end ") (spaced words) ≡ false
+    → begins (codes "stop ") (spaced words) ≡ true → HasLines (line_of words) (with_ends nothing [] (spaced words ∷ []))
+stop-line-has words plain up note end stop = record {
+  ups = has-other (codes "up ") words plain up;
+  notes = has-other (codes "note ") words plain note;
+  ends = has-other (codes "end ") words plain end;
+  stops = has-one (codes "stop ") words plain stop;
 }
 
 -- ---- words
@@ -146,19 +179,19 @@ shut-plain = refl
 
 pub refused-has : (n : ℕ) (cause : List ℕ) → ended_part cause ≡ [] → HasLines (refused_line n cause) nothing
 refused-has n cause plain = other-line (codes "refused" ∷ codes "line" ∷ decimal n ∷ cause ∷ [])
-    (refusing-plain, (numbering-plain, (decimal-plain n, (plain, tt)))) refl refl
+    (refusing-plain, (numbering-plain, (decimal-plain n, (plain, tt)))) refl refl refl refl
 
 pub refusal-has : (n : ℕ) (fault : LineFault) → HasLines (refusal_line n fault) nothing
 refusal-has n fault = refused-has n (word_of fault) (fault-plain fault)
 
 pub unsent-has : (end : End) (cause : List ℕ) → ended_part cause ≡ [] → HasLines (send_refusal end cause) nothing
-unsent-has end cause plain = other-line (codes "refused" ∷ end_word end ∷ cause ∷ []) (refusing-plain, (end-plain end, (plain, tt))) refl refl
+unsent-has end cause plain = other-line (codes "refused" ∷ end_word end ∷ cause ∷ []) (refusing-plain, (end-plain end, (plain, tt))) refl refl refl refl
 
 pub undelivered-has : HasLines deliver_refusal nothing
-undelivered-has = other-line (codes "refused" ∷ codes "deliver" ∷ []) (refusing-plain, (delivering-plain, tt)) refl refl
+undelivered-has = other-line (codes "refused" ∷ codes "deliver" ∷ []) (refusing-plain, (delivering-plain, tt)) refl refl refl refl
 
 pub closed-has : HasLines closed_refusal nothing
-closed-has = other-line (codes "refused" ∷ codes "closed" ∷ []) (refusing-plain, (closing-plain, tt)) refl refl
+closed-has = other-line (codes "refused" ∷ codes "closed" ∷ []) (refusing-plain, (closing-plain, tt)) refl refl refl refl
 
 out-has : (k : ℕ) (end : End) (datagrams : List (List ℕ)) → HasLines (out_lines k end datagrams) nothing
 unfolding out_lines
@@ -166,7 +199,7 @@ out-has k end [] = none-has
 out-has k end (d ∷ ds) =
     both-have (sent_line k end d) (out_lines (k + 1) end ds) nothing nothing
     (other-line (codes "sent" ∷ decimal k ∷ route_word (route_of end) ∷ encode_lower d ∷ [])
-    (sent-plain, (decimal-plain k, (route-plain end, (hex-plain d, tt)))) refl refl) (out-has (k + 1) end ds)
+    (sent-plain, (decimal-plain k, (route-plain end, (hex-plain d, tt)))) refl refl refl refl) (out-has (k + 1) end ds)
 
 sent-has : (k : ℕ) (tolds : List EndEffects) → HasLines (sent_lines k tolds) nothing
 unfolding sent_lines
@@ -185,7 +218,7 @@ abbrev up_words : LinkEnd → UpValue → List ℕ
 up_words end up = spaced (codes "up" ∷ end_word (named end) ∷ decimal up.session ∷ encode_lower up.body ∷ [])
 
 abbrev of_ups : List (List ℕ) → Told
-of_ups lines = record { ups = lines; notes = [] }
+of_ups lines = record { ups = lines; notes = []; ends = []; stops = [] }
 
 up-has : (end : LinkEnd) (up : UpValue) → HasLines (up_line (named end) (up_of up)) (of_ups (up_words end up ∷ []))
 up-has end up =
@@ -195,6 +228,8 @@ up-has end up =
     record {
       ups = has-one (codes "up ") words plain refl;
       notes = has-other (codes "note ") words plain refl;
+      ends = has-other (codes "end ") words plain refl;
+      stops = has-other (codes "stop ") words plain refl;
     }
 
 ups-have : (end : LinkEnd) (ups : List UpValue) → HasLines (flat_map (up_line (named end)) (map up_of ups)) (of_ups (map (up_words end) ups))
@@ -216,7 +251,7 @@ all-ups (e ∷ es) =
 -- ---- notes
 
 abbrev of_notes : List (List ℕ) → Told
-of_notes lines = record { ups = []; notes = lines }
+of_notes lines = record { ups = []; notes = lines; ends = []; stops = [] }
 
 note-has : (end : LinkEnd) (note : Note) → HasLines (note_line (Some (site_of (named end))) note) (of_notes (note_text (end, note) ∷ []))
 note-has end note =
@@ -226,6 +261,8 @@ note-has end note =
     record {
       ups = has-other (codes "up ") words plain refl;
       notes = has-one (codes "note ") words plain refl;
+      ends = has-other (codes "end ") words plain refl;
+      stops = has-other (codes "stop ") words plain refl;
     }
 
 notes-have : (end : LinkEnd) (notes : List Note)
@@ -249,7 +286,7 @@ all-notes (e ∷ es) =
 -- ---- an event
 
 effects-have : (k : ℕ) (es : List LinkEffects)
-    → HasLines (told_text k (map told_of es)) (record { ups = flat_map up_texts es; notes = map note_text (flat_map notes_of es) })
+    → HasLines (told_text k (map told_of es)) (record { ups = flat_map up_texts es; notes = map note_text (flat_map notes_of es); ends = []; stops = [] })
 effects-have k es =
     let last = both-have _ _ _ _ (all-ups es) (all-notes es) in
     let all = both-have _ _ nothing _ (sent-has k (map told_of es)) last in
@@ -306,6 +343,8 @@ abbrev pub told_in : Party × Party → World → List Event → Told
 told_in parties w events = record {
   ups = map up_text (hand_ups parties w events);
   notes = map note_text (flat_map notes_of (effects_in parties w events));
+  ends = [];
+  stops = [];
 }
 
 -- what one event does
@@ -313,6 +352,8 @@ abbrev pub told_at : Party × Party → World → Event → Told
 told_at parties w event = record {
   ups = map up_text (hand_ups_at parties w event);
   notes = map note_text (flat_map notes_of (effects_at parties w event));
+  ends = [];
+  stops = [];
 }
 
 pub event-has : (parties : Party × Party) (w : World) (event : Event) (k : ℕ)
@@ -351,4 +392,9 @@ told-append parties w (x ∷ xs) ys =
     ∙ ap (λ a. and_then a (told_in parties (run parties (happens parties w x) xs) ys)) (sym (told-more parties w x xs))))
   where
     assoc : (a b c : Told) → and_then a (and_then b c) ≡ and_then (and_then a b) c
-    assoc a b c = rw (sym (append_assoc a.ups b.ups c.ups), sym (append_assoc a.notes b.notes c.notes)) refl
+    assoc a b c = rw (
+      sym (append_assoc a.ups b.ups c.ups),
+      sym (append_assoc a.notes b.notes c.notes),
+      sym (append_assoc a.ends b.ends c.ends),
+      sym (append_assoc a.stops b.stops c.stops),
+    ) refl

@@ -21,7 +21,7 @@ use Rattle.ltp_session.specs.World.{End as LinkEnd}
 use Rattle.ltp_session.specs.World.{Event, World, clock, deliver, run, starts_world, submit}
 use Rattle.link_laws.specs.Log.{HandUp, HandsUpFronts, Submission, hand_ups, submissions}
 use Rattle.link_laws.specs.View.{IsIn}
-use Rattle.drain_laws.specs.Clean.{clean_event, passed}
+use Rattle.drain_laws.specs.Clean.{link_deadline}
 use Rattle.drain_laws.specs.Completion.{IsComplete}
 use Rattle.drain_laws.specs.Effects.{effects_in}
 use Rattle.drain_laws.specs.Effects.{EndEffects as LinkEffects}
@@ -141,30 +141,26 @@ abbrev pub Completes : LinkSetup → World → List Event → Type 0
 Completes s w made = IsComplete s.parties w made (run s.parties w made)
 
 -- A drain without picks has no more events than the sessions cost, however many gaps lie between,
--- and completes them where the plan doesn't end.
+-- and completes them where the plan doesn't end it.
 pub record CompletesInTime (s : LinkSetup) (w : World) (made : List Event) : Type 0 where
   pub bound : length made ≤ cost s.parties w (run s.parties w made)
-  pub complete :
-      clean_event (run s.parties w made) (passed (length w.sent) made) ≡ None → Completes s w made
+  pub complete : link_deadline (run s.parties w made) ≡ None → Completes s w made
 
 -- One with picks completes them too. Where its picks are of new datagrams alone it has no more
--- events than the sessions cost. Else, where at most 100,000 old datagrams come and nobody is turned
--- away, it has three more at most for each of these; and so no more than the segments of that one's
--- session and 8.
+-- events than the sessions cost. Else, where nobody is turned away, it has three more at most for
+-- each old datagram that comes; and so no more than the segments of that one's session and 8.
 pub record CompletesByPicks (s : LinkSetup) (w : World) (picks : List Pick) (made : List Event)
     : Type 0 where
   pub crossing :
       PicksNew picks
       → (length made ≤ cost s.parties w (run s.parties w made)) × Completes s w made
   pub tight :
-      copies s.parties (crosses_at w) picks ≤ 100000
-      → NoneTurnedAway (effects_in s.parties w made)
+      NoneTurnedAway (effects_in s.parties w made)
       → (length made
       ≤ cost s.parties w (run s.parties w made) + 3 * copies s.parties (crosses_at w) picks)
       × Completes s w made
   pub wide :
-      copies s.parties (crosses_at w) picks ≤ 100000
-      → NoneTurnedAway (effects_in s.parties w made)
+      NoneTurnedAway (effects_in s.parties w made)
       → length made
       ≤ cost s.parties w (run s.parties w made) + copies_cost s.parties w (crosses_at w) picks
 
@@ -189,12 +185,19 @@ lines_with front [] = []
 lines_with front (line ∷ lines) =
     if begins front line then line ∷ lines_with front lines else lines_with front lines
 
--- the lines that say that a red part was handed up, and the notes
+-- the lines that say that a red part was handed up; the notes; and those that say that a drain
+-- ended, or that the plan ended it
 abbrev pub up_lines_in : List ℕ → List (List ℕ)
 up_lines_in text = lines_with (codes "up ") (lines_of text)
 
 abbrev pub note_lines_in : List ℕ → List (List ℕ)
 note_lines_in text = lines_with (codes "note ") (lines_of text)
+
+abbrev pub end_lines_in : List ℕ → List (List ℕ)
+end_lines_in text = lines_with (codes "end ") (lines_of text)
+
+abbrev pub stop_lines_in : List ℕ → List (List ℕ)
+stop_lines_in text = lines_with (codes "stop ") (lines_of text)
 
 -- the line of a red part, and that of a note
 abbrev pub up_text : HandUp → List ℕ
@@ -204,6 +207,32 @@ up_text u =
 abbrev pub note_text : LinkEnd × Note → List ℕ
 note_text n =
     spaced (codes "note" ∷ end_word (named n.0) ∷ note_name n.1 ∷ note_details n.1)
+
+-- those of the end of a drain, with how many events it had
+abbrev pub end_text : ℕ → List ℕ
+end_text n = spaced (codes "end" ∷ decimal n ∷ [])
+
+abbrev pub stop_text : ℕ → List ℕ
+stop_text n = spaced (codes "stop" ∷ decimal n ∷ [])
+
+-- a drain without picks ends where no timer runs, and else the plan ends it
+abbrev pub TellsLast : Option ℕ → ℕ → List (List ℕ) → List (List ℕ) → Type 0
+TellsLast None n ends stops = (ends ≡ end_text n ∷ []) × (stops ≡ [])
+TellsLast (Some deadline) n ends stops = (ends ≡ []) × (stops ≡ stop_text n ∷ [])
+
+-- these are the lines of the end of a drain that made these events
+abbrev pub TellsEnd :
+    LinkSetup → World → Option LinkEvent → List Event → List (List ℕ) → List (List ℕ) → Type 0
+TellsEnd s w (Some events.Drain) made ends stops =
+    TellsLast (link_deadline (run s.parties w made)) (length made) ends stops
+TellsEnd s w (Some (events.DrainBy picks)) made ends stops =
+    (ends ≡ end_text (length made) ∷ []) × (stops ≡ [])
+TellsEnd s w None made ends stops = (ends ≡ []) × (stops ≡ [])
+TellsEnd s w (Some (events.Link segment timeout limit cap start)) made ends stops = ⊥
+TellsEnd s w (Some (events.Window from to)) made ends stops = ⊥
+TellsEnd s w (Some (events.Send first body)) made ends stops = ⊥
+TellsEnd s w (Some (events.Deliver k)) made ends stops = ⊥
+TellsEnd s w (Some (events.Clock now)) made ends stops = ⊥
 
 -- the notes of ends, in order
 abbrev pub notes_of : LinkEffects → List (LinkEnd × Note)
@@ -219,7 +248,7 @@ IsSent said p =
 
 -- The text of a script that sets up a link. Its `up` lines are exactly the red parts that are handed
 -- up at the events that the lines make and at those of a drain after them, and its notes those of
--- these events. Each red part is the front of the block that was submitted for its session, up to
+-- these events; a line `end` or `stop` has the number of the drain's. Each red part is the front of the block that was submitted for its session, up to
 -- its red length; each of these is the block of a line `send`, all of it red; no session's is
 -- handed up twice, and no session number is given twice. And a drain completes the sessions.
 pub record PlaysScript (lines : List (List ℕ)) (text : List ℕ) : Type 0 where
@@ -246,6 +275,10 @@ pub record PlaysScript (lines : List (List ℕ)) (text : List ℕ) : Type 0 wher
       (effects_in (link_setup start windows).parties
       (starts_world (link_setup start windows).parties)
       (script_events (link_setup start windows) start.now said ++ made)))
+  pub end :
+      TellsEnd (link_setup start windows)
+      (link_by (link_setup start windows) (script_events (link_setup start windows) start.now said))
+      drain made (end_lines_in text) (stop_lines_in text)
   pub fronts :
       HandsUpFronts (link_setup start windows).parties
       (submissions (link_setup start windows).parties
@@ -267,6 +300,8 @@ pub record PlaysScript (lines : List (List ℕ)) (text : List ℕ) : Type 0 wher
 pub record PlaysNothing (text : List ℕ) : Type 0 where
   pub ups : up_lines_in text ≡ []
   pub notes : note_lines_in text ≡ []
+  pub ends : end_lines_in text ≡ []
+  pub stops : stop_lines_in text ≡ []
 
 -- what is promised of a link, of the text that `link` writes of an input of which at most so many
 -- octets are looked at

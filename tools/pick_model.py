@@ -1,7 +1,10 @@
 #!/usr/bin/env python3
 """A model of a drain with picks, on the link of link_model.py: which datagram comes next, and how many events there are.
 
-usage: tools/pick_model.py --vectors FILE        compares with those rows of JSON whose last line is `drain` and picks
+usage: tools/pick_model.py link < SCRIPT         answers a script as the program does
+       tools/pick_model.py --vectors FILE        compares with those rows of JSON whose last line is `drain` and picks
+       tools/pick_model.py --make COUNT SEED     writes scripts with picks, a line of JSON for each, with what the model
+                                                 answers
        tools/pick_model.py --bounds COUNT SEED   counts the events of made drains, with old copies of every kind, and
                                                  holds them against what docs/completion.md promises
 """
@@ -123,6 +126,36 @@ def vectors(path):
     return int(failed > 0)
 
 
+# ---- made scripts ----
+
+def made_words(draw):
+    """The words of a last line: mostly picks, of which few have another form."""
+    words = []
+    for _ in range(draw.choice((1, 1, 3, 12, 60))):
+        words.append(draw.choice("fs") if draw.randrange(3) else f"o{draw.randrange(60)}")
+    if draw.randrange(12) == 0:
+        words[draw.randrange(len(words))] = draw.choice(("", "o", "o01", "F", "fs", "o99999999999999999999"))
+    return words
+
+
+def made(draw):
+    """A script, as lines: one without windows, but for a few, whose drain may have no picks."""
+    lines = link_model.made(draw)
+    if draw.randrange(12):
+        lines = [line for line in lines if not line.startswith("window ")]
+    if lines[-1] == "drain":
+        lines.pop()
+    return [*lines, " ".join(["drain", *made_words(draw)])]
+
+
+def made_rows(count, seed):
+    draw = random.Random(seed)
+    for _ in range(count):
+        octets = "\n".join(made(draw)).encode() + draw.choice((b"", b"\n"))
+        text, status = answer(octets)
+        yield {"words": ["link"], "input": octets.decode(), "status": status, "output": text.decode()}
+
+
 # ---- bounds ----
 
 def is_hopeful(link):
@@ -237,6 +270,14 @@ def main(words):
         return vectors(words[1])
     if words[:1] == ["--bounds"] and len(words) == 3:
         return bounds(int(words[1]), int(words[2]))
+    if words[:1] == ["--make"] and len(words) == 3:
+        for row in made_rows(int(words[1]), int(words[2])):
+            print(json.dumps(row))
+        return DONE
+    if words == ["link"]:
+        text, status = answer(sys.stdin.buffer.read())
+        sys.stdout.buffer.write(text)
+        return status
     sys.stderr.write(__doc__.split("\n\n")[1] + "\n")
     return USAGE
 

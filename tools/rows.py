@@ -24,6 +24,7 @@ the number in decimal, '{x}' in two hex digits. A table has a row in each line, 
   table lines|hex STATUS NAME
   INPUT = OUTPUT              lines are parted by ' / ', each with its line feed
 """
+import itertools
 import os
 import re
 import sys
@@ -38,6 +39,7 @@ import gateway_model
 import link_model
 import ltp_model
 import make_scripts
+import pick_model
 import translate_model
 from make_inputs import made
 
@@ -207,7 +209,9 @@ def made_worlds(seed, count):
 
 def made_links(seed, count):
     """Rows whose input is a made script of `link`, and whose output is the model's."""
-    for at, made_row in enumerate(link_model.made_rows(int(count) // 5, int(seed)), 1):
+    half = int(count) // 10
+    made = itertools.chain(link_model.made_rows(half, int(seed)), pick_model.made_rows(half, int(seed)))
+    for at, made_row in enumerate(made, 1):
         row = Row(f"made link {at} of seed {seed}: {made_row['input'][:60]!r}..", [b"link"])
         row.input, row.output = [made_row["input"].encode()], [made_row["output"].encode()]
         row.status = made_row["status"]

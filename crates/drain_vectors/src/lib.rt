@@ -9,6 +9,8 @@
 #![tactic(auto)]
 
 #[cfg(test)]
+mod copies;
+#[cfg(test)]
 mod drains;
 #[cfg(test)]
 mod greatest;

@@ -11,7 +11,7 @@ ghost use Rattle.bundle_runs.specs.Convert.{converted, converted6, converted7};
 use crate::front::Bundle;
 use bundle6::{Bundle6, encode6};
 use bundle7::{Bundle7, encode7};
-use fragment_lines::{TurnedDown, write_hex};
+use fragment_lines::{TurnedDown, write_hex_line};
 use std::alloc::{AllocError, Global};
 use translate::{Refused, to_new, to_old};
 
@@ -43,7 +43,7 @@ fn convert_to_new(
 {
     match to_new(alloc, bundle) {
         Ok(there) => {
-            write_hex(alloc, text, encode7(alloc, &there)?.as_slice())?;
+            write_hex_line(text, encode7(alloc, &there)?.as_slice())?;
             Ok(None)
         }
         Err(refused) => match refused {
@@ -66,7 +66,7 @@ fn convert_to_old(
 {
     match to_old(alloc, bundle) {
         Ok(there) => {
-            write_hex(alloc, text, encode6(alloc, &there)?.as_slice())?;
+            write_hex_line(text, encode6(alloc, &there)?.as_slice())?;
             Ok(None)
         }
         Err(refused) => match refused {

@@ -1,6 +1,6 @@
 -- Bundles as lines, and the refusals that stand in place of them.
 use Rattle.std.specs.Prelude.{◌≡◌, ℕ, if◌then◌else◌, List, ◌++◌, codes, Option, Some, None}
-use Rattle.hex.specs.Hex.{encode_lower}
+use Rattle.hex_text.specs.Hex.{encode_lower}
 use Rattle.bundle6.specs.Spelling.{canon6}
 use Rattle.bundle7.specs.Spelling.{octets7}
 use Rattle.bundle_meaning.specs.declared.full.Full.{Full}

@@ -12,7 +12,7 @@ ghost use Rattle.fragment_lines.specs.Lines.{hex_line, octets_old, octets_new, W
 ghost use Rattle.fragment_lines.specs.Cut.{cut6, cut7, cut_as, lines_of};
 ghost use Rattle.fragment_lines.specs.Writable.{HasRoom6, HasRoom7};
 
-use crate::lines::write_hex;
+use crate::lines::write_hex_line;
 use crate::reading::{read6, read7};
 use crate::turned_down::TurnedDown;
 use crate::views::{spelled_new, spelled_old};
@@ -134,7 +134,7 @@ fn write6(alloc: Global, text: &mut String, full: &Full) -> Result<(), AllocErro
     ensures { OnOk result (string_bytes text.new ≡ string_bytes text.old ++ hex_line (octets_old full.now)) }
 {
     match spelled_old(alloc, full)? {
-        Some(octets) => write_hex(alloc, text, octets.as_slice()),
+        Some(octets) => write_hex_line(text, octets.as_slice()),
         None => Ok(()),
     }
 }
@@ -145,7 +145,7 @@ fn write7(alloc: Global, text: &mut String, full: &Full) -> Result<(), AllocErro
     ensures { OnOk result (string_bytes text.new ≡ string_bytes text.old ++ hex_line (octets_new full.now)) }
 {
     match spelled_new(alloc, full)? {
-        Some(octets) => write_hex(alloc, text, octets.as_slice()),
+        Some(octets) => write_hex_line(text, octets.as_slice()),
         None => Ok(()),
     }
 }

@@ -16,7 +16,7 @@ ghost use Rattle.fragment_lines.specs.Lines.{spelled_old, spelled_new, Writes};
 ghost use Rattle.fragment_lines.specs.Joins.{join6, join7, said_whole};
 ghost use Rattle.fragment_lines.specs.Writable.{IsSayable, Tells, said_answer};
 
-use crate::lines::{write_hex, write_word};
+use crate::lines::{write_hex_line, write_word};
 use crate::reading::{read6, read7};
 use crate::turned_down::TurnedDown;
 use crate::views::{sized, spelled_new, spelled_old};
@@ -177,7 +177,7 @@ fn write_joined6(
 {
     match answer {
         Answer::Word(word) => write_open(text, word),
-        Answer::Whole(whole) => write_whole(alloc, text, spelled_old(alloc, &whole)?),
+        Answer::Whole(whole) => write_whole(text, spelled_old(alloc, &whole)?),
     }
 }
 
@@ -193,23 +193,19 @@ fn write_joined7(
 {
     match answer {
         Answer::Word(word) => write_open(text, word),
-        Answer::Whole(whole) => write_whole(alloc, text, spelled_new(alloc, &whole)?),
+        Answer::Whole(whole) => write_whole(text, spelled_new(alloc, &whole)?),
     }
 }
 
 /// The line of a whole that has these octets, or there is no room for its blocks.
-fn write_whole(
-    alloc: Global,
-    text: &mut String,
-    octets: Option<Octets>,
-) -> Result<Option<TurnedDown>, AllocError>
+fn write_whole(text: &mut String, octets: Option<Octets>) -> Result<Option<TurnedDown>, AllocError>
     ensures { IfOk result (λ cause. (now : List Join)
         → Writes (said_whole octets now) (string_bytes text.old) (string_bytes text.new) now cause) }
 {
     match octets {
         Some(octets) => {
             text.push_str("Whole ")?;
-            write_hex(alloc, text, octets.as_slice())?;
+            write_hex_line(text, octets.as_slice())?;
             Ok(None)
         }
         None => Ok(Some(TurnedDown::Untranslated(Refused::TooManyBlocks))),

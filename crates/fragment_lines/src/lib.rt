@@ -19,5 +19,5 @@ mod views;
 
 pub use cutting::{cut6, cut7};
 pub use joining::BundleJoiner;
-pub use lines::write_hex;
+pub use lines::write_hex_line;
 pub use turned_down::TurnedDown;

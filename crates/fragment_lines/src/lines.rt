@@ -4,14 +4,14 @@ ghost use Rattle.std.specs.Prelude.{◌≡◌, ◌++◌, codes, OnOk};
 ghost use Rattle.std.specs.String.{string_bytes};
 ghost use Rattle.fragment_lines.specs.Lines.{hex_line};
 
-use std::alloc::{AllocError, Global};
+use std::alloc::AllocError;
 
 /// Octets in hex of lower case, as a line.
-pub fn write_hex(alloc: Global, text: &mut String, octets: &[u8]) -> Result<(), AllocError>
+pub fn write_hex_line(text: &mut String, octets: &[u8]) -> Result<(), AllocError>
     ensures { OnOk result (string_bytes text.new ≡ string_bytes text.old ++ hex_line octets.now) }
 {
-    let digits = hex::encode(alloc, octets)?;
-    write!(text, "{digits}\n")
+    hex_text::write_hex(text, octets)?;
+    text.push_str("\n")
 }
 
 /// A word as a line.

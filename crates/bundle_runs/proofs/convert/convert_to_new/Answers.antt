@@ -2,10 +2,10 @@ use Rattle.std.proofs.Common.{◌∙◌}
 use Rattle.bundle_runs.proofs.ConvertLemmas.{wrote-new, refused-new}
 use Rattle.bundle_runs.proofs.convert.convert_to_new.Goals as goal
 
-pub returns-in_ok-write_hex-in-Ok-clause-said : goal.returns-in_ok-write_hex-in-Ok-clause-said
-returns-in_ok-write_hex-in-Ok-clause-said c =
+pub returns-in_ok-write_hex_line-in-Ok-clause-said : goal.returns-in_ok-write_hex_line-in-Ok-clause-said
+returns-in_ok-write_hex_line-in-Ok-clause-said c =
     wrote-new c.args.bundle.now c.in-Ok.there _ _ _ c.in-Ok.ensures.exact
-    (c.as_slice-in-Ok.ensures ∙ c.in_ok-encode7-in-Ok.ensures.exact) c.in_ok-write_hex-in-Ok.ensures
+    (c.as_slice-in-Ok.ensures ∙ c.in_ok-encode7-in-Ok.ensures.exact) c.in_ok-write_hex_line-in-Ok.ensures
 
 pub returns-in_default : goal.returns-in_default
 returns-in_default c = record {

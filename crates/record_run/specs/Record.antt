@@ -4,7 +4,7 @@
 use Rattle.std.specs.Prelude.{ℕ, Bool, true, false, List, [], ◌∷◌, ◌++◌, codes, map, Some}
 use Rattle.std.specs.Prelude.{Result, Ok, Err, if◌then◌else◌}
 use Rattle.std.specs.List.{flat_map}
-use Rattle.hex.specs.Hex.{encode_lower}
+use Rattle.hex_text.specs.Hex.{encode_lower}
 use Rattle.edge_traits.specs.declared.status.Status.TheVariants as statuses
 use Rattle.command_frame.specs.Task.{Settling}
 use Rattle.command_frame.specs.Lines.{Turn, passes, ends_run, LineRules, by_lines}

@@ -87,7 +87,7 @@ impl RecordLines {
     {
         let from = self.recorder.entries().len();
         self.tell(event)?;
-        write_entries(self.alloc, text, &self.recorder.entries()[from..])
+        write_entries(text, &self.recorder.entries()[from..])
     }
 
     /// The recorder is told an event.

@@ -11,27 +11,24 @@ use replay_script::{Line, LineFault, push_line};
 use std::alloc::{AllocError, Global};
 
 /// Writes entries of a recording.
-pub(crate) fn write_entries(
-    alloc: Global,
-    text: &mut String,
-    entries: &[Entry],
-) -> Result<(), AllocError>
+pub(crate) fn write_entries(text: &mut String, entries: &[Entry]) -> Result<(), AllocError>
     ensures { OnOk result (string_bytes text.new
         ≡ string_bytes text.old ++ flat_map entry_line entries.now) }
 {
     'each: for entry in entries {
-        write_entry(alloc, text, entry)?;
+        write_entry(text, entry)?;
     }
     Ok(())
 }
 
 /// Writes an entry, as `audit` reads it.
-fn write_entry(alloc: Global, text: &mut String, entry: &Entry) -> Result<(), AllocError>
+fn write_entry(text: &mut String, entry: &Entry) -> Result<(), AllocError>
     ensures { OnOk result (string_bytes text.new ≡ string_bytes text.old ++ entry_line entry.now) }
 {
-    let side = side_of(entry);
-    let digits = hex::encode(alloc, entry.datagram.as_slice())?;
-    write!(text, "{side} {digits}\n")
+    text.push_str(side_of(entry))?;
+    text.push_str(" ")?;
+    hex_text::write_hex(text, entry.datagram.as_slice())?;
+    text.push_str("\n")
 }
 
 /// Which way an entry went.

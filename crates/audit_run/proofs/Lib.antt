@@ -1,2 +1,3 @@
 pub mod TwoWordLemmas
 pub mod AuditedLemmas
+pub mod HexLemmas

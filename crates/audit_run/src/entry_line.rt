@@ -2,8 +2,7 @@
 
 ghost use Rattle.std.specs.Prelude.{◌≡◌, Bool, List, ℕ, true, is_some, Some, IfOk, IsOk};
 ghost use Rattle.std.specs.Option.{option_map};
-ghost use Rattle.std.specs.List.{list_all, position};
-ghost use Rattle.hex.specs.Hex.{is_hex_digit};
+ghost use Rattle.std.specs.List.{position};
 ghost use Rattle.replay_script.specs.Words.{is_space, words_of};
 ghost use Rattle.replay_script.specs.Events.{hex_of, Reads};
 ghost use Rattle.audit_run.specs.EntryLine.{entry_of, two_words, side_of};
@@ -90,24 +89,14 @@ fn space_in(text: &[u8]) -> Option<usize>
 fn is_hex(text: &[u8]) -> bool
     ensures { result ≡ is_some (hex_of text.now) }
 {
-    text.len() % 2 == 0 && are_digits(text)
-}
-
-/// Whether each octet is a hex digit, of either case.
-fn are_digits(text: &[u8]) -> bool
-    ensures { result ≡ list_all is_hex_digit text.now }
-{
-    text.iter().all(|octet| octet.is_ascii_hexdigit())
+    hex_text::is_hex(text)
 }
 
 /// The octets of a text that is hex.
-#[tactic(auto, unfolding(replay_script::specs::Events::hex_of))]
 fn octets_in(alloc: Global, text: &[u8]) -> Result<Octets, AllocError>
     requires { is_some (hex_of text.now) ≡ true }
     ensures { IfOk result (λ octets. hex_of text.now ≡ Some octets) }
 {
-    match hex::decode(alloc, text) {
-        Ok(octets) => Ok(Octets::from_vec(octets)),
-        Err(_) => Err(AllocError),
-    }
+    let octets = hex_text::octets_of(alloc, text)?;
+    Ok(Octets::from_vec(octets))
 }

@@ -33,6 +33,7 @@ sys.dont_write_bytecode = True
 ROOT = os.path.dirname(os.path.dirname(os.path.abspath(__file__)))
 ROWS = os.path.join(ROOT, "rows")
 sys.path.insert(0, os.path.join(ROOT, "tools"))
+import audit_model
 import format_model
 import fragment_model
 import gateway_model
@@ -218,6 +219,26 @@ def made_links(seed, count):
         yield row
 
 
+def made_audits(seed, count):
+    """Rows whose input is a made recording, and whose output is the model's."""
+    words = ["audit", "2", "1"]
+    for at, octets in enumerate(audit_model.made(int(seed), int(count)), 1):
+        row = Row(f"made audit {at} of seed {seed}: {octets[:60].decode()}..", [word.encode() for word in words])
+        text, row.status = audit_model.answer(words, octets)
+        row.input, row.output = [octets], [text]
+        yield row
+
+
+def made_records(seed, count):
+    """Rows of `record` whose input is a made script of `node`, and whose output is the model's."""
+    for at, (own, peer, octets) in enumerate(ltp_model.made(int(seed), int(count) // 5), 1):
+        words = ["record", str(own), str(peer)]
+        row = Row(f"made record {at} of seed {seed}: {octets[:60].decode()}..", [word.encode() for word in words])
+        text, row.status = audit_model.answer(words, octets)
+        row.input, row.output = [octets], [text]
+        yield row
+
+
 def files():
     """The files of rows, one a command."""
     return [os.path.join(ROWS, name) for name in sorted(os.listdir(ROWS)) if re.fullmatch("[a-z]+", name)]
@@ -226,7 +247,7 @@ def files():
 def all_made(inputs, scripts):
     """All rows that are made: of these seeds and counts, of inputs and of scripts."""
     for rows in (made_rows(*inputs), made_translations(*inputs), made_fragments(*inputs), made_scripts(*scripts),
-                 made_links(*scripts), made_worlds(*scripts)):
+                 made_audits(*scripts), made_records(*scripts), made_links(*scripts), made_worlds(*scripts)):
         yield from rows
 
 

@@ -1,0 +1,5 @@
+pub mod TextLemmas
+pub mod PlainLemmas
+pub mod LineLemmas
+pub mod ShownLemmas
+pub mod SubjectLemmas

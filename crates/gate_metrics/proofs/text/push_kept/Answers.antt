@@ -1,0 +1,13 @@
+use Rattle.std.proofs.lemmas.Result.{on_ok_weaker}
+use Rattle.std.specs.String.{string_bytes}
+use Rattle.gate_metrics.proofs.PieceLemmas.{before, ends}
+use Rattle.gate_metrics.proofs.text.push_kept.Goals as goal
+
+pub returns : goal.returns
+returns c =
+    on_ok_weaker c.push_gauge-4.result
+    (λ h. before (string_bytes c.args.text.now) (string_bytes c.push_gauge.new.text) (string_bytes c.push_gauge-4.new.text) _ _ c.in_ok-push_gauge.ensures
+    (before (string_bytes c.push_gauge.new.text) (string_bytes c.push_gauge-2.new.text) (string_bytes c.push_gauge-4.new.text) _ _ c.in_ok-push_gauge-2.ensures
+    (before (string_bytes c.push_gauge-2.new.text) (string_bytes c.push_gauge-3.new.text) (string_bytes c.push_gauge-4.new.text) _ _ c.in_ok-push_gauge-3.ensures
+    (ends (string_bytes c.push_gauge-3.new.text) (string_bytes c.push_gauge-4.new.text) _ h))))
+    c.push_gauge-4.ensures

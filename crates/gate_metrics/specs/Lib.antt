@@ -1,0 +1,4 @@
+-- What public clauses cite, in reading order.
+pub mod Counting
+pub mod Text
+pub mod Laws

@@ -40,7 +40,8 @@ use Rattle.ltp_world.specs.Values.{WorldValue, parties_of}
 use Rattle.ltp_world.proofs.DrainLemmas.{hears-told, length-sent, link-deadline, link-on}
 use Rattle.ltp_world.proofs.DrainLemmas.{not-less, ticks-told}
 use Rattle.ltp_world.proofs.MarkLemmas.{Sought, all-new, found, new-append, next-sought}
-use Rattle.ltp_world.proofs.MarkLemmas.{not-there, nothing-new, nowhere, old-is}
+use Rattle.ltp_world.proofs.MarkLemmas.{nothing-new, nowhere}
+use Rattle.ltp_world.proofs.SearchLemmas.{not-there, old-is}
 
 -- ---- an event
 

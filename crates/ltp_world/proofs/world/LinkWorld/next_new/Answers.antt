@@ -1,5 +1,5 @@
 use Rattle.std.proofs.Common.{arith, sym, ◌∙◌}
-use Rattle.ltp_world.proofs.MarkLemmas.{place-end, place-here, place-later}
+use Rattle.ltp_world.proofs.SearchLemmas.{place-end, place-here, place-later}
 use Rattle.ltp_world.proofs.world.LinkWorld.next_new.Goals as goal
 
 pub seeking-preserved : goal.seeking-preserved

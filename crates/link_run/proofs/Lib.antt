@@ -13,5 +13,9 @@ mod PickedLemmas
 mod FewLemmas
 mod PlainLemmas
 mod TellLemmas
+mod DoneLemmas
 mod PlayLemmas
+mod PlansLemmas
+mod SentLemmas
+mod TimeLemmas
 pub mod LawLemmas

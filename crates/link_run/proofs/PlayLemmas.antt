@@ -1,32 +1,25 @@
 -- What the lines after the windows settle on a link, by what they say.
 
-use Rattle.std.proofs.Common.{◌≡◌, ℕ, ◌+◌, ◌≤◌, Bool, true, false, ◌&&◌, ◌||◌, nat_lt, nat_le, nat_eq, List, [], ◌∷◌, ◌++◌, length, map, codes, Option, None, Some, Result, Ok, Err, refl, sym, ap, ◌∙◌, append_assoc, arith, subst, if◌then◌else◌}
-use Rattle.std.proofs.lemmas.Bool.Decides.{nat_tests}
-use Rattle.std.proofs.lemmas.List.{append-nil, length-append, length-map, map-append}
+use Rattle.std.proofs.Common.{◌≡◌, ℕ, ◌+◌, ◌≤◌, Bool, true, false, ◌&&◌, ◌||◌, nat_lt, nat_le, nat_eq, List, [], ◌∷◌, ◌++◌, length, map, codes, Option, None, Some, Result, Ok, Err, refl, sym, ap, ◌∙◌, append_assoc, subst, if◌then◌else◌}
 use Rattle.std.specs.List.{slice_get, starts_with}
-use Rattle.std.specs.Option.{option_map}
-use Rattle.std.specs.Fmt.{decimal}
 use Rattle.edge_traits.specs.declared.status.Status.{Status}
 use Rattle.edge_traits.specs.declared.status.Status.TheVariants as statuses
 use Rattle.edge_traits.specs.Settled.{Settled}
-use Rattle.command_frame.specs.InputLines.{ended_part}
 use Rattle.command_frame.specs.Lines.{passes, ends_run, turn_at, after_turn}
-use Rattle.ltp_session.specs.Engine.{EngineStep, Party, Reply, SubmitFault, submit_step, submits}
+use Rattle.ltp_session.specs.Engine.{EngineStep, Party, SubmitFault}
 use Rattle.ltp_session.specs.World.{Sent as LinkSent}
-use Rattle.ltp_session.specs.World.{End as LinkEnd}
-use Rattle.ltp_session.specs.World.{Event, World, at_end, clock, deliver, happens, replies, run, starts_world, submit, submitted as submitted_world, unless_refused}
+use Rattle.ltp_session.specs.World.{Event, World, clock, deliver, happens, run, starts_world, submit}
 use Rattle.drain_laws.specs.Clean.{link_deadline}
 use Rattle.drain_laws.specs.Effects.{effects_at}
 use Rattle.drain_laws.specs.Hopeful.{IsReached}
 use Rattle.drain_laws.specs.Left.{AreTimed}
-use Rattle.pick_laws.specs.Picks.{Crossing, Pick, Placed, Turn as PickTurn, after_pick, after_picks, after_turns, as_turns, crosses_at, events_of, next_turn, pick_turn, picked_turns}
+use Rattle.pick_laws.specs.Picks.{Turn as PickTurn, after_picks, crosses_at, next_turn}
 use Rattle.pick_laws.specs.PickedRuns.{run_events}
 use Rattle.ltp_engine.specs.Refused.{refusal_of, submit_word}
-use Rattle.ltp_world.specs.Drain.{done_in, told_of}
+use Rattle.ltp_world.specs.Drain.{told_of}
 use Rattle.ltp_world.specs.Ends.{link_end}
 use Rattle.ltp_world.specs.Steps.{submission_at}
 use Rattle.ltp_world.proofs.DrainLemmas.{length-done, run-append}
-use Rattle.ltp_world.proofs.RestLemmas.{turns-world}
 use Rattle.contact_plan.specs.Windows.{elapsed, is_open, total}
 use Rattle.replay_script.specs.declared.fault.LineFault.{LineFault}
 use Rattle.replay_script.specs.declared.fault.LineFault.TheVariants as faults
@@ -35,15 +28,15 @@ use Rattle.replay_script.specs.declared.link.LinkEvent.TheVariants as events
 use Rattle.replay_script.specs.declared.picks.PickWord.{PickWord}
 use Rattle.window_world.specs.Made.{EndsBy}
 use Rattle.window_world.proofs.MadeLemmas.{drains-are-made}
-use Rattle.link_run.specs.Law.{DrainMakes, TellsEnd, TellsLast, end_text, stop_text, IsPickedDrain, if_drain, made_by, makes, moment_after}
+use Rattle.link_run.specs.Law.{DrainMakes, TellsEnd, TellsLast, end_text, stop_text, if_drain, made_by, makes, moment_after}
 use Rattle.link_run.specs.Link.{LinkCourse, LinkSetup, LinkState, ats_of, delivered, delivers, drain_made, drain_text, drained, drains, drains_by, drains_by_picks, end_named, event_turn, if_kept, later_said, link_line, link_rules, most_sent, no_moment, on_link, only_says, passes_to, picked_by, picks_done, picks_end, picks_late, picks_turns, running_said, sends, steps_end, submitted, without_picks}
-use Rattle.link_run.specs.Picks.{EndsTurns, said_picks, turns_after}
-use Rattle.link_run.specs.WrittenLines.{at_line, closed_refusal, deliver_refusal, end_line, octets_sent, octets_timed, refusal_line, send_refusal, steps_text, stop_line, timed_text, told_text}
-use Rattle.link_run.proofs.PicksMade.{turns-made}
-use Rattle.link_run.proofs.PickedLemmas.{goes-at}
+use Rattle.link_run.specs.Picks.{said_picks, turns_after}
+use Rattle.link_run.specs.WrittenLines.{closed_refusal, deliver_refusal, end_line, octets_sent, octets_timed, refusal_line, send_refusal, told_text}
 use Rattle.link_run.proofs.FewLemmas.{few-picks}
-use Rattle.link_run.proofs.PlainLemmas.{decimal-plain, submit-plain}
-use Rattle.link_run.proofs.TellLemmas.{end-line-has, stop-line-has, with_ends, HasLines, Told, and_then, both-have, closed-has, event-has, none-has, nothing, other-line, refusal-has, shut-plain, told-append, told-more, told-none, told_at, told_in, undelivered-has, unsent-has}
+use Rattle.link_run.proofs.PlainLemmas.{submit-plain}
+use Rattle.link_run.proofs.TellLemmas.{with_ends, HasLines, both-have, closed-has, event-has, none-has, nothing, refusal-has, shut-plain, told-append, told-none, told_in, undelivered-has, unsent-has}
+use Rattle.link_run.proofs.DoneLemmas.{end-has, picked-drain, quiet-told, refused-stays, steps-has, stop-has, then-ends, timed-has}
+use Rattle.link_run.proofs.TellLemmas.{then-nothing, told-one}
 
 -- at most 100,000 picks
 abbrev pub HasFewPicks : Option LinkEvent → Type 0
@@ -101,13 +94,6 @@ stops s w moment lines text status has = record {
   few = tt;
   has = rw (told-none s.parties w) has;
 }
-
-then-nothing : (a : Told) → and_then a nothing ≡ a
-then-nothing a = rw (append-nil a.ups, append-nil a.notes, append-nil a.ends, append-nil a.stops) refl
-
-told-one : (parties : Party × Party) (w : World) (event : Event) → told_in parties w (event ∷ []) ≡ told_at parties w event
-told-one parties w event =
-    told-more parties w event [] ∙ (ap (and_then (told_at parties w event)) (told-none parties (happens parties w event)) ∙ then-nothing (told_at parties w event))
 
 -- ---- what a line says, wherever it stands
 
@@ -190,125 +176,6 @@ module _ (s : LinkSetup) (w : World) (moment : ℕ) (line : List ℕ) (lines : L
     few = few;
     has = subst (HasLines (text ++ settled.text)) (then-nothing (with_ends (told_in s.parties w made) ends stops)) (both-have text settled.text _ _ has rest.has);
   }
-
--- ---- an event that is refused does nothing
-
-refused-stays : (parties : Party × Party) (w : World) (end : LinkEnd) (block : List ℕ) (fault : SubmitFault)
-    → submission_at parties w end block (length block) ≡ Err fault
-    → (happens parties w (submit end block (length block)) ≡ w) × (effects_at parties w (submit end block (length block)) ≡ [])
-unfolding submitted_world
-refused-stays parties w end block fault is =
-    let all : nat_le (length block) (length block) ≡ true = grind (arith, nat_tests) in
-    (rw all (by_reply (submits (at_end parties end) (at_end w.engines end) block (length block) w.now) is), rw (all, is) refl)
-  where
-    by_reply : (r : Result Reply SubmitFault) → submit_step (at_end parties end) (at_end w.engines end) r ≡ Err fault
-        → replies w end (record { originator = (at_end parties end).own; number = (at_end w.engines end).next }) (unless_refused r) ≡ w
-    by_reply (Ok reply) is = absurd (cc)
-    by_reply (Err fault) is = refl
-
-quiet-told : (parties : Party × Party) (w : World) (end : LinkEnd) (block : List ℕ) → effects_at parties w (submit end block (length block)) ≡ []
-    → told_in parties w (submit end block (length block) ∷ []) ≡ nothing
-quiet-told parties w end block is = told-one parties w (submit end block (length block)) ∙ rw is refl
-
--- ---- the texts of a drain
-
-ending-plain : ended_part (codes "end") ≡ []
-unfolding ended_part
-ending-plain = refl
-
-stopping-plain : ended_part (codes "stop") ≡ []
-unfolding ended_part
-stopping-plain = refl
-
-moving-plain : ended_part (codes "at") ≡ []
-unfolding ended_part
-moving-plain = refl
-
-end-has : (n : ℕ) → HasLines (end_line n) (with_ends nothing (end_text n ∷ []) [])
-end-has n = end-line-has (codes "end" ∷ decimal n ∷ []) (ending-plain, (decimal-plain n, tt)) refl refl refl refl
-
-stop-has : (n : ℕ) → HasLines (stop_line n) (with_ends nothing [] (stop_text n ∷ []))
-stop-has n = stop-line-has (codes "stop" ∷ decimal n ∷ []) (stopping-plain, (decimal-plain n, tt)) refl refl refl refl
-
--- after what a drain did
-then-ends : (a : Told) (ends stops : List (List ℕ)) → a.ends ≡ [] → a.stops ≡ [] → and_then a (with_ends nothing ends stops) ≡ with_ends a ends stops
-then-ends a ends stops none never = rw (append-nil a.ups, append-nil a.notes, none, never) refl
-
-moved-has : (windows same : Bool) (now : ℕ) → HasLines (if windows then (if same then [] else at_line now) else []) nothing
-moved-has true true now = none-has
-moved-has true false now = other-line (codes "at" ∷ decimal now ∷ []) (moving-plain, (decimal-plain now, tt)) refl refl refl refl
-moved-has false same now = none-has
-
-timed-has : (s : LinkSetup) (w : World) (made : List Event) (windows : Bool) (moment k : ℕ)
-    → HasLines (timed_text windows moment k (ats_of s w made)) (told_in s.parties w made)
-unfolding ats_of timed_text
-timed-has s w [] windows moment k = rw (told-none s.parties w) none-has
-timed-has s w (x ∷ xs) windows moment k =
-    rw (told-more s.parties w x xs)
-    (both-have _ _ _ _
-    (both-have _ _ nothing _ (moved-has windows _ _) (event-has s.parties w x k))
-    (timed-has s (happens s.parties w x) xs windows _ _))
-
-steps-has : (parties : Party × Party) (w : World) (made : List Event) (k : ℕ) → HasLines (steps_text k (done_in parties w made)) (told_in parties w made)
-unfolding done_in steps_text
-steps-has parties w [] k = rw (told-none parties w) none-has
-steps-has parties w (x ∷ xs) k =
-    rw (told-more parties w x xs) (both-have _ _ _ _ (event-has parties w x k) (steps-has parties (happens parties w x) xs _))
-
--- ---- the runs of a drain with picks
-
-picks-world : (parties : Party × Party) (d : Crossing) (picks : List Pick) → (after_picks parties d picks).world ≡ run parties d.world (events_of (picked_turns parties d picks))
-unfolding after_picks picked_turns
-picks-world parties d [] = refl
-picks-world parties d (pick ∷ picks) = by_turn (pick_turn d pick) (picks-world parties (after_pick parties d (pick_turn d pick)) picks)
-  where
-    by_turn : (o : Option PickTurn)
-        → (after_picks parties (after_pick parties d o) picks).world
-        ≡ run parties (after_pick parties d o).world (events_of (picked_turns parties (after_pick parties d o) picks))
-        → (after_picks parties (after_pick parties d o) picks).world
-        ≡ run parties d.world (events_of (as_turns o ++ picked_turns parties (after_pick parties d o) picks))
-    by_turn None rest = rest
-    by_turn (Some t) rest = rest
-
-over-of : (w : World) (new : List Placed) → next_turn w new ≡ None → (new ≡ []) × (link_deadline w ≡ None)
-over-of w [] none = (refl, by_due (link_deadline w) refl none)
-  where
-    by_due : (due : Option ℕ) → link_deadline w ≡ due → option_map {U = PickTurn} (λ now. record { event = clock now; left = [] }) due ≡ None → link_deadline w ≡ None
-    by_due None is none = is
-    by_due (Some now) is none = absurd (cc)
-over-of w (e ∷ es) none = absurd (cc)
-
-module _ (s : LinkSetup) (w : World) (picks : List Pick) (timed : AreTimed s.parties) (reached : IsReached s.parties w) where
-  abbrev rest : List PickTurn
-  rest = turns_after no_moment s.parties (after_picks s.parties (crosses_at w) picks)
-
-  ends : EndsTurns no_moment s.parties (after_picks s.parties (crosses_at w) picks) (turns_after no_moment s.parties (after_picks s.parties (crosses_at w) picks))
-  ends = turns-made no_moment s.parties (after_picks s.parties (crosses_at w) picks) timed (goes-at s.parties w picks reached)
-
-  leads-to : (after_turns s.parties (after_picks s.parties (crosses_at w) picks) (turns_after no_moment s.parties (after_picks s.parties (crosses_at w) picks))).world
-      ≡ run s.parties w (run_events s.parties w picks (turns_after no_moment s.parties (after_picks s.parties (crosses_at w) picks)))
-  leads-to =
-      turns-world s.parties (after_picks s.parties (crosses_at w) picks) rest
-      ∙ (ap (λ (x : World). run s.parties x (events_of rest)) (picks-world s.parties (crosses_at w) picks)
-      ∙ (sym (run-append s.parties w (events_of (picked_turns s.parties (crosses_at w) picks)) (events_of rest))
-      ∙ ap (run s.parties w) (sym (map-append (λ (t : PickTurn). t.event) (picked_turns s.parties (crosses_at w) picks) rest))))
-
-  pub picked-drain : next_turn (after_turns s.parties (after_picks s.parties (crosses_at w) picks) (turns_after no_moment s.parties (after_picks s.parties (crosses_at w) picks))).world
-      (after_turns s.parties (after_picks s.parties (crosses_at w) picks) (turns_after no_moment s.parties (after_picks s.parties (crosses_at w) picks))).new ≡ None
-      → IsPickedDrain s.parties w picks (run_events s.parties w picks (turns_after no_moment s.parties (after_picks s.parties (crosses_at w) picks)))
-  picked-drain none =
-      let over = over-of (after_turns s.parties (after_picks s.parties (crosses_at w) picks) rest).world (after_turns s.parties (after_picks s.parties (crosses_at w) picks) rest).new none in
-      record {
-        run = record {
-          rest = turns_after no_moment s.parties (after_picks s.parties (crosses_at w) picks);
-          goes_on = ends.next;
-          count = sym (length-append (picked_turns s.parties (crosses_at w) picks) rest)
-              ∙ sym (length-map (picked_turns s.parties (crosses_at w) picks ++ rest) (λ (t : PickTurn). t.event));
-          over = record { none_new = over.0; no_timer = over.1 };
-          leads = leads-to;
-        };
-        events = refl;
-      }
 
 -- ---- a line by what it says
 

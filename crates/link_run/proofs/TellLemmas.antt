@@ -398,3 +398,12 @@ told-append parties w (x ∷ xs) ys =
       sym (append_assoc a.ends b.ends c.ends),
       sym (append_assoc a.stops b.stops c.stops),
     ) refl
+
+-- ---- by themselves
+
+pub then-nothing : (a : Told) → and_then a nothing ≡ a
+then-nothing a = rw (append-nil a.ups, append-nil a.notes, append-nil a.ends, append-nil a.stops) refl
+
+pub told-one : (parties : Party × Party) (w : World) (event : Event) → told_in parties w (event ∷ []) ≡ told_at parties w event
+told-one parties w event =
+    told-more parties w event [] ∙ (ap (and_then (told_at parties w event)) (told-none parties (happens parties w event)) ∙ then-nothing (told_at parties w event))

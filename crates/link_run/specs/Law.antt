@@ -248,9 +248,10 @@ IsSent said p =
 
 -- The text of a script that sets up a link. Its `up` lines are exactly the red parts that are handed
 -- up at the events that the lines make and at those of a drain after them, and its notes those of
--- these events; a line `end` or `stop` has the number of the drain's. Each red part is the front of the block that was submitted for its session, up to
--- its red length; each of these is the block of a line `send`, all of it red; no session's is
--- handed up twice, and no session number is given twice. And a drain completes the sessions.
+-- these events; a line `end` or `stop` has the number of the drain's. Each red part is the front of
+-- the block that was submitted for its session, up to its red length; each of these is the block of a
+-- line `send`, all of it red; no session's is handed up twice, and no session number is given twice.
+-- And a drain completes the sessions.
 pub record PlaysScript (lines : List (List ℕ)) (text : List ℕ) : Type 0 where
   pub start : LinkStart
   pub windows : List Window

@@ -185,7 +185,8 @@ link reads a script of one LTP link between a first engine and a second, and wri
 there, at f and s. Its first line is link SEGMENT TIMEOUT LIMIT CAP START; lines window FROM TO may
 follow, in which alone the link is open; then send first HEX or send second HEX (an end sends a
 block), deliver K or clock MS; and as the last one, where there is one, drain. Timers stand still
-while the link is closed
+while the link is closed. Without windows drain may have picks of what comes next: f or s, the
+oldest new datagram of an end; oK, datagram K once more
   sent K ROUTE HEX               datagram K was sent: f>s or s>f
   up PLACE SESSION HEX           a block came whole, in this session
   note PLACE NAME ..             as of node
@@ -197,7 +198,7 @@ while the link is closed
 ",
         limits: "\
 link     1000000 lines, 9000000 octets a line, a clock of 4611686018427387903 ms,
-           268435456 octets of datagrams, 4096 windows
+           268435456 octets of datagrams, 4096 windows, 100000 picks
 ",
         wants: "link reads standard input: fimdahol link < FILE",
         passes: "sets the clock past 4611686018427387903, \

@@ -24,7 +24,7 @@ use Rattle.link_run.specs.Link.{LinkSetup, ats_of, moment_of}
 
 -- ---- moments
 
-moment-from : (end : ℕ) (windows : List Window) (contact : ℕ) → AreInOrder end windows → contact < total windows → IsMoment windows contact (moment_of windows contact)
+pub moment-from : (end : ℕ) (windows : List Window) (contact : ℕ) → AreInOrder end windows → contact < total windows → IsMoment windows contact (moment_of windows contact)
 moment-from end [] contact order low = absurd (omega (arith, low))
 moment-from end (w ∷ ws) contact order low = elim (cases_lt contact (w.to - w.from)) [
   | inl first ↦ (

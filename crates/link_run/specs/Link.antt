@@ -1,7 +1,7 @@
 -- What `link` writes: the first line of the input sets up a link, lines after it may give its windows,
 -- and each line after those is an event there; the last one may drain the link.
 
-use Rattle.std.specs.Prelude.{ℕ, ◌+◌, ◌-◌, ◌^◌, Bool, true, false, ◌&&◌, nat_lt, nat_le, List, []}
+use Rattle.std.specs.Prelude.{ℕ, ◌+◌, ◌-◌, ◌^◌, ◌<◌, Bool, true, false, ◌&&◌, nat_lt, nat_le, List, []}
 use Rattle.std.specs.Prelude.{◌∷◌, ◌++◌}
 use Rattle.std.specs.Prelude.{length, map, slice_get, Option, None, Some, Result, Ok, Err, codes}
 use Rattle.std.specs.Prelude.{if◌then◌else◌, nat_eq}
@@ -29,7 +29,7 @@ use Rattle.ltp_world.specs.Steps.{submission_at}
 use Rattle.contact_plan.specs.declared.fault.PlanFault.{PlanFault}
 use Rattle.contact_plan.specs.declared.window.Window.{Window}
 use Rattle.contact_plan.specs.Fault.{plan_fault}
-use Rattle.contact_plan.specs.Windows.{elapsed, is_open, total}
+use Rattle.contact_plan.specs.Windows.{IsMoment, IsPlan, elapsed, is_open, total}
 use Rattle.replay_script.specs.declared.fault.LineFault.{LineFault}
 use Rattle.replay_script.specs.declared.fault.LineFault.TheVariants as faults
 use Rattle.replay_script.specs.declared.link.LinkEvent.{LinkEvent}
@@ -210,6 +210,12 @@ moment_of [] contact = contact
 moment_of (window ∷ windows) contact =
     if nat_lt contact (window.to - window.from) then window.from + contact
     else moment_of windows (contact - (window.to - window.from))
+
+-- it is the one moment at its contact time
+abbrev pub MomentsAreOpen : Type 0
+MomentsAreOpen =
+    (plan : List Window) (contact : ℕ) → IsPlan plan → contact < total plan
+    → IsMoment plan contact (moment_of plan contact)
 
 -- what the ends do at events, each at its moment
 unfoldable pub ats_of : LinkSetup → World → List Event → List At

@@ -2,7 +2,13 @@
 //! function that does nothing.
 
 ghost use Rattle.link_run.specs.Law.{LinksKeepLaw};
+ghost use Rattle.link_run.specs.Link.{MomentsAreOpen};
 ghost use Rattle.link_run.specs.Picks.{TurnsAreMade, TurnsAreOne};
+
+/// The moment that a drain tells of an event is the one open moment at its contact time.
+pub fn moments_are_open()
+    ensures { MomentsAreOpen }
+{}
 
 /// After the picks of a drain turns lead to where no other can follow, or where a clock would be set
 /// to any moment that one likes, or to a later one. `turns_after` computes them: its counts are enough.

@@ -1,5 +1,5 @@
-//! The project's tables of tests over the operation of the gateway: moments as texts, and what a
-//! face sends, and when.
+//! The project's tables of tests over the operation of the gateway: moments as texts, what a face
+//! sends, and when, the lines of the log, and the metrics.
 //!
 //! What is wanted comes from outside, never from what the program printed; docs/vectors.md says for
 //! each table where its values come from. Nothing is offered to other crates.
@@ -9,6 +9,10 @@
 mod config;
 #[cfg(test)]
 mod examples;
+#[cfg(test)]
+mod lines;
+#[cfg(test)]
+mod metrics;
 #[cfg(test)]
 mod moments;
 #[cfg(test)]

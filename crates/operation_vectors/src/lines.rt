@@ -1,0 +1,451 @@
+//! The lines of the log. The wanted lines are those of whole runs of an independent model; each is built
+//! here by hand from what happened, and a bundle's from its octets.
+ghost use Rattle.std.specs.Prelude.{IfOk, IfSome};
+ghost use Rattle.gate_log.specs.Lines.{IsNamed};
+ghost use Rattle.gate_log.specs.Subjects.{IsSubject};
+
+use bundle6::Cause6;
+use bundle7::Cause7;
+use gate_cases::{BadCause, Face};
+use gate_log::{BundleEvent, Event, LinkEvent, SessionEvent, Subject, subject_of, write_line};
+use ltp_segment::SegmentCause;
+use std::alloc::Global;
+use std::test::Fail;
+use translate::Refused;
+
+/// Moment 00:16:50 of 1 January 2000, and what a line of it begins with.
+const AT: u64 = 1_010_000;
+
+/// The line of an event.
+fn line(alloc: Global, at: u64, event: &Event) -> Result<String, Fail>
+    requires { IsNamed event.now }
+{
+    let mut text = String::new(alloc);
+    write_line(&mut text, at, event)?;
+    Ok(text)
+}
+
+/// The bundle that is the front of a block in hex.
+fn subject(alloc: Global, block: &str) -> Result<Option<Subject>, Fail>
+    ensures { IfOk result (λ subject. IfSome subject IsSubject) }
+{
+    let octets = hex::decode(alloc, block.as_bytes())?;
+    Ok(subject_of(alloc, octets.as_slice())?)
+}
+
+// ---- no bundle
+
+/// A face's link, and its line after the moment.
+const LINKS: &[(Face, LinkEvent, &str)] = &[
+    (
+        Face::New,
+        LinkEvent::ContactOpened {
+            rate: None,
+            until: 1_015_000,
+        },
+        r#","event":"contact_opened","face":"new","rate":null,"until":"2000-01-01T00:16:55.000Z"}"#,
+    ),
+    (
+        Face::Old,
+        LinkEvent::ContactOpened {
+            rate: Some(1_000_000_000),
+            until: 1_786_875,
+        },
+        r#","event":"contact_opened","face":"old","rate":1000000000,"until":"2000-01-01T00:29:46.875Z"}"#,
+    ),
+    (
+        Face::New,
+        LinkEvent::ContactClosed {
+            until: Some(1_200_000),
+        },
+        r#","event":"contact_closed","face":"new","until":"2000-01-01T00:20:00.000Z"}"#,
+    ),
+    (
+        Face::New,
+        LinkEvent::ContactClosed { until: None },
+        r#","event":"contact_closed","face":"new","until":null}"#,
+    ),
+    (
+        Face::Old,
+        LinkEvent::Stranger,
+        r#","event":"stranger","face":"old"}"#,
+    ),
+    (
+        Face::Old,
+        LinkEvent::BadSegment {
+            place: 0,
+            cause: SegmentCause::Version,
+        },
+        r#","cause":"Version","event":"bad_segment","face":"old","place":0}"#,
+    ),
+    (
+        Face::Old,
+        LinkEvent::BadSegment {
+            place: 7,
+            cause: SegmentCause::Truncated,
+        },
+        r#","cause":"Truncated","event":"bad_segment","face":"old","place":7}"#,
+    ),
+    (
+        Face::Old,
+        LinkEvent::PollFailed,
+        r#","event":"poll_failed","face":"old"}"#,
+    ),
+    (
+        Face::Old,
+        LinkEvent::SendFailed { datagrams: 1 },
+        r#","datagrams":1,"event":"send_failed","face":"old"}"#,
+    ),
+    (
+        Face::New,
+        LinkEvent::OutboxFull { datagrams: 6 },
+        r#","datagrams":6,"event":"outbox_full","face":"new"}"#,
+    ),
+];
+
+#[test]
+fn what_happens_to_a_link_has_its_line(rt: HostRuntime) -> Result<(), Fail> {
+    for (face, what, rest) in LINKS {
+        let event = Event::Link {
+            face: *face,
+            what: *what,
+        };
+        let got = line(rt.alloc(), AT, &event)?;
+        let wanted = format!(in rt.alloc(); "{{\"at\":\"2000-01-01T00:16:50.000Z\"{rest}\n")?;
+        assert_eq!(rt; got.as_str(), wanted.as_str());
+    }
+    Ok(())
+}
+
+/// A session of which no bundle is known, and its line after the moment.
+const SESSIONS: &[(Face, u64, SessionEvent, &str)] = &[
+    (
+        Face::Old,
+        1,
+        SessionEvent::BadBundle {
+            place: 23,
+            cause: BadCause::Trailing,
+        },
+        r#","cause":"Trailing","event":"bad_bundle","face":"old","place":23,"session":1}"#,
+    ),
+    (
+        Face::Old,
+        2_147_483_652,
+        SessionEvent::BadBundle {
+            place: 32,
+            cause: BadCause::Six {
+                cause: Cause6::PrimaryEnd,
+            },
+        },
+        r#","cause":"PrimaryEnd","event":"bad_bundle","face":"old","place":32,"session":2147483652}"#,
+    ),
+    (
+        Face::New,
+        2,
+        SessionEvent::BadBundle {
+            place: 240,
+            cause: BadCause::Seven { cause: Cause7::Crc },
+        },
+        r#","cause":"Crc","event":"bad_bundle","face":"new","place":240,"session":2}"#,
+    ),
+    (
+        Face::Old,
+        1,
+        SessionEvent::Failed { reason: 2 },
+        r#","event":"failed","face":"old","reason":2,"session":1,"side":"receiving"}"#,
+    ),
+    (
+        Face::Old,
+        1_672_246_781,
+        SessionEvent::Cancelled { reason: 255 },
+        r#","event":"cancelled","face":"old","reason":255,"session":1672246781,"side":"receiving"}"#,
+    ),
+    (
+        Face::Old,
+        272_810_112,
+        SessionEvent::Refused { service: 9_999_999 },
+        r#","event":"refused","face":"old","service":9999999,"session":272810112}"#,
+    ),
+    (
+        Face::Old,
+        1_876_441_354,
+        SessionEvent::Evicted,
+        r#","event":"evicted","face":"old","session":1876441354}"#,
+    ),
+    (
+        Face::Old,
+        28,
+        SessionEvent::BadBounds,
+        r#","event":"bad_bounds","face":"old","session":28}"#,
+    ),
+    (
+        Face::New,
+        2_147_483_648,
+        SessionEvent::Closed,
+        r#","event":"closed","face":"new","session":2147483648}"#,
+    ),
+    (
+        Face::New,
+        0,
+        SessionEvent::HistoryFull,
+        r#","event":"history_full","face":"new","session":0}"#,
+    ),
+    (
+        Face::New,
+        18_446_744_073_709_551_615,
+        SessionEvent::Closed,
+        r#","event":"closed","face":"new","session":18446744073709551615}"#,
+    ),
+];
+
+#[test]
+fn what_happens_in_a_session_has_its_line(rt: HostRuntime) -> Result<(), Fail> {
+    for (face, session, what, rest) in SESSIONS {
+        let event = Event::Session {
+            face: *face,
+            session: *session,
+            what: *what,
+        };
+        let got = line(rt.alloc(), AT, &event)?;
+        let wanted = format!(in rt.alloc(); "{{\"at\":\"2000-01-01T00:16:50.000Z\"{rest}\n")?;
+        assert_eq!(rt; got.as_str(), wanted.as_str());
+    }
+    Ok(())
+}
+
+#[test]
+fn the_run_has_its_lines(rt: HostRuntime) -> Result<(), Fail> {
+    let start = Event::Start {
+        old: 4097,
+        new: 4098,
+        marks: 2,
+        pending: 1,
+    };
+    assert_eq!(rt;
+        line(rt.alloc(), 1_015_000, &start)?.as_str(),
+        "{\"at\":\"2000-01-01T00:16:55.000Z\",\
+\"event\":\"start\",\"first_session\":[4097,4098],\"marks\":2,\"pending\":1}\n"
+    );
+    assert_eq!(rt;
+        line(rt.alloc(), 252_455_616_000_000, &Event::MetricsFailed)?.as_str(),
+        "{\"at\":\"9999-12-31T23:59:59.999Z\",\"event\":\"metrics_failed\"}\n"
+    );
+    Ok(())
+}
+
+// ---- bundles
+
+/// The bundle of the model's rows, in version 6, and what a line says of it.
+const B6: &str = "0681100d02010101000000008768053c00010803616263";
+
+const S6: &str =
+    r#"{"creation":[1000,5],"destination":"ipn:2.1","fragment":null,"payload":3,"source":"ipn:1.1","version":6}"#;
+
+/// The same in version 7.
+const B7: &str =
+    "9f8907000182028202018202820101820100821a000f42450019ea5b425a46850101000043616263ff";
+
+const S7: &str =
+    r#"{"creation":[1000005,0],"destination":"ipn:2.1","fragment":null,"payload":3,"source":"ipn:1.1","version":7}"#;
+
+/// What happens to a bundle in session 1, and its line between the moment and the subject.
+const EVENTS: &[(Face, BundleEvent, &str)] = &[
+    (
+        Face::New,
+        BundleEvent::Resumed,
+        r#","event":"resumed","face":"new","session":1"#,
+    ),
+    (
+        Face::Old,
+        BundleEvent::Passed {
+            first: 1_262_740_484,
+            pieces: 60,
+        },
+        r#","event":"passed","face":"old","first":1262740484,"pieces":60,"session":1"#,
+    ),
+    (
+        Face::Old,
+        BundleEvent::Untranslated {
+            cause: Refused::CustodyAsked,
+        },
+        r#","cause":"CustodyAsked","event":"untranslated","face":"old","session":1"#,
+    ),
+    (
+        Face::New,
+        BundleEvent::Untranslated {
+            cause: Refused::WrapBad,
+        },
+        r#","cause":"WrapBad","event":"untranslated","face":"new","session":1"#,
+    ),
+    (
+        Face::Old,
+        BundleEvent::Expired,
+        r#","event":"expired","face":"old","session":1"#,
+    ),
+    (
+        Face::New,
+        BundleEvent::HopLimit,
+        r#","event":"hop_limit","face":"new","session":1"#,
+    ),
+    (
+        Face::Old,
+        BundleEvent::Storage,
+        r#","event":"storage","face":"old","session":1"#,
+    ),
+    (
+        Face::Old,
+        BundleEvent::Reported { report: 16382 },
+        r#","event":"reported","face":"old","report":16382,"session":1"#,
+    ),
+    (
+        Face::Old,
+        BundleEvent::Unreported,
+        r#","event":"unreported","face":"old","session":1"#,
+    ),
+    (
+        Face::New,
+        BundleEvent::Sent,
+        r#","event":"sent","face":"new","session":1"#,
+    ),
+    (
+        Face::Old,
+        BundleEvent::Failed { reason: 2 },
+        r#","event":"failed","face":"old","reason":2,"session":1,"side":"sending""#,
+    ),
+    (
+        Face::Old,
+        BundleEvent::Cancelled { reason: 3 },
+        r#","event":"cancelled","face":"old","reason":3,"session":1,"side":"sending""#,
+    ),
+];
+
+#[test]
+fn what_happens_to_a_bundle_has_its_line(rt: HostRuntime) -> Result<(), Fail> {
+    for (face, what, middle) in EVENTS {
+        for (block, shown) in [(B6, S6), (B7, S7), ("", "null"), ("0781", "null")] {
+            let event = Event::Bundle {
+                face: *face,
+                session: 1,
+                subject: subject(rt.alloc(), block)?,
+                what: *what,
+            };
+            let got = line(rt.alloc(), AT, &event)?;
+            let at = "{\"at\":\"2000-01-01T00:16:50.000Z\"";
+            let wanted = format!(in rt.alloc(); "{at}{middle},\"subject\":{shown}}}\n")?;
+            assert_eq!(rt; got.as_str(), wanted.as_str());
+        }
+    }
+    Ok(())
+}
+
+/// Blocks, and what a line says of the bundle at their front: names of both schemes and nobody's, names
+/// that need escapes, fragments, blocks before the payload, octets after the bundle, none.
+const SUBJECTS: &[(&str, &str)] = &[
+    (
+        "068110260004000a00120012877f01bd84401764746e002f2f622f78002f2f612f22795c006e6f6e65000108\
+0352d23a",
+        r#"{"creation":[1023,1],"destination":"dtn://b/x","fragment":null,"payload":3,"source":"dtn://a/\"y\\","version":6}"#,
+    ),
+    (
+        "068111280004000a001200128e1100bd84401764746e002f2f622f78002f2f612f22795c006e6f6e65001f54\
+01080a5945feb80211bc000032",
+        r#"{"creation":[1809,0],"destination":"dtn://b/x","fragment":[31,84],"payload":10,"source":"dtn://a/\"y\\","version":6}"#,
+    ),
+    (
+        "0681200e0100000000000000876806a70800c000134236374700818080808080808080000100400001280c17\
+57f5e9f3943e9dcdde4a8e",
+        r#"{"creation":[1000,6],"destination":"ipn:1.0","fragment":null,"payload":12,"source":"dtn:none","version":6}"#,
+    ),
+    (
+        "06948210170000020101000081ffffffffffffffff7f877287673c00010a245d34e8cfb507dc0de90a95da18\
+a6cfd12a67a5632a87e3d743a0bbfa9e58c38586a79a81",
+        r#"{"creation":[1010,999],"destination":"dtn:none","fragment":null,"payload":36,"source":"ipn:2.1","version":6}"#,
+    ),
+    (
+        "0681101002010101000000008c018772bd844100c0010b42363747875e0001010000c1000d423637470a0200\
+008218fe18fe01080312e5b8",
+        r#"{"creation":[1537,1010],"destination":"ipn:2.1","fragment":null,"payload":3,"source":"ipn:1.1","version":6}"#,
+    ),
+    (
+        "9f890700018201652f2f622f788201672f2f612f22795c820100821a000f9c19001a3b9ac9ff42a467850101\
+00004352d23aff",
+        r#"{"creation":[1023001,0],"destination":"dtn://b/x","fragment":null,"payload":3,"source":"dtn://a/\"y\\","version":7}"#,
+    ),
+    (
+        "9f8b0701018201652f2f622f788201672f2f612f22795c820100821a001b9a68001a3b9aca00182218544243\
+a0850101000041b8ff",
+        r#"{"creation":[1809000,0],"destination":"dtn://b/x","fragment":[34,84],"payload":1,"source":"dtn://a/\"y\\","version":7}"#,
+    ),
+    (
+        "9f89071a000400040182010082028202008202820101821903e80719072b42754f8501011820004491492b8e\
+ff",
+        r#"{"creation":[1000,7],"destination":"dtn:none","fragment":null,"payload":4,"source":"ipn:2.0","version":7}"#,
+    ),
+    (
+        "9f8b071a000240010182028201018201636e6f6e820165733e296b5b821a000f694f0019ea60010e4208c886\
+0202040248277e4cf06178066a44c5d9be558518c00300004314ebaa85010100004dc584566390fdd284b90b5dfdd3ff",
+        r#"{"creation":[1009999,0],"destination":"ipn:1.1","fragment":[1,14],"payload":13,"source":"dtn:non","version":7}"#,
+    ),
+    (
+        "9f89071a0006002002820282001bffffffffffffffff820162225c8202820000821a000f694f19085c19ea60\
+44e9b71a2a8518c0020400544236374782000769706e3a392e310002000000008501010000582d205bfac571d0802ea4\
+12cad2b0a28ba906167a74a70988c69220d701ec230289aed870f7684eee55f5a208b26bff",
+        r#"{"creation":[1009999,2140],"destination":"ipn:0.18446744073709551615","fragment":null,"payload":45,"source":"dtn:\"\\","version":7}"#,
+    ),
+    (
+        "0681100d02010101000000008768053c0001080361626300",
+        r#"{"creation":[1000,5],"destination":"ipn:2.1","fragment":null,"payload":3,"source":"ipn:1.1","version":6}"#,
+    ),
+    ("0681100d02010101000000008768053c000108036162", "null"),
+    ("9f8907", "null"),
+];
+
+#[test]
+fn the_front_of_a_block_is_the_subject(rt: HostRuntime) -> Result<(), Fail> {
+    for (block, shown) in SUBJECTS {
+        let event = Event::Bundle {
+            face: Face::Old,
+            session: 5,
+            subject: subject(rt.alloc(), block)?,
+            what: BundleEvent::Sent,
+        };
+        let got = line(rt.alloc(), 0, &event)?;
+        let front =
+            "{\"at\":\"2000-01-01T00:00:00.000Z\",\"event\":\"sent\",\"face\":\"old\",\"session\":5";
+        let wanted = format!(in rt.alloc(); "{front},\"subject\":{shown}}}\n")?;
+        assert_eq!(rt; got.as_str(), wanted.as_str());
+    }
+    Ok(())
+}
+
+/// A bundle of version 7 whose names have 1,023 octets each, all of which need an escape, and whose
+/// numbers have as many digits as there are, but for the payload's.
+fn longest(alloc: Global) -> Result<Vec<u8>, Fail> {
+    let mut block = hex::decode(alloc, b"9f8a070100".as_slice())?;
+    for _ in 0..2 {
+        block.extend_from_slice(b"\x82\x01\x79\x03\xff")?;
+        for _ in 0..1023 {
+            block.push(b'"')?;
+        }
+    }
+    let end = "820100821bffffffffffffffff1bffffffffffffffff001bfffffffffffffffc1bffffffffffffffff";
+    block.extend_from_slice(hex::decode(alloc, end.as_bytes())?.as_slice())?;
+    block.extend_from_slice(hex::decode(alloc, b"850101000043616263ff".as_slice())?.as_slice())?;
+    Ok(block)
+}
+
+#[test]
+fn the_longest_names_make_the_longest_line(rt: HostRuntime) -> Result<(), Fail> {
+    let block = longest(rt.alloc())?;
+    let event = Event::Bundle {
+        face: Face::Old,
+        session: u64::MAX,
+        subject: subject_of(rt.alloc(), block.as_slice())?,
+        what: BundleEvent::Passed {
+            first: u64::MAX,
+            pieces: u64::MAX,
+        },
+    };
+    assert_eq!(rt; line(rt.alloc(), u64::MAX, &event)?.len(), 4_429);
+    Ok(())
+}

@@ -3,7 +3,7 @@ use Rattle.std.proofs.Common.{◌≡◌, ℕ, zero, suc, ◌+◌, ◌/◌, ◌%�
 use Rattle.std.proofs.lemmas.Bool.Decides.{nat_tests}
 use Rattle.std.specs.List.{AllByRecursion}
 use Rattle.std.specs.Fmt.{decimal, digits, digits_onto, digit_glyph}
-use Rattle.hex.specs.Hex.{encode_lower, encode_with, lower_digits}
+use Rattle.hex_text.specs.Hex.{encode_lower, encode_with, lower_digits}
 use Rattle.command_frame.specs.InputLines.{ended_part, is_line_feed}
 use Rattle.command_frame.proofs.InputLinesLemmas.{plain-first, plain-append}
 use Rattle.ltp_segment.specs.declared.fault.SegmentCause.{SegmentCause}

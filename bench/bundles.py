@@ -52,12 +52,22 @@ def one_long_name(count):
     return rich(b"dtn\0//a/" + b"x" * 1019 + b"\0", [0, 4] * 4, [4] * count)
 
 
-def shown(payload):
-    """What `show` says of `old`."""
-    text = {"blocks": [{"body": payload.hex(), "flags": 0, "kind": 1, "refs": []}], "creation": [1000, 5],
-            "custodian": "dtn:none", "destination": "ipn:2.1", "flags": 0x90, "fragment": None, "lifetime": 60,
-            "report_to": "dtn:none", "source": "ipn:1.1", "version": 6}
+def shown(**members):
+    """What `show` says of a bundle with these members beside those that all have here."""
+    text = {"destination": "ipn:2.1", "fragment": None, "report_to": "dtn:none", "source": "ipn:1.1", **members}
     return json.dumps(text, separators=(",", ":"), sort_keys=True).encode() + b"\n"
+
+
+def shown_old(payload):
+    """What it says of `old`."""
+    block = {"body": payload.hex(), "flags": 0, "kind": 1, "refs": []}
+    return shown(blocks=[block], creation=[1000, 5], custodian="dtn:none", flags=0x90, lifetime=60, version=6)
+
+
+def shown_new(payload, check):
+    """What it says of `new`."""
+    block = {"body": payload.hex(), "crc": check, "flags": 0, "kind": 1, "number": 1}
+    return shown(blocks=[block], crc=1, creation=[1_000_005, 0], flags=0, lifetime=59_995, version=7)
 
 
 def translated(bundle):
@@ -83,7 +93,9 @@ def main():
 
     for size in (1000, 3):
         check(f"payloads of {size:,} octets", 6, old(counted(size)))
-    row("show, version 6, payloads of 1,000 octets", "show", old(counted(1000)), shown(counted(1000)))
+    for size in (1000, 3):
+        row(f"show, version 6, payloads of {size:,} octets", "show", old(counted(size)), shown_old(counted(size)))
+    row("show, version 7, payloads of 3 octets, no check", "show", new(counted(3), 0), shown_new(counted(3), 0))
     for size in (3, 1000):
         for kind in range(3):
             check(f"payloads of {size:,} octets, CRC type {kind}", 7, new(counted(size), kind))

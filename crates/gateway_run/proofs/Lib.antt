@@ -8,5 +8,4 @@ pub mod OpenPartLemmas
 pub mod SessionsLemmas
 pub mod WordLemmas
 pub mod CommandLemmas
-pub mod HexLemmas
 pub mod KeepReceivingLemmas

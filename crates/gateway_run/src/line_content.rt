@@ -1,6 +1,5 @@
 //! What a line says.
-ghost use Rattle.std.specs.Prelude.{◌≡◌, true, is_ok, Ok, IfOk};
-ghost use Rattle.hex.specs.Hex.{decode_of, is_hex_digit};
+ghost use Rattle.std.specs.Prelude.{◌≡◌, Ok};
 ghost use Rattle.ltp_segment.specs.Reading.{segment_of};
 ghost use Rattle.ltp_segment.specs.Views.{segment_value};
 ghost use Rattle.gateway_run.specs.LineContent.{segment_content};
@@ -9,7 +8,6 @@ ghost use Rattle.gateway_run.specs.Views.{content};
 use crate::piece::Piece;
 use ltp_segment::{Content, Segment, SegmentFault, decode};
 use ltp_session::SessionName;
-use std::alloc::{AllocError, Global};
 
 /// The content of a line whose datagram was decoded from hex.
 #[derive(Clone, Copy, Debug)]
@@ -54,38 +52,5 @@ fn piece_in(segment: Segment<'_>) -> LineContent<'_>
             body,
         }),
         _ => LineContent::Other,
-    }
-}
-
-/// Whether the line is hex: an even number of digits. No memory is taken.
-pub fn is_hex(line: &[u8]) -> bool
-    ensures { result ≡ is_ok (decode_of line.now) }
-{
-    if line.len() % 2 != 0 {
-        return false;
-    }
-    'digits: for octet in line {
-        if !is_digit(*octet) {
-            return false;
-        }
-    }
-    true
-}
-
-/// Whether the octet is a hex digit, of either case.
-fn is_digit(octet: u8) -> bool
-    ensures { result ≡ is_hex_digit octet }
-{
-    matches!(octet, b'0'..=b'9' | b'a'..=b'f' | b'A'..=b'F')
-}
-
-/// The datagram that a line of hex has. It fails only for want of memory.
-pub fn datagram_of(alloc: Global, line: &[u8]) -> Result<Vec<u8>, AllocError>
-    requires { is_ok (decode_of line.now) ≡ true }
-    ensures { IfOk result (λ datagram. decode_of line.now ≡ Ok datagram.items) }
-{
-    match hex::decode(alloc, line) {
-        Ok(datagram) => Ok(datagram),
-        Err(_) => Err(AllocError),
     }
 }

@@ -5,20 +5,16 @@ ghost use Rattle.gateway_run.specs.WrittenLines.{up_line, note_line, skip_line, 
 
 use ltp_segment::SegmentFault;
 use ltp_session::SessionName;
-use std::alloc::{AllocError, Global};
+use std::alloc::AllocError;
 
 /// A red part is handed up.
-pub fn write_up(
-    alloc: Global,
-    text: &mut String,
-    name: SessionName,
-    body: &[u8],
-) -> Result<(), AllocError>
+pub fn write_up(text: &mut String, name: SessionName, body: &[u8]) -> Result<(), AllocError>
     ensures { OnOk result (string_bytes text.new ≡ string_bytes text.old ++ up_line name body.now) }
 {
     let SessionName { originator, number } = name;
-    let octets = hex::encode(alloc, body)?;
-    write!(text, "up {originator} {number} {octets}\n")
+    write!(text, "up {originator} {number} ")?;
+    hex_text::write_hex(text, body)?;
+    text.push_str("\n")
 }
 
 /// The piece of line `number` can't be one of its red part.

@@ -11,13 +11,14 @@ ghost use Rattle.gateway_run.specs.Receive.{the_limits, receive_rules, content_t
 ghost use Rattle.gateway_run.specs.Views.{red_piece, reply as replied};
 ghost use Rattle.gateway_run.specs.Turns.{ShowsFew, WantsMemory};
 
-use crate::line_content::{LineContent, content_of, datagram_of, is_hex};
+use crate::line_content::{LineContent, content_of};
 use crate::piece::Piece;
 use crate::sessions::{is_one_too_many, meet, no_sessions};
 use crate::table::{Reply, Sessions, Whole};
 use crate::written_lines::{write_fault, write_no_hex, write_note, write_skip, write_up};
 use command_frame::LineStep;
 use edge_traits::Status;
+use hex_text::{is_hex, octets_of};
 use std::alloc::{AllocError, Global};
 
 /// The most lines of an input.
@@ -115,7 +116,7 @@ fn answer_content(
         write_no_hex(text, number)?;
         return Ok(Some(Status::Refused));
     }
-    let datagram = datagram_of(alloc, line)?;
+    let datagram = octets_of(alloc, line)?;
     answer_datagram(alloc, number, &datagram, sessions, text)
 }
 
@@ -169,13 +170,12 @@ fn answer_piece(
         return Ok(Some(Status::Limit));
     }
     let reply = meet(alloc, sessions, piece)?;
-    write_reply(alloc, text, number, piece, &reply)?;
+    write_reply(text, number, piece, &reply)?;
     Ok(None)
 }
 
 /// Writes the line for what the piece of line `number` brought about, where one is due.
 fn write_reply(
-    alloc: Global,
     text: &mut String,
     number: u64,
     piece: &Piece<'_>,
@@ -186,8 +186,8 @@ fn write_reply(
 {
     match reply {
         Reply::Nothing => Ok(()),
-        Reply::Up(Whole::Lent(body)) => write_up(alloc, text, piece.name, body),
-        Reply::Up(Whole::Built(body)) => write_up(alloc, text, piece.name, body),
+        Reply::Up(Whole::Lent(body)) => write_up(text, piece.name, body),
+        Reply::Up(Whole::Built(body)) => write_up(text, piece.name, body),
         Reply::Note => write_note(text, number),
         Reply::Skip => write_skip(text, number),
     }

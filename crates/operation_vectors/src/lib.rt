@@ -17,3 +17,5 @@ mod metrics;
 mod moments;
 #[cfg(test)]
 mod outboxes;
+#[cfg(test)]
+mod subjects;

@@ -8,8 +8,8 @@ use Rattle.edge_traits.specs.Outcome.{SinkTells, EndsAs, Wrote, WentReading, Wen
 use Rattle.edge_traits.specs.Settled.{at_end, Settled, EarliestDecides}
 use Rattle.command_frame.specs.Task.{Settling}
 use Rattle.command_frame.specs.Within.{within}
-use Rattle.command_frame.specs.declared.part_lines.LinePassed.{LinePassed}
-use Rattle.command_frame.specs.declared.part_lines.LinePassed.TheVariants as lines
+use Rattle.command_frame.specs.Lines.{LineRules, by_lines}
+use Rattle.command_frame.specs.Limits.{limits_by_lines}
 use Rattle.command_frame.proofs.WithinLemmas.{within-front}
 use Rattle.command_frame.proofs.FrontLemmas.{lines_from-front}
 use Rattle.command_frame.proofs.DriveLemmas.{fault-front}
@@ -29,24 +29,27 @@ use Rattle.link_run.specs.Link as link
 use Rattle.world_run.specs.World.{world_rules, no_path}
 use Rattle.world_run.specs.World as world
 use Rattle.world_run.specs.Headline.{KeepsHeadline, WorldsKeepHeadline}
+use Rattle.make_run.specs.Making as make
 use Rattle.make_run.specs.Runs.{WroteMade}
-use Rattle.serve_run.specs.Serve.{Serving}
+use Rattle.serve_run.specs.Serve.{Serving, serve_turns}
 use Rattle.serve_run.specs.Turns.{Act}
 use Rattle.serve_run.specs.Tells.{OutsideTells, RanTurns}
 use Rattle.gateway_run.specs.declared.commands.command.Command.{Command}
 use Rattle.gateway_run.specs.declared.commands.command.Command.TheVariants as commands
-use Rattle.gateway_run.specs.declared.commands.passed.Passed.{Passed}
 use Rattle.gateway_run.specs.Receive.{Limits, the_limits, receive_rules}
 use Rattle.gateway_run.specs.Receive as receive
 use Rattle.gateway_run.specs.KeepReceiving.{keep_receiving_rules, nothing_received}
 use Rattle.gateway_run.specs.KeepReceiving as keep_receiving
 use Rattle.gateway_run.specs.ReceiverLaw.{KeepsReceiverLaw}
 use Rattle.gateway_run.specs.Rules.{Rules, reads, writes, acts}
-use Rattle.gateway_run.specs.Commands.{keeps, rules_of, law_of}
+use Rattle.gateway_run.specs.Commands.{keeps, rules_of, limits_of, law_of}
 use Rattle.gateway_run.specs.Edge.{Edge, HasNoFault}
-use Rattle.gateway_run.specs.Passed.{is_limit, named_by, passed_on_lines}
-use Rattle.gateway_run.specs.Runs.{RanBy, RanNamed, EndsDue, CompletesBy, Completes, KeepsLaw, WritesLawfully, IsLawful, DecidesEarliest, may_pass, NamesLimit}
+use Rattle.gateway_run.specs.declared.commands.passed.Passed.{Passed}
+use Rattle.gateway_run.specs.declared.commands.passed.Passed.TheVariants as passed
+use Rattle.gateway_run.specs.Passed.{passed_on_lines, input_limit, NamesOnLines}
+use Rattle.gateway_run.specs.Runs.{RanReading, RanBy, RanNamed, EndsDue, CompletesBy, Completes, KeepsLaw, WritesLawfully, IsLawful, DecidesEarliest, NamesPassed, NamesBy}
 use Rattle.gateway_run.proofs.TranscriptLemmas.{received-law}
+use Rattle.gateway_run.proofs.NamedLemmas.{names-passed, names-none, reads-named, lines-pass, keep_receiving-free, link-free, world-free, bundles-pass, script-passes, acting-limit}
 
 -- ---- fronts
 
@@ -263,7 +266,7 @@ pub named-completes : {S K L C : Type 0} → (named : Option Command) (status : 
 named-completes None status before now ran = λ fault. tt
 named-completes (Some command) status before now ran = λ fault. rules-complete before now fault (rules_of command) status ran
 
--- ---- wrong usage, and limits
+-- ---- wrong usage
 
 -- the run of a command doesn't end as wrong usage
 rules-usage : {S K L C : Type 0} → (rules : Rules) (before now : Edge S K L C) → RanBy rules statuses.Usage before now → ⊥
@@ -277,30 +280,53 @@ named-usage None status before now ran = (λ is. refl, λ is. ran.0)
 named-usage (Some command) status before now ran =
     (λ is. absurd (rules-usage (rules_of command) before now (subst (λ (s : Status). RanBy (rules_of command) s before now) is ran)), λ is. absurd (cc))
 
--- a limit that a command may pass is named as is due
-pub names-limit : (command : Command) (status : Status) (limit : Passed) → may_pass (rules_of command) limit ≡ true
-    → NamesLimit (Some command) status (named_by status limit)
-names-limit command statuses.Done limit may = refl
-names-limit command statuses.Refused limit may = refl
-names-limit command statuses.Usage limit may = refl
-names-limit command statuses.ReadFault limit may = refl
-names-limit command statuses.WriteFault limit may = refl
-names-limit command statuses.Limit limit may = (refl, may)
-names-limit command statuses.Memory limit may = refl
+-- ---- limits
 
-pub may-pass-lines : (settles : Settling) (told : Option LinePassed) → may_pass (reads settles) (passed_on_lines told) ≡ true
-may-pass-lines settles None = refl
-may-pass-lines settles (Some lines.Lines) = refl
-may-pass-lines settles (Some (lines.Length line)) = refl
-may-pass-lines settles (Some (lines.Own line)) = refl
+-- the limit that a run names is the one that its input passes
 
--- a run that acts passes none
-pub acting-limit : (act : Act Serving) (status : Status) (links links_now : OutsideTells) (sink sink_now : SinkTells)
-    → RanTurns act status links links_now sink sink_now → is_limit status ≡ false
-acting-limit act statuses.Done links links_now sink sink_now ran = refl
-acting-limit act statuses.WriteFault links links_now sink sink_now ran = refl
-acting-limit act statuses.Memory links links_now sink sink_now ran = refl
-acting-limit act statuses.Refused links links_now sink sink_now ran = refl
-acting-limit act statuses.Usage links links_now sink sink_now ran = refl
-acting-limit act statuses.ReadFault links links_now sink sink_now ran = refl
-acting-limit act statuses.Limit links links_now sink sink_now ran = absurd ran.went
+module _ {S K L C : Type 0} (status : Status) (before now : Edge S K L C) (named : Option Passed) where
+  lines-names : {T : Type 0} (rules : LineRules T) → ((state : T) → (rules.finish state).ends ≡ Some statuses.Limit → ⊥) → (start : T)
+      → RanReading (within most_input (by_lines rules start)) status before now
+      → (names : NamesOnLines (limits_by_lines rules start) before.reads.left status named)
+      → status ≡ statuses.Limit
+      → IfSome before.reads.left (λ input. input_limit most_input (limits_by_lines rules start) input ≡ Some (passed_on_lines names.lines_pass))
+  lines-names rules free start ran names =
+      lines-pass rules free start most_input before.reads now.reads before.writes now.writes status named ran.ran names refl
+
+  command-names : (command : Command) → RanBy (rules_of command) status before now
+      → NamesBy (rules_of command) (limits_of command) before.reads.left status named → NamesPassed (Some command) before.reads.left status named
+  command-names commands.Receive ran names =
+      reads-named commands.Receive _ refl before.reads.left status named names
+      (lines-names (receive_rules the_limits) (λ kept is. cc) [] ran names)
+  command-names commands.KeepReceiving ran names =
+      reads-named commands.KeepReceiving _ refl before.reads.left status named names
+      (lines-names (keep_receiving_rules the_limits) keep_receiving-free nothing_received ran names)
+  command-names (commands.Bundles command) ran names =
+      reads-named (commands.Bundles command) _ refl before.reads.left status named names
+      (bundles-pass most_input command before.reads now.reads before.writes now.writes status ran.ran names.lines_pass names.by_input)
+  command-names (commands.Node own peer) ran names =
+      reads-named (commands.Node own peer) _ refl before.reads.left status named names
+      (lines-names node_rules (λ node is. cc) (begins (node_party own peer)) ran names)
+  command-names (commands.Record own peer) ran names =
+      reads-named (commands.Record own peer) _ refl before.reads.left status named names
+      (lines-names record_rules (λ node is. cc) (begins (node_party own peer)) ran names)
+  command-names (commands.Audit own peer) ran names =
+      reads-named (commands.Audit own peer) _ refl before.reads.left status named names
+      (lines-names audit_rules (λ a is. cc) (audit.begins own peer) ran names)
+  command-names commands.Link ran names =
+      reads-named commands.Link _ refl before.reads.left status named names
+      (lines-names link_rules link-free no_link ran names)
+  command-names commands.World ran names =
+      reads-named commands.World _ refl before.reads.left status named names
+      (lines-names world_rules world-free no_path ran names)
+  command-names (commands.Make seed count) ran names =
+      names-passed (commands.Make seed count) before.reads.left status named passed.Script names refl
+      (script-passes (make.answer_of seed count) status before.reads.left before.writes now.writes ran.made)
+  command-names (commands.Serve gate count) ran names =
+      names-none (commands.Serve gate count) before.reads.left status named names
+      (acting-limit (serve_turns gate count) status before.links now.links before.writes now.writes ran.acted)
+
+pub named-names : {S K L C : Type 0} (command : Command) (status : Status) (before now : Edge S K L C) (named : Option Passed)
+    → RanNamed (Some command) status before now → NamesBy (rules_of command) (limits_of command) before.reads.left status named
+    → NamesPassed (Some command) before.reads.left status named
+named-names command status before now named ran names = command-names status before now named command ran names

@@ -7,5 +7,6 @@ pub mod TranscriptLemmas
 pub mod OpenPartLemmas
 pub mod SessionsLemmas
 pub mod WordLemmas
+pub mod NamedLemmas
 pub mod CommandLemmas
 pub mod KeepReceivingLemmas

@@ -5,17 +5,22 @@ use Rattle.endpoint.specs.declared.name.Endpoint.{Endpoint}
 use Rattle.edge_traits.specs.Content.{most_input}
 use Rattle.edge_traits.specs.declared.status.Status.{Status}
 use Rattle.command_frame.specs.Within.{within}
+use Rattle.command_frame.specs.Limits.{Limiting, limits_by_lines}
 use Rattle.replay_script.specs.Events.{gate_of, number_in}
 use Rattle.bundle_runs.specs.declared.commands.command.Command.TheVariants.{Check, Show, Convert, Cut, Join, KeepConverting, KeepCutting, KeepJoining}
 use Rattle.bundle_runs.specs.declared.commands.command.Command as bundle_commands
 use Rattle.bundle_runs.specs.Answering as bundles
-use Rattle.node_run.specs.Node.{node_party}
+use Rattle.node_run.specs.Node.{node_rules, begins, node_party}
 use Rattle.node_run.specs.Node as node
 use Rattle.node_run.specs.RedParts.{AnswersLines}
+use Rattle.audit_run.specs.Audited.{audit_rules}
 use Rattle.audit_run.specs.Audited as audit
+use Rattle.record_run.specs.Record.{record_rules}
 use Rattle.record_run.specs.Record as recording
 use Rattle.record_run.specs.Exchange.{AreEngines, WritesExchange}
+use Rattle.link_run.specs.Link.{link_rules, no_link}
 use Rattle.link_run.specs.Link as link
+use Rattle.world_run.specs.World.{world_rules, no_path}
 use Rattle.world_run.specs.World as world
 use Rattle.world_run.specs.Headline.{KeepsHeadline}
 use Rattle.make_run.specs.Making as make
@@ -23,10 +28,13 @@ use Rattle.serve_run.specs.Serve.{serve_turns}
 use Rattle.gateway_run.specs.declared.commands.command.Command.{Command}
 use Rattle.gateway_run.specs.declared.commands.command.Command.TheVariants as commands
 use Rattle.gateway_run.specs.Receive as receive
-use Rattle.gateway_run.specs.Receive.{the_limits}
+use Rattle.gateway_run.specs.Receive.{the_limits, receive_rules}
+use Rattle.gateway_run.specs.KeepReceiving.{keep_receiving_rules, nothing_received}
 use Rattle.gateway_run.specs.KeepReceiving as keep_receiving
 use Rattle.gateway_run.specs.ReceiverLaw.{KeepsReceiverLaw}
 use Rattle.gateway_run.specs.Rules.{Rules, reads, writes, acts}
+use Rattle.gateway_run.specs.declared.commands.passed.Passed.{Passed}
+use Rattle.gateway_run.specs.Passed.{no_limits, input_limit, script_limit}
 
 -- ---- words
 
@@ -69,32 +77,25 @@ cut_of size = pieces_of Cut (number_in 1 4194304 size)
 abbrev pub keep_cutting_of : (size last : List ℕ) → Option Command
 keep_cutting_of size last = if is_keep_going last then pieces_of KeepCutting (number_in 1 4194304 size) else None
 
--- the ends of the link of `node` have two different numbers, from 1 to 4,294,967,295
-abbrev pub two_ends : Option ℕ → Option ℕ → Option Command
-two_ends None peer = None
-two_ends (Some own) None = None
-two_ends (Some own) (Some peer) = if own == peer then None else Some (commands.Node own peer)
+-- two different numbers, from 1 to 4,294,967,295, are those of the two ends of a link
+abbrev pub two_ends : (ℕ → ℕ → Command) → Option ℕ → Option ℕ → Option Command
+two_ends command None peer = None
+two_ends command (Some own) None = None
+two_ends command (Some own) (Some peer) = if own == peer then None else Some (command own peer)
 
+abbrev pub ends_of : (ℕ → ℕ → Command) → (own peer : List ℕ) → Option Command
+ends_of command own peer =
+    two_ends command (number_in 1 4294967295 own) (number_in 1 4294967295 peer)
+
+-- `node` and `record` are one end of a link, and `audit` judges what came to one and left it
 abbrev pub node_of : (own peer : List ℕ) → Option Command
-node_of own peer = two_ends (number_in 1 4294967295 own) (number_in 1 4294967295 peer)
-
--- so have those of `record`, which is one end of a link too
-abbrev pub two_recorded : Option ℕ → Option ℕ → Option Command
-two_recorded None peer = None
-two_recorded (Some own) None = None
-two_recorded (Some own) (Some peer) = if own == peer then None else Some (commands.Record own peer)
+node_of own peer = ends_of commands.Node own peer
 
 abbrev pub record_of : (own peer : List ℕ) → Option Command
-record_of own peer = two_recorded (number_in 1 4294967295 own) (number_in 1 4294967295 peer)
-
--- and the engines whose exchange `audit` judges
-abbrev pub two_engines : Option ℕ → Option ℕ → Option Command
-two_engines None peer = None
-two_engines (Some own) None = None
-two_engines (Some own) (Some peer) = if own == peer then None else Some (commands.Audit own peer)
+record_of own peer = ends_of commands.Record own peer
 
 abbrev pub audit_of : (own peer : List ℕ) → Option Command
-audit_of own peer = two_engines (number_in 1 4294967295 own) (number_in 1 4294967295 peer)
+audit_of own peer = ends_of commands.Audit own peer
 
 -- the seed of `make` is a number of 64 bits, and 1 to 1,000 bundles are sent
 abbrev pub seed_and_count : Option ℕ → Option ℕ → Option Command
@@ -165,6 +166,33 @@ rules_of commands.Link = reads (within most_input link.settles)
 rules_of commands.World = reads (within most_input world.settles)
 rules_of (commands.Make seed count) = writes (make.answer_of seed count)
 rules_of (commands.Serve gate count) = acts (serve_turns gate count)
+
+-- ---- the limits of a command
+
+-- which limit on lines the octets pass that a command reads; where they are bundles, or where it
+-- reads none, there is no such limit
+abbrev pub limits_of : Command → Limiting
+limits_of commands.Receive = limits_by_lines (receive_rules the_limits) []
+limits_of commands.KeepReceiving = limits_by_lines (keep_receiving_rules the_limits) nothing_received
+limits_of (commands.Bundles command) = no_limits
+limits_of (commands.Node own peer) = limits_by_lines node_rules (begins (node_party own peer))
+limits_of (commands.Record own peer) = limits_by_lines record_rules (begins (node_party own peer))
+limits_of (commands.Audit own peer) = limits_by_lines audit_rules (audit.begins own peer)
+limits_of commands.Link = limits_by_lines link_rules no_link
+limits_of commands.World = limits_by_lines world_rules no_path
+limits_of (commands.Make seed count) = no_limits
+limits_of (commands.Serve gate count) = no_limits
+
+-- by what a command does: its input passes a limit, or a script that it makes itself
+abbrev pub limit_in : Rules → Limiting → List ℕ → Option Passed
+limit_in (reads settles) limits input = input_limit most_input limits input
+limit_in (writes due) limits input = script_limit due.ends
+limit_in (acts act) limits input = None
+
+-- Which limit an input passes first, and where: the number of its lines, the length of a line, a
+-- limit of the command's own at a line; or else its size. Nothing where it passes none.
+abbrev pub limit_of : Command → List ℕ → Option Passed
+limit_of command input = limit_in (rules_of command) (limits_of command) input
 
 -- ---- the law of a command
 

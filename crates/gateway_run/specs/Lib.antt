@@ -1,8 +1,8 @@
 pub mod Rules
 pub mod GateName
+pub mod Passed
 pub mod Commands
 pub mod Edge
-pub mod Passed
 pub mod Runs
 pub mod LineContent
 pub mod Session

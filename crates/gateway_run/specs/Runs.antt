@@ -6,6 +6,7 @@ use Rattle.edge_traits.specs.declared.status.Status.TheVariants as statuses
 use Rattle.edge_traits.specs.Settled.{at_end, Settled}
 use Rattle.edge_traits.specs.Outcome.{IsAnswer, Ran}
 use Rattle.command_frame.specs.Task.{Settling}
+use Rattle.command_frame.specs.Limits.{Limiting}
 use Rattle.bundle_runs.specs.Laws.{EarliestOctetDecides}
 use Rattle.make_run.specs.Runs.{RanMade}
 use Rattle.serve_run.specs.Serve.{Serving}
@@ -14,9 +15,9 @@ use Rattle.serve_run.specs.Tells.{RanTurns}
 use Rattle.gateway_run.specs.declared.commands.command.Command.{Command}
 use Rattle.gateway_run.specs.declared.commands.passed.Passed.{Passed}
 use Rattle.gateway_run.specs.declared.commands.passed.Passed.TheVariants as passed
-use Rattle.gateway_run.specs.Passed.{is_limit}
 use Rattle.gateway_run.specs.Rules.{Rules, reads, writes, acts}
-use Rattle.gateway_run.specs.Commands.{Law, no_law, keeps, rules_of, law_of}
+use Rattle.gateway_run.specs.Passed.{named_by, NamesOnLines}
+use Rattle.gateway_run.specs.Commands.{Law, no_law, keeps, rules_of, law_of, limit_of}
 use Rattle.gateway_run.specs.Edge.{Edge, KeepsLinks, HasNoFault}
 
 -- ---- how a run went
@@ -115,8 +116,27 @@ may_pass (writes due) (passed.Own line) = false
 may_pass (writes due) passed.Script = true
 may_pass (acts act) limit = false
 
--- a limit is named if and only if the run ended with one, and it is one that the command may pass
-abbrev pub NamesLimit : Option Command → Status → Option Passed → Type 0
-NamesLimit named status None = is_limit status ≡ false
-NamesLimit named status (Some limit) =
-    (status ≡ statuses.Limit) × IsSomeAnd named (λ command. may_pass (rules_of command) limit ≡ true)
+-- the limit that ended a run: the command may pass it, and where the source told its input, it is the
+-- one that this passes
+pub record IsPassed (command : Command) (left : Option (List ℕ)) (limit : Passed) : Type 0 where
+  pub may : may_pass (rules_of command) limit ≡ true
+  pub by_input : IfSome left (λ input. limit_of command input ≡ Some limit)
+
+-- a limit is named if and only if the run ended with one, and it is the one that was passed
+abbrev pub NamesPassed : Option Command → Option (List ℕ) → Status → Option Passed → Type 0
+NamesPassed named left statuses.Limit (Some limit) = IsSomeAnd named (λ command. IsPassed command left limit)
+NamesPassed named left statuses.Limit None = ⊥
+NamesPassed named left statuses.Done limit = limit ≡ None
+NamesPassed named left statuses.Refused limit = limit ≡ None
+NamesPassed named left statuses.Usage limit = limit ≡ None
+NamesPassed named left statuses.ReadFault limit = limit ≡ None
+NamesPassed named left statuses.WriteFault limit = limit ≡ None
+NamesPassed named left statuses.Memory limit = limit ≡ None
+
+-- ---- what only ties code to these
+
+-- how the run of a command names a limit, by what it does
+abbrev pub NamesBy : Rules → Limiting → Option (List ℕ) → Status → Option Passed → Type 0
+NamesBy (reads settles) limits left status limit = NamesOnLines limits left status limit
+NamesBy (writes due) limits left status limit = limit ≡ named_by status passed.Script
+NamesBy (acts act) limits left status limit = limit ≡ None

@@ -1,8 +1,8 @@
 //! The commands: which of them the words name, and the run of each.
 ghost use Rattle.std.specs.Prelude.{◌≡◌, Some, IfSome};
 ghost use Rattle.gateway_run.specs.Edge.{edge_of};
-ghost use Rattle.gateway_run.specs.Runs.{RanNamed, NamesLimit};
-ghost use Rattle.gateway_run.specs.Commands.{command_of, one_word, two_words, three_words, keeping_of, cut_of, keep_cutting_of, node_of, record_of, audit_of, make_of, serve_of, is_address, IsSound};
+ghost use Rattle.gateway_run.specs.Runs.{RanNamed, NamesBy};
+ghost use Rattle.gateway_run.specs.Commands.{command_of, one_word, two_words, three_words, keeping_of, cut_of, keep_cutting_of, node_of, record_of, audit_of, make_of, serve_of, is_address, rules_of, limits_of, IsSound};
 
 use crate::commands::gate_name::GateName;
 use crate::commands::keep_receiving::KeepReceiving;
@@ -98,7 +98,7 @@ pub fn run_command<S: Source, K: Sink, L: Link, C: Clock>(
     ensures ran { RanNamed (Some command.now) result.status
         (edge_of S.Source K.Sink L.Link C.Clock source.old sink.old old_link.old new_link.old clock.old)
         (edge_of S.Source K.Sink L.Link C.Clock source.new sink.new old_link.new new_link.new clock.new) }
-    ensures named { NamesLimit (Some command.now) result.status result.passed }
+    ensures names { NamesBy (rules_of command.now) (limits_of command.now) (S.left source.old) result.status result.passed }
 {
     match command {
         Command::Receive => run_lines(alloc, Receive::new(alloc), source, sink),

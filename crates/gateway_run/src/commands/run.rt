@@ -2,7 +2,7 @@
 ghost use Rattle.std.specs.Prelude.{◌≡◌, ◌↔◌, None};
 ghost use Rattle.gateway_run.specs.Commands.{command_of};
 ghost use Rattle.gateway_run.specs.Edge.{edge_of};
-ghost use Rattle.gateway_run.specs.Runs.{RanNamed, Completes, KeepsLaw, NamesLimit};
+ghost use Rattle.gateway_run.specs.Runs.{RanNamed, Completes, KeepsLaw, NamesPassed};
 
 use crate::commands::command::{command_named, run_command};
 use crate::commands::passed::{Ended, Passed, ended_with};
@@ -74,8 +74,9 @@ pub fn run_told<S: Source, K: Sink, L: Link, C: Clock>(
         (edge_of S.Source K.Sink L.Link C.Clock source.old sink.old old_link.old new_link.old clock.old)
         (edge_of S.Source K.Sink L.Link C.Clock source.new sink.new old_link.new new_link.new clock.new) }
 
-    // A limit is named if and only if the run ended with one, and it is one of the command's.
-    ensures named { NamesLimit (command_of words.now) result.status result.passed }
+    // A limit is named if and only if the run ended with one. It is one of the command's, and where
+    // the source tells its input, it is the one that this input passes.
+    ensures named { NamesPassed (command_of words.now) (S.left source.old) result.status result.passed }
 {
     worlds_keep_headline();
     match command_named(words) {

@@ -178,7 +178,7 @@ audit    1000000 lines, 9000000 octets a line
     CommandText {
         word: "link",
         usage: "\
-fimdahol link < SCRIPT            replays a script on one link, which may be open at times alone
+fimdahol link < SCRIPT            replays a script on one link, which may be open only at times
 ",
         writes: "\
 link reads a script of one LTP link between a first engine and a second, and writes what happens

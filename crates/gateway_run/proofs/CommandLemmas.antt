@@ -26,6 +26,8 @@ use Rattle.audit_run.specs.Audited as audit
 use Rattle.node_run.specs.RedParts.{AnswersLines}
 use Rattle.link_run.specs.Link.{link_rules, no_link}
 use Rattle.link_run.specs.Link as link
+use Rattle.link_run.specs.Law.{KeepsLinkLaw}
+use Rattle.link_run.proofs.LawLemmas.{links-keep-law}
 use Rattle.world_run.specs.World.{world_rules, no_path}
 use Rattle.world_run.specs.World as world
 use Rattle.world_run.specs.Headline.{KeepsHeadline, WorldsKeepHeadline}
@@ -186,6 +188,13 @@ world-keeps headline status left before now input =
     lawful (within most_input world.settles) world-front input (KeepsHeadline most_input input) played.ending played.ends played.law
     status left before now
 
+link-keeps : (status : Status) (left before now : Option (List ℕ)) (input : List ℕ)
+    → Wrote (within most_input link.settles) status input left before now → IsLawful (law_of commands.Link input) status before now
+link-keeps status left before now input =
+    let played = links-keep-law most_input input in
+    lawful (within most_input link.settles) link-front input (KeepsLinkLaw most_input input) played.ending played.ends played.law
+    status left before now
+
 command-keeps : {S K L C : Type 0} → WorldsKeepHeadline → (command : Command) (status : Status) (before now : Edge S K L C)
     → RanBy (rules_of command) status before now → KeepsLaw (Some command) status before now
 command-keeps headline commands.Receive status before now ran =
@@ -197,7 +206,8 @@ command-keeps headline (commands.Node own peer) status before now ran =
 command-keeps headline (commands.Record own peer) status before now ran =
     on-told before.reads.left _ _ (record-keeps own peer status now.reads.left before.writes.held now.writes.held) ran.ran.wrote
 command-keeps headline (commands.Audit own peer) status before now ran = nothing-told before.reads.left
-command-keeps headline commands.Link status before now ran = nothing-told before.reads.left
+command-keeps headline commands.Link status before now ran =
+    on-told before.reads.left _ _ (link-keeps status now.reads.left before.writes.held now.writes.held) ran.ran.wrote
 command-keeps headline commands.World status before now ran =
     on-told before.reads.left _ _ (world-keeps headline status now.reads.left before.writes.held now.writes.held) ran.ran.wrote
 command-keeps headline (commands.Make seed count) status before now ran = nothing-told before.reads.left

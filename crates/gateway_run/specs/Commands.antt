@@ -18,6 +18,7 @@ use Rattle.audit_run.specs.Audited as audit
 use Rattle.record_run.specs.Record.{record_rules}
 use Rattle.record_run.specs.Record as recording
 use Rattle.record_run.specs.Exchange.{AreEngines, WritesExchange}
+use Rattle.link_run.specs.Law.{KeepsLinkLaw}
 use Rattle.link_run.specs.Link.{link_rules, no_link}
 use Rattle.link_run.specs.Link as link
 use Rattle.world_run.specs.World.{world_rules, no_path}
@@ -204,8 +205,9 @@ pub data Law : Type 1 where
 
 -- Of `receive` the receiver's law. Of `node` that the events which its first lines say are
 -- answered; that their red parts keep the receiver's law is a law of `node_run`. Of `record` that
--- its lines are those of a recording in which no entry that went out breaks a rule. Of `world` that
--- the events of its script are answered, and those of a drain; that its `up` lines are blocks that
+-- its lines are those of a recording in which no entry that went out breaks a rule. Of `link` that
+-- its `up` lines are blocks that its lines send, whole and once, and that a drain from a link that is
+-- hopeful and has room completes the sessions in time, with picks too. Of `world` that the events of its script are answered, and those of a drain; that its `up` lines are blocks that
 -- came whole, as they were sent, and once; and that a drain from a path that is hopeful and has
 -- room completes the sessions.
 abbrev pub law_of : Command → List ℕ → Law
@@ -217,7 +219,7 @@ law_of (commands.Node own peer) input =
 law_of (commands.Record own peer) input =
     keeps (λ text ending. AreEngines own peer → WritesExchange own peer text)
 law_of (commands.Audit own peer) input = no_law
-law_of commands.Link input = no_law
+law_of commands.Link input = keeps (KeepsLinkLaw most_input input)
 law_of commands.World input = keeps (KeepsHeadline most_input input)
 law_of (commands.Make seed count) input = no_law
 law_of (commands.Serve gate count) input = no_law

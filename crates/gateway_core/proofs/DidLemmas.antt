@@ -21,7 +21,7 @@ use Rattle.gate_cases.specs.declared.face.Face.TheVariants as faces
 use Rattle.gateway_core.specs.declared.effects.GateEffects.{GateEffects}
 use Rattle.gateway_core.specs.declared.note.GateNote.{GateNote}
 use Rattle.gateway_core.specs.declared.parts.Parts.{Parts}
-use Rattle.gateway_core.specs.Gate.{Gate, GateSetup, GateStep, at_face, stays_so, and_then, in_turn, does_at, noted_at, hears_at, passes_at, arrives_at, ticks_at, ticks_gate, starts_gate}
+use Rattle.gateway_core.specs.Gate.{Gate, GateSetup, GateStep, at_face, stays_so, and_then, in_turn, does_at, noted_at, hears_at, passes_at, arrives_at, ticks_at, ticks_gate, starts_gate, arrives_in, ticks_in}
 use Rattle.gateway_core.specs.Config.{IsGateConfig}
 use Rattle.gateway_core.specs.Effects.{gate_effects_of, nothing_routed, only_noted_at, routed_at, joined_with}
 use Rattle.gateway_core.specs.Values.{GatewayValue, setup_of, new_gateway, gate_deadline}
@@ -226,7 +226,7 @@ pub arrived : (a b c : Parts) (face : Face) (datagram : List ℕ) (now : ℕ) (t
     → Did b c (in_turn (passes_at (setup_in b) face now) (up_values ups)) passed → heard_it ≡ routed_at face told
     → IfOk r (λ all. all ≡ joined_with heard_it passed)
     → EndsIn a c (arrives_at (setup_in a) face (segment_of datagram) now) r
-unfolding arrives_at
+unfolding arrives_in
 arrived a b c face datagram now told ups passed heard_it r did same rest is all =
     did-result a c (arrives_at (setup_in a) face (segment_of datagram) now) (joined_with (routed_at face told) passed) r
     (did-same a c (λ g. and_then (does_at face g (hears_at (setup_in a) face g (segment_of datagram) now)) (in_turn (passes_at (setup_in a) face now) (up_values ups)))
@@ -248,7 +248,7 @@ pub ticked-both : (a b c : Parts) (now : ℕ) (old new : Effects) (first second 
     → StepsAt faces.New b c (λ e. tick_step b.new_face.party e now) new → IsBounded c.new_face
     → first ≡ routed_at faces.Old old → second ≡ routed_at faces.New new → IfOk r (λ all. all ≡ joined_with first second)
     → EndsIn a c (ticks_gate (setup_in a) now) r
-unfolding ticks_gate
+unfolding ticks_in
 ticked-both a b c now old new first second r whole same_new same_old old_steps old_bounds new_steps new_bounds firsts seconds all =
     let one = stepped faces.Old a b (λ e. tick_step a.old_face.party e now) old whole same_new old_steps old_bounds in
     let two = stepped faces.New b c (λ e. tick_step b.new_face.party e now) new one.whole same_old new_steps new_bounds in
@@ -275,7 +275,7 @@ quiet-both now (Some a) (Some b) is =
 
 pub ticks-nothing : (p : Parts) (v : GatewayValue) (now : ℕ) (told : GateEffects) → live p ≡ v → IsWhole p → is_due_at now (gate_deadline (live p)) ≡ false
     → told ≡ nothing_routed → GateSteps v v (ticks_gate (setup_of v) now) told
-unfolding ticks_gate
+unfolding ticks_in
 ticks-nothing p v now told same whole early is =
     subst (λ u. GateSteps u u (ticks_gate (setup_of u) now) told) same
     (subst (GateSteps (live p) (live p) (ticks_gate (setup_in p) now)) (sym is)

@@ -35,7 +35,7 @@ use Rattle.gateway_core.specs.declared.effects.GateEffects.{GateEffects}
 use Rattle.gateway_core.specs.declared.note.GateNote.{GateNote}
 use Rattle.gateway_core.specs.declared.note.GateNote.TheVariants as notes
 use Rattle.gateway_core.specs.declared.parts.Parts.{Parts}
-use Rattle.gateway_core.specs.Gate.{Gate, GateStep, at_face, and_then, in_turn, noted_at, submission_at, sends_unless, sends_at, room_of, case_note, is_unreported, reports_at, answers_at, decides_at, passes_at}
+use Rattle.gateway_core.specs.Gate.{Gate, GateStep, at_face, and_then, in_turn, noted_at, submission_at, sends_unless, sends_at, room_of, case_note, is_unreported, reports_at, answers_at, decides_at, passes_at, answers_in, decides_in}
 use Rattle.gateway_core.specs.Effects.{gate_effects_of, nothing_routed, only_noted_at, routed_at, joined_with}
 use Rattle.gateway_core.specs.Values.{GatewayValue}
 use Rattle.gateway_core.specs.Shows.{ShowsGate}
@@ -250,7 +250,7 @@ unreported-same faces.New now v g shows = rw (shows.new_face.senders, shows.new_
 
 pub none-asked : (a : Parts) (face : Face) (now session : ℕ) (report : Option AskedReport) (e : GateEffects) → IsWhole a → report ≡ None → e ≡ nothing_routed
     → Did a a (answers_at (setup_in a) face now session report) e
-unfolding answers_at
+unfolding answers_in
 none-asked a face now session report e whole is nothing =
     subst (Did a a (answers_at (setup_in a) face now session report)) (sym nothing)
     (subst (λ r. Did a a (answers_at (setup_in a) face now session r) nothing_routed) (sym is) (did-nothing a whole))
@@ -259,7 +259,7 @@ none-asked a face now session report e whole is nothing =
 chosen : (a : Parts) (face : Face) (now session : ℕ) (asked : AskedReport) (cannot : Bool) → cannot_report face now (live a) ≡ cannot
     → (g : Gate) → ShowsGate (live a) g
     → (if cannot then noted_at face (notes.Unreported session) g else reports_at (setup_in a) face now session asked g) ≡ answers_at (setup_in a) face now session (Some asked) g
-unfolding answers_at
+unfolding answers_in
 chosen a face now session asked cannot is g shows =
     ap (λ t. if t then noted_at face (notes.Unreported session) g else reports_at (setup_in a) face now session asked g) (sym is ∙ sym (unreported-same face now (live a) g shows))
 
@@ -346,7 +346,7 @@ pub decided : (a b c : Parts) (face to : Face) (now session count : ℕ) (j : Ju
     → Did a b (in_turn (sends_at (setup_in a) to now) pieces) sent
     → noted ≡ only_noted_at face note → Did b c (answers_at (setup_in b) face now session j.report) answer → after ≡ joined_with noted answer
     → IfOk r (λ all. all ≡ joined_with sent after) → EndsIn a c (decides_at (setup_in a) face now session j) r
-unfolding decides_at
+unfolding decides_in
 decided a b c face to now session count j pieces note sent noted answer after r whole to_is pieces_are counts note_is did noted_is answers after_is all =
     did-result a c (decides_at (setup_in a) face now session j) (joined_with sent (joined_with (only_noted_at face the_note) answer)) r
     (did-then a b c (in_turn (sends_at (setup_in a) (other_of face) now) j.pieces)

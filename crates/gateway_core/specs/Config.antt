@@ -1,9 +1,11 @@
 -- How a gateway may be set up.
 
-use Rattle.std.specs.Prelude.{◌≢◌, ℕ, ◌≤◌}
+use Rattle.std.specs.Prelude.{◌≡◌, ◌≢◌, ℕ, ◌<◌, ◌≤◌, ◌^◌}
 use Rattle.endpoint.specs.Endpoints.{IsEndpoint}
 use Rattle.endpoint.specs.declared.name.Endpoint.{Endpoint}
 use Rattle.endpoint.specs.declared.name.Endpoint.TheVariants.{Null}
+use Rattle.ltp_segment.specs.declared.session.TheConstants.{BLOCK_MAX}
+use Rattle.ltp_session.specs.Engine.{Party}
 
 -- its name is a legal one and not nobody's; a payload is cut to 1 to 4,000,000 octets
 pub record IsGateConfig (gate : Endpoint) (cut : ℕ) : Type 0 where
@@ -11,3 +13,11 @@ pub record IsGateConfig (gate : Endpoint) (cut : ℕ) : Type 0 where
   pub legal : IsEndpoint gate
   pub cut_least : 1 ≤ cut
   pub cut_most : cut ≤ 4000000
+
+-- who is at a face: two numbers, the number of the first session, and blocks of any length that a
+-- session carries
+pub record IsFaceParty (p : Party) : Type 0 where
+  pub apart : p.own ≢ p.peer
+  pub first : 1 ≤ p.first
+  pub numbers : p.first < 2 ^ 32
+  pub most : p.most ≡ BLOCK_MAX

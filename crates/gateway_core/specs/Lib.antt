@@ -1,6 +1,8 @@
 -- a gate, and what it does
+pub mod Moments
 pub mod Gate
 -- what its faces hand up, whoever is at the other ends
+pub mod Begun
 pub mod Comings
 pub mod RedParts
 -- what public clauses cite besides

@@ -1,11 +1,12 @@
 -- What the calls of a gateway promise, by the steps of the definition.
 
-use Rattle.std.specs.Prelude.{◌≡◌, false}
+use Rattle.std.specs.Prelude.{◌≡◌, false, List}
 use Rattle.gateway_core.specs.declared.effects.GateEffects.{GateEffects}
 use Rattle.gateway_core.specs.Gate.{Gate, GateStep}
 use Rattle.gateway_core.specs.Effects.{gate_effects_of}
 use Rattle.gateway_core.specs.Values.{GatewayValue, setup_of}
 use Rattle.gateway_core.specs.Shows.{ShowsGate}
+use Rattle.gateway_core.specs.Begun.{Begun}
 
 -- each gate of the definition that the old value stands for does this step; the new value stands for
 -- the gate after it, and the effects are that step's
@@ -16,3 +17,9 @@ pub record GateSteps (old new : GatewayValue) (step : Gate → GateStep) (effect
   pub next : (g : Gate) → ShowsGate old g → ShowsGate new (step g).gate
   pub effects_are :
       (g : Gate) → ShowsGate old g → effects ≡ gate_effects_of (step g).effects
+
+-- a step at its moments: what it answers are its effects and the sessions that it begins
+pub record GateStepsIn (old new : GatewayValue) (step : Gate → GateStep)
+    (begins : Gate → List Begun) (effects : GateEffects) (begun : List Begun) : Type 0 where
+  pub steps : GateSteps old new step effects
+  pub begun_are : (g : Gate) → ShowsGate old g → begun ≡ begins g

@@ -16,10 +16,12 @@ mod config;
 mod effects;
 mod gateway;
 pub mod laws;
+mod moments;
 mod note;
 mod parts;
 
 pub use config::GateConfig;
 pub use effects::{FaceNote, FaceUp, FaceUps, GateEffects, GateNotes, Routed, RoutedList};
 pub use gateway::Gateway;
+pub use moments::Moments;
 pub use note::GateNote;

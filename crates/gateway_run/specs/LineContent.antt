@@ -1,7 +1,6 @@
 -- What a line of `receive` says: its content. A line is one datagram in hex.
 use Rattle.std.specs.Prelude.{ℕ, Bool, ◌==◌, ◌&&◌, List, Result, Ok, Err, if◌then◌else◌}
-use Rattle.hex.specs.Hex.{decode_of}
-use Rattle.hex.specs.declared.FromHexError.{FromHexError}
+use Rattle.hex_text.specs.Hex.{FromHexError, decode_of}
 use Rattle.ltp_segment.specs.declared.fault.SegmentCause.{SegmentCause}
 use Rattle.ltp_segment.specs.Reading.{segment_of}
 use Rattle.ltp_segment.specs.Values.{SegmentValue, ContentValue, a_piece, a_report, a_report_ack, a_sender_cancel, a_sender_cancel_ack, a_receiver_cancel, a_receiver_cancel_ack, PieceValue}

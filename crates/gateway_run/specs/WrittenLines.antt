@@ -1,7 +1,7 @@
 -- The lines that `receive` writes.
 use Rattle.std.specs.Prelude.{ℕ, List, [], ◌∷◌, codes}
 use Rattle.std.specs.Fmt.{decimal}
-use Rattle.hex.specs.Hex.{encode_lower}
+use Rattle.hex_text.specs.Hex.{encode_lower}
 use Rattle.edge_traits.specs.Content.{joined}
 use Rattle.ltp_segment.specs.declared.fault.SegmentCause.{SegmentCause}
 use Rattle.ltp_segment.specs.Cause.{word_of}

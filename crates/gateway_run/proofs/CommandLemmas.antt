@@ -1,10 +1,10 @@
 -- How a run went, by its command.
-use Rattle.std.proofs.Common.{◌≡◌, ◌↔◌, ℕ, ◌+◌, ◌-◌, ◌<◌, ◌^◌, min, inl, inr, true, false, List, [], ◌++◌, Option, None, Some, IfSome, refl, sym, subst, ◌∙◌, arith}
+use Rattle.std.proofs.Common.{◌≡◌, ◌↔◌, ℕ, ◌+◌, ◌-◌, ◌<◌, ◌^◌, min, inl, inr, List, [], ◌++◌, Option, None, Some, IfSome, refl, sym, subst, ◌∙◌, arith}
 use Rattle.std.proofs.lemmas.List.{append-nil}
 use Rattle.edge_traits.specs.declared.status.Status.{Status}
 use Rattle.edge_traits.specs.declared.status.Status.TheVariants as statuses
 use Rattle.edge_traits.specs.Content.{GainsFront, most_input}
-use Rattle.edge_traits.specs.Outcome.{SinkTells, EndsAs, Wrote, WentReading, WentWriting, IsAnswer}
+use Rattle.edge_traits.specs.Outcome.{EndsAs, Wrote, WentReading, WentWriting, IsAnswer}
 use Rattle.edge_traits.specs.Settled.{at_end, Settled, EarliestDecides}
 use Rattle.command_frame.specs.Task.{Settling}
 use Rattle.command_frame.specs.Within.{within}

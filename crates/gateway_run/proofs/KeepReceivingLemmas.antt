@@ -1,6 +1,5 @@
 -- `receive --keep-going` answers as `receive` does where that refuses no line.
-use Rattle.std.proofs.Common.{◌≡◌, ◌≢◌, ℕ, ◌+◌, Bool, true, false, ◌||◌, List, [], ◌∷◌, length, take, Option, None, Some, refl, ap, nat_lt, if◌then◌else◌}
-use Rattle.edge_traits.specs.declared.status.Status.{Status}
+use Rattle.std.proofs.Common.{◌≡◌, ◌≢◌, ℕ, ◌+◌, Bool, true, false, ◌||◌, List, [], ◌∷◌, length, take, Some, refl, ap, nat_lt, if◌then◌else◌}
 use Rattle.edge_traits.specs.declared.status.Status.TheVariants as statuses
 use Rattle.edge_traits.specs.Settled.{Ends, at_end, goes_on, Settled, put_before}
 use Rattle.command_frame.specs.InputLines.{lines_of, ended_part}

@@ -1,5 +1,5 @@
 -- Which limit a run names: the one that its input passes.
-use Rattle.std.proofs.Common.{◌≡◌, ℕ, ◌+◌, ◌<◌, ◌≤◌, Bool, true, false, List, [], ◌∷◌, length, nat_lt, Option, None, Some, IfSome, refl, sym, ◌∙◌, inl, inr, le-ltb, lt-ltb}
+use Rattle.std.proofs.Common.{◌≡◌, ℕ, ◌+◌, ◌<◌, ◌≤◌, Bool, true, false, List, [], ◌∷◌, length, Option, None, Some, IfSome, refl, ◌∙◌, inl, inr, le-ltb, lt-ltb}
 use Rattle.std.proofs.lemmas.Bool.{cases_lt}
 use Rattle.edge_traits.specs.declared.status.Status.{Status}
 use Rattle.edge_traits.specs.declared.status.Status.TheVariants as statuses
@@ -27,12 +27,11 @@ use Rattle.serve_run.specs.Serve.{Serving}
 use Rattle.serve_run.specs.Turns.{Act}
 use Rattle.serve_run.specs.Tells.{OutsideTells, RanTurns}
 use Rattle.gateway_run.specs.declared.commands.command.Command.{Command}
-use Rattle.gateway_run.specs.declared.commands.command.Command.TheVariants as commands
 use Rattle.gateway_run.specs.declared.commands.passed.Passed.{Passed}
 use Rattle.gateway_run.specs.declared.commands.passed.Passed.TheVariants as passed
 use Rattle.gateway_run.specs.Receive.{the_limits}
 use Rattle.gateway_run.specs.KeepReceiving.{Receiving, keep_receiving_rules, last_status}
-use Rattle.gateway_run.specs.Rules.{reads, writes, acts}
+use Rattle.gateway_run.specs.Rules.{reads}
 use Rattle.gateway_run.specs.Commands.{rules_of, limits_of, limit_of}
 use Rattle.gateway_run.specs.Passed.{is_limit, named_by, passed_on_lines, limit_by, input_limit, no_limits, script_limit, NamesOnLines}
 use Rattle.gateway_run.specs.Runs.{may_pass, NamesPassed}

@@ -207,8 +207,8 @@ pub data Law : Type 1 where
 -- answered; that their red parts keep the receiver's law is a law of `node_run`. Of `record` that
 -- its lines are those of a recording in which no entry that went out breaks a rule. Of `link` that
 -- its `up` lines are blocks that its lines send, whole and once, and that a drain from a link that is
--- hopeful and has room completes the sessions in time, with picks too. Of `world` that the events of
--- its script are answered, and those of a drain; that its `up` lines are blocks that came whole, as
+-- hopeful and has room completes the sessions in time, where neither the plan ends it nor an old
+-- datagram has somebody turned away. Of `world` that the events of its script are answered, and those of a drain; that its `up` lines are blocks that came whole, as
 -- they were sent, and once; and that a drain from a path that is hopeful and has room completes the
 -- sessions.
 abbrev pub law_of : Command → List ℕ → Law

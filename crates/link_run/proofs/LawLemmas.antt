@@ -1,6 +1,6 @@
 -- What `link` answers to an input, by what its lines say.
 
-use Rattle.std.proofs.Common.{◌≡◌, ℕ, ◌≤◌, Bool, true, false, ◌||◌, nat_lt, nat_le, List, [], ◌∷◌, ◌++◌, length, map, take, codes, Some, Result, Ok, Err, refl, sym, ap, ◌∙◌, inl, inr, arith, subst, if◌then◌else◌}
+use Rattle.std.proofs.Common.{◌≡◌, ◌≢◌, ℕ, ◌≤◌, Bool, true, false, ◌||◌, nat_lt, nat_le, List, [], ◌∷◌, ◌++◌, length, map, take, codes, Some, Result, Ok, Err, refl, sym, ap, ◌∙◌, inl, inr, arith, subst, if◌then◌else◌}
 use Rattle.std.proofs.lemmas.List.{append-nil}
 use Rattle.std.specs.List.{flat_map}
 use Rattle.edge_traits.specs.declared.status.Status.{Status}
@@ -90,11 +90,12 @@ fit-start line start is = by_said (first_said line) refl is
 
 -- what some lines settle from the first on
 data Settles (lines : List (List ℕ)) (settled : Settled) : Type 0 where
-  on_a_link : (ending : Status) → settled.ends ≡ Some ending → PlaysScript lines settled.text → Settles lines settled
-  on_none : (ending : Status) → settled.ends ≡ Some ending → PlaysNothing settled.text → Settles lines settled
+  on_a_link : (ending : Status) → settled.ends ≡ Some ending → PlaysScript lines settled.text ending → Settles lines settled
+  on_none : (ending : Status) → settled.ends ≡ Some ending → PlaysNothing settled.text ending → Settles lines settled
 
-tells-nothing : (text : List ℕ) → HasLines text nothing → PlaysNothing text
-tells-nothing text has = record {
+tells-nothing : (text : List ℕ) (ending : Status) → ending ≢ statuses.Done → HasLines text nothing → PlaysNothing text ending
+tells-nothing text ending undone has = record {
+  undone = undone;
   ups = alone (codes "up ") text [] has.ups;
   notes = alone (codes "note ") text [] has.notes;
   ends = alone (codes "end ") text [] has.ends;
@@ -140,7 +141,9 @@ module _ (laws : Laws) where
           sets_up = is;
           gives = plans.gives;
           says = plans.plays.says;
+          are_events = plans.plays.are_events;
         };
+        all = plans.plays.all;
         made = plans.plays.made;
         drains = plans.plays.drains;
         ups = alone (codes "up ") settled.text _ has.ups;
@@ -183,13 +186,13 @@ module _ (laws : Laws) (ending : LinkState → Settled) (last : EndsLines ending
       where
         by_late : (t : Bool) → Settles (first ∷ lines) (after_turn (if t then ends_run [] statuses.Limit else passes [] (planned start []))
             (λ now. lines_settle link_rules 2 now lines ending))
-        by_late true = on_none statuses.Limit refl (tells-nothing [] none-has)
+        by_late true = on_none statuses.Limit refl (tells-nothing [] statuses.Limit (λ done. absurd (cc)) none-has)
         by_late false = played laws first lines start _ said (plans_from ending last start (fit-start first start said).timed [] 2 lines)
 
     first_turned : (said : Result LinkStart LineFault) → start_in first ≡ said
         → Settles (first ∷ lines) (after_turn (start_turn 1 said) (λ now. lines_settle link_rules 2 now lines ending))
     first_turned (Ok start) said = started start said
-    first_turned (Err fault) said = on_none statuses.Refused refl (tells-nothing (refusal_line 1 fault) (refusal-has 1 fault))
+    first_turned (Err fault) said = on_none statuses.Refused refl (tells-nothing (refusal_line 1 fault) statuses.Refused (λ done. absurd (cc)) (refusal-has 1 fault))
 
     first_answered : Settles (first ∷ lines) (lines_settle link_rules 1 no_link (first ∷ lines) ending)
     unfolding lines_settle turn_at
@@ -197,7 +200,7 @@ module _ (laws : Laws) (ending : LinkState → Settled) (last : EndsLines ending
       where
         by_past : (t : Bool) → Settles (first ∷ lines) (after_turn (if t then ends_run [] statuses.Limit else start_turn 1 (start_in first))
             (λ now. lines_settle link_rules 2 now lines ending))
-        by_past true = on_none statuses.Limit refl (tells-nothing [] none-has)
+        by_past true = on_none statuses.Limit refl (tells-nothing [] statuses.Limit (λ done. absurd (cc)) none-has)
         by_past false = first_turned (start_in first) refl
 
   all_settled : (lines : List (List ℕ)) → Settles [] (ending no_link) → Settles lines (lines_settle link_rules 1 no_link lines ending)
@@ -230,10 +233,10 @@ keep_law laws most input = kept most input (by_test (nat_lt most (length input))
         (if t then or_limit (lines_from link_rules 1 no_link going_on (take most input)) else lines_from link_rules 1 no_link at_end input)
     by_test true =
         rw (from-limit link_rules 1 no_link (take most input))
-        (all_settled laws past_end past-ends (lines_of (ended_part (take most input))) (on_none statuses.Limit refl (tells-nothing [] none-has)))
+        (all_settled laws past_end past-ends (lines_of (ended_part (take most input))) (on_none statuses.Limit refl (tells-nothing [] statuses.Limit (λ done. absurd (cc)) none-has)))
     by_test false =
         rw (from-end link_rules 1 no_link input)
-        (all_settled laws link_rules.finish input-ends (lines_of input) (on_none statuses.Refused refl (tells-nothing (refusal_line 1 faults.Word) (refusal-has 1 faults.Word))))
+        (all_settled laws link_rules.finish input-ends (lines_of input) (on_none statuses.Refused refl (tells-nothing (refusal_line 1 faults.Word) statuses.Refused (λ done. absurd (cc)) (refusal-has 1 faults.Word))))
 
 pub links-keep-law : LinksKeepLaw
 links-keep-law = keep_law (record {

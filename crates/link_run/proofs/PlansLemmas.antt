@@ -34,22 +34,22 @@ pub record EndsLines (ending : LinkState → Settled) : Type 0 where
 -- ---- after a drain
 
 module _ (ending : LinkState → Settled) (last : EndsLines ending) where
-  closes_from : (n : ℕ) (lines : List (List ℕ)) → Closes (lines_settle link_rules n drained lines ending)
+  closes_from : (n : ℕ) (lines : List (List ℕ)) → Closes lines (lines_settle link_rules n drained lines ending)
   unfolding lines_settle turn_at
-  closes_from n [] = rw last.after (record { ending = last.last; ends = refl; has = none-has })
+  closes_from n [] = rw last.after (record { ending = last.last; ends = refl; all = λ done. refl; has = none-has })
   closes_from n (line ∷ lines) = by_past (nat_lt link_rules.lines n || nat_lt link_rules.octets (length line))
     where
-      by_past : (t : Bool) → Closes (after_turn (if t then ends_run [] statuses.Limit else ends_run (refused_line n (codes "AfterDrain")) statuses.Refused)
+      by_past : (t : Bool) → Closes (line ∷ lines) (after_turn (if t then ends_run [] statuses.Limit else ends_run (refused_line n (codes "AfterDrain")) statuses.Refused)
           (λ now. lines_settle link_rules (n + 1) now lines ending))
-      by_past true = record { ending = statuses.Limit; ends = refl; has = none-has }
-      by_past false = record { ending = statuses.Refused; ends = refl; has = refused-has n (codes "AfterDrain") late-plain }
+      by_past true = record { ending = statuses.Limit; ends = refl; all = λ done. absurd (cc); has = none-has }
+      by_past false = record { ending = statuses.Refused; ends = refl; all = λ done. absurd (cc); has = refused-has n (codes "AfterDrain") late-plain }
 
   -- ---- events
 
   pub plays_from : (s : LinkSetup) (c : LinkCourse) (n : ℕ) (lines : List (List ℕ)) → AreTimed s.parties → IsReached s.parties c.world
       → Plays s c.world c.moment lines (lines_settle link_rules n (on_link s c) lines ending)
   unfolding lines_settle
-  plays_from s c n [] timed reached = rw (last.on s c) (stops s c.world c.moment [] [] last.last none-has)
+  plays_from s c n [] timed reached = rw (last.on s c) (stops s c.world c.moment [] [] last.last (λ done. refl) none-has)
   plays_from s c n (line ∷ lines) timed reached =
       line_turned s c n line lines (λ now. lines_settle link_rules (n + 1) now lines ending) timed reached
       (λ d led. plays_from s d (n + 1) lines timed led) (closes_from (n + 1) lines)
@@ -100,15 +100,15 @@ module _ (ending : LinkState → Settled) (last : EndsLines ending) (start : Lin
     abbrev settle : LinkState → Settled
     settle = λ now. lines_settle link_rules (n + 1) now lines ending
 
-    stopped : (text : List ℕ) (status : Status) → HasLines text nothing → Plans start windows (line ∷ lines) (record { text = text; ends = Some status })
-    stopped text status has =
+    stopped : (text : List ℕ) (status : Status) → (status ≡ statuses.Done → line ∷ lines ≡ []) → HasLines text nothing → Plans start windows (line ∷ lines) (record { text = text; ends = Some status })
+    stopped text status all has =
         plans_here start windows (line ∷ lines) _
-        (stops (link_setup start windows) (link_course (link_setup start windows) start.now).world start.now (line ∷ lines) text status has)
+        (stops (link_setup start windows) (link_course (link_setup start windows) start.now).world start.now (line ∷ lines) text status all has)
 
     by_fault : (window : Window) → later_said line ≡ says_window window → (fault : Option PlanFault)
         → Plans start windows (line ∷ lines) (after_turn (window_turn n start (windows ++ window ∷ []) fault) (λ now. lines_settle link_rules (n + 1) now lines ending))
     by_fault window is None = plans_more start windows window line lines _ is (later window)
-    by_fault window is (Some fault) = stopped (refused_line n (codes "Window")) statuses.Refused (refused-has n (codes "Window") window-plain)
+    by_fault window is (Some fault) = stopped (refused_line n (codes "Window")) statuses.Refused (λ done. absurd (cc)) (refused-has n (codes "Window") window-plain)
 
     others_turned : (said : Result LinkEvent LineFault) → ((e : LinkEvent) → said ≡ Ok e → later_said line ≡ Ok e)
         → Plans start windows (line ∷ lines) (after_turn (link_line n (link_setup start windows) (link_course (link_setup start windows) start.now) said)
@@ -137,12 +137,12 @@ module _ (ending : LinkState → Settled) (last : EndsLines ending) (start : Lin
       where
         by_past : (t : Bool) → Plans start windows (line ∷ lines) (after_turn (if t then ends_run [] statuses.Limit
             else planned_line n start windows (without_picks (are_given windows) line (later_said line))) (λ now. lines_settle link_rules (n + 1) now lines ending))
-        by_past true = stopped [] statuses.Limit none-has
+        by_past true = stopped [] statuses.Limit (λ done. absurd (cc)) none-has
         by_past false = said_turned (without_picks (are_given windows) line (later_said line)) (λ e is. said-later (are_given windows) line (later_said line) e is)
 
   pub plans_from : (windows : List Window) (n : ℕ) (lines : List (List ℕ)) → Plans start windows lines (lines_settle link_rules n (planned start windows) lines ending)
   unfolding lines_settle
   plans_from windows n [] =
       rw (last.before start windows)
-      (plans_here start windows [] _ (stops (link_setup start windows) (link_course (link_setup start windows) start.now).world start.now [] [] last.last none-has))
+      (plans_here start windows [] _ (stops (link_setup start windows) (link_course (link_setup start windows) start.now).world start.now [] [] last.last (λ done. refl) none-has))
   plans_from windows n (line ∷ lines) = planned_turned windows n line lines (λ w. plans_from (windows ++ w ∷ []) (n + 1) lines)

@@ -1,7 +1,7 @@
 -- What the lines after the windows settle on a link, by what they say.
 
 use Rattle.std.proofs.Common.{◌≡◌, ℕ, ◌+◌, ◌≤◌, Bool, true, false, ◌&&◌, ◌||◌, nat_lt, nat_le, nat_eq, List, [], ◌∷◌, ◌++◌, length, map, codes, Option, None, Some, Result, Ok, Err, refl, sym, ap, ◌∙◌, append_assoc, subst, if◌then◌else◌}
-use Rattle.std.specs.List.{slice_get, starts_with}
+use Rattle.std.specs.List.{AllByRecursion, slice_get, starts_with}
 use Rattle.edge_traits.specs.declared.status.Status.{Status}
 use Rattle.edge_traits.specs.declared.status.Status.TheVariants as statuses
 use Rattle.edge_traits.specs.Settled.{Settled}
@@ -28,7 +28,7 @@ use Rattle.replay_script.specs.declared.link.LinkEvent.TheVariants as events
 use Rattle.replay_script.specs.declared.picks.PickWord.{PickWord}
 use Rattle.window_world.specs.Made.{EndsBy}
 use Rattle.window_world.proofs.MadeLemmas.{drains-are-made}
-use Rattle.link_run.specs.Law.{DrainMakes, TellsEnd, TellsLast, end_text, stop_text, if_drain, made_by, makes, moment_after}
+use Rattle.link_run.specs.Law.{DrainMakes, IsEvent, TellsEnd, TellsLast, end_text, stop_text, if_drain, made_by, makes, moment_after}
 use Rattle.link_run.specs.Link.{LinkCourse, LinkSetup, LinkState, ats_of, delivered, delivers, drain_made, drain_text, drained, drains, drains_by, drains_by_picks, end_named, event_turn, if_kept, later_said, link_line, link_rules, most_sent, no_moment, on_link, only_says, passes_to, picked_by, picks_done, picks_end, picks_late, picks_turns, running_said, sends, steps_end, submitted, without_picks}
 use Rattle.link_run.specs.Picks.{said_picks, turns_after}
 use Rattle.link_run.specs.WrittenLines.{closed_refusal, deliver_refusal, end_line, octets_sent, octets_timed, refusal_line, send_refusal, told_text}
@@ -58,10 +58,12 @@ pub record Plays (s : LinkSetup) (w : World) (moment : ℕ) (lines : List (List 
   pub left : List (List ℕ)
   pub lines_are : lines ≡ later ++ left
   pub says : map later_said later ≡ map Ok (said ++ if_drain drain)
+  pub are_events : AllByRecursion IsEvent said
   pub made : List Event
   pub drains : DrainMakes s (run s.parties w (made_by s moment said)) drain made
   pub ending : Status
   pub ends : settled.ends ≡ Some ending
+  pub all : ending ≡ statuses.Done → left ≡ []
   pub ends_in : List (List ℕ)
   pub stops_in : List (List ℕ)
   pub tells : TellsEnd s (run s.parties w (made_by s moment said)) drain made ends_in stops_in
@@ -69,25 +71,28 @@ pub record Plays (s : LinkSetup) (w : World) (moment : ℕ) (lines : List (List 
   pub has : HasLines settled.text (with_ends (told_in s.parties w (made_by s moment said ++ made)) ends_in stops_in)
 
 -- nothing more is told
-pub record Closes (settled : Settled) : Type 0 where
+pub record Closes (lines : List (List ℕ)) (settled : Settled) : Type 0 where
   pub ending : Status
   pub ends : settled.ends ≡ Some ending
+  pub all : ending ≡ statuses.Done → lines ≡ []
   pub has : HasLines settled.text nothing
 
-pub stops : (s : LinkSetup) (w : World) (moment : ℕ) (lines : List (List ℕ)) (text : List ℕ) (status : Status) → HasLines text nothing
+pub stops : (s : LinkSetup) (w : World) (moment : ℕ) (lines : List (List ℕ)) (text : List ℕ) (status : Status) → (status ≡ statuses.Done → lines ≡ []) → HasLines text nothing
     → Plays s w moment lines (record { text = text; ends = Some status })
 unfolding made_by
-stops s w moment lines text status has = record {
+stops s w moment lines text status all has = record {
   said = [];
   drain = None;
   later = [];
   left = lines;
   lines_are = refl;
   says = refl;
+  are_events = tt;
   made = [];
   drains = refl;
   ending = status;
   ends = refl;
+  all = all;
   ends_in = [];
   stops_in = [];
   tells = (refl, refl);
@@ -114,22 +119,24 @@ running-later line e is = by_test (starts_with nat_eq line (codes "window ")) is
 -- ---- one line more
 
 module _ (s : LinkSetup) (w : World) (moment : ℕ) (line : List ℕ) (lines : List (List ℕ)) where
-  goes_on : (e : LinkEvent) (text : List ℕ) (later : Settled) → later_said line ≡ Ok e → HasLines text (told_in s.parties w (makes s moment e))
+  goes_on : (e : LinkEvent) (text : List ℕ) (later : Settled) → IsEvent e → later_said line ≡ Ok e → HasLines text (told_in s.parties w (makes s moment e))
       → Plays s (run s.parties w (makes s moment e)) (moment_after moment e) lines later
       → Plays s w moment (line ∷ lines) (record { text = text ++ later.text; ends = later.ends })
   unfolding made_by
-  goes_on e text later is has rest = record {
+  goes_on e text later event is has rest = record {
     said = e ∷ rest.said;
     drain = rest.drain;
     later = line ∷ rest.later;
     left = rest.left;
     lines_are = ap (λ ls. line ∷ ls) rest.lines_are;
     says = rw (is, rest.says) refl;
+    are_events = (event, rest.are_events);
     made = rest.made;
     drains = subst (λ (x : World). DrainMakes s x rest.drain rest.made)
         (sym (run-append s.parties w (makes s moment e) (made_by s (moment_after moment e) rest.said))) rest.drains;
     ending = rest.ending;
     ends = rest.ends;
+    all = rest.all;
     ends_in = rest.ends_in;
     stops_in = rest.stops_in;
     tells = subst (λ (x : World). TellsEnd s x rest.drain rest.made rest.ends_in rest.stops_in)
@@ -142,21 +149,21 @@ module _ (s : LinkSetup) (w : World) (moment : ℕ) (line : List ℕ) (lines : L
   }
 
   -- by the events that the line makes
-  goes_as : (e : LinkEvent) (es : List Event) (then_at : ℕ) (text : List ℕ) (later : Settled) → later_said line ≡ Ok e → makes s moment e ≡ es
+  goes_as : (e : LinkEvent) (es : List Event) (then_at : ℕ) (text : List ℕ) (later : Settled) → IsEvent e → later_said line ≡ Ok e → makes s moment e ≡ es
       → moment_after moment e ≡ then_at → HasLines text (told_in s.parties w es) → Plays s (run s.parties w es) then_at lines later
       → Plays s w moment (line ∷ lines) (record { text = text ++ later.text; ends = later.ends })
-  goes_as e es then_at text later is makes_es at has rest =
-      goes_on e text later is (subst (λ xs. HasLines text (told_in s.parties w xs)) (sym makes_es) has)
+  goes_as e es then_at text later event is makes_es at has rest =
+      goes_on e text later event is (subst (λ xs. HasLines text (told_in s.parties w xs)) (sym makes_es) has)
       (subst (λ xs. Plays s (run s.parties w xs) (moment_after moment e) lines later) (sym makes_es)
       (subst (λ n. Plays s (run s.parties w es) n lines later) (sym at) rest))
 
   limit : Plays s w moment (line ∷ lines) (record { text = []; ends = Some statuses.Limit })
-  limit = stops s w moment (line ∷ lines) [] statuses.Limit none-has
+  limit = stops s w moment (line ∷ lines) [] statuses.Limit (λ done. absurd (cc)) none-has
 
   -- the link is drained, and these events were made
   drained_so : (e : LinkEvent) (made : List Event) (text : List ℕ) (settled : Settled) (ends stops : List (List ℕ)) → later_said line ≡ Ok e → DrainMakes s w (Some e) made
       → TellsEnd s w (Some e) made ends stops → HasFewPicks (Some e)
-      → HasLines text (with_ends (told_in s.parties w made) ends stops) → Closes settled
+      → HasLines text (with_ends (told_in s.parties w made) ends stops) → Closes lines settled
       → Plays s w moment (line ∷ lines) (record { text = text ++ settled.text; ends = settled.ends })
   unfolding made_by
   drained_so e made text settled ends stops is makes_made tells few has rest = record {
@@ -166,10 +173,12 @@ module _ (s : LinkSetup) (w : World) (moment : ℕ) (line : List ℕ) (lines : L
     left = lines;
     lines_are = refl;
     says = rw is refl;
+    are_events = tt;
     made = made;
     drains = makes_made;
     ending = rest.ending;
     ends = rest.ends;
+    all = rest.all;
     ends_in = ends;
     stops_in = stops;
     tells = tells;
@@ -189,28 +198,28 @@ step-reached parties w event reached = record {
 module _ (s : LinkSetup) (c : LinkCourse) (n : ℕ) (line : List ℕ) (lines : List (List ℕ)) (settle : LinkState → Settled)
     (timed : AreTimed s.parties) (reached : IsReached s.parties c.world)
     (rest : (c' : LinkCourse) → IsReached s.parties c'.world → Plays s c'.world c'.moment lines (settle (on_link s c')))
-    (over : Closes (settle drained)) where
+    (over : Closes lines (settle drained)) where
   abbrev Here : Settled → Type 0
   Here settled = Plays s c.world c.moment (line ∷ lines) settled
 
-  only : (e : LinkEvent) (es : List Event) (text : List ℕ) → later_said line ≡ Ok e → makes s c.moment e ≡ es → moment_after c.moment e ≡ c.moment
+  only : (e : LinkEvent) (es : List Event) (text : List ℕ) → IsEvent e → later_said line ≡ Ok e → makes s c.moment e ≡ es → moment_after c.moment e ≡ c.moment
       → run s.parties c.world es ≡ c.world → told_in s.parties c.world es ≡ nothing → HasLines text nothing
       → Plays s c.world c.moment (line ∷ lines) (after_turn (only_says s c text) settle)
-  only e es text is makes_es at stays quiet has =
-      goes_as s c.world c.moment line lines e es c.moment text (settle (on_link s c)) is makes_es at
+  only e es text may is makes_es at stays quiet has =
+      goes_as s c.world c.moment line lines e es c.moment text (settle (on_link s c)) may is makes_es at
       (subst (HasLines text) (sym quiet) has)
       (subst (λ (x : World). Plays s x c.moment lines (settle (on_link s c))) (sym stays) (rest c reached))
 
-  happened : (e : LinkEvent) (event : Event) (moment : ℕ) → later_said line ≡ Ok e → makes s c.moment e ≡ event ∷ [] → moment_after c.moment e ≡ moment
+  happened : (e : LinkEvent) (event : Event) (moment : ℕ) → IsEvent e → later_said line ≡ Ok e → makes s c.moment e ≡ event ∷ [] → moment_after c.moment e ≡ moment
       → Plays s c.world c.moment (line ∷ lines) (after_turn (event_turn s c event moment) settle)
-  happened e event moment is makes_it at = by_kept (nat_lt most_sent (c.octets + octets_sent (map told_of (effects_at s.parties c.world event))))
+  happened e event moment may is makes_it at = by_kept (nat_lt most_sent (c.octets + octets_sent (map told_of (effects_at s.parties c.world event))))
     where
       by_kept : (b : Bool) → Plays s c.world c.moment (line ∷ lines) (after_turn (if b then ends_run [] statuses.Limit
           else passes (told_text (length c.world.sent) (map told_of (effects_at s.parties c.world event)))
           (on_link s (record { world = happens s.parties c.world event; moment = moment; octets = c.octets + octets_sent (map told_of (effects_at s.parties c.world event)) }))) settle)
       by_kept true = limit s c.world c.moment line lines
       by_kept false =
-          goes_as s c.world c.moment line lines e (event ∷ []) moment _ _ is makes_it at
+          goes_as s c.world c.moment line lines e (event ∷ []) moment _ _ may is makes_it at
           (subst (HasLines (told_text (length c.world.sent) (map told_of (effects_at s.parties c.world event)))) (sym (told-one s.parties c.world event))
           (event-has s.parties c.world event (length c.world.sent)))
           (rest (record { world = happens s.parties c.world event; moment = moment; octets = c.octets + octets_sent (map told_of (effects_at s.parties c.world event)) })
@@ -226,10 +235,10 @@ module _ (s : LinkSetup) (c : LinkCourse) (n : ℕ) (line : List ℕ) (lines : L
       by_step : (r : Result EngineStep SubmitFault) → submission_at s.parties c.world (link_end (end_named first)) body (length body) ≡ r
           → makes s c.moment (events.Send first body) ≡ submit (link_end (end_named first)) body (length body) ∷ []
           → Plays s c.world c.moment (line ∷ lines) (after_turn (submitted s c (end_named first) body r) settle)
-      by_step (Ok step) was makes_it = happened (events.Send first body) (submit (link_end (end_named first)) body (length body)) c.moment is makes_it refl
+      by_step (Ok step) was makes_it = happened (events.Send first body) (submit (link_end (end_named first)) body (length body)) c.moment tt is makes_it refl
       by_step (Err fault) was makes_it =
           let stays = refused-stays s.parties c.world (link_end (end_named first)) body fault was in
-          only (events.Send first body) (submit (link_end (end_named first)) body (length body) ∷ []) (send_refusal (end_named first) (submit_word (refusal_of fault))) is makes_it refl
+          only (events.Send first body) (submit (link_end (end_named first)) body (length body) ∷ []) (send_refusal (end_named first) (submit_word (refusal_of fault))) tt is makes_it refl
           stays.0 (quiet-told s.parties c.world (link_end (end_named first)) body stays.1) (unsent-has (end_named first) (submit_word (refusal_of fault)) (submit-plain fault))
 
       by_open : (b : Bool) → is_open s.plan c.moment ≡ b
@@ -237,7 +246,7 @@ module _ (s : LinkSetup) (c : LinkCourse) (n : ℕ) (line : List ℕ) (lines : L
           then submitted s c (end_named first) body (submission_at s.parties c.world (link_end (end_named first)) body (length body))
           else only_says s c (send_refusal (end_named first) (codes "Closed"))) settle)
       by_open true opens = by_step (submission_at s.parties c.world (link_end (end_named first)) body (length body)) refl (rw opens refl)
-      by_open false shut = only (events.Send first body) [] (send_refusal (end_named first) (codes "Closed")) is (rw shut refl) refl refl (told-none s.parties c.world)
+      by_open false shut = only (events.Send first body) [] (send_refusal (end_named first) (codes "Closed")) tt is (rw shut refl) refl refl (told-none s.parties c.world)
           (unsent-has (end_named first) (codes "Closed") shut-plain)
 
   delivered_turn : (k : ℕ) → later_said line ≡ Ok (events.Deliver k) → Plays s c.world c.moment (line ∷ lines) (after_turn (delivers s c k) settle)
@@ -246,22 +255,22 @@ module _ (s : LinkSetup) (c : LinkCourse) (n : ℕ) (line : List ℕ) (lines : L
       by_got : (got : Option LinkSent) → slice_get c.world.sent k ≡ got → makes s c.moment (events.Deliver k) ≡ deliver k ∷ []
           → Plays s c.world c.moment (line ∷ lines) (after_turn (delivered s c k got) settle)
       by_got None none makes_it =
-          only (events.Deliver k) (deliver k ∷ []) deliver_refusal is makes_it refl (rw none refl)
+          only (events.Deliver k) (deliver k ∷ []) deliver_refusal tt is makes_it refl (rw none refl)
           (told-one s.parties c.world (deliver k) ∙ rw none refl) undelivered-has
-      by_got (Some d) some makes_it = happened (events.Deliver k) (deliver k) c.moment is makes_it refl
+      by_got (Some d) some makes_it = happened (events.Deliver k) (deliver k) c.moment tt is makes_it refl
 
       by_open : (b : Bool) → is_open s.plan c.moment ≡ b
           → Plays s c.world c.moment (line ∷ lines) (after_turn (if b then delivered s c k (slice_get c.world.sent k) else only_says s c closed_refusal) settle)
       by_open true opens = by_got (slice_get c.world.sent k) refl (rw opens refl)
-      by_open false shut = only (events.Deliver k) [] closed_refusal is (rw shut refl) refl refl (told-none s.parties c.world) closed-has
+      by_open false shut = only (events.Deliver k) [] closed_refusal tt is (rw shut refl) refl refl (told-none s.parties c.world) closed-has
 
   passed_turn : (now : ℕ) → later_said line ≡ Ok (events.Clock now) → Plays s c.world c.moment (line ∷ lines) (after_turn (passes_to s c now) settle)
   passed_turn now is = by_late (nat_le no_moment now)
     where
       by_back : (b : Bool) → nat_lt now c.moment ≡ b
           → Plays s c.world c.moment (line ∷ lines) (after_turn (if b then only_says s c [] else event_turn s c (clock (elapsed s.plan now)) now) settle)
-      by_back true back = only (events.Clock now) [] [] is (rw back refl) (rw back refl) refl (told-none s.parties c.world) none-has
-      by_back false on = happened (events.Clock now) (clock (elapsed s.plan now)) now is (rw on refl) (rw on refl)
+      by_back true back = only (events.Clock now) [] [] tt is (rw back refl) (rw back refl) refl (told-none s.parties c.world) none-has
+      by_back false on = happened (events.Clock now) (clock (elapsed s.plan now)) now tt is (rw on refl) (rw on refl)
 
       by_late : (b : Bool) → Plays s c.world c.moment (line ∷ lines)
           (after_turn (if b then ends_run [] statuses.Limit else if nat_lt now c.moment then only_says s c [] else event_turn s c (clock (elapsed s.plan now)) now) settle)
@@ -335,7 +344,7 @@ module _ (s : LinkSetup) (c : LinkCourse) (n : ℕ) (line : List ℕ) (lines : L
       by_late false = by_next (next_turn (picks_end s c (said_picks words)).world (picks_end s c (said_picks words)).new) refl
 
   refused : (fault : LineFault) → Plays s c.world c.moment (line ∷ lines) (record { text = refusal_line n fault; ends = Some statuses.Refused })
-  refused fault = stops s c.world c.moment (line ∷ lines) (refusal_line n fault) statuses.Refused (refusal-has n fault)
+  refused fault = stops s c.world c.moment (line ∷ lines) (refusal_line n fault) statuses.Refused (λ done. absurd (cc)) (refusal-has n fault)
 
   pub turned : (said : Result LinkEvent LineFault) → ((e : LinkEvent) → said ≡ Ok e → later_said line ≡ Ok e)
       → Plays s c.world c.moment (line ∷ lines) (after_turn (link_line n s c said) settle)

@@ -1,15 +1,17 @@
 -- What the text of `link` says of its script: the red parts that its `up` lines have were handed up by
 -- the events that the lines make, and by those of a drain after them; each is a block that a line
--- `send` has, whole and once; and where the link is hopeful and has room, a drain from there
--- completes the sessions, in no more events than they cost and old datagrams do that come once more.
+-- `send` has, whole and once; and where the link is hopeful and has room, a drain from there that the
+-- plan doesn't end completes the sessions, in no more events than they cost and, where nobody is
+-- turned away, old datagrams do that come once more.
 
-use Rattle.std.specs.Prelude.{◌≡◌, ℕ, ◌+◌, ◌*◌, ◌≤◌, ◌⊎◌, Bool, nat_lt, length, map}
+use Rattle.std.specs.Prelude.{◌≡◌, ◌≢◌, ℕ, ◌+◌, ◌*◌, ◌≤◌, ◌⊎◌, Bool, nat_lt, length, map}
 use Rattle.std.specs.Prelude.{List, [], ◌∷◌, ◌++◌, codes, Option, None, Some, Result, Ok}
 use Rattle.std.specs.Prelude.{if◌then◌else◌}
 use Rattle.std.specs.List.{AllByRecursion, flat_map}
 use Rattle.std.specs.Fmt.{decimal}
 use Rattle.hex.specs.Hex.{encode_lower}
 use Rattle.edge_traits.specs.declared.status.Status.{Status}
+use Rattle.edge_traits.specs.declared.status.Status.TheVariants as statuses
 use Rattle.edge_traits.specs.Settled.{at_end}
 use Rattle.command_frame.specs.InputLines.{lines_of, lines_within}
 use Rattle.command_frame.specs.Within.{within}
@@ -55,6 +57,17 @@ abbrev pub if_drain : Option LinkEvent → List LinkEvent
 if_drain None = []
 if_drain (Some drain) = drain ∷ []
 
+-- what a line says that may be an event on the link: a block is sent, a datagram is delivered, or the
+-- clock is set
+abbrev pub IsEvent : LinkEvent → Type 0
+IsEvent (events.Send first body) = Unit {0}
+IsEvent (events.Deliver k) = Unit {0}
+IsEvent (events.Clock now) = Unit {0}
+IsEvent (events.Link segment timeout limit cap start) = ⊥
+IsEvent (events.Window from to) = ⊥
+IsEvent events.Drain = ⊥
+IsEvent (events.DrainBy picks) = ⊥
+
 -- The first line sets up a link, lines after it give its windows, further ones say these events,
 -- and one after them drains the link, or none; these lines are left.
 pub record SaysScript
@@ -67,6 +80,7 @@ pub record SaysScript
   pub sets_up : start_in first ≡ Ok start
   pub gives : map later_said given ≡ map says_window windows
   pub says : map later_said later ≡ map Ok (said ++ if_drain drain)
+  pub are_events : AllByRecursion IsEvent said
 
 -- ---- what they make on the link
 
@@ -246,19 +260,21 @@ IsSent said p =
     (first : Bool) × (IsIn (events.Send first p.block) said)
     × (link_end (end_named first) ≡ p.from) × (p.red ≡ length p.block)
 
--- The text of a script that sets up a link. Its `up` lines are exactly the red parts that are handed
--- up at the events that the lines make and at those of a drain after them, and its notes those of
--- these events; a line `end` or `stop` has the number of the drain's. Each red part is the front of
--- the block that was submitted for its session, up to its red length; each of these is the block of a
--- line `send`, all of it red; no session's is handed up twice, and no session number is given twice.
--- And a drain completes the sessions.
-pub record PlaysScript (lines : List (List ℕ)) (text : List ℕ) : Type 0 where
+-- The text of a script that sets up a link; where the run is done, these are all its lines. Its `up`
+-- lines are exactly the red parts that are handed up at the events that the lines make and at those
+-- of a drain after them, and its notes those of these events; a line `end` or `stop` has the number
+-- of the drain's. Each red part is the front of the block that was submitted for its session, up to
+-- its red length; each of these is the block of a line `send`, all of it red; no session's is handed
+-- up twice, and no session number is given twice. And a drain completes the sessions, where
+-- `DrainCompletes` says so.
+pub record PlaysScript (lines : List (List ℕ)) (text : List ℕ) (ending : Status) : Type 0 where
   pub start : LinkStart
   pub windows : List Window
   pub said : List LinkEvent
   pub drain : Option LinkEvent
   pub left : List (List ℕ)
   pub says : SaysScript lines start windows said drain left
+  pub all : ending ≡ statuses.Done → left ≡ []
   pub made : List Event
   pub drains :
       DrainMakes (link_setup start windows)
@@ -297,8 +313,10 @@ pub record PlaysScript (lines : List (List ℕ)) (text : List ℕ) : Type 0 wher
       (link_by (link_setup start windows) (script_events (link_setup start windows) start.now said))
       drain made
 
--- or no link is set up, and nothing is handed up
-pub record PlaysNothing (text : List ℕ) : Type 0 where
+-- or nothing is told of a link, and the run isn't done: so where none is set up, and where a limit is
+-- passed or a line is refused before anything is told
+pub record PlaysNothing (text : List ℕ) (ending : Status) : Type 0 where
+  pub undone : ending ≢ statuses.Done
   pub ups : up_lines_in text ≡ []
   pub notes : note_lines_in text ≡ []
   pub ends : end_lines_in text ≡ []
@@ -308,7 +326,7 @@ pub record PlaysNothing (text : List ℕ) : Type 0 where
 -- octets are looked at
 abbrev pub KeepsLinkLaw : ℕ → List ℕ → List ℕ → Status → Type 0
 KeepsLinkLaw most input text ending =
-    PlaysScript (lines_within most input) text ⊎ PlaysNothing text
+    PlaysScript (lines_within most input) text ending ⊎ PlaysNothing text ending
 
 -- what `link` answers to every input keeps it
 pub record EndsLawfully (most : ℕ) (input : List ℕ) : Type 0 where

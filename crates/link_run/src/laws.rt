@@ -22,10 +22,11 @@ pub fn turns_are_one()
 {}
 
 /// Whatever the input: the `up` lines of what is written are red parts that were handed up, each whole
-/// and as a line `send` has it, and once; the notes are those of the engines; and from where the link
-/// is hopeful and has room a drain completes the sessions. It has no more events than they cost, however
-/// many gaps lie between; and with picks three more at most for each old datagram that comes once
-/// more.
+/// and as a line `send` has it, and once; the notes are those of the engines. From where the link is
+/// hopeful and has room a drain has no more events than the sessions cost, however many gaps lie
+/// between, and completes them unless the plan ends first. With picks it completes them too where
+/// these are of new datagrams alone, or where nobody is turned away; then it has three events more at
+/// most for each old datagram that comes once more.
 pub fn links_keep_law()
     ensures { LinksKeepLaw }
 {}

@@ -152,8 +152,8 @@ impl Sink for SureSink {
 }
 
 /// A sink over std's writer. A write that was only interrupted by a signal is made again, up to
-/// `MOST_AGAIN` times. It counts one fault where it failed for good, or took nothing of a piece that
-/// has an octet. What it takes goes to the writer.
+/// `MOST_AGAIN` calls in all. It counts one fault where it failed for good, or took nothing of a
+/// piece that has an octet. What it takes goes to the writer.
 #[derive(Drop)]
 pub struct Writing<W: Drop> {
     writer: W,

@@ -133,14 +133,13 @@ impl Source for SureSource {
     }
 }
 
-/// How often a call is made again that was only interrupted by a signal. A call that was interrupted
-/// once more has failed.
+/// How many calls in a row may be interrupted by a signal before the last of them counts as failed.
 pub const MOST_AGAIN: u32 = 1000;
 
 /// A source over std's reader. It tells the octets that its reader tells. A read that was only
-/// interrupted by a signal is made again, up to `MOST_AGAIN` times, and one that fails otherwise
-/// isn't: no clause can see how often the reader is called, so that is only tested. A read counts
-/// one fault, where it failed for good.
+/// interrupted by a signal is made again, up to `MOST_AGAIN` calls in all, and one that fails
+/// otherwise isn't: no clause can see how often the reader is called, so that is only tested. A read
+/// counts one fault, where it failed for good.
 #[derive(Drop)]
 pub struct Reading<R: Drop> {
     reader: R,

@@ -113,10 +113,14 @@ picks_of [] = Some []
 picks_of (word ∷ words) =
     joined (pick_of word) (λ pick. joined (picks_of words) (λ picks. Some (pick ∷ picks)))
 
--- picks, at most 100,000; how many there are is looked at first
+-- the most picks of a line
+abbrev pub most_picks : ℕ
+most_picks = 100000
+
+-- picks, no more than the most; how many there are is looked at first
 abbrev pub picks_line : List (List ℕ) → Result LinkEvent LineFault
 picks_line words =
-    if nat_lt 100000 (length words) then Err faults.Word
+    if nat_lt most_picks (length words) then Err faults.Word
     else or_fault (picks_of words) faults.Number (λ picks. Ok (events.DrainBy picks))
 
 -- the words of a line `drain`, after the first: none, or picks

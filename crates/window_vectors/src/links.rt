@@ -32,7 +32,8 @@ fn a_drain_goes_on_in_the_next_window(rt: HostRuntime) -> Result<(), Fail> {
     let mut world = link(rt.alloc(), &[(0, 5_000), (100_000, 200_000)])?;
     assert!(rt; world.submit(End::First, b"abc".as_slice(), 3).is_ok());
     let done = world.drain()?;
-    assert_eq!(rt; (done.events, done.plan_ends), (4, false));
+    assert_eq!(rt; done.events, 4);
+    assert!(rt; !done.plan_ends);
     for at in done.effects.as_slice() {
         assert_eq!(rt; at.now, 105_000);
     }
@@ -47,8 +48,10 @@ fn a_plan_ends_a_drain(rt: HostRuntime) -> Result<(), Fail> {
     let mut world = link(rt.alloc(), &[(0, 5_000)])?;
     assert!(rt; world.submit(End::First, b"abc".as_slice(), 3).is_ok());
     let done = world.drain()?;
-    assert_eq!(rt; (done.events, done.plan_ends), (0, true));
-    assert_eq!(rt; (world.now(), world.sent()), (0, 1));
+    assert_eq!(rt; done.events, 0);
+    assert!(rt; done.plan_ends);
+    assert_eq!(rt; world.now(), 0);
+    assert_eq!(rt; world.sent(), 1);
     Ok(())
 }
 

@@ -8,6 +8,7 @@ import struct
 import sys
 
 from rows import ROOT, Row
+import config_model
 import format_model
 import translate_model
 
@@ -66,6 +67,18 @@ def of_stories(word, folder):
             yield row_of(f"{word} of {story}", [word], given, wanted)
 
 
+def of_configurations():
+    """The rows of the configurations, where this Python reads TOML: each is shown as the model has it,
+    and what is shown means the same."""
+    for name in sorted(os.listdir(EXAMPLES)):
+        if name.endswith(".toml") and config_model.tomllib:
+            given = octets_in(name)
+            wanted = config_model.shown(given.decode()).encode()
+            words = ["gate", "check", "/dev/stdin"]
+            yield row_of(f"gate check of {name}", words, given, wanted)
+            yield row_of(f"gate check of what is shown of {name}", words, wanted, wanted)
+
+
 def example_rows():
     """All rows of the examples."""
     yield row_of("receive of first.hex", ["receive"], octets_in("first.hex"), FIRST.encode())
@@ -77,3 +90,4 @@ def example_rows():
     yield from of_bundles("bundles-7.bin")
     yield from of_stories("world", "worlds")
     yield from of_stories("link", "links")
+    yield from of_configurations()

@@ -135,7 +135,7 @@ def rows_of(path):
     command = os.path.basename(path)
     words = [command.encode()]
     row = head = None
-    with open(path, encoding="ascii", newline="\n") as file:
+    with open(path, encoding="utf-8", newline="\n") as file:
         for number, line in enumerate(file, 1):
             line = line.rstrip("\n")
             where = f"{command}:{number}"

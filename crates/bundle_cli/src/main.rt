@@ -3,12 +3,14 @@
 //! why it ended so, a line on standard error does.
 //!
 //! Two words it answers itself, where each is the only one: `--help` (or `-h`) and `--version`.
+//! `gate check FILE` it answers by `gate_check::check`, over the file that it opens.
 //! It writes nothing where an argument isn't UTF-8 (status 2) or where memory runs out before
 //! the call (status 7).
 #![tactic(auto)]
 
 mod advising;
 mod end;
+mod gate;
 mod given;
 mod help;
 mod hint;
@@ -28,6 +30,7 @@ mod words;
 use advising::{announce, are_lines, hint_of_run, reads_of};
 use edge_traits::{Pause, Reading, Status, SystemClock, Writing};
 use end::{end, end_of_print, unusable};
+use gate::check_file;
 use gateway_run::run_told;
 use help::{VERSION, print_help};
 use remembering::{Ending, Remembering};
@@ -51,6 +54,11 @@ fn main(rt: HostRuntime) -> ExitCode {
         }
         [word] if word.octets() == b"--version".as_slice() => {
             return end_of_print(rt.print(VERSION));
+        }
+        // It reads the file that it names, and not standard input.
+        [gate, check, file]
+            if gate.octets() == b"gate".as_slice() && check.octets() == b"check".as_slice() => {
+            return check_file(&rt, &words, file.text());
         }
         // Its addresses are looked at first, whatever its other words are.
         [word, _, old_bind, old_peer, new_bind, new_peer, _]

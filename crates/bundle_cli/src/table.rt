@@ -277,4 +277,18 @@ at g.n of the new
             fimdahol serve GATE OLD_BIND OLD_PEER NEW_BIND NEW_PEER TURNS",
         passes: "passes a limit",
     },
+    CommandText {
+        word: "gate",
+        usage: "\
+fimdahol gate check FILE          shows what a gateway's configuration means
+",
+        writes: "\
+gate check reads FILE, which is TOML, and writes what it means as a file that says all of it, with its
+defaults. Where FILE is refused, nothing is written, and standard error says where and what is wanted:
+FILE: WHERE: WANTED
+",
+        limits: "",
+        wants: "gate wants the word check and a file's name: fimdahol gate check FILE",
+        passes: "passes a limit",
+    },
 ];

@@ -25,7 +25,7 @@ empty_refused : refusal_of (Some (table no_members)) ≡ Some (refusals.Wrong pl
 unfolding refusal_of table_refusal first_unknown first_misfit fits
 empty_refused = refl
 
-not_blank : (text : List ℕ) (m : Members) → parse_document text ≡ Some m → IsBlank text
+pub not_blank : (text : List ℕ) (m : Members) → parse_document text ≡ Some m → IsBlank text
     → refusal_of (Some (table m)) ≡ Some (refusals.Wrong places.File keys.Gateway wants.Table)
 not_blank text m read blank =
     let both : Some m ≡ Some no_members = sym read ∙ blank_document text blank in

@@ -1,14 +1,12 @@
-//! The project's tables of tests over the operation of the gateway: moments as texts, what a face
-//! sends, and when, the lines of the log, and the metrics.
+//! The project's tables of tests over the operation of the gateway: its configuration, moments as
+//! texts, what a face sends, and when, the lines of the log, and the metrics.
 //!
 //! What is wanted comes from outside, never from what the program printed; docs/vectors.md says for
 //! each table where its values come from. Nothing is offered to other crates.
 #![tactic(auto)]
 
 #[cfg(test)]
-mod config;
-#[cfg(test)]
-mod examples;
+mod checks;
 #[cfg(test)]
 mod lines;
 #[cfg(test)]

@@ -159,9 +159,9 @@ length-live o p i are_live distinct =
       length-live_all o p [] = refl
       length-live_all o p (e ∷ t) = ap suc (length-live_all o p t)
 
-pub full-is : (o : ℕ) (p : PolicyValue) (i : Inbound) (runs len : ℕ) → AreLive o p i.receivers.entries → IsDistinct nat_eq (keys_of i.receivers.entries)
-    → len ≡ length i.receivers.entries → nat_le 65536 (runs + len) ≡ nat_le 65536 (runs + length (inbound_of i).receivers)
-full-is o p i runs len are_live distinct is = ap (λ k. nat_le 65536 (runs + k)) (is ∙ sym (length-live o p i are_live distinct))
+pub kept-are : (o : ℕ) (p : PolicyValue) (i : Inbound) (len : ℕ) → AreLive o p i.receivers.entries → IsDistinct nat_eq (keys_of i.receivers.entries)
+    → len ≡ length i.receivers.entries → len ≡ length (inbound_of i).receivers
+kept-are o p i len are_live distinct is = is ∙ sym (length-live o p i are_live distinct)
 
 pub room-left : (o : ℕ) (p : PolicyValue) (i : Inbound) (n : ℕ) → AreLive o p i.receivers.entries → IsDistinct nat_eq (keys_of i.receivers.entries)
     → n ≡ length i.receivers.entries → n < 64 → None ≡ evicted_in (inbound_of i)

@@ -1,6 +1,7 @@
 mod ClosedLemmas
 mod TableLemmas
 mod OrderLemmas
+mod KeptLemmas
 mod ChangeLemmas
 mod InboundLemmas
 mod SoundLemmas

@@ -3,6 +3,7 @@ pub mod Closed
 pub mod Effects
 pub mod Refused
 pub mod Values
+pub mod Sessions
 pub mod Shows
 pub mod Bounds
 pub mod Steps

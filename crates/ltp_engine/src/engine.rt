@@ -4,6 +4,7 @@ ghost use Rattle.std.specs.Prelude.{◌≡◌, ◌≢◌, ◌-◌, ◌<◌, ◌�
 ghost use Rattle.ltp_segment.specs.PolicyViews.{policy_value};
 ghost use Rattle.ltp_segment.specs.Reading.{segment_of};
 ghost use Rattle.ltp_session.specs.Engine.{starts, datagram_step, submits, submit_step, tick_step};
+ghost use Rattle.ltp_engine.specs.Sessions.{is_open, is_handed_up};
 ghost use Rattle.ltp_engine.specs.Shows.{Shows};
 ghost use Rattle.ltp_engine.specs.Bounds.{IsBounded};
 ghost use Rattle.ltp_engine.specs.Steps.{new_engine, deadline_of, is_due_at, Steps, Submits};
@@ -69,7 +70,36 @@ impl Engine {
         self.parts.sending()
     }
 
-    /// The number of the next session. It takes no memory.
+    /// How many sessions are being received, those that are cancelling counted. It takes no memory.
+    pub fn receiving(&self) -> usize
+        requires { self.now.spent ≡ false }
+        ensures { result ≡ length self.now.inbound.receivers }
+    {
+        let _ = self.spent;
+        self.parts.receiving()
+    }
+
+    /// Whether a session that the engine began is open: it is kept, and isn't cancelling. Before and
+    /// after a call this tells whether the session ended in it. It takes no memory.
+    pub fn is_open(&self, session: u64) -> bool
+        requires { self.now.spent ≡ false }
+        ensures { result ≡ is_open session self.now.senders }
+    {
+        let _ = self.spent;
+        self.parts.is_open(session)
+    }
+
+    /// Whether a session that the peer began is kept, and its red part was handed up. Once such a
+    /// session is over, and where there was none, it isn't. It takes no memory.
+    pub fn is_handed_up(&self, session: u64) -> bool
+        requires { self.now.spent ≡ false }
+        ensures { result ≡ is_handed_up session self.now.inbound.receivers }
+    {
+        let _ = self.spent;
+        self.parts.is_handed_up(session)
+    }
+
+    /// The number of the next session; 2^32 where none is left. It takes no memory.
     pub fn next_session(&self) -> u64
         ensures { result ≡ self.now.next }
     {

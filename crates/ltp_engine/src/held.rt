@@ -8,6 +8,7 @@ ghost use Rattle.ltp_session.specs.Receiver.{on_report_ack, on_receiver_cancel_a
 ghost use Rattle.ltp_session.specs.Receiver.{on_receiver_tick};
 ghost use Rattle.ltp_session.specs.Views.{changed, answer_of};
 ghost use Rattle.ltp_receiver.specs.Receiver.{on_open_piece, is_kept_cancelling, deadline_of, IsOpen};
+ghost use Rattle.ltp_receiver.specs.Receiver.{is_kept_handed_up};
 
 use ltp_receiver::Receiver;
 use ltp_segment::{PieceView, Step};
@@ -98,5 +99,12 @@ impl Held {
         ensures { result ≡ is_kept_cancelling self.now.kept }
     {
         self.receiver.is_cancelling()
+    }
+
+    pub fn is_handed_up(&self) -> bool
+        requires whole { self.now.spent ≡ false }
+        ensures { result ≡ is_kept_handed_up self.now.kept }
+    {
+        self.receiver.is_handed_up()
     }
 }

@@ -22,6 +22,7 @@ ghost use Rattle.ltp_session.specs.Step.{unreachable};
 ghost use Rattle.ltp_session.specs.Engine.{tick_segments, tick_remarks, least_deadline};
 ghost use Rattle.ltp_session.specs.Views.{datagrams_of, green_view};
 ghost use Rattle.ltp_engine.specs.Notes.{is_taken};
+ghost use Rattle.ltp_engine.specs.Sessions.{is_handed_up};
 ghost use Rattle.ltp_engine.specs.Tables.{table_of, AreLive, by_number, is_ended};
 ghost use Rattle.ltp_engine.specs.Closed.{all_closed};
 ghost use Rattle.ltp_engine.specs.Inbound.{moved, Turns};
@@ -161,6 +162,31 @@ impl Inbound {
         }
         self.finish(n, true, false)?;
         Ok(noting(out, Note::Cancelled { session: n, reason }))
+    }
+
+    /// How many sessions are kept.
+    pub fn len(&self, terms: &Terms) -> usize
+        requires { AreLive terms.now.originator (policy_value terms.now.policy)
+            self.now.receivers.entries }
+        ensures { result ≡ length (inbound_of self.now).receivers }
+    {
+        let _ = terms;
+        self.receivers.len()
+    }
+
+    /// Whether a session is kept, and its red part was handed up.
+    pub fn is_handed_up(&self, terms: &Terms, n: u64) -> bool
+        requires { AreLive terms.now.originator (policy_value terms.now.policy)
+            self.now.receivers.entries }
+        ensures { result ≡ is_handed_up n (inbound_of self.now).receivers }
+    {
+        let _ = terms;
+        // The contract of `len` tells that no number stands twice.
+        let _kept = self.receivers.len();
+        match self.receivers.get(&n) {
+            None => false,
+            Some(receiver) => receiver.is_handed_up(),
+        }
     }
 
     /// Whether there is no room for a new session in the record of earlier ones.

@@ -12,6 +12,7 @@ ghost use Rattle.ltp_session.specs.Engine.{tick_segments, tick_remarks, least_de
 ghost use Rattle.ltp_session.specs.Sender.{on_report, on_receiver_cancel, on_sender_cancel_ack};
 ghost use Rattle.ltp_session.specs.Sender.{on_sender_tick, sender_deadline};
 ghost use Rattle.ltp_session.specs.Views.{datagrams_of};
+ghost use Rattle.ltp_engine.specs.Sessions.{is_open};
 ghost use Rattle.ltp_engine.specs.Tables.{table_of, live_all, AreLive, Does, swept, with_begun};
 ghost use Rattle.ltp_engine.specs.Ticks.{sender_change, sender_ticked, with_ticks};
 
@@ -207,6 +208,18 @@ pub(crate) fn tick(
         told = told.add(step)?;
     }
     Ok(told)
+}
+
+/// Whether a session is open: kept, and not cancelling.
+pub(crate) fn is_open(senders: &Senders, terms: Terms, n: u64) -> bool
+    requires { AreLive terms.originator (policy_value terms.policy) senders.now.entries }
+    ensures { result ≡ is_open n (table_of senders.now.entries) }
+{
+    let _ = terms;
+    match senders.get(&n) {
+        None => false,
+        Some(sender) => sender.is_open(),
+    }
 }
 
 /// The least deadline.

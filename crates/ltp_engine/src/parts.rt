@@ -7,6 +7,7 @@ ghost use Rattle.ltp_segment.specs.declared.session.Note.TheVariants as notes;
 ghost use Rattle.ltp_segment.specs.declared.session.TheConstants.{BLOCK_MAX};
 ghost use Rattle.ltp_segment.specs.Reading.{segment_of};
 ghost use Rattle.ltp_segment.specs.Views.{content_value, segment_value};
+ghost use Rattle.ltp_engine.specs.Sessions.{is_open, is_handed_up};
 ghost use Rattle.ltp_engine.specs.Sides.{IsFit};
 ghost use Rattle.ltp_engine.specs.Ties.{own_step, peer_step, begun_step};
 ghost use Rattle.ltp_engine.specs.Ties.{sent_of, handed_of};
@@ -67,6 +68,30 @@ impl Parts {
         ensures { result ≡ length (value_of false self.now).senders }
     {
         self.senders.len()
+    }
+
+    /// How many sessions are being received.
+    pub fn receiving(&self) -> usize
+        requires { IsWhole self.now }
+        ensures { result ≡ length (value_of false self.now).inbound.receivers }
+    {
+        self.inbound.len(&self.peer_terms())
+    }
+
+    /// Whether a session that the engine began is open.
+    pub fn is_open(&self, n: u64) -> bool
+        requires { IsWhole self.now }
+        ensures { result ≡ is_open n (value_of false self.now).senders }
+    {
+        outbound::is_open(&self.senders, self.own_terms(), n)
+    }
+
+    /// Whether a session that the peer began is kept, and its red part was handed up.
+    pub fn is_handed_up(&self, n: u64) -> bool
+        requires { IsWhole self.now }
+        ensures { result ≡ is_handed_up n (value_of false self.now).inbound.receivers }
+    {
+        self.inbound.is_handed_up(&self.peer_terms(), n)
     }
 
     /// The least deadline of all sessions.

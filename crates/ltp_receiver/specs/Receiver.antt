@@ -41,6 +41,11 @@ abbrev pub is_kept_cancelling : Option Receiving → Bool
 is_kept_cancelling None = false
 is_kept_cancelling (Some r) = is_cancelling r.phase
 
+-- the session isn't over, and its red part was handed up
+abbrev pub is_kept_handed_up : Option Receiving → Bool
+is_kept_handed_up None = false
+is_kept_handed_up (Some r) = r.handed_up
+
 -- when the timer is due, where one runs
 abbrev pub deadline_of : Option Receiving → Option ℕ
 deadline_of None = None

@@ -11,7 +11,8 @@ ghost use Rattle.ltp_session.specs.Receiver.{on_report_ack, on_receiver_cancel_a
 ghost use Rattle.ltp_session.specs.Receiver.{on_receiver_tick};
 ghost use Rattle.ltp_session.specs.Views.{answer_of, changed};
 ghost use Rattle.ltp_receiver.specs.Receiver.{new_session, IsOpen, on_open_piece, is_kept_outside};
-ghost use Rattle.ltp_receiver.specs.Receiver.{is_kept_cancelling, deadline_of, cells_of, Covers};
+ghost use Rattle.ltp_receiver.specs.Receiver.{is_kept_cancelling, is_kept_handed_up, deadline_of};
+ghost use Rattle.ltp_receiver.specs.Receiver.{cells_of, Covers};
 
 use crate::kept::{Kept, Terms, sending};
 use ltp_segment::{BLOCK_MAX, Outs, PieceView, Policy, Step};
@@ -179,6 +180,17 @@ impl Receiver {
         match &self.kept {
             None => false,
             Some(kept) => kept.phase.is_cancelling(),
+        }
+    }
+
+    /// Whether the red part was handed up, and the session isn't over. It takes no memory.
+    pub fn is_handed_up(&self) -> bool
+        requires whole { self.now.spent ≡ false }
+        ensures { result ≡ is_kept_handed_up self.now.kept }
+    {
+        match &self.kept {
+            None => false,
+            Some(kept) => kept.handed_up,
         }
     }
 

@@ -1,6 +1,6 @@
 -- What a sender shows of its session.
 
-use Rattle.std.specs.Prelude.{ℕ, Bool, true, false, List, [], Option, None, Some}
+use Rattle.std.specs.Prelude.{ℕ, Bool, true, false, not, List, [], Option, None, Some}
 use Rattle.ltp_segment.specs.Policy.{PolicyValue}
 use Rattle.ltp_session.specs.declared.name.SessionName.{SessionName}
 use Rattle.ltp_session.specs.Step.{StepValue, after}
@@ -33,3 +33,8 @@ is_cancelling (sender_cancelling reason timer) = true
 abbrev pub is_kept_cancelling : Option Sending → Bool
 is_kept_cancelling None = false
 is_kept_cancelling (Some s) = is_cancelling s.phase
+
+-- the session is neither over nor cancelling
+abbrev pub is_kept_open : Option Sending → Bool
+is_kept_open None = false
+is_kept_open (Some s) = not (is_cancelling s.phase)

@@ -7,7 +7,7 @@ ghost use Rattle.ltp_segment.specs.Views.{report_value};
 ghost use Rattle.ltp_session.specs.Sender.{begin, on_report, on_sender_tick, on_receiver_cancel, on_sender_cancel_ack};
 ghost use Rattle.ltp_session.specs.Step.{Sends};
 ghost use Rattle.ltp_session.specs.Views.{datagrams_of, answer_of, changed};
-ghost use Rattle.ltp_sender.specs.Sender.{is_kept_cancelling, begun_with, deadline_of, claimed_of};
+ghost use Rattle.ltp_sender.specs.Sender.{is_kept_cancelling, is_kept_open, begun_with, deadline_of, claimed_of};
 
 use crate::kept::{Kept, Terms};
 use crate::pieces::{send_green, send_red};
@@ -225,6 +225,17 @@ impl Sender {
         ensures { result ≡ not (is_some self.now.kept) }
     {
         self.kept.is_none()
+    }
+
+    /// Whether the session is open: neither over nor cancelling. It takes no memory.
+    pub fn is_open(&self) -> bool
+        requires whole { self.now.spent ≡ false }
+        ensures { result ≡ is_kept_open self.now.kept }
+    {
+        match &self.kept {
+            None => false,
+            Some(kept) => !kept.is_cancelling(),
+        }
     }
 
     /// Which octets of the red part were claimed, below its length. Once the session is over there

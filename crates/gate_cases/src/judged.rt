@@ -50,6 +50,14 @@ impl Pieces {
         self.items.as_slice()
     }
 
+    /// The blocks, moved and not copied.
+    pub fn into_vec(self) -> Vec<Octets>
+        ensures { result.items ≡ self }
+    {
+        let Pieces { items } = self;
+        items
+    }
+
     /// How many blocks there are.
     pub fn len(&self) -> usize
         ensures { result ≡ length self.now }

@@ -18,7 +18,8 @@ use Rattle.gateway_core.specs.Moments.{MomentsValue}
 use Rattle.gateway_core.specs.Gate.{Gate, GateSetup, GateStep, EventIn, a_datagram_in, a_tick_in, a_block_in, event_in, noted_at, reports_in}
 use Rattle.gateway_core.specs.Gate.{at_face, and_then, in_turn, does_at, hears_at, submission_at, sends_unless, sends_at, sends_in, is_unreported}
 use Rattle.gateway_core.specs.Gate.{answers_in, decides_in, passes_in, judged_at, arrives_in, ticks_in, gate_in, gate_after_in, up_at}
-use Rattle.gateway_core.specs.Begun.{Begun, begun_at, pieces_begun, report_begun, decision_begun, passages_begun, begun_with}
+use Rattle.gateway_core.specs.declared.begun.Begun.{Begun}
+use Rattle.gateway_core.specs.Begun.{begun_at, pieces_begun, report_begun, decision_begun, passages_begun, begun_with}
 use Rattle.gateway_core.specs.Comings.{if_same, begun_come, told_first, moments_of, event_comes, comings_in}
 use Rattle.gateway_core.specs.RedParts.{AreEnginesIn, AreEngines, HandsUpRedPartsIn, HandsUpRedParts, HandsUpEachOnceIn, HandsUpEachOnce, ups_in, ups_on, face_ups_in}
 
@@ -253,7 +254,7 @@ unfolding comings_in pieces_of
 pieces-told s at n earlier event =
     silent-event (pieces_of (at_face s.parties at) n) (λ block red now earlier. refl) (λ now earlier. refl) s at (gate_after_in s earlier) event (comings_in s at earlier)
 
-hands_up_red_parts_in : engines.HandsUpRedParts → HandsUpRedPartsIn
+pub hands_up_red_parts_in : engines.HandsUpRedParts → HandsUpRedPartsIn
 hands_up_red_parts_in law s at n earlier event body =
     rw (ups-told s at earlier event, pieces-told s at n earlier event) (law (at_face s.parties at) n (comings_in s at earlier) (told_with event at) body)
 
@@ -269,7 +270,7 @@ ups-all s at (event ∷ earlier) =
     ∙ (ap (λ us. ups_with (at_face s.parties at) (engine_after (at_face s.parties at) (comings_in s at earlier)) (told_with event at) ++ us) rest
     ∙ sym (silent-event (ups_of (at_face s.parties at)) (λ block red now earlier. refl) (λ now earlier. refl) s at (gate_after_in s earlier) event (comings_in s at earlier)))
 
-each_once_in : engines.HandsUpEachOnce → HandsUpEachOnceIn
+pub each_once_in : engines.HandsUpEachOnce → HandsUpEachOnceIn
 each_once_in law s at events = rw (ups-all s at events) (law (at_face s.parties at) (comings_in s at events))
 
 pub each_once : engines.HandsUpEachOnce → HandsUpEachOnce

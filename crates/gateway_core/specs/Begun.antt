@@ -9,17 +9,11 @@ use Rattle.gate_cases.specs.declared.judged.Judged.{Judged}
 use Rattle.gate_cases.specs.declared.report.AskedReport.{AskedReport}
 use Rattle.gate_cases.specs.Faces.{other_of}
 use Rattle.gate_cases.specs.Bundles.{status_bundle}
+use Rattle.gateway_core.specs.declared.begun.Begun.{Begun}
 use Rattle.gateway_core.specs.Moments.{MomentsValue}
 use Rattle.gateway_core.specs.Gate.{Gate, GateSetup, EventIn, a_datagram_in, a_tick_in, a_block_in}
 use Rattle.gateway_core.specs.Gate.{at_face, does_at, hears_at, sends_at, sends_in, judged_at}
 use Rattle.gateway_core.specs.Gate.{passes_in, is_unreported}
-
--- the face and the number of a session, its block, and whether that is a report or a piece
-pub record Begun : Type 0 where
-  pub face : Face
-  pub session : ℕ
-  pub block : List ℕ
-  pub is_report : Bool
 
 -- a block that is submitted at a face has the next number there
 abbrev pub begun_at : Face → Bool → List ℕ → Gate → Begun
@@ -36,13 +30,17 @@ pieces_begun s face now [] g = []
 pieces_begun s face now (block ∷ blocks) g =
     begun_at face false block g ∷ pieces_begun s face now blocks (sends_at s face now block g).gate
 
--- a report, where one is made
+-- a report that is made
+abbrev pub a_report_begun : GateSetup → Face → MomentsValue → AskedReport → Gate → List Begun
+a_report_begun s face m asked g =
+    begun_at face true (status_bundle s.gate g.counter m.wall asked) g ∷ []
+
+-- a report that is asked for, where it is made
 unfoldable pub report_begun :
     GateSetup → Face → MomentsValue → Option AskedReport → Gate → List Begun
 report_begun s face m None g = []
 report_begun s face m (Some asked) g =
-    if is_unreported face m.wall g then []
-    else begun_at face true (status_bundle s.gate g.counter m.wall asked) g ∷ []
+    if is_unreported face m.wall g then [] else a_report_begun s face m asked g
 
 -- with what is decided about a block: the pieces, and then the report
 abbrev pub decision_begun : GateSetup → Face → MomentsValue → Judged → Gate → List Begun
@@ -50,12 +48,16 @@ decision_begun s face m j g =
     pieces_begun s (other_of face) (m.at (other_of face)) j.pieces g
     ++ report_begun s face m j.report (sends_in s (other_of face) m j.pieces g).gate
 
--- with blocks that came whole at a face, one after the other
+-- with a block that came whole at a face
+abbrev pub passage_begun : GateSetup → Face → MomentsValue → List ℕ → Gate → List Begun
+passage_begun s face m block g = decision_begun s face m (judged_at s face m.wall block g) g
+
+-- with blocks that did, one after the other
 unfoldable pub passages_begun :
     GateSetup → Face → MomentsValue → List UpValue → Gate → List Begun
 passages_begun s face m [] g = []
 passages_begun s face m (up ∷ ups) g =
-    decision_begun s face m (judged_at s face m.wall up.body g) g
+    passage_begun s face m up.body g
     ++ passages_begun s face m ups (passes_in s face m up g).gate
 
 -- with an event

@@ -8,7 +8,8 @@ use Rattle.gate_cases.specs.declared.face.Face.TheVariants as faces
 use Rattle.gateway_core.specs.Moments.{MomentsValue}
 use Rattle.gateway_core.specs.Gate.{Gate, GateSetup, EventIn, a_datagram_in, a_tick_in, a_block_in}
 use Rattle.gateway_core.specs.Gate.{GateEvent, event_in, gate_after_in}
-use Rattle.gateway_core.specs.Begun.{Begun, begun_with}
+use Rattle.gateway_core.specs.declared.begun.Begun.{Begun}
+use Rattle.gateway_core.specs.Begun.{begun_with}
 
 -- of two things the first where the faces are the same, else the second
 abbrev pub if_same : {X : Type 0} → Face → Face → X → X → X

@@ -5,7 +5,9 @@ use Rattle.endpoint.specs.Endpoints.{IsEndpoint}
 use Rattle.endpoint.specs.declared.name.Endpoint.{Endpoint}
 use Rattle.endpoint.specs.declared.name.Endpoint.TheVariants.{Null}
 use Rattle.ltp_segment.specs.declared.session.TheConstants.{BLOCK_MAX}
+use Rattle.ltp_segment.specs.PolicyViews.{policy_value}
 use Rattle.ltp_session.specs.Engine.{Party}
+use Rattle.gateway_core.specs.declared.config.FaceParty.{FaceParty}
 
 -- its name is a legal one and not nobody's; a payload is cut to 1 to 4,000,000 octets
 pub record IsGateConfig (gate : Endpoint) (cut : ℕ) : Type 0 where
@@ -14,8 +16,18 @@ pub record IsGateConfig (gate : Endpoint) (cut : ℕ) : Type 0 where
   pub cut_least : 1 ≤ cut
   pub cut_most : cut ≤ 4000000
 
--- who is at a face: two numbers, the number of the first session, and blocks of any length that a
--- session carries
+-- who is at a face of the code: blocks have any length that a session carries
+abbrev pub party_value : FaceParty → Party
+party_value p = record {
+  own = p.own;
+  peer = p.peer;
+  first = p.first_session;
+  policy = policy_value p.policy;
+  most = BLOCK_MAX;
+}
+
+-- who is at a face: two numbers; the number of the first session, 1 to 2^32 - 1; and blocks of any
+-- length that a session carries
 pub record IsFaceParty (p : Party) : Type 0 where
   pub apart : p.own ≢ p.peer
   pub first : 1 ≤ p.first

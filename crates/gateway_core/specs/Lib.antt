@@ -5,6 +5,8 @@ pub mod Gate
 pub mod Begun
 pub mod Comings
 pub mod RedParts
+-- which sessions of its faces are open
+pub mod Opens
 -- what public clauses cite besides
 pub mod Config
 pub mod Notes

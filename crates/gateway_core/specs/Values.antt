@@ -1,13 +1,15 @@
 -- A gateway of the code as a value.
 
-use Rattle.std.specs.Prelude.{ℕ, ◌^◌, Bool, false, ◌&&◌, nat_lt, length, Option}
+use Rattle.std.specs.Prelude.{ℕ, ◌^◌, Bool, false, ◌&&◌, ◌||◌, nat_lt, length, Option}
 use Rattle.endpoint.specs.declared.name.Endpoint.{Endpoint}
 use Rattle.ltp_segment.specs.Policy.{PolicyValue}
 use Rattle.ltp_session.specs.Engine.{Party, earlier}
 use Rattle.ltp_engine.specs.Values.{EngineValue}
-use Rattle.ltp_engine.specs.Steps.{new_engine, deadline_of}
+use Rattle.ltp_engine.specs.Steps.{new_engine, deadline_of, is_due_at}
 use Rattle.gate_cases.specs.declared.face.Face.{Face}
+use Rattle.gate_cases.specs.declared.face.Face.TheVariants as faces
 use Rattle.gateway_core.specs.Gate.{GateSetup, at_face, party_of}
+use Rattle.gateway_core.specs.Moments.{MomentsValue}
 
 -- whether memory ran out in a call, after which the value may only be dropped; the gate's own name;
 -- the most octets of payload that a piece has; the engine of each face; and how many reports were
@@ -52,3 +54,9 @@ can_begin face v =
 -- when a timer of either engine is due next
 abbrev pub gate_deadline : GatewayValue → Option ℕ
 gate_deadline v = earlier (deadline_of v.engines.0) (deadline_of v.engines.1)
+
+-- a timer of a face is due at the face's moment
+abbrev pub is_due_in : MomentsValue → GatewayValue → Bool
+is_due_in m v =
+    is_due_at (m.at faces.Old) (deadline_of v.engines.0)
+    || is_due_at (m.at faces.New) (deadline_of v.engines.1)

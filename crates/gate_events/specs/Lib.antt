@@ -1,0 +1,7 @@
+-- What public clauses cite, in reading order.
+pub mod Own
+pub mod Events
+pub mod Counts
+pub mod Log
+-- What only ties code to it.
+pub mod Kept

@@ -8,3 +8,4 @@ pub mod JoinLemmas
 pub mod AgainLemmas
 pub mod BegunLemmas
 pub mod SmallLemmas
+pub mod CutterLemmas

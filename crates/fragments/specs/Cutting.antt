@@ -1,6 +1,6 @@
 -- Cutting a record into pieces (RFC 5050, section 5.8; RFC 9171, section 5.8).
 
-use Rattle.std.specs.Prelude.{ℕ, zero, suc, ◌+◌, ◌-◌, ◌*◌, ◌/◌, Bool, true, false, ◌||◌, nat_lt, if◌then◌else◌, List, [], ◌∷◌, length, take, drop, Option, Some, None}
+use Rattle.std.specs.Prelude.{◌≡◌, ℕ, zero, suc, ◌+◌, ◌-◌, ◌*◌, ◌/◌, Bool, true, false, ◌||◌, nat_lt, if◌then◌else◌, List, [], ◌∷◌, length, take, drop, Option, Some, None}
 use Rattle.std.specs.List.{filter, count_by}
 use Rattle.std.specs.Int.Bits.{bit_or}
 use Rattle.endpoint.specs.declared.extent.Fragment.{Fragment}
@@ -116,3 +116,8 @@ pieces full size =
     if is_longer full size
     then pieces_from full size 0 (how_many size (octets_of full.shared.content))
     else full ∷ []
+
+-- The next of some pieces was given, and the others are left; or there was none.
+abbrev pub Gives : List Full → List Full → Option Full → Type 0
+Gives old new (Some piece) = old ≡ piece ∷ new
+Gives old new None = (old ≡ []) × (new ≡ [])

@@ -52,7 +52,7 @@ pub(crate) fn octets_of(content: &Content) -> &[u8]
 }
 
 /// Whether a record must stay whole: its flags say so, or no name tells its fragments from others.
-fn must_not(shared: &Shared) -> bool
+pub(crate) fn must_not(shared: &Shared) -> bool
     ensures { result ≡ must_not shared.now }
 {
     shared.flags / 4 % 2 == 1 || is_null(&shared.source)
@@ -93,7 +93,7 @@ fn pieces(alloc: Global, full: &Full, octets: &[u8], size: usize) -> Result<Full
 }
 
 /// The piece at an index.
-fn piece(
+pub(crate) fn piece(
     alloc: Global,
     full: &Full,
     octets: &[u8],

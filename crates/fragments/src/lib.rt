@@ -3,7 +3,7 @@
 //!
 //! Both are done to the record that knows no version ([`bundle_meaning::Full`]), so that a bundle can be
 //! cut on one face and joined on the other. [`cut`] gives the pieces of a record, each with so many
-//! octets of its payload but the last. A [`Joiner`] takes fragments in any order, and gives the whole with
+//! octets of its payload but the last, and a [`Cutter`] gives the same one at a time. A [`Joiner`] takes fragments in any order, and gives the whole with
 //! the one that completes it.
 //!
 //! Where extension blocks go is the project's own choice: the first piece has all of them, and each
@@ -14,6 +14,7 @@
 #![tactic(auto)]
 
 mod cells;
+mod cutter;
 mod cutting;
 mod fault;
 mod fulls;
@@ -24,6 +25,7 @@ mod laws;
 mod limits;
 mod log;
 
+pub use cutter::Cutter;
 pub use cutting::cut;
 pub use fault::{CutRefused, JoinRefused};
 pub use fulls::Fulls;

@@ -12,3 +12,4 @@ pub mod ShowStepLemmas
 pub mod LawLemmas
 pub mod ConvertLemmas
 pub mod KeepingLemmas
+pub mod ReadingLemmas

@@ -128,10 +128,10 @@ module _ (old : Standing) (left : List ℕ) (sound : IsSound old) (fits : IsOcte
 
   -- a bundle doesn't end before the octets that are left
   module _ (b : Bundle) (used : ℕ) (is : front_of (kept_by old.unfinished ++ left) ≡ whole b (length (kept_by old.unfinished) + used)) where
-    low : used ≤ length left
+    pub low : used ≤ length left
     low = (whole-inside old left sound fits some b used is).0
 
-    used-some : 0 < used
+    pub used-some : 0 < used
     used-some = by old.unfinished refl is
       where
         by : (unfinished : Option Unfinished) → old.unfinished ≡ unfinished
@@ -165,18 +165,18 @@ module _ (old : Standing) (left : List ℕ) (sound : IsSound old) (fits : IsOcte
         ap (λ (v : List ℕ). kept_by old.unfinished ++ v) (sym (take-append-drop used left))
         ∙ sym (append_assoc (kept_by old.unfinished) (take used left) (drop used left))
 
-    front-is : front_of own-octets ≡ whole b (length (kept_by old.unfinished) + used)
+    pub front-is : front_of own-octets ≡ whole b (length (kept_by old.unfinished) + used)
     front-is =
         front-own own-octets (drop used left) b (length (kept_by old.unfinished) + used) (rw all-parts at all-fit)
         (omega (arith, own-size, used-some)) (omega (arith, own-size)) (rw all-parts at is)
 
-    near-size : length (take used left) ≡ used
+    pub near-size : length (take used left) ≡ used
     near-size = length-take-le used left low
 
-    near-fits : IsOctets (take used left)
+    pub near-fits : IsOctets (take used left)
     near-fits = octets-front (take used left) (drop used left) (rw (take-append-drop used left) fits)
 
-    near-none : drop used (take used left) ≡ []
+    pub near-none : drop used (take used left) ≡ []
     near-none = nil_from_length (drop used (take used left)) (omega (arith, length-drop used (take used left), near-size))
 
     pub own-bundle : front_of (kept_by old.unfinished ++ take used left) ≡ whole b (length (kept_by old.unfinished ++ take used left))

@@ -1,7 +1,6 @@
 -- What a piece makes of the reading.
-use Rattle.std.proofs.Common.{Bool, true, false, ◌≡◌, ℕ, ◌+◌, ◌<◌, ◌≤◌, List, [], ◌∷◌, ◌++◌, length, drop, codes, Option, None, Some, Result, Ok, Err, OnErr, IfOk, OnOk, IfSome, IsSomeAnd, refl, sym, subst, ◌∙◌, ap, arith, append_assoc, length-append}
+use Rattle.std.proofs.Common.{Bool, true, false, ◌≡◌, ℕ, ◌+◌, ◌<◌, ◌≤◌, List, [], ◌++◌, length, drop, codes, Option, None, Some, Result, Ok, Err, OnErr, IfSome, IsSomeAnd, refl, sym, subst, ◌∙◌, ap, arith, append_assoc, length-append}
 use Rattle.std.proofs.lemmas.List.{append-nil}
-use Rattle.std.specs.declared.alloc.AllocError.{AllocError}
 use Rattle.edge_traits.specs.declared.status.Status.TheVariants as statuses
 use Rattle.edge_traits.specs.declared.status.Status.{Status}
 use Rattle.edge_traits.specs.Settled.{Ends, at_end, goes_on, put_before}
@@ -18,8 +17,6 @@ use Rattle.bundle_runs.specs.declared.front.Cause.{Cause}
 use Rattle.bundle_runs.specs.declared.given.Given.TheVariants.{Whole, Part, Refused}
 use Rattle.bundle_runs.specs.declared.unfinished.Unfinished.{Unfinished}
 use Rattle.bundle_runs.specs.declared.bundle_reader.Standing.{Standing}
-use Rattle.bundle_runs.specs.declared.bundle_reader.Next.{Next}
-use Rattle.bundle_runs.specs.declared.bundle_reader.Next.TheVariants.{After, End}
 use Rattle.bundle_runs.specs.Front.{whole, cut_short, refused, front_of, word_of, version_of, IsWithin}
 use Rattle.bundle_runs.specs.Answering.{settles_from, step_of, leaves_of, status_by}
 use Rattle.bundle_runs.specs.WrittenLines.{check_line, refused_line, turned_down_line}
@@ -27,7 +24,7 @@ use Rattle.fragment_lines.specs.Said.{says, refuses}
 use Rattle.fragment_lines.specs.declared.turned_down.TurnedDown.{TurnedDown}
 use Rattle.fragment_lines.specs.Lines.{turned_down_word, Writes}
 use Rattle.bundle_runs.specs.Given.{IsVersion, IsRead}
-use Rattle.bundle_runs.specs.Taking.{kept_of, front_in, kept_by, settling_of, settling_after, keeps_going, with_unfinished, with_refused, with_joiner, passed, waiting, HasBegun, HasBegunWith, IsSound, Took, GoesAfter, EndsWith, Steps, SoFar, Stands}
+use Rattle.bundle_runs.specs.Taking.{kept_of, front_in, kept_by, settling_of, settling_after, keeps_going, with_unfinished, with_refused, with_joiner, passed, waiting, HasBegun, HasBegunWith, IsSound, Took, GoesAfter, EndsWith, SoFar}
 use Rattle.bundle_runs.proofs.FrontsLemmas.{settles-none, settles-cut, front-within}
 use Rattle.bundle_runs.proofs.LawLemmas.{goes-says, goes-turned-down, goes-kept, goes-cut, goes-refused}
 use Rattle.bundle_runs.proofs.BegunLemmas.{drop-all, drop-past, front-kept, is-cut, octets-join}
@@ -237,13 +234,6 @@ module _ {A : Type 0} (IsWanted : Bundle → A → Type 0) (old mid : Standing) 
       ap (λ (s : Standing). refused_line s.number (s.at + at) (word_of cause)) took.same in
       ends-refused old left sound fits some at cause before now took.finds (added ∙ ap (λ (t : List ℕ). before ++ t) line)
 
--- the run ends with the line of a refusal
-pub refuse-ends : {P : Type 0} (old new : Standing) (left before now : List ℕ) (result : Result Next AllocError)
-    → IfOk result (λ next. next ≡ End) → OnOk result P → (P → EndsWith old left before now)
-    → IfOk result (Steps old left before new now)
-refuse-ends old new left before now (Ok next) ends line with_line = rw ends (with_line line)
-refuse-ends old new left before now (Err e) ends line with_line = tt
-
 module _ (old mid : Standing) (left : List ℕ) (sound : IsSound old) (fits : IsOctets left) (some : 0 < length left)
     (room : old.at + old.taken + length left ≤ 67108864) where
   pub step-checked : (version used : ℕ) (before now : List ℕ) → Took IsVersion old left mid (Whole version used) → old.command ≡ Check
@@ -260,10 +250,10 @@ module _ (old mid : Standing) (left : List ℕ) (sound : IsSound old) (fits : Is
       → step_of old.command old.joiner.joins b (old.taken + used) ≡ step_of mid.command mid.joiner.joins b (mid.taken + used)
   said-old b used same = sym (ap (λ (s : Standing). step_of s.command s.joiner.joins b (s.taken + used)) same)
 
-  pub step-said : (read : Bundle) (used : ℕ) (joiner : Joining) (before now : List ℕ) → Took IsRead old left mid (Whole read used)
-      → Writes (step_of mid.command mid.joiner.joins read (mid.taken + used)) before now joiner.joins None → joiner.spent ≡ false
+  pub step-said : (read : Bundle) (used : ℕ) (joiner : Joining) (text before now : List ℕ) → Took IsRead old left mid (Whole read used)
+      → step_of mid.command mid.joiner.joins read (mid.taken + used) ≡ says text joiner.joins → now ≡ before ++ text → joiner.spent ≡ false
       → GoesAfter old left used before (passed (with_joiner mid joiner) used) now
-  step-said read used joiner before now took (text, said, added) memory =
+  step-said read used joiner text before now took said added memory =
       let (b, is, front) = took.finds in
       let new : passed (with_joiner mid joiner) used ≡ passed (with_joiner old joiner) used = ap (λ (s : Standing). passed (with_joiner s joiner) used) took.same in
       rw new (goes-after-whole old left sound fits some b used joiner text before now room front (said-old b used took.same ∙ rw is.0 at said) memory added)
@@ -273,7 +263,7 @@ module _ (old mid : Standing) (left : List ℕ) (sound : IsSound old) (fits : Is
   line-old word now same = ap (λ (s : Standing). now ++ turned_down_line s.number word) same
 
   pub step-turned-down : (read : Bundle) (used : ℕ) (joins : List Join) (cause : TurnedDown) (before now after : List ℕ) → Took IsRead old left mid (Whole read used)
-      → Writes (step_of mid.command mid.joiner.joins read (mid.taken + used)) before now joins (Some cause)
+      → Writes (step_of mid.command mid.joiner.joins read (mid.taken + used)) before now joins (Err cause)
       → keeps_going mid.command ≡ false
       → after ≡ now ++ turned_down_line mid.number (turned_down_word cause) → EndsWith old left before after
   step-turned-down read used joins cause before now after took (said, same) plain added =
@@ -284,7 +274,7 @@ module _ (old mid : Standing) (left : List ℕ) (sound : IsSound old) (fits : Is
       (added ∙ line-old (turned_down_word cause) now took.same ∙ ap (λ (t : List ℕ). t ++ turned_down_line old.number (turned_down_word cause)) same)
 
   pub step-kept : (read : Bundle) (used : ℕ) (joiner : Joining) (cause : TurnedDown) (before now after : List ℕ) → Took IsRead old left mid (Whole read used)
-      → Writes (step_of mid.command mid.joiner.joins read (mid.taken + used)) before now joiner.joins (Some cause)
+      → Writes (step_of mid.command mid.joiner.joins read (mid.taken + used)) before now joiner.joins (Err cause)
       → IfSome (leaves_of mid.command mid.joiner.joins read) (λ left. joiner.joins ≡ left) → joiner.spent ≡ false
       → keeps_going mid.command ≡ true
       → after ≡ now ++ turned_down_line mid.number (turned_down_word cause)
@@ -301,22 +291,6 @@ module _ (old mid : Standing) (left : List ℕ) (sound : IsSound old) (fits : Is
       (left_old ∙ kept-leaves mid.command mid.joiner.joins b joiner.joins keeps (rw is.0 at leaves))
       memory
       (added ∙ line-old (turned_down_word cause) now took.same ∙ ap (λ (t : List ℕ). t ++ turned_down_line old.number (turned_down_word cause)) same))
-
-  -- the command refused it: by whether it keeps going
-  pub step-refusal : (new : Standing) (next : Next) (read : Bundle) (used : ℕ) (joiner : Joining) (cause : TurnedDown) (before now after : List ℕ)
-      → Took IsRead old left mid (Whole read used)
-      → Writes (step_of mid.command mid.joiner.joins read (mid.taken + used)) before now joiner.joins (Some cause)
-      → IfSome (leaves_of mid.command mid.joiner.joins read) (λ left. joiner.joins ≡ left) → joiner.spent ≡ false
-      → after ≡ now ++ turned_down_line mid.number (turned_down_word cause)
-      → (keeps_going mid.command ≡ false → next ≡ End)
-      → (keeps_going mid.command ≡ true → next ≡ After used)
-      → (keeps_going mid.command ≡ true → new ≡ passed (with_refused (with_joiner mid joiner) true) used)
-      → Steps old left before new after next
-  step-refusal new next read used joiner cause before now after took writes leaves memory added ends on is = by_keeps (keeps_going mid.command) refl
-    where
-      by_keeps : (b : Bool) → keeps_going mid.command ≡ b → Steps old left before new after next
-      by_keeps false plain = rw (ends plain) (step-turned-down read used joiner.joins cause before now after took writes plain added)
-      by_keeps true keeps = rw (on keeps, is keeps) (step-kept read used joiner cause before now after took writes leaves memory keeps added)
 
 -- ---- the steps so far
 
@@ -350,15 +324,6 @@ so_far-more start now later piece left used before text after so_far step = reco
       ∙ ap (put_before so_far.written) (step.goes ends more)
       ∙ put_before-put_before so_far.written step.text (settling_after later (drop used left) ends more);
 }
-
-pub so_far-end : (start now : Standing) (piece left before text : List ℕ) → length left ≡ 0 → IsSound now → SoFar start now piece left before text
-    → Feeds (Stands now) (settling_of start) piece before text None
-so_far-end start now piece [] before text none sound so_far = record {
-  text = so_far.written;
-  added = so_far.added;
-  takes = (settling_of now, refl, quiet now sound, so_far.goes);
-}
-so_far-end start now piece (octet ∷ left) before text none sound so_far = absurd (omega (arith, none))
 
 pub so_far-stop : (start now : Standing) (Later : Settling → Type 0) (piece left before text after : List ℕ)
     → SoFar start now piece left before text → EndsWith now left text after

@@ -11,6 +11,7 @@ pub mod Keeping
 pub mod Legal
 pub mod Given
 pub mod Taking
+pub mod Telling
 pub mod Checking
 pub mod Coming
 pub mod Showing

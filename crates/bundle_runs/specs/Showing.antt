@@ -1,7 +1,5 @@
 -- Where the reading of `show` stands: for a reading that keeps all octets of the bundle that has begun.
 use Rattle.std.specs.Prelude.{◌≡◌, ℕ, ◌+◌, ◌<◌, ◌≤◌, List, [], ◌++◌, codes, length, take, Option, None, Some}
-use Rattle.command_frame.specs.declared.part_task.Taken.{Taken}
-use Rattle.command_frame.specs.declared.part_task.Taken.TheVariants as takens
 use Rattle.command_frame.specs.Task.{Settling, GoesOnTo}
 use Rattle.wire_fields.specs.Reading.{IsOctets}
 use Rattle.bundle6.specs.declared.bundle.Bundle6.{Bundle6}
@@ -138,9 +136,3 @@ pub record ShowsSoFar (old : Standing) (piece left before : List ℕ) (new : Sho
   pub taken : List ℕ
   pub parts : piece ≡ taken ++ left
   pub on : ShowsOn old taken before new now
-
--- the run hasn't ended
-abbrev pub IsOn : Taken → Type 0
-IsOn takens.All = Unit {0}
-IsOn (takens.Due used) = Unit {0}
-IsOn (takens.Ends status) = ⊥

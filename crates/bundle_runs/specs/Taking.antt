@@ -3,6 +3,8 @@ use Rattle.std.specs.Prelude.{◌≡◌, ◌≢◌, ℕ, ◌+◌, ◌*◌, ◌<�
 use Rattle.wire_fields.specs.Reading.{IsOctets}
 use Rattle.edge_traits.specs.declared.status.Status.TheVariants as statuses
 use Rattle.fragments.specs.Joining.{Joining}
+use Rattle.command_frame.specs.declared.part_task.Taken.{Taken}
+use Rattle.command_frame.specs.declared.part_task.Taken.TheVariants as takens
 use Rattle.command_frame.specs.Task.{Settling, over, GoesOnTo}
 use Rattle.bundle_runs.specs.declared.commands.command.Command.{Command}
 use Rattle.bundle_runs.specs.declared.commands.command.Command.TheVariants.{KeepConverting, KeepCutting, KeepJoining}
@@ -12,8 +14,6 @@ use Rattle.bundle_runs.specs.declared.given.Given.TheVariants.{Whole, Part, Refu
 use Rattle.bundle_runs.specs.declared.unfinished.Unfinished.{Unfinished}
 use Rattle.bundle_runs.specs.declared.unfinished.Unfinished.TheVariants.{Six, Seven}
 use Rattle.bundle_runs.specs.declared.bundle_reader.Standing.{Standing}
-use Rattle.bundle_runs.specs.declared.bundle_reader.Next.{Next}
-use Rattle.bundle_runs.specs.declared.bundle_reader.Next.TheVariants.{After, End}
 use Rattle.bundle_runs.specs.Front.{Front, whole, cut_short, refused, front_of, front6, front7}
 use Rattle.bundle_runs.specs.Given.{Finds}
 use Rattle.bundle_runs.specs.Answering.{settles_from}
@@ -95,10 +95,6 @@ settling_of s ends more =
 -- what octets settle that are followed by those to come
 abbrev pub settling_after : Standing → List ℕ → Settling
 settling_after s octets ends more = settling_of s ends (octets ++ more)
-
--- a task that stands so, where octets still to come settle this
-abbrev pub Stands : Standing → Settling → Type 0
-Stands s settles = settles ≡ settling_of s
 
 -- the commands that keep going
 abbrev pub keeps_going : Command → Bool
@@ -206,12 +202,14 @@ pub record EndsWith (old : Standing) (left before now : List ℕ) : Type 0 where
   pub added : now ≡ before ++ text
   pub goes : GoesOnTo (settling_of old) left text (over statuses.Refused)
 
-abbrev pub Steps : Standing → List ℕ → List ℕ → Standing → List ℕ → Next → Type 0
-Steps old left before new now (After used) = GoesAfter old left used before new now
-Steps old left before new now End = EndsWith old left before now
-
 -- the steps so far: of the piece these octets are left
 pub record SoFar (start now : Standing) (piece left before text : List ℕ) : Type 0 where
   pub written : List ℕ
   pub added : text ≡ before ++ written
   pub goes : GoesOnTo (settling_of start) piece written (settling_after now left)
+
+-- the run hasn't ended
+abbrev pub IsOn : Taken → Type 0
+IsOn takens.All = Unit {0}
+IsOn (takens.Due used) = Unit {0}
+IsOn (takens.Ends status) = ⊥

@@ -2,12 +2,14 @@
 ghost use Rattle.std.specs.Prelude.{◌≡◌, ◌+◌, ◌<◌, ◌≤◌, ◌++◌, None, Some, [], false, true, length, slice_index, IfOk, OnOk, OnErr};
 ghost use Rattle.std.specs.String.{string_bytes};
 ghost use Rattle.edge_traits.specs.Outcome.{IsAnswer};
-ghost use Rattle.command_frame.specs.Task.{Feeds, Finishes};
+ghost use Rattle.command_frame.specs.PartTask.{FeedsPart, LeavesDue, TellsPart, LeavesFewer};
+ghost use Rattle.command_frame.specs.Task.{Finishes};
 ghost use Rattle.bundle_runs.specs.Answering.{settles_from, status_by};
 ghost use Rattle.bundle_runs.specs.Front.{word_of};
 ghost use Rattle.bundle_runs.specs.WrittenLines.{refused_line};
 ghost use Rattle.bundle_runs.specs.Given.{IsRead};
-ghost use Rattle.bundle_runs.specs.Taking.{kept_by, keeps_going, settling_of, passed, with_refused, waiting, BeginsWith, IsSound, Took, Steps, Stands};
+ghost use Rattle.bundle_runs.specs.Taking.{kept_by, keeps_going, settling_of, passed, with_refused, with_unfinished, waiting, BeginsWith, IsOn, IsSound, Took};
+ghost use Rattle.bundle_runs.specs.Telling.{StandsReading, ReadsStep, TellsDue};
 
 use crate::commands::command::Command;
 use crate::front::{Bundle, Cause};
@@ -15,29 +17,39 @@ use crate::given::Given;
 use crate::saying::say;
 use crate::unfinished::Unfinished;
 use crate::written_lines::{write_refused, write_turned_down};
-use command_frame::Task;
+use command_frame::{PartTask, Taken};
 use edge_traits::{MOST_INPUT, Status};
-use fragment_lines::BundleJoiner;
+use fragment_lines::{BundleJoiner, Telling};
 use std::alloc::{AllocError, Global};
 use std::marker::Model;
 
 /// A command on bundles that is told the octets of its input as they come. It keeps the octets of
-/// at most one unfinished bundle, and for `join` those of fragments.
+/// at most one unfinished bundle, and for `join` those of fragments. Of a bundle that has ended it keeps
+/// what is still to be told: for `cut` its record and the octets of one piece, and else the octets that are
+/// written in hex.
 #[derive(Drop)]
 pub struct BundleReader {
-    standing: Standing,
+    reading: Reading,
     alloc: Global,
 }
 
 impl Model for BundleReader {
-    ghost use Rattle.bundle_runs.specs.declared.bundle_reader.Standing.{Standing};
+    ghost use Rattle.bundle_runs.specs.declared.bundle_reader.Reading.{Reading};
     ghost use Rattle.bundle_runs.specs.Taking.{IsSound};
 
-    ghost Value = { Standing };
+    ghost Value = { Reading };
 
-    ghost view = { λ r. r.standing };
+    ghost view = { λ r. r.reading };
 
-    ghost invariant = { λ r. IsSound r.standing };
+    ghost invariant = { λ r. IsSound r.reading.standing };
+}
+
+/// Where the reading stands, and what is due.
+#[derive(Drop)]
+pub struct Reading {
+    standing: Standing,
+    /// What is still to be told of the bundle before it.
+    due: Telling,
 }
 
 /// Where the reading stands.
@@ -70,37 +82,128 @@ pub(crate) enum Next {
 impl BundleReader {
     /// Nothing came yet. It takes no memory.
     pub fn new(alloc: Global, command: Command) -> BundleReader
-        ensures stands { ⟦<BundleReader as Task>⟧.Stands result (settles_from command false [] 1 0) }
-        ensures fresh { ⟦<BundleReader as Task>⟧.Began result → ⊥ }
+        ensures stands { ⟦<BundleReader as PartTask>⟧.Stands result [] (settles_from command false [] 1 0) }
+        ensures none_due { ⟦<BundleReader as PartTask>⟧.parts result ≡ 0 }
+        ensures fresh { ⟦<BundleReader as PartTask>⟧.Began result → ⊥ }
     {
         BundleReader {
-            standing: Standing::new(alloc, command),
+            reading: Reading::new(alloc, command),
             alloc,
         }
     }
 }
 
-impl Task for BundleReader {
-    ghost Stands = { Stands };
+impl PartTask for BundleReader {
+    ghost Stands = { StandsReading };
 
-    ghost Began = { λ s. 0 < length (kept_by s.unfinished) };
+    ghost Began = { λ r. 0 < length (kept_by r.standing.unfinished) };
 
-    fn feed(&mut self, piece: &[u8], text: &mut String) -> Result<Option<Status>, AllocError> {
+    ghost parts = { λ r. length r.due };
+
+    fn take(&mut self, piece: &[u8], text: &mut String) -> Result<Taken, AllocError> {
         // No place past this has a number: the driver feeds no more.
-        if piece.len() > MOST_INPUT - (self.standing.at + self.standing.taken) {
+        let standing = &self.reading.standing;
+        if piece.len() > MOST_INPUT - (standing.at + standing.taken) {
             return Err(AllocError);
         }
-        let ends = self.standing.feed(self.alloc, piece, text);
-        match ends {
-            Ok(None) => {}
+        let taken = self.reading.take(self.alloc, piece, text);
+        match taken {
+            Ok(Taken::All | Taken::Due(_)) => {}
             // The run has ended: nothing is kept any more.
-            _ => self.standing = Standing::new(self.alloc, self.standing.command),
+            _ => self.reading = Reading::new(self.alloc, self.reading.standing.command),
         }
-        ends
+        taken
     }
 
-    fn finish(&mut self, text: &mut String) -> Result<Status, AllocError> {
-        self.standing.finish(text)
+    fn tell(&mut self, text: &mut String) -> Result<bool, AllocError> {
+        self.reading.tell(text)
+    }
+
+    fn end(&mut self, text: &mut String) -> Result<Status, AllocError> {
+        self.reading.standing.finish(text)
+    }
+}
+
+impl Reading {
+    /// No octet came, and nothing is due.
+    fn new(alloc: Global, command: Command) -> Reading
+        ensures sound { IsSound result.standing }
+        ensures stands { StandsReading result [] (settles_from command false [] 1 0) }
+        ensures none_due { result.due ≡ [] }
+        ensures fresh { result.standing.unfinished ≡ None }
+    {
+        Reading {
+            standing: Standing::new(alloc, command),
+            due: Telling::nothing(),
+        }
+    }
+
+    /// Takes the next octets, up to the end of a bundle of which not all is told at once: `Refused` where
+    /// they settle the run's end.
+    fn take(&mut self, alloc: Global, piece: &[u8], text: &mut String) -> Result<Taken, AllocError>
+        requires sound { IsSound self.old.standing }
+        requires none_due { self.old.due ≡ [] }
+        requires room { self.old.standing.at + self.old.standing.taken + length piece.now ≤ 67108864 }
+        ensures sound { IfOk result (λ taken. IsOn taken → IsSound self.new.standing) }
+        ensures leaves { IfOk result (LeavesDue piece.now (length self.new.due)) }
+        ensures fed { IfOk result (FeedsPart (StandsReading self.new) (settling_of self.old.standing)
+            piece.now (string_bytes text.old) (string_bytes text.new)) }
+    {
+        let mut left = piece;
+        'bundles: while !left.is_empty() {
+            match self.step(alloc, left, text)? {
+                Next::After(used) => left = &left[used..],
+                Next::End => return Ok(Taken::Ends(Status::Refused)),
+            }
+            if !self.due.is_over() {
+                return Ok(Taken::Due(piece.len() - left.len()));
+            }
+        }
+        Ok(Taken::All)
+    }
+
+    /// Takes octets of one bundle, and tells the first part of what the command says of it where they end
+    /// it.
+    fn step(&mut self, alloc: Global, left: &[u8], text: &mut String) -> Result<Next, AllocError>
+        requires sound { IsSound self.old.standing }
+        requires none_due { self.old.due ≡ [] }
+        requires some { 0 < length left.now }
+        requires room { self.old.standing.at + self.old.standing.taken + length left.now ≤ 67108864 }
+        ensures { IfOk result (ReadsStep self.old.standing left.now (string_bytes text.old)
+            self.new.standing self.new.due (string_bytes text.new)) }
+    {
+        let next = self.standing.step(alloc, left, text, &mut self.due)?;
+        begin(&mut self.due, text)?;
+        Ok(next)
+    }
+
+    /// Tells the next part of what is due: whether more of it is.
+    fn tell(&mut self, text: &mut String) -> Result<bool, AllocError>
+        requires { 0 < length self.old.due }
+        ensures same { self.new.standing ≡ self.old.standing }
+        ensures told { IfOk result (λ more. TellsDue self.old.due self.new.due (string_bytes text.old) (string_bytes text.new)) }
+        ensures leaves { IfOk result (LeavesFewer (length self.old.due) (length self.new.due)) }
+    {
+        self.due.tell(text)?;
+        Ok(!self.due.is_over())
+    }
+}
+
+/// Makes this what is due.
+fn owe(due: &mut Telling, telling: Telling)
+    ensures { due.new ≡ telling }
+{
+    *due = telling;
+}
+
+/// Tells the first part of what is due, where there is any.
+fn begin(due: &mut Telling, text: &mut String) -> Result<(), AllocError>
+    ensures { OnOk result (TellsDue due.old due.new (string_bytes text.old) (string_bytes text.new)) }
+{
+    if due.is_over() {
+        Ok(())
+    } else {
+        due.tell(text)
     }
 }
 
@@ -127,29 +230,6 @@ impl Standing {
             taken: 0,
             unfinished: None,
         }
-    }
-
-    /// Takes the next octets: `Refused` where they settle the run's end.
-    fn feed(
-        &mut self,
-        alloc: Global,
-        piece: &[u8],
-        text: &mut String,
-    ) -> Result<Option<Status>, AllocError>
-        requires sound { IsSound self.old }
-        requires room { self.old.at + self.old.taken + length piece.now ≤ 67108864 }
-        ensures sound { IfOk result (λ ends. ends ≡ None → IsSound self.new) }
-        ensures fed { IfOk result (Feeds (Stands self.new) (settling_of self.old)
-            piece.now (string_bytes text.old) (string_bytes text.new)) }
-    {
-        let mut left = piece;
-        'bundles: while !left.is_empty() {
-            match self.step(alloc, left, text)? {
-                Next::After(used) => left = &left[used..],
-                Next::End => return Ok(Some(Status::Refused)),
-            }
-        }
-        Ok(None)
     }
 
     /// The input ended.
@@ -186,19 +266,31 @@ impl Standing {
         }
     }
 
-    /// Takes octets of one bundle, and writes what the command says of it where they end it.
-    fn step(&mut self, alloc: Global, left: &[u8], text: &mut String) -> Result<Next, AllocError>
+    /// Takes octets of one bundle, and answers it where they end it: with text, and with what is still to
+    /// be told. The bundle's octets are let go first.
+    fn step(
+        &mut self,
+        alloc: Global,
+        left: &[u8],
+        text: &mut String,
+        due: &mut Telling,
+    ) -> Result<Next, AllocError>
         requires sound { IsSound self.old }
+        requires none_due { due.old ≡ [] }
         requires some { 0 < length left.now }
         requires room { self.old.at + self.old.taken + length left.now ≤ 67108864 }
-        ensures { IfOk result (Steps self.old left.now (string_bytes text.old) self.new (string_bytes text.new)) }
+        ensures { IfOk result (ReadsStep self.old left.now (string_bytes text.old) self.new due.new (string_bytes text.new)) }
     {
         match self.decoded(alloc, left)? {
             Given::Whole(bundle, used) => {
                 let size = self.taken + used;
-                match say(alloc, self.command, &mut self.joiner, &bundle, size, text)? {
-                    None => Ok(self.pass(used)),
-                    Some(cause) => {
+                self.let_go();
+                match say(alloc, self.command, &mut self.joiner, bundle, size, text)? {
+                    Ok(telling) => {
+                        owe(due, telling);
+                        Ok(self.pass(used))
+                    }
+                    Err(cause) => {
                         write_turned_down(text, self.number, cause.word())?;
                         Ok(self.turn_down(used))
                     }
@@ -258,6 +350,16 @@ impl Standing {
         }
     }
 
+    /// Lets go of the reader of a bundle that has ended, and of the octets that it kept.
+    fn let_go(&mut self)
+        ensures { self.new ≡ with_unfinished self.old None }
+    {
+        // To write none is to clear the room for a reader, so it isn't done for each bundle.
+        if self.unfinished.is_some() {
+            self.unfinished = None;
+        }
+    }
+
     /// The bundle has ended after so many octets more.
     fn pass(&mut self, used: usize) -> Next
         requires few { self.old.at + (self.old.taken + used) ≤ 67108864 }
@@ -268,10 +370,7 @@ impl Standing {
         self.number += 1;
         self.at += self.taken + used;
         self.taken = 0;
-        // To write none is to clear the room for a reader, so it isn't done for each bundle.
-        if self.unfinished.is_some() {
-            self.unfinished = None;
-        }
+        self.let_go();
         Next::After(used)
     }
 

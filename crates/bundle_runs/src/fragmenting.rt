@@ -1,27 +1,26 @@
 //! `cut` and `join` of a bundle of either version.
 ghost use Rattle.std.specs.Prelude.{◌≡◌, ◌<◌, false, IfOk, OnOk};
 ghost use Rattle.std.specs.String.{string_bytes};
-ghost use Rattle.fragment_lines.specs.Lines.{Writes};
+ghost use Rattle.fragment_lines.specs.Lines.{Owes, Writes};
 ghost use Rattle.bundle_runs.specs.Fragments.{piece_size, pieces_said, join_said, joins_left};
 ghost use Rattle.bundle_runs.specs.Legal.{IsLegal};
 
 use crate::front::Bundle;
-use fragment_lines::{BundleJoiner, TurnedDown, cut6, cut7};
+use fragment_lines::{BundleJoiner, Telling, TurnedDown, cut6, cut7};
 use std::alloc::{AllocError, Global};
 
-/// Writes the pieces of a bundle with so many octets of its payload, or says why it is turned down.
+/// The lines of the pieces of a bundle with so many octets of its payload, or why it is turned down.
 pub fn cut(
     alloc: Global,
-    text: &mut String,
-    bundle: &Bundle,
+    bundle: Bundle,
     size: u64,
-) -> Result<Option<TurnedDown>, AllocError>
-    requires { IsLegal bundle.now }
-    ensures { IfOk result (Writes (pieces_said size bundle.now) (string_bytes text.old) (string_bytes text.new) tt) }
+) -> Result<Result<Telling, TurnedDown>, AllocError>
+    requires { IsLegal bundle }
+    ensures { IfOk result (Owes (pieces_said size bundle) tt) }
 {
     match bundle {
-        Bundle::Six(bundle) => cut6(alloc, text, bundle, piece_size(size)),
-        Bundle::Seven(bundle) => cut7(alloc, text, bundle, piece_size(size)),
+        Bundle::Six(bundle) => cut6(alloc, bundle, piece_size(size)),
+        Bundle::Seven(bundle) => cut7(alloc, bundle, piece_size(size)),
     }
 }
 
@@ -36,19 +35,20 @@ fn piece_size(size: u64) -> u64
     }
 }
 
-/// Writes what comes of a bundle beside the fragments that came before, or says why it is turned down.
+/// Writes what comes of a bundle beside the fragments that came before, of which the octets of a whole are
+/// left to be told; or says why it is turned down.
 pub fn join(
     joiner: &mut BundleJoiner,
     text: &mut String,
-    bundle: &Bundle,
-) -> Result<Option<TurnedDown>, AllocError>
-    requires legal { IsLegal bundle.now }
+    bundle: Bundle,
+) -> Result<Result<Telling, TurnedDown>, AllocError>
+    requires legal { IsLegal bundle }
     requires memory { joiner.old.spent ≡ false }
-    ensures said { IfOk result (Writes (join_said joiner.old.joins bundle.now)
+    ensures said { IfOk result (Writes (join_said joiner.old.joins bundle)
         (string_bytes text.old) (string_bytes text.new) joiner.new.joins) }
 
     // Also where the bundle is turned down.
-    ensures left { OnOk result (joiner.new.joins ≡ joins_left joiner.old.joins bundle.now) }
+    ensures left { OnOk result (joiner.new.joins ≡ joins_left joiner.old.joins bundle) }
     ensures memory { OnOk result (joiner.new.spent ≡ false) }
 {
     match bundle {

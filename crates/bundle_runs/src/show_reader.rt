@@ -9,8 +9,8 @@ ghost use Rattle.bundle_runs.specs.declared.bundle_reader.Standing.{Standing};
 ghost use Rattle.bundle_runs.specs.declared.front.Bundle.{Bundle};
 ghost use Rattle.bundle_runs.specs.Answering.{settles_from};
 ghost use Rattle.bundle_runs.specs.WrittenLines.{show_line};
-ghost use Rattle.bundle_runs.specs.Taking.{settling_of};
-ghost use Rattle.bundle_runs.specs.Showing.{IsOn, Owes, OwesLine, ShowsAs, IsShowing, StandsShowing, KeepsOneBundle, parts_due, IsBundle, BeginsLine, octets_with, ShowsStep};
+ghost use Rattle.bundle_runs.specs.Taking.{settling_of, IsOn};
+ghost use Rattle.bundle_runs.specs.Showing.{Owes, OwesLine, ShowsAs, IsShowing, StandsShowing, KeepsOneBundle, parts_due, IsBundle, BeginsLine, octets_with, ShowsStep};
 
 use crate::bundle_reader::Next;
 use crate::coming::{Coming, come, end};

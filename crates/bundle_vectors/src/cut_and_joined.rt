@@ -6,7 +6,8 @@ ghost use Rattle.bundle7.specs.Legal.{IsLegal7};
 
 use bundle6::{Bundle6, decode6};
 use bundle7::{Bundle7, decode7};
-use fragment_lines::{BundleJoiner, TurnedDown, cut6, cut7};
+use endpoint::Octets;
+use fragment_lines::{BundleJoiner, Telling, TurnedDown, cut6, cut7};
 use std::alloc::Global;
 use std::test::Fail;
 use translate::Refused;
@@ -64,17 +65,34 @@ fn seven(alloc: Global, text: &str) -> Result<Bundle7, Fail>
 fn cut_of(alloc: Global, text: &str, size: u64) -> Result<String, Fail>
     requires { 0 < size }
 {
-    let mut said = String::new(alloc);
-    let down = if text.starts_with("06") {
-        cut6(alloc, &mut said, &six(alloc, text)?, size)?
+    let mut lines = String::new(alloc);
+    let said = if text.starts_with("06") {
+        cut6(alloc, six(alloc, text)?, size)?
     } else {
-        cut7(alloc, &mut said, &seven(alloc, text)?, size)?
+        cut7(alloc, seven(alloc, text)?, size)?
     };
-    if let Some(cause) = down {
-        said.push_str(cause.word())?;
-    }
-    Ok(said)
+    tell(&mut lines, said)?;
+    Ok(lines)
 }
+
+/// Appends all that is still to be told, or the word of what turns a bundle down.
+fn tell(text: &mut String, said: Result<Telling, TurnedDown>) -> Result<(), Fail> {
+    match said {
+        Ok(mut telling) => {
+            'parts: for _ in 0..PARTS {
+                if telling.is_over() {
+                    return Ok(());
+                }
+                telling.tell(text)?;
+            }
+            Err(Fail::new("there are too many parts"))
+        }
+        Err(cause) => Ok(text.push_str(cause.word())?),
+    }
+}
+
+/// The most parts that a test tells.
+const PARTS: usize = 100;
 
 #[test]
 fn bundles_are_cut(rt: HostRuntime) -> Result<(), Fail> {
@@ -85,6 +103,19 @@ fn bundles_are_cut(rt: HostRuntime) -> Result<(), Fail> {
         let wanted = format!(in rt.alloc(); "{}\n{}\n", lines[0], lines[1])?;
         assert_eq!(rt; cut_of(rt.alloc(), text, 2)?, wanted, "{text}");
     }
+    Ok(())
+}
+
+#[test]
+fn a_long_line_is_told_in_parts(rt: HostRuntime) -> Result<(), Fail> {
+    let line = vec![in rt.alloc(); 0xABu8; 40_000]?;
+    let mut telling = Telling::line(Octets::from_vec(line));
+    let mut text = String::new(rt.alloc());
+    assert!(rt; !telling.is_over());
+    telling.tell(&mut text)?;
+    assert!(rt; !telling.is_over() && text.len() < 80_000);
+    tell(&mut text, Ok(telling))?;
+    assert!(rt; text.len() == 80_001 && text.ends_with("ab\n") && !text[..80_000].contains("\n"));
     Ok(())
 }
 
@@ -109,14 +140,12 @@ fn join_of(alloc: Global, texts: &[&str]) -> Result<String, Fail> {
     let mut joiner = BundleJoiner::new(alloc);
     let mut said = String::new(alloc);
     'coming: for text in texts {
-        let down = if text.starts_with("06") {
-            joiner.join6(&mut said, &six(alloc, text)?)?
+        let due = if text.starts_with("06") {
+            joiner.join6(&mut said, six(alloc, text)?)?
         } else {
-            joiner.join7(&mut said, &seven(alloc, text)?)?
+            joiner.join7(&mut said, seven(alloc, text)?)?
         };
-        if let Some(cause) = down {
-            said.push_str(cause.word())?;
-        }
+        tell(&mut said, due)?;
     }
     Ok(said)
 }

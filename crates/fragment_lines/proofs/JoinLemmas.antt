@@ -37,48 +37,48 @@ tells-said spelled (Err refused) (Whole whole) now tells = absurd tells
 
 -- it is written of the record, and so of the bundle that reads as it
 said-taken : (spelled : Full → Option (List ℕ)) (first : Option Refused) (value full : Full) (joins : List Join) (said : Answer) (new : Joining)
-    (before now : List ℕ) (cause : Option TurnedDown) → first ≡ None → full ≡ value → Tells (answer joins full) said
+    (before now : List ℕ) (written : Result (List ℕ) TurnedDown) → first ≡ None → full ≡ value → Tells (answer joins full) said
     → new ≡ record { joins = after joins full; spent = false }
-    → ((state : List Join) → Writes (said_answer spelled said state) before now state cause)
-    → Writes (unless_refused first (taken_as spelled joins value)) before now new.joins cause
-said-taken spelled first value full joins said new before now cause none is tells kept writes =
-    let own : Writes (taken_as spelled joins full) before now (after joins full) cause =
-    subst (λ (s : Said (List Join)). Writes s before now (after joins full) cause)
+    → ((state : List Join) → Writes (said_answer spelled said state) before now state written)
+    → Writes (unless_refused first (taken_as spelled joins value)) before now new.joins written
+said-taken spelled first value full joins said new before now written none is tells kept writes =
+    let own : Writes (taken_as spelled joins full) before now (after joins full) written =
+    subst (λ (s : Said (List Join)). Writes s before now (after joins full) written)
     (sym (tells-said spelled (answer joins full) said (after joins full) tells)) (writes (after joins full)) in
-    let state : Writes (taken_as spelled joins full) before now new.joins cause =
-    subst (λ (j : Joining). Writes (taken_as spelled joins full) before now j.joins cause) (sym kept) own in
-    said-read first (taken_as spelled joins) full value before now new.joins cause none is state
+    let state : Writes (taken_as spelled joins full) before now new.joins written =
+    subst (λ (j : Joining). Writes (taken_as spelled joins full) before now j.joins written) (sym kept) own in
+    said-read first (taken_as spelled joins) full value before now new.joins written none is state
 
 pub join-read6 : {E : Type 0} (joins : List Join) (b : Bundle6) (full : Full) (said : Answer) (new : Joining) (before now : List ℕ)
-    (result : Result (Option TurnedDown) E)
+    (result : Result (Result (List ℕ) TurnedDown) E)
     → Reads (first_that_holds (refusals6 b)) (full6_of b) (Ok full) → Tells (answer joins full) said
     → new ≡ record { joins = after joins full; spent = false }
-    → IfOk result (λ cause. (state : List Join) → Writes (said_answer spelled_old said state) before now state cause)
+    → IfOk result (λ written. (state : List Join) → Writes (said_answer spelled_old said state) before now state written)
     → IfOk result (Writes (join6 joins b) before now new.joins)
 unfolding join6
-join-read6 joins b full said new before now (Ok cause) (none, is) tells kept writes =
-    said-taken spelled_old (first_that_holds (refusals6 b)) (full6_of b) full joins said new before now cause none is tells kept writes
+join-read6 joins b full said new before now (Ok written) (none, is) tells kept writes =
+    said-taken spelled_old (first_that_holds (refusals6 b)) (full6_of b) full joins said new before now written none is tells kept writes
 join-read6 joins b full said new before now (Err e) reads tells kept writes = tt
 
 pub join-read7 : {E : Type 0} (joins : List Join) (b : Bundle7) (full : Full) (said : Answer) (new : Joining) (before now : List ℕ)
-    (result : Result (Option TurnedDown) E)
+    (result : Result (Result (List ℕ) TurnedDown) E)
     → Reads (first_that_holds (refusals7 b)) (full7_of b) (Ok full) → Tells (answer joins full) said
     → new ≡ record { joins = after joins full; spent = false }
-    → IfOk result (λ cause. (state : List Join) → Writes (said_answer spelled_new said state) before now state cause)
+    → IfOk result (λ written. (state : List Join) → Writes (said_answer spelled_new said state) before now state written)
     → IfOk result (Writes (join7 joins b) before now new.joins)
 unfolding join7
-join-read7 joins b full said new before now (Ok cause) (none, is) tells kept writes =
-    said-taken spelled_new (first_that_holds (refusals7 b)) (full7_of b) full joins said new before now cause none is tells kept writes
+join-read7 joins b full said new before now (Ok written) (none, is) tells kept writes =
+    said-taken spelled_new (first_that_holds (refusals7 b)) (full7_of b) full joins said new before now written none is tells kept writes
 join-read7 joins b full said new before now (Err e) reads tells kept writes = tt
 
 pub join-unread6 : (joins : List Join) (b : Bundle6) (text : List ℕ) (cause : Refused)
-    → Reads (first_that_holds (refusals6 b)) (full6_of b) (Err cause) → Writes (join6 joins b) text text joins (Some (Untranslated cause))
+    → Reads (first_that_holds (refusals6 b)) (full6_of b) (Err cause) → Writes (join6 joins b) text text joins (Err (Untranslated cause))
 unfolding join6
 join-unread6 joins b text cause is =
     said-unread (first_that_holds (refusals6 b)) (taken_as spelled_old joins (full6_of b)) text joins cause is
 
 pub join-unread7 : (joins : List Join) (b : Bundle7) (text : List ℕ) (cause : Refused)
-    → Reads (first_that_holds (refusals7 b)) (full7_of b) (Err cause) → Writes (join7 joins b) text text joins (Some (Untranslated cause))
+    → Reads (first_that_holds (refusals7 b)) (full7_of b) (Err cause) → Writes (join7 joins b) text text joins (Err (Untranslated cause))
 unfolding join7
 join-unread7 joins b text cause is =
     said-unread (first_that_holds (refusals7 b)) (taken_as spelled_new joins (full7_of b)) text joins cause is

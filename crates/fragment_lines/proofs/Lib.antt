@@ -3,3 +3,4 @@ pub mod RoomLemmas
 pub mod CutLemmas
 pub mod HeadLemmas
 pub mod JoinLemmas
+pub mod TellsLemmas

@@ -1,5 +1,5 @@
 -- What is said of a bundle that reads as a record, and of one that doesn't.
-use Rattle.std.proofs.Common.{◌≡◌, ℕ, List, Option, Some, None, Ok, Err, refl, ap, ◌∙◌, sym, subst}
+use Rattle.std.proofs.Common.{◌≡◌, ℕ, List, Option, Some, None, Result, Ok, Err, refl, ap, ◌∙◌, sym, subst}
 use Rattle.bundle6.specs.declared.bundle.Bundle6.{Bundle6}
 use Rattle.bundle6.specs.Legal.{IsLegal}
 use Rattle.bundle7.specs.declared.bundle.Bundle7.{Bundle7}
@@ -18,7 +18,7 @@ use Rattle.translate.proofs.BackLaws.{fits-own6, fits-own7}
 use Rattle.fragment_lines.specs.declared.turned_down.TurnedDown.{TurnedDown}
 use Rattle.fragment_lines.specs.declared.turned_down.TurnedDown.TheVariants.{Untranslated}
 use Rattle.fragment_lines.specs.Said.{Said}
-use Rattle.fragment_lines.specs.Lines.{unless_refused, Writes}
+use Rattle.fragment_lines.specs.Lines.{unless_refused, Owes, Writes}
 use Rattle.fragment_lines.specs.Writable.{HasRoom6, HasRoom7, Reads}
 
 -- what is answered is the first cause, except want of memory
@@ -42,16 +42,28 @@ refusal-is first value causes.Memory is other = absurd (other refl)
 
 -- what is written of the record is written of the bundle
 pub said-read : {S : Type 0} (first : Option Refused) (said : Full → Said S) (full value : Full) (before now : List ℕ) (state : S)
-    (cause : Option TurnedDown) → first ≡ None → full ≡ value → Writes (said full) before now state cause
-    → Writes (unless_refused first (said value)) before now state cause
-said-read first said full value before now state cause none is writes =
-    subst (λ (f : Option Refused). Writes (unless_refused f (said value)) before now state cause) (sym none)
-    (subst (λ (f : Full). Writes (said f) before now state cause) is writes)
+    (written : Result (List ℕ) TurnedDown) → first ≡ None → full ≡ value → Writes (said full) before now state written
+    → Writes (unless_refused first (said value)) before now state written
+said-read first said full value before now state written none is writes =
+    subst (λ (f : Option Refused). Writes (unless_refused f (said value)) before now state written) (sym none)
+    (subst (λ (f : Full). Writes (said f) before now state written) is writes)
+
+-- and what is due
+pub owed-read : {S : Type 0} (first : Option Refused) (said : Full → Said S) (full value : Full) (state : S)
+    (owed : Result (List ℕ) TurnedDown) → first ≡ None → full ≡ value → Owes (said full) state owed
+    → Owes (unless_refused first (said value)) state owed
+owed-read first said full value state owed none is owes =
+    subst (λ (f : Option Refused). Owes (unless_refused f (said value)) state owed) (sym none)
+    (subst (λ (f : Full). Owes (said f) state owed) is owes)
 
 -- a bundle that doesn't read is turned down, and nothing is written
+pub owed-unread : {S : Type 0} (first : Option Refused) (said : Said S) (state : S) (cause : Refused)
+    → first ≡ Some cause → Owes (unless_refused first said) state (Err (Untranslated cause))
+owed-unread first said state cause is = ap (λ (f : Option Refused). unless_refused f said) is
+
 pub said-unread : {S : Type 0} (first : Option Refused) (said : Said S) (text : List ℕ) (state : S) (cause : Refused)
-    → first ≡ Some cause → Writes (unless_refused first said) text text state (Some (Untranslated cause))
-said-unread first said text state cause is = (ap (λ (f : Option Refused). unless_refused f said) is, refl)
+    → first ≡ Some cause → Writes (unless_refused first said) text text state (Err (Untranslated cause))
+said-unread first said text state cause is = (owed-unread first said state cause is, refl)
 
 -- ---- the record has a view in the bundle's own version
 

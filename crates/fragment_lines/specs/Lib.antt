@@ -5,3 +5,4 @@ pub mod Cut
 pub mod Joins
 -- what only ties code to it
 pub mod Writable
+pub mod Tells

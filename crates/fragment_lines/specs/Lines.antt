@@ -1,5 +1,5 @@
 -- Bundles as lines, and the refusals that stand in place of them.
-use Rattle.std.specs.Prelude.{◌≡◌, ℕ, if◌then◌else◌, List, ◌++◌, codes, Option, Some, None}
+use Rattle.std.specs.Prelude.{◌≡◌, ℕ, if◌then◌else◌, List, ◌++◌, codes, Option, Some, None, Result, Ok, Err}
 use Rattle.hex_text.specs.Hex.{encode_lower}
 use Rattle.bundle6.specs.Spelling.{canon6}
 use Rattle.bundle7.specs.Spelling.{octets7}
@@ -45,8 +45,13 @@ abbrev pub turned_down_word : TurnedDown → List ℕ
 turned_down_word (causes.Untranslated cause) = word_of cause
 turned_down_word causes.MustNot = cut_word MustNot
 
--- It was said, and what was written, and the state then: the lines; or a refusal was answered, and
+-- All of what is said is due; or the bundle is refused.
+abbrev pub Owes : {S : Type 0} → Said S → S → Result (List ℕ) TurnedDown → Type 0
+Owes said state (Ok due) = said ≡ says due state
+Owes said state (Err cause) = said ≡ refuses (turned_down_word cause)
+
+-- It was said, and the state then: text was written, and the rest is due; or a refusal was answered, and
 -- nothing was written.
-abbrev pub Writes : {S : Type 0} → Said S → (before now : List ℕ) → S → Option TurnedDown → Type 0
-Writes said before now state None = (text : List ℕ) × (said ≡ says text state) × (now ≡ before ++ text)
-Writes said before now state (Some cause) = (said ≡ refuses (turned_down_word cause)) × (now ≡ before)
+abbrev pub Writes : {S : Type 0} → Said S → (before now : List ℕ) → S → Result (List ℕ) TurnedDown → Type 0
+Writes said before now state (Ok due) = (text : List ℕ) × (said ≡ says (text ++ due) state) × (now ≡ before ++ text)
+Writes said before now state (Err cause) = (said ≡ refuses (turned_down_word cause)) × (now ≡ before)

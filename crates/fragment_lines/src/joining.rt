@@ -16,8 +16,9 @@ ghost use Rattle.fragment_lines.specs.Lines.{spelled_old, spelled_new, Writes};
 ghost use Rattle.fragment_lines.specs.Joins.{join6, join7, said_whole};
 ghost use Rattle.fragment_lines.specs.Writable.{IsSayable, Tells, said_answer};
 
-use crate::lines::{write_hex_line, write_word};
+use crate::lines::write_word;
 use crate::reading::{read6, read7};
+use crate::telling::Telling;
 use crate::turned_down::TurnedDown;
 use crate::views::{sized, spelled_new, spelled_old};
 use bundle_meaning::{Content, Full};
@@ -68,33 +69,33 @@ impl BundleJoiner {
         }
     }
 
-    /// Takes a version 6 bundle, and writes the line of what it came to; a whole is a version 6 bundle.
-    /// Or it says why the bundle is turned down; then nothing is written. After want of memory the joiner
-    /// may only be dropped.
+    /// Takes a version 6 bundle, and writes the line of what it came to; a whole is a version 6 bundle,
+    /// whose octets are left to be told. Or it says why the bundle is turned down; then nothing is
+    /// written. After want of memory the joiner may only be dropped.
     pub fn join6(
         &mut self,
         text: &mut String,
-        bundle: &Bundle6,
-    ) -> Result<Option<TurnedDown>, AllocError>
+        bundle: Bundle6,
+    ) -> Result<Result<Telling, TurnedDown>, AllocError>
         requires whole { self.old.spent ≡ false }
-        requires legal { IsLegal bundle.now }
-        ensures said { IfOk result (Writes (join6 self.old.joins bundle.now)
+        requires legal { IsLegal bundle }
+        ensures said { IfOk result (Writes (join6 self.old.joins bundle)
             (string_bytes text.old) (string_bytes text.new) self.new.joins) }
         ensures whole { OnOk result (self.new.spent ≡ false) }
 
         // A bundle that doesn't read as a record changes nothing.
-        ensures stays { (first_that_holds (refusals6 bundle.now) ≡ None → ⊥) → self.new ≡ self.old }
+        ensures stays { (first_that_holds (refusals6 bundle) ≡ None → ⊥) → self.new ≡ self.old }
 
         // Any other is taken as its record, also where the whole that it completes is turned down.
-        ensures taken { OnOk result (first_that_holds (refusals6 bundle.now) ≡ None
-            → self.new.joins ≡ after self.old.joins (full6_of bundle.now)) }
+        ensures taken { OnOk result (first_that_holds (refusals6 bundle) ≡ None
+            → self.new.joins ≡ after self.old.joins (full6_of bundle)) }
 
         // Memory is wanted only where the bundle reads as a record.
-        ensures memory { OnErr result (first_that_holds (refusals6 bundle.now) ≡ None) }
+        ensures memory { OnErr result (first_that_holds (refusals6 bundle) ≡ None) }
     {
         match read6(self.alloc, bundle)? {
-            Ok(full) => write_joined6(self.alloc, text, self.add(&full)?),
-            Err(cause) => Ok(Some(TurnedDown::Untranslated(cause))),
+            Ok(full) => write_joined6(self.alloc, text, self.add(full)?),
+            Err(cause) => Ok(Err(TurnedDown::Untranslated(cause))),
         }
     }
 
@@ -102,39 +103,39 @@ impl BundleJoiner {
     pub fn join7(
         &mut self,
         text: &mut String,
-        bundle: &Bundle7,
-    ) -> Result<Option<TurnedDown>, AllocError>
+        bundle: Bundle7,
+    ) -> Result<Result<Telling, TurnedDown>, AllocError>
         requires whole { self.old.spent ≡ false }
-        requires legal { IsLegal7 bundle.now }
-        ensures said { IfOk result (Writes (join7 self.old.joins bundle.now)
+        requires legal { IsLegal7 bundle }
+        ensures said { IfOk result (Writes (join7 self.old.joins bundle)
             (string_bytes text.old) (string_bytes text.new) self.new.joins) }
         ensures whole { OnOk result (self.new.spent ≡ false) }
 
         // A bundle that doesn't read as a record changes nothing.
-        ensures stays { (first_that_holds (refusals7 bundle.now) ≡ None → ⊥) → self.new ≡ self.old }
+        ensures stays { (first_that_holds (refusals7 bundle) ≡ None → ⊥) → self.new ≡ self.old }
 
         // Any other is taken as its record, also where the whole that it completes is turned down.
-        ensures taken { OnOk result (first_that_holds (refusals7 bundle.now) ≡ None
-            → self.new.joins ≡ after self.old.joins (full7_of bundle.now)) }
+        ensures taken { OnOk result (first_that_holds (refusals7 bundle) ≡ None
+            → self.new.joins ≡ after self.old.joins (full7_of bundle)) }
 
         // Memory is wanted only where the bundle reads as a record.
-        ensures memory { OnErr result (first_that_holds (refusals7 bundle.now) ≡ None) }
+        ensures memory { OnErr result (first_that_holds (refusals7 bundle) ≡ None) }
     {
         match read7(self.alloc, bundle)? {
-            Ok(full) => write_joined7(self.alloc, text, self.add(&full)?),
-            Err(cause) => Ok(Some(TurnedDown::Untranslated(cause))),
+            Ok(full) => write_joined7(self.alloc, text, self.add(full)?),
+            Err(cause) => Ok(Err(TurnedDown::Untranslated(cause))),
         }
     }
 
-    /// What is said of the joiner's answer to a record.
-    fn add(&mut self, full: &Full) -> Result<Answer, AllocError>
+    /// What is said of the joiner's answer to a record, which is let go.
+    fn add(&mut self, full: Full) -> Result<Answer, AllocError>
         requires whole { self.old.spent ≡ false }
-        requires sound { IsSound full.now }
-        ensures answer { IfOk result (Tells (answer self.old.joins full.now)) }
-        ensures after { OnOk result (self.new ≡ record { joins = after self.old.joins full.now; spent = false }) }
+        requires sound { IsSound full }
+        ensures answer { IfOk result (Tells (answer self.old.joins full)) }
+        ensures after { OnOk result (self.new ≡ record { joins = after self.old.joins full; spent = false }) }
         ensures sayable { IfOk result IsSayable }
     {
-        answer_of(self.joiner.add(full))
+        answer_of(self.joiner.add(&full))
     }
 }
 
@@ -170,14 +171,14 @@ fn write_joined6(
     alloc: Global,
     text: &mut String,
     answer: Answer,
-) -> Result<Option<TurnedDown>, AllocError>
+) -> Result<Result<Telling, TurnedDown>, AllocError>
     requires { IsSayable answer }
-    ensures { IfOk result (λ cause. (now : List Join)
-        → Writes (said_answer spelled_old answer now) (string_bytes text.old) (string_bytes text.new) now cause) }
+    ensures { IfOk result (λ said. (now : List Join)
+        → Writes (said_answer spelled_old answer now) (string_bytes text.old) (string_bytes text.new) now said) }
 {
     match answer {
         Answer::Word(word) => write_open(text, word),
-        Answer::Whole(whole) => write_whole(text, spelled_old(alloc, &whole)?),
+        Answer::Whole(whole) => write_whole(text, spelled_old(alloc, whole)?),
     }
 }
 
@@ -186,37 +187,39 @@ fn write_joined7(
     alloc: Global,
     text: &mut String,
     answer: Answer,
-) -> Result<Option<TurnedDown>, AllocError>
+) -> Result<Result<Telling, TurnedDown>, AllocError>
     requires { IsSayable answer }
-    ensures { IfOk result (λ cause. (now : List Join)
-        → Writes (said_answer spelled_new answer now) (string_bytes text.old) (string_bytes text.new) now cause) }
+    ensures { IfOk result (λ said. (now : List Join)
+        → Writes (said_answer spelled_new answer now) (string_bytes text.old) (string_bytes text.new) now said) }
 {
     match answer {
         Answer::Word(word) => write_open(text, word),
-        Answer::Whole(whole) => write_whole(text, spelled_new(alloc, &whole)?),
+        Answer::Whole(whole) => write_whole(text, spelled_new(alloc, whole)?),
     }
 }
 
 /// The line of a whole that has these octets, or there is no room for its blocks.
-fn write_whole(text: &mut String, octets: Option<Octets>) -> Result<Option<TurnedDown>, AllocError>
-    ensures { IfOk result (λ cause. (now : List Join)
-        → Writes (said_whole octets now) (string_bytes text.old) (string_bytes text.new) now cause) }
+fn write_whole(
+    text: &mut String,
+    octets: Option<Octets>,
+) -> Result<Result<Telling, TurnedDown>, AllocError>
+    ensures { IfOk result (λ said. (now : List Join)
+        → Writes (said_whole octets now) (string_bytes text.old) (string_bytes text.new) now said) }
 {
     match octets {
         Some(octets) => {
             text.push_str("Whole ")?;
-            write_hex_line(text, octets.as_slice())?;
-            Ok(None)
+            Ok(Ok(Telling::line(octets)))
         }
-        None => Ok(Some(TurnedDown::Untranslated(Refused::TooManyBlocks))),
+        None => Ok(Err(TurnedDown::Untranslated(Refused::TooManyBlocks))),
     }
 }
 
 /// The line of an answer that is a word.
-fn write_open(text: &mut String, word: &str) -> Result<Option<TurnedDown>, AllocError>
-    ensures { IfOk result (λ cause. (now : List Join)
-        → Writes (says (word.now ++ codes "\n") now) (string_bytes text.old) (string_bytes text.new) now cause) }
+fn write_open(text: &mut String, word: &str) -> Result<Result<Telling, TurnedDown>, AllocError>
+    ensures { IfOk result (λ said. (now : List Join)
+        → Writes (says (word.now ++ codes "\n") now) (string_bytes text.old) (string_bytes text.new) now said) }
 {
     write_word(text, word)?;
-    Ok(None)
+    Ok(Ok(Telling::nothing()))
 }

@@ -7,7 +7,7 @@ ghost use Rattle.fragment_lines.specs.Lines.{hex_line};
 use std::alloc::AllocError;
 
 /// Octets in hex of lower case, as a line.
-pub fn write_hex_line(text: &mut String, octets: &[u8]) -> Result<(), AllocError>
+pub(crate) fn write_hex_line(text: &mut String, octets: &[u8]) -> Result<(), AllocError>
     ensures { OnOk result (string_bytes text.new ≡ string_bytes text.old ++ hex_line octets.now) }
 {
     hex_text::write_hex(text, octets)?;

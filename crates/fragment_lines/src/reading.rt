@@ -15,28 +15,29 @@ use bundle7::Bundle7;
 use std::alloc::{AllocError, Global};
 use translate::{Refused, from6, from7};
 
-/// The record of a version 6 bundle, or why it doesn't read. Memory is wanted only where it reads.
-pub(crate) fn read6(alloc: Global, bundle: &Bundle6) -> Result<Result<Full, Refused>, AllocError>
-    requires { IsLegal bundle.now }
-    ensures exact { IfOk result (Reads (first_that_holds (refusals6 bundle.now)) (full6_of bundle.now)) }
+/// The record of a version 6 bundle, which is let go, or why it doesn't read. Memory is wanted only where
+/// it reads.
+pub(crate) fn read6(alloc: Global, bundle: Bundle6) -> Result<Result<Full, Refused>, AllocError>
+    requires { IsLegal bundle }
+    ensures exact { IfOk result (Reads (first_that_holds (refusals6 bundle)) (full6_of bundle)) }
     ensures sound { IfOk result (λ read. IfOk read IsSound) }
-    ensures memory { OnErr result (first_that_holds (refusals6 bundle.now) ≡ None) }
+    ensures memory { OnErr result (first_that_holds (refusals6 bundle) ≡ None) }
 {
-    match from6(alloc, bundle) {
+    match from6(alloc, &bundle) {
         Ok(full) => Ok(Ok(full)),
         Err(Refused::Memory) => Err(AllocError),
         Err(cause) => Ok(Err(cause)),
     }
 }
 
-/// The record of a version 7 bundle, or why it doesn't read. Memory is wanted only where it reads.
-pub(crate) fn read7(alloc: Global, bundle: &Bundle7) -> Result<Result<Full, Refused>, AllocError>
-    requires { IsLegal7 bundle.now }
-    ensures exact { IfOk result (Reads (first_that_holds (refusals7 bundle.now)) (full7_of bundle.now)) }
+/// The record of a version 7 bundle, in the same way.
+pub(crate) fn read7(alloc: Global, bundle: Bundle7) -> Result<Result<Full, Refused>, AllocError>
+    requires { IsLegal7 bundle }
+    ensures exact { IfOk result (Reads (first_that_holds (refusals7 bundle)) (full7_of bundle)) }
     ensures sound { IfOk result (λ read. IfOk read IsSound) }
-    ensures memory { OnErr result (first_that_holds (refusals7 bundle.now) ≡ None) }
+    ensures memory { OnErr result (first_that_holds (refusals7 bundle) ≡ None) }
 {
-    match from7(alloc, bundle) {
+    match from7(alloc, &bundle) {
         Ok(full) => Ok(Ok(full)),
         Err(Refused::Memory) => Err(AllocError),
         Err(cause) => Ok(Err(cause)),

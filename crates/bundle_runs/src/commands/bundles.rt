@@ -39,7 +39,7 @@ pub fn bundles<S: Source, K: Sink>(
         }
         _ => {
             let mut reader = BundleReader::new(alloc, command);
-            drive(alloc, &mut reader, source, sink)
+            drive_parts(alloc, &mut reader, source, sink)
         }
     }
 }

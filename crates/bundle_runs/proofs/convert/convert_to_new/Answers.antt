@@ -1,14 +1,13 @@
-use Rattle.std.proofs.Common.{◌∙◌}
-use Rattle.bundle_runs.proofs.ConvertLemmas.{wrote-new, refused-new}
+use Rattle.bundle_runs.proofs.ConvertLemmas.{owed-by-new, unread-new}
 use Rattle.bundle_runs.proofs.convert.convert_to_new.Goals as goal
 
-pub returns-in_ok-write_hex_line-in-Ok-clause-said : goal.returns-in_ok-write_hex_line-in-Ok-clause-said
-returns-in_ok-write_hex_line-in-Ok-clause-said c =
-    wrote-new c.args.bundle.now c.in-Ok.there _ _ _ c.in-Ok.ensures.exact
-    (c.as_slice-in-Ok.ensures ∙ c.in_ok-encode7-in-Ok.ensures.exact) c.in_ok-write_hex_line-in-Ok.ensures
+pub returns-in-Ok-clause-said : goal.returns-in-Ok-clause-said
+returns-in-Ok-clause-said c =
+    owed-by-new c.args.bundle c.in-Ok.full c.in_ok-spelled_new-in-Ok.field-0 _ c.in-Ok.ensures.exact
+    c.in_ok-spelled_new-in-Ok.ensures.exact c.line_of.ensures
 
-pub returns-in_default : goal.returns-in_default
-returns-in_default c = record {
-  said = refused-new c.args.bundle.now c.in-Err.refused _ c.in-Err.ensures.exact c.in_default.not-Memory;
+pub returns : goal.returns
+returns c = record {
+  said = unread-new c.args.bundle c.in-Err.refused c.in-Err.ensures.exact c.in_default.not-Memory;
   memory = tt;
 }

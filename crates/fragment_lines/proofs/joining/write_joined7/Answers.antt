@@ -4,4 +4,4 @@ pub returns-in-Word : goal.returns-in-Word
 returns-in-Word c = rw c.in-Word.is c.write_open.ensures
 
 pub returns-in_ok-spelled_new-in-Whole : goal.returns-in_ok-spelled_new-in-Whole
-returns-in_ok-spelled_new-in-Whole c = rw (c.in-Whole.is, ← c.in_ok-spelled_new-in-Whole.ensures) c.write_whole.ensures
+returns-in_ok-spelled_new-in-Whole c = rw (c.in-Whole.is, ← c.in_ok-spelled_new-in-Whole.ensures.exact) c.write_whole.ensures

@@ -1,5 +1,4 @@
-use Rattle.std.proofs.Common.{refl}
 use Rattle.bundle_runs.proofs.bundle_reader.BundleReader.new.Goals as goal
 
 pub returns-clause-stands : goal.returns-clause-stands
-returns-clause-stands c = rw c.new.ensures.is refl
+returns-clause-stands c = c.new.ensures.stands

@@ -17,5 +17,5 @@ returns-in-Show g c = rw c.in-Show.is (record {
 
 pub returns-in_default : goal.returns-in_default
 returns-in_default g c = record {
-  ran = c.drive-in_default.ensures (settles_from c.args.command false [] 1 0) c.new-reader-in_default.ensures.stands (settles-none c.args.command false [] 1 0 goes_on);
+  ran = c.drive_parts-in_default.ensures.ran (settles_from c.args.command false [] 1 0) c.new-reader-in_default.ensures.stands (settles-none c.args.command false [] 1 0 goes_on);
 }

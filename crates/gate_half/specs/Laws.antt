@@ -1,0 +1,66 @@
+-- What holds of each half, in other words than its definition's.
+
+use Rattle.std.specs.Prelude.{◌≡◌, ℕ, Bool, List, [], ◌∷◌, ◌++◌}
+use Rattle.std.specs.List.{flat_map}
+use Rattle.gate_cases.specs.declared.face.Face.{Face}
+use Rattle.gateway_core.specs.Comings.{if_same}
+use Rattle.gate_half.specs.Standing.{Standing, face_of}
+use Rattle.gate_half.specs.Acts.{Act, sent, lost, said, shown}
+use Rattle.gate_half.specs.Parts.{sends}
+use Rattle.gate_half.specs.Half.{Came, half}
+
+-- ---- the order of acts
+
+-- which part of a half an act belongs to: what goes out, then the lines, then the metrics
+abbrev pub IsGoing : Act → Type 0
+IsGoing (sent face datagram) = Unit {0}
+IsGoing (lost face datagram) = Unit {0}
+IsGoing (said line) = ⊥
+IsGoing (shown text) = ⊥
+
+abbrev pub IsTold : Act → Type 0
+IsTold (sent face datagram) = ⊥
+IsTold (lost face datagram) = ⊥
+IsTold (said line) = Unit {0}
+IsTold (shown text) = Unit {0}
+
+abbrev pub AreTold : List Act → Type 0
+AreTold [] = Unit {0}
+AreTold (act ∷ acts) = IsTold act × AreTold acts
+
+-- once something is told, nothing goes out any more
+abbrev pub GoFirst : List Act → Type 0
+GoFirst [] = Unit {0}
+GoFirst (sent face datagram ∷ acts) = GoFirst acts
+GoFirst (lost face datagram ∷ acts) = GoFirst acts
+GoFirst (said line ∷ acts) = AreTold acts
+GoFirst (shown text ∷ acts) = AreTold acts
+
+-- in each half all that goes out goes before its first line is written
+abbrev pub DatagramsGoFirst : Type 0
+DatagramsGoFirst =
+    (board : Bool) (face : Face) (came : Came) (s : Standing)
+    → GoFirst (half board face came s).acts
+
+-- ---- what goes out
+
+-- the datagrams that went out at a face, sent or lost, in order
+abbrev pub tried_by : Face → Act → List (List ℕ)
+tried_by at (sent face datagram) = if_same face at (datagram ∷ []) []
+tried_by at (lost face datagram) = if_same face at (datagram ∷ []) []
+tried_by at (said line) = []
+tried_by at (shown text) = []
+
+abbrev pub tried_at : Face → List Act → List (List ℕ)
+tried_at at acts = flat_map (tried_by at) acts
+
+-- what waits at a face
+abbrev pub waiting_at : Face → Standing → List (List ℕ)
+waiting_at face s = ((face_of face s).outbox).waiting
+
+-- when a face sends: what went out, and after it what still waits, is what waited, in order
+abbrev pub GoesInOrder : Type 0
+GoesInOrder =
+    (face : Face) (failing : List Bool) (s : Standing)
+    → tried_at face (sends face failing s).acts ++ waiting_at face (sends face failing s).standing
+    ≡ waiting_at face s

@@ -1,0 +1,9 @@
+-- What a reader must believe, in this order.
+pub mod Setup
+pub mod Standing
+pub mod Steps
+pub mod Acts
+pub mod Parts
+pub mod Half
+pub mod Run
+pub mod Laws

@@ -1,9 +1,10 @@
 -- What holds of each half, in other words than its definition's.
 
-use Rattle.std.specs.Prelude.{◌≡◌, ℕ, Bool, List, [], ◌∷◌, ◌++◌}
+use Rattle.std.specs.Prelude.{◌≡◌, ℕ, Bool, List, [], ◌∷◌, ◌++◌, ◌⊎◌}
 use Rattle.std.specs.List.{flat_map}
 use Rattle.gate_cases.specs.declared.face.Face.{Face}
 use Rattle.gateway_core.specs.Comings.{if_same}
+use Rattle.outbox.specs.Laws.{IsOpenAt}
 use Rattle.gate_half.specs.Standing.{Standing, face_of}
 use Rattle.gate_half.specs.Acts.{Act, sent, lost, said, shown}
 use Rattle.gate_half.specs.Parts.{sends}
@@ -64,3 +65,10 @@ GoesInOrder =
     (face : Face) (failing : List Bool) (s : Standing)
     → tried_at face (sends face failing s).acts ++ waiting_at face (sends face failing s).standing
     ≡ waiting_at face s
+
+-- where a datagram goes out at a face, sent or lost, the face's link is open at the half's reading
+abbrev pub GoesInContact : Type 0
+GoesInContact =
+    (board : Bool) (face : Face) (came : Came) (s : Standing) (at : Face)
+    → (tried_at at (half board face came s).acts ≡ [])
+    ⊎ IsOpenAt ((face_of at s).outbox).schedule (came.reading).wall

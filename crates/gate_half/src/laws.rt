@@ -1,6 +1,7 @@
-//! What holds of each half. Each law is the contract of a function that does nothing.
+//! What holds of each half. Each law is the contract of a function that does nothing
+//! but cite that of an outbox.
 
-ghost use Rattle.gate_half.specs.Laws.{DatagramsGoFirst, GoesInOrder};
+ghost use Rattle.gate_half.specs.Laws.{DatagramsGoFirst, GoesInContact, GoesInOrder};
 
 /// In each half all that goes out goes before the first line is written.
 pub fn datagrams_go_first()
@@ -11,3 +12,11 @@ pub fn datagrams_go_first()
 pub fn goes_in_order()
     ensures { GoesInOrder }
 {}
+
+/// A datagram goes out at a face, sent or lost, only in a half at whose reading of the wall clock the
+/// face's link is open.
+pub fn goes_in_contact()
+    ensures { GoesInContact }
+{
+    outbox::laws::goes_out_in_contact();
+}

@@ -1,0 +1,44 @@
+-- Values of the code as those of the definitions, and its faults as refusals.
+use Rattle.std.specs.Prelude.{ℕ, Option, Some, None}
+use Rattle.wire_fields.specs.Refusal.{Stop, truncated, because}
+use Rattle.wire_fields.specs.declared.miss.Miss.{Miss}
+use Rattle.wire_fields.specs.declared.miss.Miss.TheVariants as misses
+use Rattle.journal_file.specs.declared.fault.JournalCause.{JournalCause}
+use Rattle.journal_file.specs.declared.fault.JournalCause.TheVariants as causes
+use Rattle.journal_file.specs.declared.fault.JournalFault.{JournalFault}
+use Rattle.journal_file.specs.declared.fault.JournalFault.TheVariants as faults
+use Rattle.journal_file.specs.declared.kept.Kept.{Kept}
+use Rattle.journal_file.specs.declared.record.Record.{Record}
+use Rattle.journal_file.specs.declared.record.Record.TheVariants as records
+use Rattle.journal_file.specs.Values.{KeptValue, RecordValue, a_begun, a_done, a_mark, a_clear, a_reserved}
+
+-- the end of the file is a reason of its own
+abbrev pub why : JournalCause → Stop JournalCause
+why causes.Truncated = truncated
+why cause = because cause
+
+-- the refusal that a fault answers; want of memory is none
+abbrev pub refusal : JournalFault → Option (ℕ × Stop JournalCause)
+refusal (faults.Damaged at cause) = Some (at, why cause)
+refusal faults.Memory = None
+
+-- a field that isn't there at a place, with its cause
+abbrev pub missed : ℕ → Miss → JournalCause → JournalFault
+missed at misses.Truncated cause = faults.Damaged at causes.Truncated
+missed at misses.Absent cause = faults.Damaged at cause
+
+abbrev pub kept_of : Kept → KeptValue
+kept_of kept = record {
+  pending = kept.pending.items;
+  marks = kept.marks.items;
+  old_reserved = kept.old_reserved;
+  new_reserved = kept.new_reserved;
+  greatest = kept.greatest;
+}
+
+abbrev pub record_of : Record → RecordValue
+record_of (records.Begun id face block) = a_begun (record { id = id; face = face; block = block.now })
+record_of (records.Done id how) = a_done id how
+record_of (records.Marked mark) = a_mark mark
+record_of (records.Clear face session) = a_clear face session
+record_of (records.Reserved face number) = a_reserved face number

@@ -1,4 +1,5 @@
 pub mod LengthLemmas
+pub mod OverLemmas
 pub mod HopLemmas
 pub mod PassageLemmas
 pub mod PieceLemmas

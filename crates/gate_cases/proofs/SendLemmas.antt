@@ -17,6 +17,8 @@ use Rattle.gate_cases.specs.Blocks.{Arrival}
 use Rattle.gate_cases.specs.Passage.{pieces_on}
 use Rattle.gate_cases.specs.Cases.{is_short, or_passed, records_of}
 use Rattle.gate_cases.specs.Sending.{has_sessions, sent_in, sent_records, sent_full, sent_arrival, Reads}
+use Rattle.gate_cases.specs.Names.{over_at}
+use Rattle.gate_cases.proofs.OverLemmas.{pieces-over}
 use Rattle.gate_cases.proofs.PieceLemmas.{fits-pieces}
 use Rattle.gate_cases.proofs.CaseLemmas.{first-after, first-refused}
 
@@ -40,6 +42,16 @@ short-sessions to records room few =
     (short-by (nat_lt SENDING_MAX (room.sending + length records)) (long_one to records) (nat_lt NUMBERS (room.next_session + length records))
     (not-false _ few))
 
+short-long : (to : Face) (records : List Full) (room : Room) → long_one to records ≡ true
+    → is_short room (map (octets_at to) records) ≡ true
+short-long to records room long =
+    by (nat_lt SENDING_MAX (room.sending + length (map (octets_at to) records))) _ _ long
+  where
+    by : (a b c : Bool) → b ≡ true → (a || b || c) ≡ true
+    by true b c is = refl
+    by false true c is = refl
+    by false false c is = absurd (cc)
+
 -- ---- the two last cases
 
 -- the two tests decide
@@ -47,16 +59,29 @@ abbrev sent_by : Face → List Full → Bool → Bool → Sent
 sent_by to records fits short =
     sent_in to records (or_passed (first_that_holds ((Untranslated TooManyBlocks, not fits) ∷ (Storage, short) ∷ [])))
 
-pub sent-few : (to : Face) (records : List Full) (room : Room) (fits : Bool) → has_sessions room (length records) ≡ false
+-- where there is no room
+sent-short : (to : Face) (records : List Full) (room : Room) (fits : Bool) → is_short room (map (octets_at to) records) ≡ true
     → list_all (fits_at to) records ≡ fits
     → sent_records to records room ≡ record { case = if fits then Storage else Untranslated TooManyBlocks; pieces = [] }
-sent-few to records room fits few all =
+sent-short to records room fits short all =
     ap (λ (f : Bool). sent_by to records f (is_short room (map (octets_at to) records))) all
-    ∙ ap (λ (s : Bool). sent_by to records fits s) (short-sessions to records room few) ∙ by fits
+    ∙ ap (λ (s : Bool). sent_by to records fits s) short ∙ by fits
   where
     by : (f : Bool) → sent_by to records f true ≡ record { case = if f then Storage else Untranslated TooManyBlocks; pieces = [] }
     by true = refl
     by false = refl
+
+-- where there are too few sessions
+pub sent-few : (to : Face) (records : List Full) (room : Room) (fits : Bool) → has_sessions room (length records) ≡ false
+    → list_all (fits_at to) records ≡ fits
+    → sent_records to records room ≡ record { case = if fits then Storage else Untranslated TooManyBlocks; pieces = [] }
+sent-few to records room fits few all = sent-short to records room fits (short-sessions to records room few) all
+
+-- where one piece is too long
+pub sent-long : (to : Face) (records : List Full) (room : Room) (fits : Bool) → long_one to records ≡ true
+    → list_all (fits_at to) records ≡ fits
+    → sent_records to records room ≡ record { case = if fits then Storage else Untranslated TooManyBlocks; pieces = [] }
+sent-long to records room fits long all = sent-short to records room fits (short-long to records room long) all
 
 -- ---- the bundle
 
@@ -74,12 +99,19 @@ sent-refused to arrival now cut room cause is =
 
 -- ---- what code answered
 
-pub few-ok : {E : Type 0} (to : Face) (passed : Full) (size : ℕ) (room : Room) (result : Result Sent E)
+pub few-sent : (to : Face) (passed : Full) (size : ℕ) (room : Room) (sent : Sent)
     → has_sessions room (length (pieces_on passed size)) ≡ false
-    → IfOk result (λ s. s ≡ record { case = if fits_at to passed then Storage else Untranslated TooManyBlocks; pieces = [] })
-    → IfOk result (λ s. s ≡ sent_records to (pieces_on passed size) room)
-few-ok to passed size room (Ok s) few is = is ∙ sym (sent-few to (pieces_on passed size) room (fits_at to passed) few (fits-pieces to passed size))
-few-ok to passed size room (Err e) few is = tt
+    → sent ≡ record { case = if fits_at to passed then Storage else Untranslated TooManyBlocks; pieces = [] }
+    → sent ≡ sent_records to (pieces_on passed size) room
+few-sent to passed size room sent few is =
+    is ∙ sym (sent-few to (pieces_on passed size) room (fits_at to passed) few (fits-pieces to passed size))
+
+pub long-sent : (to : Face) (records : List Full) (room : Room) (sent : Sent) (fit : Bool) → list_any (over_at to) records ≡ true
+    → fit ≡ list_all (fits_at to) records
+    → sent ≡ record { case = if fit then Storage else Untranslated TooManyBlocks; pieces = [] }
+    → sent ≡ sent_records to records room
+long-sent to records room sent fit over fits is =
+    is ∙ sym (sent-long to records room fit (pieces-over to records over) (sym fits))
 
 pub read-ok : {E : Type 0} (to : Face) (arrival : Arrival) (full : Full) (now cut : ℕ) (room : Room) (result : Result Sent E)
     → Reads (first_that_holds arrival.refusals) arrival.full (Ok full) → IfOk result (λ s. s ≡ sent_full to full now cut room)

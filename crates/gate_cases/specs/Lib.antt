@@ -8,3 +8,4 @@ pub mod Bundles
 pub mod Promises
 -- what only ties code to it
 pub mod Sending
+pub mod Names

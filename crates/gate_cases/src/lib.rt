@@ -16,6 +16,7 @@ mod face;
 mod judged;
 mod judging;
 mod laws;
+mod names;
 mod passage;
 mod reading;
 mod report;

@@ -14,6 +14,7 @@ ghost use Rattle.gate_cases.specs.Sending.{has_sessions, sent_full, sent_records
 use crate::case::{BLOCK_MAX, GateCase, NUMBERS, Room, SENDING_MAX};
 use crate::face::Face;
 use crate::judged::Pieces;
+use crate::names::is_any_over;
 use crate::passage::{has_no_hop_left, passage};
 use bundle_meaning::{Content, Full, Shared, expiry_ms};
 use bundle6::{Block6, encode6};
@@ -21,7 +22,7 @@ use bundle7::encode7;
 use endpoint::{Endpoint, Octets};
 use fragments::{CutRefused, Fulls, cut};
 use std::alloc::{AllocError, Global};
-use translate::{Refused, ViewRefused, view6, view6_is_legal, view7};
+use translate::{Refused, ViewRefused, fits6, fits7, view6, view6_is_legal, view7};
 
 /// The case of a bundle that is translated, and the pieces that go on.
 #[derive(Debug, Drop)]
@@ -78,16 +79,20 @@ fn send_passed(
     if has_sessions(room, how_many(&passed, size)) {
         send_pieces(alloc, to, records(alloc, passed, size)?)
     } else {
-        unsent(alloc, to, &passed)
+        Ok(unsent(alloc, fits(to, &passed)))
     }
 }
 
-/// The same of the records of pieces, whatever the room, if there are sessions for them.
+/// The same of the records of pieces, whatever the room, if there are sessions for them. Nothing is
+/// written where the names of one alone are too long.
 fn send_pieces(alloc: Global, to: Face, records: Fulls) -> Result<Sent, AllocError>
     requires { All IsSound records }
     ensures { IfOk result (λ sent. (room : Room) → has_sessions room (length records) ≡ true
         → sent ≡ sent_records to records room) }
 {
+    if is_any_over(to, records.as_slice()) {
+        return Ok(unsent(alloc, all_fit(to, records.as_slice())));
+    }
     match all_spelled(alloc, to, records.as_slice())? {
         None => Ok(stopped(alloc, TOO_MANY)),
         Some(pieces) => Ok(carried(alloc, pieces)),
@@ -128,19 +133,42 @@ fn is_too_long(piece: &Octets) -> bool
     piece.len() > BLOCK_MAX
 }
 
-/// Why a record isn't sent that there are too few sessions for: that its pieces have too many blocks
-/// comes first. They have where the record has.
-fn unsent(alloc: Global, to: Face, passed: &Full) -> Result<Sent, AllocError>
-    requires { IsSound passed.now }
-    ensures { IfOk result (λ sent. sent ≡ record {
-      case = if fits_at to passed.now then GateCase.Storage else GateCase.Untranslated Refused.TooManyBlocks;
+/// What isn't sent for want of room: that pieces have too many blocks comes first.
+fn unsent(alloc: Global, fit: bool) -> Sent
+    ensures { result ≡ record {
+      case = if fit then GateCase.Storage else GateCase.Untranslated Refused.TooManyBlocks;
       pieces = [];
-    }) }
+    } }
 {
-    match spelled(alloc, to, passed)? {
-        Some(_) => Ok(stopped(alloc, GateCase::Storage)),
-        None => Ok(stopped(alloc, TOO_MANY)),
+    if fit {
+        stopped(alloc, GateCase::Storage)
+    } else {
+        stopped(alloc, TOO_MANY)
     }
+}
+
+/// Whether there is room for the blocks of a record in its bundle at a face.
+fn fits(to: Face, full: &Full) -> bool
+    requires { IsSound full.now }
+    ensures { result ≡ fits_at to full.now }
+{
+    match to {
+        Face::Old => fits6(full),
+        Face::New => fits7(full),
+    }
+}
+
+/// Whether there is for those of each.
+fn all_fit(to: Face, records: &[Full]) -> bool
+    requires { All IsSound records.now }
+    ensures { result ≡ list_all (fits_at to) records.now }
+{
+    'fitting: for full in records {
+        if !fits(to, full) {
+            return false;
+        }
+    }
+    true
 }
 
 /// Whether there is a session for each of so many pieces.

@@ -31,8 +31,8 @@ pub use laws::{
     view7_reads,
 };
 pub use new_reading::from7;
-pub use new_view::view7;
+pub use new_view::{fits7, view7};
 pub use old_reading::from6;
-pub use old_view::view6;
+pub use old_view::{fits6, view6};
 pub use refused::{Refused, ViewRefused};
 pub use translation::{norm6, norm7, to_new, to_old};

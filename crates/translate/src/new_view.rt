@@ -47,8 +47,8 @@ pub(crate) fn bundle7_of(alloc: Global, full: &Full) -> Result<Bundle7, AllocErr
     })
 }
 
-/// Whether the view has at most 64 extension blocks.
-pub(crate) fn fits7(full: &Full) -> bool
+/// Whether the view has at most 64 extension blocks. It takes no memory.
+pub fn fits7(full: &Full) -> bool
     requires { IsValid full.now }
     ensures { result ≡ fits7 full.now }
 {

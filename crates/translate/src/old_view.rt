@@ -51,8 +51,8 @@ pub(crate) fn bundle6_of(alloc: Global, full: &Full) -> Result<Bundle6, AllocErr
     })
 }
 
-/// Whether the view has at most 64 blocks besides the payload.
-pub(crate) fn fits6(full: &Full) -> bool
+/// Whether the view has at most 64 blocks besides the payload. It takes no memory.
+pub fn fits6(full: &Full) -> bool
     requires { IsValid full.now }
     ensures { result ≡ fits6 full.now }
 {

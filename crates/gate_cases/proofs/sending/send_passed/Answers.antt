@@ -1,9 +1,10 @@
 use Rattle.std.proofs.Common.{◌≡◌, false, sym, subst}
 use Rattle.gate_cases.specs.Sending.{has_sessions}
-use Rattle.gate_cases.proofs.SendLemmas.{few-ok}
+use Rattle.gate_cases.proofs.SendLemmas.{few-sent}
 use Rattle.gate_cases.proofs.sending.send_passed.Goals as goal
 
 pub returns-else-has_sessions : goal.returns-else-has_sessions
 returns-else-has_sessions c =
-    few-ok c.args.to c.args.passed c.args.size c.args.room c.unsent.result
-    (subst (λ n. has_sessions c.args.room n ≡ false) c.how_many.ensures (sym c.if-has_sessions.ensures)) c.unsent.ensures
+    few-sent c.args.to c.args.passed c.args.size c.args.room c.unsent.result
+    (subst (λ n. has_sessions c.args.room n ≡ false) c.how_many.ensures (sym c.if-has_sessions.ensures))
+    (rw c.fits.ensures at c.unsent.ensures)

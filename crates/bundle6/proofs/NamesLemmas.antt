@@ -1,13 +1,13 @@
 -- Looking a name up in the dictionary: a text that is too long to name something may be missed.
 
 use Rattle.std.proofs.Common.{◌≡◌, ℕ, ◌<◌, ◌≤◌, min, Bool, true, false, ◌&&◌, eqb, ltb, leb, ◌⊎◌, inl, inr}
-use Rattle.std.proofs.Common.{List, ◌++◌, length, take, drop, get_or, refl, sym, ap, arith}
+use Rattle.std.proofs.Common.{List, ◌++◌, length, take, drop, get_or, refl, sym, ap, ◌∙◌, arith}
 use Rattle.std.proofs.Common.{Option, None, Some, length-append}
 use Rattle.std.specs.Prelude.{codes, IfSome}
 use Rattle.std.specs.List.{position, position_or_len}
 use Rattle.std.specs.Fmt.{decimal}
 use Rattle.std.proofs.lemmas.Bool.{cases_lt, ltb-true, lt-ltb, leb-true}
-use Rattle.std.proofs.lemmas.List.{get_or-take, take-take, length-take-le, drop_all}
+use Rattle.std.proofs.lemmas.List.{get_or-take, take-take, take_min, length-take, length-take-le, drop_all}
 use Rattle.std.proofs.lemmas.List.Sums.{fails_before_first, passes_at_first, position_or_len_is}
 use Rattle.std.proofs.lemmas.Fmt.{length-decimal-le}
 use Rattle.endpoint.specs.declared.name.Endpoint.{Endpoint}
@@ -15,7 +15,8 @@ use Rattle.endpoint.specs.declared.name.Endpoint.TheVariants.{Null, Ipn, Dtn}
 use Rattle.endpoint.specs.Endpoints.{IsEndpoint, is_ssp, ssp_of, scheme_of}
 use Rattle.endpoint.specs.Reading.{named}
 use Rattle.endpoint.proofs.ReadingLemmas.{named-found}
-use Rattle.bundle6.specs.Names.{is_nul, up_to_nul, text_at, named_by, resolve}
+use Rattle.endpoint.specs.Places.{endpoint_at}
+use Rattle.bundle6.specs.Names.{is_nul, up_to_nul, text_at, named_by, place_named, resolve}
 use Rattle.bundle6.specs.declared.names.Offsets.{Offsets}
 
 -- ---- the first NUL
@@ -154,3 +155,35 @@ pub resolve-misses : (dictionary : List ℕ) (pair : Offsets) → eqb (length di
 unfolding resolve
 resolve-misses dictionary pair some long =
     rw some (named_by-long (text_at dictionary pair.scheme) (text_at dictionary pair.ssp) long)
+
+-- ---- where a name is
+
+-- the octets up to a NUL are so many of those from there on
+up_to_nul-front : (text found : List ℕ) → up_to_nul text ≡ Some found → take (length found) text ≡ found
+unfolding up_to_nul
+up_to_nul-front text found is = by (position is_nul text) refl
+  where
+    by : (o : Option ℕ) → position is_nul text ≡ o → take (length found) text ≡ found
+    by None none = absurd (cc)
+    by (Some end) some =
+        let first : take end text ≡ found = cc in
+        rw (← first, length-take end text) (take_min end text)
+
+-- the place of the name that a scheme and a part make is one of it in the dictionary
+pub place-named : (dictionary ssp : List ℕ) (scheme : List ℕ) (offset : ℕ) (endpoint : Endpoint)
+    → text_at dictionary offset ≡ Some ssp → named scheme ssp ≡ Some endpoint
+    → endpoint_at dictionary (place_named endpoint offset (length ssp)) ≡ endpoint
+unfolding text_at
+place-named dictionary ssp scheme offset Null there is = refl
+place-named dictionary ssp scheme offset (Ipn node service) there is = refl
+place-named dictionary ssp scheme offset (Dtn own) there is =
+    let same : ssp ≡ own = (named-found scheme ssp (Dtn own) is).ssp_is in
+    rw (up_to_nul-front (drop offset dictionary) ssp there, same) refl
+
+pub place-found : (dictionary : List ℕ) (pair : Offsets) (scheme ssp : List ℕ) (endpoint : Endpoint)
+    → eqb (length dictionary) 0 ≡ false → text_at dictionary pair.scheme ≡ Some scheme → text_at dictionary pair.ssp ≡ Some ssp
+    → named scheme ssp ≡ Some endpoint
+    → Some (endpoint_at dictionary (place_named endpoint pair.ssp (length ssp))) ≡ resolve dictionary pair
+unfolding resolve
+place-found dictionary pair scheme ssp endpoint some first second is =
+    rw (some, first, second) (ap Some (place-named dictionary ssp scheme pair.ssp endpoint second is) ∙ sym is)

@@ -1,13 +1,16 @@
 -- Numbering the endpoints of a bundle: one more endpoint, and the two ways to number all.
 
 use Rattle.std.proofs.Common.{◌≡◌, ℕ, ◌+◌, ◌<◌, true, false, cond, eqb}
-use Rattle.std.proofs.Common.{List, [], ◌∷◌, ◌++◌, length, take, get_or, sym, ◌∙◌, ap, subst, arith, Bor}
+use Rattle.std.proofs.Common.{List, [], ◌∷◌, ◌++◌, length, take, get_or, sym, ◌∙◌, ap, subst, arith, refl, append_assoc}
 use Rattle.std.specs.Prelude.{map, IfOk, Result, Ok, Err}
 use Rattle.std.specs.List.{list_all}
 use Rattle.std.proofs.lemmas.Bool.{ne_eqb}
 use Rattle.std.proofs.lemmas.List.{map-append, take_more}
 use Rattle.std.proofs.lemmas.List.Folds.{list_all-map, list_all_at}
 use Rattle.endpoint.specs.declared.name.Endpoint.{Endpoint}
+use Rattle.endpoint.specs.declared.name.Endpoint.TheVariants.{Null}
+use Rattle.endpoint.specs.declared.lent.Name.{Name}
+use Rattle.endpoint.specs.Lent.{endpoint_of}
 use Rattle.endpoint.specs.Endpoints.{scheme_of}
 use Rattle.bundle6.specs.declared.names.Offsets.{Offsets}
 use Rattle.bundle6.specs.declared.bundle.Bundle6.{Bundle6}
@@ -19,19 +22,32 @@ use Rattle.bundle6.specs.Numbering.{lent_out, IsGathered, IsNumbering}
 use Rattle.bundle6.proofs.GatherLemmas.{grows-name, names-hold, with_names-push, places-kept, texts-none, texts-some}
 
 -- one more endpoint was lent
-pub lent-more : (endpoints : List (Bor Endpoint)) (i : ℕ) (lent : Bor Endpoint) → i < length endpoints
-    → lent ≡ get_or endpoints i lent → lent_out (take (i + 1) endpoints) ≡ lent_out (take i endpoints) ++ lent.now ∷ []
-lent-more endpoints i lent inside is =
-    ap lent_out (take_more endpoints i lent inside)
-    ∙ map-append (λ l. l.now) (take i endpoints) (get_or endpoints i lent ∷ [])
-    ∙ ap (λ l. lent_out (take i endpoints) ++ l.now ∷ []) (sym is)
+lent-more : (endpoints : List Name) (i : ℕ) (d : Name) → i < length endpoints
+    → lent_out (take (i + 1) endpoints) ≡ lent_out (take i endpoints) ++ endpoint_of (get_or endpoints i d) ∷ []
+lent-more endpoints i d inside =
+    ap lent_out (take_more endpoints i d inside)
+    ∙ map-append endpoint_of (take i endpoints) (get_or endpoints i d ∷ [])
+
+-- one reference more was lent
+pub lent-push : (start before after : List Name) (refs : List Endpoint) (i : ℕ) (lent : Name) → i < length refs
+    → endpoint_of lent ≡ get_or refs i Null → after ≡ before ++ lent ∷ []
+    → lent_out before ≡ lent_out start ++ take i refs → lent_out after ≡ lent_out start ++ take (i + 1) refs
+lent-push start before after refs i lent inside is pushed so =
+    rw (
+      pushed,
+      map-append endpoint_of before (lent ∷ []),
+      so,
+      take_more refs i Null inside,
+      is,
+      append_assoc (lent_out start) (take i refs) (get_or refs i Null ∷ []),
+    ) refl
 
 -- one that needs a dictionary
-pub lent-unnumbered : (endpoints : List (Bor Endpoint)) (i : ℕ) (lent : Bor Endpoint) → i < length endpoints
-    → lent ≡ get_or endpoints i lent → is_numbered lent.now ≡ false → list_all is_numbered (lent_out endpoints) ≡ false
-lent-unnumbered endpoints i lent inside is other =
-    list_all-map is_numbered (λ l. l.now) endpoints
-    ∙ list_all_at (λ l. is_numbered l.now) endpoints i lent inside (ap (λ l. is_numbered l.now) (sym is) ∙ other)
+pub lent-unnumbered : (endpoints : List Name) (i : ℕ) (d : Name) → i < length endpoints
+    → is_numbered (endpoint_of (get_or endpoints i d)) ≡ false → list_all is_numbered (lent_out endpoints) ≡ false
+lent-unnumbered endpoints i d inside other =
+    list_all-map is_numbered endpoint_of endpoints
+    ∙ list_all_at (λ l. is_numbered (endpoint_of l)) endpoints i d inside other
 
 -- what was gathered of the endpoints seen so far
 pub record SoFar (seen : List Endpoint) (gathering : Gathering) (pairs : List Offsets) : Type 0 where
@@ -42,7 +58,7 @@ pub so_far-start : (gathering : Gathering) (pairs : List Offsets) → Shows gath
 unfolding with_names
 so_far-start gathering pairs shows none = record { shows = shows; pairs_are = none }
 
-pub so_far-more : (seen : List Endpoint) (endpoint : Endpoint) (after : Gathering) (pairs : List Offsets) (pair : Offsets)
+so_far-more : (seen : List Endpoint) (endpoint : Endpoint) (after : Gathering) (pairs : List Offsets) (pair : Offsets)
     → pairs ≡ map (places_of (with_names [] seen)) seen → Named after (with_names [] seen) endpoint pair
     → SoFar (seen ++ endpoint ∷ []) after (pairs ++ pair ∷ [])
 so_far-more seen endpoint after pairs pair are named =
@@ -58,6 +74,14 @@ so_far-more seen endpoint after pairs pair are named =
           ∙ ap (λ p. map (places_of (with_name texts endpoint)) seen ++ p ∷ []) named.places
           ∙ sym (map-append (places_of (with_name texts endpoint)) seen (endpoint ∷ [])));
     }
+
+pub so_far-lent : (endpoints : List Name) (i : ℕ) (d : Name) (before after : Gathering) (pairs more : List Offsets) (pair : Offsets)
+    → i < length endpoints → SoFar (lent_out (take i endpoints)) before pairs
+    → Named after (with_names [] (lent_out (take i endpoints))) (endpoint_of (get_or endpoints i d)) pair
+    → more ≡ pairs ++ pair ∷ [] → SoFar (lent_out (take (i + 1) endpoints)) after more
+so_far-lent endpoints i d before after pairs more pair inside so_far named is =
+    rw (is, lent-more endpoints i d inside)
+    (so_far-more (lent_out (take i endpoints)) (endpoint_of (get_or endpoints i d)) after pairs pair so_far.pairs_are named)
 
 -- two numbers spell each endpoint without a dictionary
 pub numbering-none : (b : Bundle6) (endpoints : List Endpoint) (numbering : Numbering) → endpoints ≡ endpoints_of b

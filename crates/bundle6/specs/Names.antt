@@ -5,7 +5,9 @@ use Rattle.std.specs.Borrow.{Bor}
 use Rattle.std.specs.List.{position}
 use Rattle.std.specs.Option.{option_map}
 use Rattle.endpoint.specs.declared.name.Endpoint.{Endpoint}
-use Rattle.endpoint.specs.declared.name.Endpoint.TheVariants.{Null, Ipn}
+use Rattle.endpoint.specs.declared.name.Endpoint.TheVariants.{Null, Ipn, Dtn}
+use Rattle.endpoint.specs.declared.place.Place.{Place}
+use Rattle.endpoint.specs.declared.place.Place.TheVariants as places
 use Rattle.endpoint.specs.Reading.{named}
 use Rattle.bundle6.specs.declared.names.Offsets.{Offsets}
 use Rattle.bundle6.specs.declared.names.Pairs.{Pairs}
@@ -71,6 +73,12 @@ names_of dictionary pairs = record {
 }
 
 -- ---- what code answers
+
+-- the place of an endpoint whose scheme-specific part has so many octets from there on
+abbrev pub place_named : Endpoint → ℕ → ℕ → Place
+place_named Null from size = places.Null
+place_named (Ipn node service) from size = places.Ipn node service
+place_named (Dtn ssp) from size = places.Dtn from size
 
 -- the endpoint that two numbers name, or that they name none
 abbrev pub Resolves : List ℕ → Offsets → Result Endpoint Unresolved → Type 0

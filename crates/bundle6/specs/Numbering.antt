@@ -1,15 +1,16 @@
 -- What code numbers: the dictionary and the numbers of endpoints.
 
 use Rattle.std.specs.Prelude.{◌≡◌, List, [], map}
-use Rattle.std.specs.Borrow.{Bor}
 use Rattle.endpoint.specs.declared.name.Endpoint.{Endpoint}
+use Rattle.endpoint.specs.declared.lent.Name.{Name}
+use Rattle.endpoint.specs.Lent.{endpoint_of}
 use Rattle.bundle6.specs.declared.bundle.Bundle6.{Bundle6}
 use Rattle.bundle6.specs.declared.numbering.Numbering.{Numbering}
 use Rattle.bundle6.specs.Spelling.{endpoints_of, with_names, texts_of, dictionary_of, places_of, offsets_of}
 
 -- the endpoints that were lent
-abbrev pub lent_out : List (Bor Endpoint) → List Endpoint
-lent_out endpoints = map (λ lent. lent.now) endpoints
+abbrev pub lent_out : List Name → List Endpoint
+lent_out endpoints = map endpoint_of endpoints
 
 -- the dictionary of endpoints, and their places in it
 pub record IsGathered (endpoints : List Endpoint) (numbering : Numbering) : Type 0 where

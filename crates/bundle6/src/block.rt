@@ -1,6 +1,7 @@
 //! The blocks after the primary block.
 
 ghost use Rattle.std.specs.Prelude.{◌≡◌, ◌-◌, ◌^◌, ◌<◌, ◌≤◌, [], ◌∷◌, ◌++◌, length, IfOk, OnOk, OnErr};
+ghost use Rattle.endpoint.specs.Places.{endpoint_at, endpoints_at};
 ghost use Rattle.wire_fields.specs.Reading.{read};
 ghost use Rattle.wire_fields.specs.Words.{listed};
 ghost use Rattle.wire_fields.specs.Gives.{Gives, IsOn};
@@ -11,8 +12,8 @@ ghost use Rattle.bundle6.specs.Table.{kind_field, flags_field, count_field, size
 use crate::fault::{Cause6, Fail6, Refused6};
 use crate::fields::{number, octet, octets};
 use crate::flags::{LAST, REFS, has_bit, without};
-use crate::names::{Offsets, resolve};
-use endpoint::{Endpoint, Fragment, Octets, Refs};
+use crate::names::{Offsets, place_in};
+use endpoint::{Fragment, Octets, Place, Refs, Texts};
 use std::alloc::{AllocError, Global};
 use std::marker::Model;
 
@@ -170,24 +171,22 @@ pub(crate) fn flags_at(text: &[u8], at: usize, paid: bool) -> Result<(u64, usize
     Ok((flags, after))
 }
 
-/// An endpoint that a block refers to.
+/// An endpoint that a block refers to, by its place in the dictionary. It takes no memory.
 #[tactic(auto, unfolding(crate::specs::Table::name))]
-fn reference_at(
-    alloc: Global,
-    text: &[u8],
-    at: usize,
-    dictionary: &[u8],
-) -> Result<(Endpoint, usize), Fail6>
+fn reference_at(text: &[u8], at: usize, dictionary: &[u8]) -> Result<(Place, usize), Fail6>
     requires { at ≤ length text.now }
     ensures within { IfOk result (λ x. IsOn at text.now x.1) }
-    ensures exact { Gives (λ endpoint. endpoint) refusal result
+    ensures exact { Gives (endpoint_at dictionary.now) refusal result
         (read (name dictionary.now) text.now at) }
 {
     let (scheme, at) = number(text, at)?;
     let (ssp, after) = number(text, at)?;
-    match resolve(alloc, dictionary, Offsets { scheme, ssp }) {
-        Ok(endpoint) => Ok((endpoint, after)),
-        Err(unresolved) => Err(unresolved.refused(at, Cause6::BlockRefs)),
+    match place_in(dictionary, Offsets { scheme, ssp }) {
+        Some(place) => Ok((place, after)),
+        None => Err(Fail6::Refused {
+            at,
+            cause: Cause6::BlockRefs,
+        }),
     }
 }
 
@@ -206,27 +205,59 @@ pub(crate) fn count_at(text: &[u8], at: usize, present: bool) -> Result<(u64, us
     }
 }
 
-/// So many references.
-fn counted_at(
+/// Room for the places of so many references. Each has two octets at least, and that many are there.
+fn room_for(alloc: Global, count: u64, octets: usize) -> Result<Vec<Place>, AllocError>
+    ensures { IfOk result (λ places. places.items ≡ []) }
+{
+    Vec::with_capacity(alloc, (octets / 2).min(count as usize))
+}
+
+/// Adds a place at the end.
+fn add(places: &mut Vec<Place>, place: Place) -> Result<(), AllocError>
+    ensures { OnOk result (places.new.items ≡ places.old.items ++ place ∷ []) }
+{
+    places.push(place)?;
+    Ok(())
+}
+
+/// The places of so many references.
+fn places_at(
     alloc: Global,
     text: &[u8],
     at: usize,
     count: u64,
     dictionary: &[u8],
+) -> Result<(Vec<Place>, usize), Fail6>
+    requires { at ≤ length text.now }
+    ensures within { IfOk result (λ x. IsOn at text.now x.1) }
+    ensures exact { Gives (λ places. endpoints_at dictionary.now places.items) refusal result
+        (read (listed count (λ earlier. name dictionary.now)) text.now at) }
+{
+    let mut places = room_for(alloc, count, text.len() - at)?;
+    let mut after = at;
+    'references: for _ in 0..count {
+        let (place, next) = reference_at(text, after, dictionary)?;
+        add(&mut places, place)?;
+        after = next;
+    }
+    Ok((places, after))
+}
+
+/// So many references, which share the dictionary.
+fn counted_at(
+    alloc: Global,
+    text: &[u8],
+    at: usize,
+    count: u64,
+    dictionary: &Texts,
 ) -> Result<(Refs, usize), Fail6>
     requires { at ≤ length text.now }
     ensures within { IfOk result (λ x. IsOn at text.now x.1) }
     ensures exact { Gives (λ refs. refs) refusal result
         (read (listed count (λ earlier. name dictionary.now)) text.now at) }
 {
-    let mut refs = Refs::new(alloc);
-    let mut after = at;
-    'references: for _ in 0..count {
-        let (endpoint, next) = reference_at(alloc, text, after, dictionary)?;
-        refs.push(endpoint)?;
-        after = next;
-    }
-    Ok((refs, after))
+    let (places, after) = places_at(alloc, text, at, count, dictionary.as_slice())?;
+    Ok((Refs::from_places(alloc, dictionary, places)?, after))
 }
 
 /// The references, where the flags say that there are some.
@@ -236,7 +267,7 @@ fn references_at(
     text: &[u8],
     at: usize,
     present: bool,
-    dictionary: &[u8],
+    dictionary: &Texts,
 ) -> Result<(Refs, usize), Fail6>
     requires { at ≤ length text.now }
     ensures within { IfOk result (λ x. IsOn at text.now x.1) }
@@ -288,7 +319,7 @@ pub(crate) fn block_at(
     at: usize,
     most: u64,
     part: Option<Fragment>,
-    dictionary: &[u8],
+    dictionary: &Texts,
     seen: Seen,
 ) -> Result<((Block6, bool), usize), Fail6>
     requires place { at ≤ length text.now }

@@ -2,11 +2,12 @@
 
 ghost use Rattle.std.specs.Prelude.{ℕ, ◌≡◌, List, [], map, length, IfOk};
 ghost use Rattle.endpoint.specs.Endpoints.{ssp_of};
+ghost use Rattle.endpoint.specs.Lent.{endpoint_of};
 ghost use Rattle.bundle6.specs.Spelling.{with_text, with_name, with_names, offset_of, places_of, numbers_of, is_numbered};
 ghost use Rattle.bundle6.specs.Gathering.{Shows, Placed, Named};
 
 use crate::names::Offsets;
-use endpoint::Endpoint;
+use endpoint::Name;
 use std::alloc::{AllocError, Global};
 use std::collections::BTreeMap;
 
@@ -57,9 +58,9 @@ impl Gathering {
     }
 
     /// Where the two texts of an endpoint stand. Those that aren't there are put at the end.
-    pub(crate) fn name(&mut self, alloc: Global, endpoint: &Endpoint) -> Result<Offsets, AllocError>
+    pub(crate) fn name(&mut self, alloc: Global, endpoint: &Name<'_>) -> Result<Offsets, AllocError>
         ensures { (texts : List (List ℕ)) → Shows self.old texts
-            → IfOk result (λ pair. Named self.new texts endpoint.now pair) }
+            → IfOk result (λ pair. Named self.new texts (endpoint_of endpoint.now) pair) }
     {
         let scheme = self.place(alloc, endpoint.scheme())?;
         let ssp = self.part(alloc, endpoint)?;
@@ -67,14 +68,14 @@ impl Gathering {
     }
 
     /// Where the scheme-specific part of an endpoint stands.
-    fn part(&mut self, alloc: Global, endpoint: &Endpoint) -> Result<u64, AllocError>
+    fn part(&mut self, alloc: Global, endpoint: &Name<'_>) -> Result<u64, AllocError>
         ensures { (texts : List (List ℕ)) → Shows self.old texts
-            → IfOk result (λ at. Placed self.new texts (ssp_of endpoint.now) at) }
+            → IfOk result (λ at. Placed self.new texts (ssp_of (endpoint_of endpoint.now)) at) }
     {
         match endpoint {
-            Endpoint::Dtn(ssp) => self.place(alloc, ssp.as_slice()),
+            Name::Dtn(ssp) => self.place(alloc, ssp),
             other => {
-                let ssp = other.ssp(alloc)?;
+                let ssp = other.owned(alloc)?.ssp(alloc)?;
                 self.place(alloc, ssp.as_slice())
             }
         }

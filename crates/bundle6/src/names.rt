@@ -1,16 +1,18 @@
 //! Names, as two numbers each.
 
-ghost use Rattle.std.specs.Prelude.{◌≡◌, ◌≤◌, length, IfOk};
+ghost use Rattle.std.specs.Prelude.{◌≡◌, ◌≤◌, ℕ, List, length, option_map, IfOk};
+ghost use Rattle.endpoint.specs.Places.{endpoint_at};
 ghost use Rattle.std.specs.List.{position};
 ghost use Rattle.wire_fields.specs.Reading.{read};
 ghost use Rattle.wire_fields.specs.Gives.{Gives, IsOn};
 ghost use Rattle.bundle6.specs.Cause.{refusal, refused_at, fault_named};
-ghost use Rattle.bundle6.specs.Names.{is_nul, Shows, text_at, numbered, Resolves, ResolvesAll};
+ghost use Rattle.endpoint.specs.Lent.{endpoint_of};
+ghost use Rattle.bundle6.specs.Names.{is_nul, Shows, text_at, numbered, place_named, resolve, Resolves, ResolvesAll};
 ghost use Rattle.bundle6.specs.Table.{offsets, four_names, dictionary};
 
 use crate::fault::{Cause6, Fail6, Refused6};
 use crate::fields::{number, octets};
-use endpoint::{Endpoint, named};
+use endpoint::{Endpoint, Name, Place, lend_named};
 use std::alloc::{AllocError, Global};
 
 /// A name: two offsets into the dictionary, or where that is empty the numbers of node and service.
@@ -134,35 +136,50 @@ pub(crate) fn text_in(dictionary: &[u8], offset: u64) -> Option<&[u8]>
     }
 }
 
-/// The endpoint of two numbers, without a dictionary.
-fn numbered(pair: Offsets) -> Endpoint
-    ensures { result ≡ numbered pair }
+/// The place in the dictionary of the endpoint that two numbers name, if they name one. It takes no
+/// memory.
+#[tactic(auto, unfolding(crate::specs::Names::resolve))]
+pub(crate) fn place_in(dictionary: &[u8], pair: Offsets) -> Option<Place>
+    ensures { option_map (endpoint_at dictionary.now) result ≡ resolve dictionary.now pair }
+{
+    if dictionary.is_empty() {
+        return Some(place_numbered(pair));
+    }
+    let scheme = text_in(dictionary, pair.scheme)?;
+    let ssp = text_in(dictionary, pair.ssp)?;
+    let name = lend_named(scheme, ssp)?;
+    Some(place_named(name, pair.ssp as usize, ssp.len()))
+}
+
+/// The place of an endpoint whose scheme-specific part has so many octets from there on.
+fn place_named(name: Name<'_>, from: usize, size: usize) -> Place
+    ensures { result ≡ place_named (endpoint_of name.entry) from size }
+{
+    match name {
+        Name::Null => Place::Null,
+        Name::Ipn { node, service } => Place::Ipn { node, service },
+        Name::Dtn(_) => Place::Dtn { from, size },
+    }
+}
+
+/// The place of the endpoint of two numbers, without a dictionary.
+fn place_numbered(pair: Offsets) -> Place
+    ensures { (texts : List ℕ) → endpoint_at texts result ≡ numbered pair }
 {
     match (pair.scheme, pair.ssp) {
-        (0, 0) => Endpoint::Null,
-        (node, service) => Endpoint::Ipn { node, service },
+        (0, 0) => Place::Null,
+        (node, service) => Place::Ipn { node, service },
     }
 }
 
 /// The endpoint that two numbers name.
-#[tactic(auto, unfolding(crate::specs::Names::resolve))]
-pub(crate) fn resolve(
-    alloc: Global,
-    dictionary: &[u8],
-    pair: Offsets,
-) -> Result<Endpoint, Unresolved>
+fn resolve(alloc: Global, dictionary: &[u8], pair: Offsets) -> Result<Endpoint, Unresolved>
     ensures { Resolves dictionary.now pair result }
 {
-    if dictionary.is_empty() {
-        return Ok(numbered(pair));
+    match place_in(dictionary, pair) {
+        Some(place) => Ok(place.name(dictionary).owned(alloc)?),
+        None => Err(Unresolved::Unknown),
     }
-    let Some(scheme) = text_in(dictionary, pair.scheme) else {
-        return Err(Unresolved::Unknown);
-    };
-    let Some(ssp) = text_in(dictionary, pair.ssp) else {
-        return Err(Unresolved::Unknown);
-    };
-    named(alloc, scheme, ssp)?.ok_or(Unresolved::Unknown)
 }
 
 /// The four endpoints.

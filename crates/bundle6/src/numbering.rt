@@ -2,13 +2,14 @@
 
 ghost use Rattle.std.specs.Prelude.{◌≡◌, ◌++◌, [], map, IfOk, OnOk};
 ghost use Rattle.std.specs.List.{list_all};
+ghost use Rattle.endpoint.specs.Lent.{endpoint_of};
 ghost use Rattle.bundle6.specs.Spelling.{endpoints_of, is_numbered, numbers_of};
 ghost use Rattle.bundle6.specs.Numbering.{lent_out, IsGathered, IsNumbering};
 
 use crate::bundle::Bundle6;
 use crate::gathering::Gathering;
 use crate::names::Offsets;
-use endpoint::Endpoint;
+use endpoint::{Name, Refs};
 use std::alloc::{AllocError, Global};
 
 /// The dictionary of a bundle, and the two numbers of each of its endpoints, in the order in which
@@ -21,44 +22,44 @@ pub(crate) struct Numbering {
     pub(crate) pairs: Vec<Offsets>,
 }
 
-/// Adds endpoints at the end.
-fn lend_all<'a>(found: &mut Vec<&'a Endpoint>, endpoints: &'a [Endpoint]) -> Result<(), AllocError>
-    ensures { OnOk result (lent_out found.new.items ≡ lent_out found.old.items ++ endpoints.now) }
+/// Adds references at the end.
+fn lend_all<'a>(found: &mut Vec<Name<'a>>, refs: &'a Refs) -> Result<(), AllocError>
+    ensures { OnOk result (lent_out found.new.items ≡ lent_out found.old.items ++ refs.now) }
 {
-    for endpoint in endpoints {
-        found.push(endpoint)?;
+    'lending: for at in 0..refs.len() {
+        found.push(refs.get(at))?;
     }
     Ok(())
 }
 
 /// The endpoints of a bundle, in the order in which they are spelled.
-fn endpoints_of(alloc: Global, bundle: &Bundle6) -> Result<Vec<&Endpoint>, AllocError>
+fn endpoints_of(alloc: Global, bundle: &Bundle6) -> Result<Vec<Name<'_>>, AllocError>
     ensures { IfOk result (λ found. lent_out found.items ≡ endpoints_of bundle.now) }
 {
     let mut found = Vec::new(alloc);
-    found.push(&bundle.primary.destination)?;
-    found.push(&bundle.primary.source)?;
-    found.push(&bundle.primary.report_to)?;
-    found.push(&bundle.primary.custodian)?;
+    found.push(bundle.primary.destination.lent())?;
+    found.push(bundle.primary.source.lent())?;
+    found.push(bundle.primary.report_to.lent())?;
+    found.push(bundle.primary.custodian.lent())?;
     for block in bundle.blocks.as_slice() {
-        lend_all(&mut found, block.refs.as_slice())?;
+        lend_all(&mut found, &block.refs)?;
     }
     Ok(found)
 }
 
 /// Whether two numbers spell an endpoint without a dictionary.
-fn is_numbered(endpoint: &Endpoint) -> bool
-    ensures { result ≡ is_numbered endpoint.now }
+fn is_numbered(endpoint: &Name<'_>) -> bool
+    ensures { result ≡ is_numbered (endpoint_of endpoint.now) }
 {
     match endpoint {
-        Endpoint::Null => true,
-        Endpoint::Ipn { node, service } => !(*node == 0 && *service == 0),
-        Endpoint::Dtn(_) => false,
+        Name::Null => true,
+        Name::Ipn { node, service } => !(*node == 0 && *service == 0),
+        Name::Dtn(_) => false,
     }
 }
 
 /// Whether two numbers spell each endpoint without a dictionary.
-fn are_numbered(endpoints: &[&Endpoint]) -> bool
+fn are_numbered(endpoints: &[Name<'_>]) -> bool
     ensures { result ≡ list_all is_numbered (lent_out endpoints.now) }
 {
     for endpoint in endpoints {
@@ -70,11 +71,11 @@ fn are_numbered(endpoints: &[&Endpoint]) -> bool
 }
 
 /// The two numbers of an endpoint without a dictionary.
-fn numbers_of(endpoint: &Endpoint) -> Offsets
-    ensures { result ≡ numbers_of endpoint.now }
+fn numbers_of(endpoint: &Name<'_>) -> Offsets
+    ensures { result ≡ numbers_of (endpoint_of endpoint.now) }
 {
     match endpoint {
-        Endpoint::Ipn { node, service } => Offsets {
+        Name::Ipn { node, service } => Offsets {
             scheme: *node,
             ssp: *service,
         },
@@ -83,7 +84,7 @@ fn numbers_of(endpoint: &Endpoint) -> Offsets
 }
 
 /// The numbers of endpoints without a dictionary.
-fn without_dictionary(alloc: Global, endpoints: &[&Endpoint]) -> Result<Numbering, AllocError>
+fn without_dictionary(alloc: Global, endpoints: &[Name<'_>]) -> Result<Numbering, AllocError>
     ensures { IfOk result (λ numbering.
         (numbering.dictionary.items ≡ [])
         × (numbering.pairs.items ≡ map numbers_of (lent_out endpoints.now))) }
@@ -99,7 +100,7 @@ fn without_dictionary(alloc: Global, endpoints: &[&Endpoint]) -> Result<Numberin
 }
 
 /// The dictionary of endpoints, and their numbers in it.
-fn with_dictionary(alloc: Global, endpoints: &[&Endpoint]) -> Result<Numbering, AllocError>
+fn with_dictionary(alloc: Global, endpoints: &[Name<'_>]) -> Result<Numbering, AllocError>
     ensures { IfOk result (IsGathered (lent_out endpoints.now)) }
 {
     let mut gathering = Gathering::new(alloc);

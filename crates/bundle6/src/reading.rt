@@ -15,7 +15,7 @@ use crate::bundle::Bundle6;
 use crate::fault::{Cause6, Fail6};
 use crate::judging::end_judged;
 use crate::primary::primary_at;
-use endpoint::Fragment;
+use endpoint::{Fragment, Octets, Texts};
 use std::alloc::Global;
 
 /// The most blocks of another type than the payload. Own rule.
@@ -83,7 +83,8 @@ pub(crate) fn bundle_at(
     ensures exact { Gives (λ bundle. bundle) refusal result (read (bundle most) text.now at) }
 {
     let ((primary, dictionary), at) = primary_at(alloc, text, at)?;
-    let (blocks, at) = blocks_at(alloc, text, at, most, primary.fragment, dictionary)?;
+    let texts = Texts::new(alloc, Octets::from_slice(alloc, dictionary)?)?;
+    let (blocks, at) = blocks_at(alloc, text, at, most, primary.fragment, &texts)?;
     Ok((Bundle6 { primary, blocks }, at))
 }
 
@@ -94,7 +95,7 @@ fn blocks_at(
     at: usize,
     most: u64,
     part: Option<Fragment>,
-    dictionary: &[u8],
+    dictionary: &Texts,
 ) -> Result<(Blocks6, usize), Fail6>
     requires place { at ≤ length text.now }
     requires few { most < 2 ^ 64 - 1 }

@@ -66,3 +66,22 @@ items-step data_of items i x start before comma between now within is so comma-i
 pub comma-step : {A : Type 0} (items : List A) (i : ℕ) (x : A) → i < length items → x ≡ get_or items i x
     → 44 ∷ [] ≡ comma_after (take (i + 1) items)
 comma-step items i x within is = sym (ap comma_after (taken-one items i x within is) ∙ comma_after-push (take i items) x)
+
+-- ---- the loop over names that are lent one by one
+
+taken-at : {A : Type 0} (items : List A) (i : ℕ) (x d : A) → i < length items → x ≡ get_or items i d
+    → take (i + 1) items ≡ take i items ++ x ∷ []
+taken-at items i x d within is =
+    ap (λ n. take n items) (add-one i) ∙ take-suc items i d within ∙ ap (λ y. take i items ++ y ∷ []) (sym is)
+
+pub items-step-at : {A : Type 0} (data_of : A → Data) (items : List A) (i : ℕ) (x d : A) (start before comma between now : List ℕ)
+    → i < length items → x ≡ get_or items i d → before ≡ start ++ with_commas data_of false (take i items)
+    → comma ≡ comma_after (take i items) → between ≡ before ++ comma → now ≡ between ++ compact_text (data_of x)
+    → now ≡ start ++ with_commas data_of false (take (i + 1) items)
+items-step-at data_of items i x d start before comma between now within is so comma-is then last =
+    items-last data_of (take i items) x start before comma between now so comma-is then last
+    ∙ ap (λ xs. start ++ with_commas data_of false xs) (sym (taken-at items i x d within is))
+
+pub comma-step-at : {A : Type 0} (items : List A) (i : ℕ) (x d : A) → i < length items → x ≡ get_or items i d
+    → 44 ∷ [] ≡ comma_after (take (i + 1) items)
+comma-step-at items i x d within is = sym (ap comma_after (taken-at items i x d within is) ∙ comma_after-push (take i items) x)

@@ -1,18 +1,19 @@
 //! Endpoints by their texts.
-ghost use Rattle.std.specs.Prelude.{◌≡◌, ◌++◌, codes, IfOk};
-ghost use Rattle.std.specs.List.{position};
+ghost use Rattle.std.specs.Prelude.{◌≡◌, ◌++◌, codes, false, IfOk, OnOk};
+ghost use Rattle.std.specs.List.{All, position};
 ghost use Rattle.std.specs.Option.{option_map};
 ghost use Rattle.std.specs.String.{string_bytes};
 ghost use Rattle.bundle6.specs.Names.{is_nul, text_at, numbered};
 ghost use Rattle.endpoint.specs.Endpoints.{IsEndpoint, text_of};
 ghost use Rattle.bundle_json.specs.Json.{name};
+ghost use Rattle.bundle_json.specs.Commas.{with_commas};
 ghost use Rattle.bundle_json.specs.Frames.{said};
 ghost use Rattle.bundle_json.specs.Laid.{Names, AreVisible, pair_of};
 
 use crate::list::Shown;
 use crate::shown::write_name;
 use crate::walk::Pair;
-use endpoint::Endpoint;
+use endpoint::{Endpoint, Refs};
 use std::alloc::{AllocError, Global};
 use std::str;
 
@@ -25,6 +26,21 @@ impl Shown for Endpoint {
         let name = name_of(*text.allocator(), self)?;
         write_name(text, &name)
     }
+}
+
+/// Writes the items of an array of names, with commas between them.
+pub(crate) fn write_names(text: &mut String, refs: &Refs) -> Result<(), AllocError>
+    requires { All IsEndpoint refs.now }
+    ensures { OnOk result (string_bytes text.new ≡ string_bytes text.old ++ with_commas name false refs.now) }
+{
+    let mut comma = "";
+    'names: for at in 0..refs.len() {
+        text.push_str(comma)?;
+        let endpoint = refs.get(at).owned(*text.allocator())?;
+        endpoint.show(text)?;
+        comma = ",";
+    }
+    Ok(())
 }
 
 /// An endpoint's text. That of two numbers is spelled where it is sent, and takes no memory.

@@ -8,7 +8,7 @@ ghost use Rattle.bundle_json.specs.Frames.{empty, head6_shown, head6};
 
 use crate::cut::{BLOCKS, BODY, REFS_END, write_between, write_octets};
 use crate::list::{Shown, write_items};
-use crate::name::name_of;
+use crate::name::{name_of, write_names};
 use crate::shown::{Frame6, Head6, Rest, Two};
 use bundle6::{Block6, Bundle6, Primary6};
 use std::alloc::{AllocError, Global};
@@ -60,7 +60,7 @@ impl Shown for Block6 {
         text.push_str(BODY)?;
         write_octets(text, self.body.as_slice())?;
         write_between(text, frame_text.as_str(), BODY, REFS_END)?;
-        write_items(text, self.refs.as_slice())?;
+        write_names(text, &self.refs)?;
         text.push_str(REFS_END)
     }
 }

@@ -1,8 +1,11 @@
 -- So many endpoints at a place, one after the other: some were passed, and what is left to read gives
 -- what all of them give.
 
-use Rattle.std.proofs.Common.{◌≡◌, ℕ, ◌+◌, ◌-◌, ◌<◌, ◌≤◌, List, [], ◌∷◌, ◌++◌, Option, Ok, sym, ap, ◌∙◌, inl, inr, arith, unwrap_or}
+use Rattle.std.proofs.Common.{◌≡◌, ℕ, ◌+◌, ◌-◌, ◌<◌, ◌≤◌, List, [], ◌∷◌, ◌++◌, Option, Ok, length, take, get_or, append_assoc, append-nil, sym, ap, ◌∙◌, inl, inr, arith, unwrap_or}
+use Rattle.std.specs.List.{flat_map}
 use Rattle.std.specs.Result.{result_ok}
+use Rattle.std.proofs.lemmas.List.{take_more}
+use Rattle.std.proofs.lemmas.Grind.{flat_map-append}
 use Rattle.endpoint.specs.declared.name.Endpoint.{Endpoint}
 use Rattle.endpoint.specs.declared.name.Endpoint.TheVariants.{Null}
 use Rattle.endpoint.specs.Reading.{Reads}
@@ -14,7 +17,7 @@ use Rattle.wire_fields.specs.Gives.{Fails}
 use Rattle.wire_fields.proofs.GroupLemmas.{listed-step, listed-fails, repeated-end}
 use Rattle.bundle_meaning.specs.declared.fault.BlockFault.{BlockFault}
 use Rattle.bundle_meaning.specs.declared.wrap_new.Names.{Names}
-use Rattle.bundle_meaning.specs.Body.{name, name_of}
+use Rattle.bundle_meaning.specs.Body.{name, name_of, name_octets}
 use Rattle.bundle_meaning.specs.Views.{read_or_none, names_lent}
 
 abbrev pub a_name : List Endpoint → Format BlockFault Endpoint
@@ -59,3 +62,16 @@ so_far-end names i behind all so_far =
 pub name_of-read : (text : List ℕ) (endpoint : Endpoint) → Reads (Ok endpoint) text → name_of text ≡ endpoint
 name_of-read text endpoint (inl is) = ap (λ r. unwrap_or (result_ok r) Null) (sym is)
 name_of-read text endpoint (inr memory) = absurd (cc)
+
+-- one name more is written
+pub names-push : (refs : List Endpoint) (i : ℕ) (endpoint : Endpoint) (start before after : List ℕ) → i < length refs
+    → endpoint ≡ get_or refs i Null → before ≡ start ++ flat_map name_octets (take i refs)
+    → after ≡ before ++ name_octets endpoint → after ≡ start ++ flat_map name_octets (take (i + 1) refs)
+names-push refs i endpoint start before after inside is so now =
+    let names = flat_map name_octets (take i refs) in
+    let last = get_or refs i Null in
+    now ∙ ap (λ front. front ++ name_octets endpoint) so ∙ append_assoc start names (name_octets endpoint)
+    ∙ ap (λ e. start ++ (names ++ name_octets e)) is
+    ∙ ap (λ end. start ++ (names ++ end)) (sym (append-nil (name_octets last)))
+    ∙ ap (λ all. start ++ all) (sym (flat_map-append name_octets (take i refs) (last ∷ [])))
+    ∙ ap (λ taken. start ++ flat_map name_octets taken) (sym (take_more refs i Null inside))

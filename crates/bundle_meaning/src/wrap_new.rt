@@ -17,7 +17,7 @@ use crate::blocks::Block6Like;
 use crate::fault::BlockFault;
 use crate::field::{Unfit, all_left, flags_without, mark, name, shortest};
 use crate::writing::{NUMBER, begin, write_name, write_numbers};
-use endpoint::{Endpoint, Octets, Refs};
+use endpoint::{Endpoint, Listing, Octets, Refs};
 use std::alloc::{AllocError, Global};
 use wire_fields::Miss;
 
@@ -53,17 +53,17 @@ pub fn write_wrap_new(alloc: Global, block: &Block6Like) -> Result<Octets, Alloc
         &[u64::from(block.kind), block.flags, block.refs.len() as u64],
         &mut out,
     )?;
-    write_names(alloc, block.refs.as_slice(), &mut out)?;
+    write_names(alloc, &block.refs, &mut out)?;
     out.extend_from_slice(block.body.as_slice())?;
     Ok(Octets::from_vec(out))
 }
 
 /// Appends endpoints, one after the other.
-fn write_names(alloc: Global, endpoints: &[Endpoint], out: &mut Vec<u8>) -> Result<(), AllocError>
-    ensures { OnOk result (out.new.items ≡ out.old.items ++ flat_map name_octets endpoints.now) }
+fn write_names(alloc: Global, refs: &Refs, out: &mut Vec<u8>) -> Result<(), AllocError>
+    ensures { OnOk result (out.new.items ≡ out.old.items ++ flat_map name_octets refs.now) }
 {
-    for endpoint in endpoints {
-        write_name(alloc, endpoint, out)?;
+    'writing: for at in 0..refs.len() {
+        write_name(alloc, &refs.get(at).owned(alloc)?, out)?;
     }
     Ok(())
 }
@@ -184,7 +184,7 @@ impl<'a> Names<'a> {
         // They were all found, so only memory can be missing.
         ensures fault { IfErr result (λ fault. fault ≡ BlockFault.Memory) }
     {
-        let mut refs = Refs::new(alloc);
+        let mut refs = Listing::new(alloc);
         let mut behind = self.at;
         'copying: for _ in 0..self.count {
             let Ok((text, after)) = name(self.text, behind) else {
@@ -193,9 +193,9 @@ impl<'a> Names<'a> {
             let Ok(endpoint) = Endpoint::from_text(alloc, text) else {
                 return Err(BlockFault::Memory);
             };
-            refs.push(endpoint)?;
+            refs.push(endpoint.lent())?;
             behind = after;
         }
-        Ok(refs)
+        Ok(refs.into_refs(alloc)?)
     }
 }

@@ -5,3 +5,4 @@ pub mod Reading
 pub mod Fault
 -- What only ties code to it.
 pub mod Lent
+pub mod Places

@@ -1,7 +1,7 @@
 //! An endpoint whose octets are lent, so that it can be judged before memory is taken.
 
 ghost use Rattle.std.specs.Prelude.{◌≡◌, IfOk, OnErr};
-ghost use Rattle.endpoint.specs.Endpoints.{IsDtn};
+ghost use Rattle.endpoint.specs.Endpoints.{IsDtn, scheme_of};
 ghost use Rattle.endpoint.specs.Lent.{endpoint_of};
 
 use super::{Endpoint, Octets};
@@ -9,15 +9,33 @@ use std::alloc::{AllocError, Global};
 
 /// An endpoint whose octets are lent.
 #[derive(Clone, Copy)]
-pub(crate) enum Name<'a> {
+pub enum Name<'a> {
+    /// The null endpoint, `dtn:none`.
     Null,
-    Ipn { node: u64, service: u64 },
+    /// A service of a node.
+    Ipn {
+        /// The node's number.
+        node: u64,
+        /// The service's number.
+        service: u64,
+    },
+    /// A dtn name, by its scheme-specific part.
     Dtn(&'a [u8]),
 }
 
 impl Name<'_> {
+    /// The scheme's name: `ipn`, or `dtn`, which the null endpoint has too.
+    pub fn scheme(self) -> &'static [u8]
+        ensures { result.now ≡ scheme_of (endpoint_of self.entry) }
+    {
+        match self {
+            Name::Null | Name::Dtn(_) => b"dtn".as_slice(),
+            Name::Ipn { .. } => b"ipn".as_slice(),
+        }
+    }
+
     /// The endpoint, with octets of its own. Only a dtn name takes memory.
-    pub(crate) fn owned(self, alloc: Global) -> Result<Endpoint, AllocError>
+    pub fn owned(self, alloc: Global) -> Result<Endpoint, AllocError>
         ensures owned { IfOk result (λ endpoint. endpoint ≡ endpoint_of self.entry) }
         ensures memory { OnErr result (IsDtn (endpoint_of self.entry)) }
     {

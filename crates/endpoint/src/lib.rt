@@ -6,7 +6,8 @@
 //! [`ipn_named`] are its two halves for formats that spell the scheme as a number.
 //!
 //! Beside it stand the small values that all formats share: [`Octets`] and [`Refs`], lists that
-//! contracts see as lists, and [`Fragment`], where a fragment lies in the whole.
+//! contracts see as lists, and [`Fragment`], where a fragment lies in the whole. A list of names may
+//! be long and its names few, so [`Refs`] has of each name its [`Place`] in [`Texts`] that are shared.
 //!
 //! Schemes other than `dtn` and `ipn` are left out, and so is what a dtn name's parts mean.
 #![tactic(auto)]
@@ -17,10 +18,15 @@ mod lent;
 mod lists;
 mod name;
 mod numeral;
+mod place;
+mod refs;
 mod text;
 
 pub use extent::Fragment;
 pub use fault::EndpointFault;
-pub use lists::{Octets, Refs};
+pub use lent::Name;
+pub use lists::Octets;
 pub use name::Endpoint;
-pub use text::{ipn_named, is_ssp, named};
+pub use place::Place;
+pub use refs::{Listing, Refs, Texts};
+pub use text::{ipn_named, is_ssp, lend_named, named};

@@ -1,8 +1,7 @@
 //! Lists that contracts see as lists, so that records that hold them are equal where their values are.
 
-ghost use Rattle.std.specs.Prelude.{◌≡◌, ◌++◌, ◌∷◌, [], length, IfOk, OnOk, OnErr, take};
+ghost use Rattle.std.specs.Prelude.{◌≡◌, [], length, IfOk};
 
-use super::Endpoint;
 use std::alloc::{AllocError, Global};
 use std::marker::Model;
 
@@ -95,73 +94,5 @@ impl Octets {
         ensures { IfOk result (λ copied. copied ≡ self.now) }
     {
         Octets::from_slice(alloc, self.as_slice())
-    }
-}
-
-/// The endpoints that a version 6 block refers to (RFC 5050, section 4.5.2).
-#[derive(Debug, Drop)]
-pub struct Refs {
-    items: Vec<Endpoint>,
-}
-
-impl Model for Refs {
-    ghost use Rattle.std.specs.Prelude.{List};
-    ghost use Rattle.endpoint.specs.declared.name.Endpoint.{Endpoint};
-
-    ghost Value = { List Endpoint };
-
-    ghost view = { λ refs. refs.items.items };
-}
-
-impl Refs {
-    /// No references yet. It takes no memory.
-    pub fn new(alloc: Global) -> Refs
-        ensures { result ≡ [] }
-    {
-        Refs {
-            items: Vec::new(alloc),
-        }
-    }
-
-    /// These references, moved and not copied.
-    pub fn from_vec(items: Vec<Endpoint>) -> Refs
-        ensures { result ≡ items.items }
-    {
-        Refs { items }
-    }
-
-    /// The references, lent.
-    pub fn as_slice(&self) -> &[Endpoint]
-        ensures { result.now ≡ self.now }
-    {
-        self.items.as_slice()
-    }
-
-    /// How many references there are.
-    pub fn len(&self) -> usize
-        ensures { result ≡ length self.now }
-    {
-        self.items.len()
-    }
-
-    /// Adds a reference at the end. Where memory runs out the list stays as it was.
-    pub fn push(&mut self, endpoint: Endpoint) -> Result<(), AllocError>
-        ensures ok { OnOk result (self.new ≡ self.old ++ endpoint ∷ []) }
-        ensures err { OnErr result (self.new ≡ self.old) }
-    {
-        self.items.push(endpoint)?;
-        Ok(())
-    }
-
-    /// A copy of the references.
-    pub fn copy(&self, alloc: Global) -> Result<Refs, AllocError>
-        ensures { IfOk result (λ copied. copied ≡ self.now) }
-    {
-        let endpoints = self.as_slice();
-        let mut items = Vec::with_capacity(alloc, endpoints.len())?;
-        for endpoint in endpoints {
-            items.push(endpoint.copy(alloc)?)?;
-        }
-        Ok(Refs { items })
     }
 }

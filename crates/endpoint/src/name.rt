@@ -4,7 +4,7 @@ ghost use Rattle.std.specs.Prelude.{◌≡◌, ◌≢◌, ◌⊎◌, IfOk, IfErr
 ghost use Rattle.endpoint.specs.Endpoints.{IsDtn, text_of, scheme_of, ssp_of, is_singleton};
 ghost use Rattle.endpoint.specs.Reading.{Spells, SpellsDtn, Misses, Reads, read_text};
 ghost use Rattle.endpoint.specs.Reading.{HaveOneText};
-ghost use Rattle.endpoint.specs.Lent.{seen};
+ghost use Rattle.endpoint.specs.Lent.{endpoint_of, seen};
 
 use super::lent::Name;
 use super::text::{dtn_name, ipn_name, names_group};
@@ -91,6 +91,20 @@ impl Endpoint {
             Endpoint::Null => false,
             Endpoint::Ipn { .. } => true,
             Endpoint::Dtn(ssp) => !names_group(ssp.as_slice()),
+        }
+    }
+
+    /// The endpoint, with its octets lent.
+    pub fn lent(&self) -> Name<'_>
+        ensures { endpoint_of result ≡ self.now }
+    {
+        match self {
+            Endpoint::Null => Name::Null,
+            Endpoint::Ipn { node, service } => Name::Ipn {
+                node: *node,
+                service: *service,
+            },
+            Endpoint::Dtn(ssp) => Name::Dtn(ssp.as_slice()),
         }
     }
 

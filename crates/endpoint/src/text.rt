@@ -67,15 +67,15 @@ pub fn named(alloc: Global, scheme: &[u8], ssp: &[u8]) -> Result<Option<Endpoint
     // Memory is wanted only for a dtn name.
     ensures memory { OnErr result (IsSomeAnd (named scheme.now ssp.now) IsDtn) }
 {
-    match name(scheme, ssp) {
+    match lend_named(scheme, ssp) {
         Some(name) => Ok(Some(name.owned(alloc)?)),
         None => Ok(None),
     }
 }
 
-/// The same, with octets that are lent.
+/// The same, with octets that are lent. It takes no memory.
 #[tactic(auto, unfolding(crate::specs::Reading::named))]
-fn name<'a>(scheme: &[u8], ssp: &'a [u8]) -> Option<Name<'a>>
+pub fn lend_named<'a>(scheme: &[u8], ssp: &'a [u8]) -> Option<Name<'a>>
     ensures { if_named result ≡ named scheme.now ssp.now }
 {
     if scheme == b"dtn".as_slice() {

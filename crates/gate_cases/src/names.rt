@@ -4,20 +4,21 @@
 
 ghost use Rattle.std.specs.Prelude.{◌≡◌};
 ghost use Rattle.std.specs.List.{list_any};
+ghost use Rattle.endpoint.specs.Lent.{endpoint_of};
 ghost use Rattle.gate_cases.specs.Names.{least, are_over, is_over, over_at};
 
 use crate::case::BLOCK_MAX;
 use crate::face::Face;
 use bundle_meaning::{Ext, Full};
-use endpoint::{Endpoint, Refs};
+use endpoint::{Name, Refs};
 
 /// How many octets a name has at least in a wrap.
-fn least(endpoint: &Endpoint) -> usize
-    ensures { result ≡ least endpoint.now }
+fn least(name: Name<'_>) -> usize
+    ensures { result ≡ least (endpoint_of name.entry) }
 {
-    match endpoint {
-        Endpoint::Null | Endpoint::Ipn { .. } => 5,
-        Endpoint::Dtn(ssp) => ssp.len(),
+    match name {
+        Name::Null | Name::Ipn { .. } => 5,
+        Name::Dtn(ssp) => ssp.len(),
     }
 }
 
@@ -26,8 +27,8 @@ fn are_over(refs: &Refs) -> bool
     ensures { result ≡ are_over refs.now }
 {
     let mut sum: usize = 0;
-    'summing: for endpoint in refs.as_slice() {
-        let size = least(endpoint);
+    'summing: for at in 0..refs.len() {
+        let size = least(refs.get(at));
         if BLOCK_MAX - sum < size {
             return true;
         }

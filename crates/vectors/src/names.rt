@@ -1,6 +1,6 @@
 //! Endpoints and their texts.
 
-use endpoint::{Endpoint, EndpointFault, Octets, Refs, ipn_named, is_ssp, named};
+use endpoint::{Endpoint, EndpointFault, Listing, Octets, ipn_named, is_ssp, named};
 use std::alloc::Global;
 use std::test::Fail;
 
@@ -104,9 +104,20 @@ fn lists_are_made_and_copied(rt: HostRuntime) -> Result<(), Fail> {
     let alloc = rt.alloc();
     let octets = Octets::from_slice(alloc, b"abc")?.copy(alloc)?;
     assert!(rt; Octets::from_vec(octets.into_vec()).as_slice() == b"abc".as_slice());
-    let mut refs = Refs::new(alloc);
-    refs.push(Endpoint::from_text(alloc, b"dtn://b/y")?)?;
-    refs.push(Endpoint::Null)?;
-    assert!(rt; refs.copy(alloc)?.as_slice() == refs.as_slice() && refs.len() == 2);
+    let names = ["dtn://b/y", "dtn:none", "ipn:1.2", "dtn://b/y/z"];
+    let mut listing = Listing::new(alloc);
+    for text in names {
+        listing.push(Endpoint::from_text(alloc, text.as_bytes())?.lent())?;
+    }
+    let refs = listing.into_refs(alloc)?.copy(alloc)?;
+    assert_eq!(rt; refs.len(), names.len());
+    for (at, text) in names.iter().enumerate() {
+        let name = refs.get(at).owned(alloc)?;
+        assert!(rt;
+            name.to_text(alloc)?.as_slice() == text.as_bytes(),
+            "{text}"
+        );
+    }
+    assert!(rt; refs.get(4).owned(alloc)? == Endpoint::Null);
     Ok(())
 }

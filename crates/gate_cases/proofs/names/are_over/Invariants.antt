@@ -5,4 +5,4 @@ use Rattle.gate_cases.specs.Names.{least}
 use Rattle.gate_cases.proofs.names.are_over.Given as goal
 
 abbrev pub invariant-summing : goal.invariant-summing
-invariant-summing l = (l.sum ≡ sum_by least (take l.endpoint-index l.refs)) × (l.sum ≤ BLOCK_MAX)
+invariant-summing l = (l.sum ≡ sum_by least (take l.at l.refs)) × (l.sum ≤ BLOCK_MAX)

@@ -1,5 +1,5 @@
 -- One endpoint more, or none.
-use Rattle.std.proofs.Common.{arith}
+use Rattle.std.proofs.Common.{arith, ◌∙◌}
 use Rattle.wire_fields.specs.Reading.{read}
 use Rattle.wire_fields.specs.Words.{listed}
 use Rattle.wire_fields.proofs.GroupLemmas.{listed-step}
@@ -16,11 +16,12 @@ copying-preserved c =
         behind = omega (arith, c.copying.invariant.place.behind, c.in-Ok.ensures.within.behind);
         within = c.in-Ok.ensures.within.within;
       };
-      rest = rw c.in_ok-push.ensures.ok
+      rest = rw (c.in_ok-push.ensures.ok, c.lent.ensures)
           (listed-step a_name text c.args.self.count c.copying.counter c.copying.refs c.in-Ok-from_text.endpoint
           c.copying.behind c.in-Ok.after all c.copying-test.true (rw same at c.in-Ok.ensures.exact) c.copying.invariant.rest);
     }
 
 pub returns-clause-found : goal.returns-clause-found
 returns-clause-found c =
-    names-end c.args.self c.copying.refs c.copying.counter c.copying.behind (omega arith) c.copying.invariant.rest
+    c.in_ok-into_refs.ensures
+    ∙ names-end c.args.self c.copying.refs c.copying.counter c.copying.behind (omega arith) c.copying.invariant.rest

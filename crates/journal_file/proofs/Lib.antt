@@ -1,2 +1,4 @@
 pub mod RecordLemmas
 pub mod FileLemmas
+pub mod SpellingLemmas
+pub mod WritingLemmas

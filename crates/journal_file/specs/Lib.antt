@@ -4,6 +4,7 @@ pub mod Values
 pub mod Keeping
 pub mod Table
 pub mod File
+pub mod Spelling
 -- Names of causes, and what only ties code to these.
 pub mod Cause
 pub mod Ties

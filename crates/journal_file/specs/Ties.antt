@@ -1,5 +1,5 @@
 -- Values of the code as those of the definitions, and its faults as refusals.
-use Rattle.std.specs.Prelude.{ℕ, Option, Some, None}
+use Rattle.std.specs.Prelude.{ℕ, List, ◌∷◌, Option, Some, None}
 use Rattle.wire_fields.specs.Refusal.{Stop, truncated, because}
 use Rattle.wire_fields.specs.declared.miss.Miss.{Miss}
 use Rattle.wire_fields.specs.declared.miss.Miss.TheVariants as misses
@@ -11,6 +11,7 @@ use Rattle.journal_file.specs.declared.kept.Kept.{Kept}
 use Rattle.journal_file.specs.declared.record.Record.{Record}
 use Rattle.journal_file.specs.declared.record.Record.TheVariants as records
 use Rattle.journal_file.specs.Values.{KeptValue, RecordValue, a_begun, a_done, a_mark, a_clear, a_reserved}
+use Rattle.journal_file.specs.Spelling.{record_octets}
 
 -- the end of the file is a reason of its own
 abbrev pub why : JournalCause → Stop JournalCause
@@ -42,3 +43,7 @@ record_of (records.Done id how) = a_done id how
 record_of (records.Marked mark) = a_mark mark
 record_of (records.Clear face session) = a_clear face session
 record_of (records.Reserved face number) = a_reserved face number
+
+-- an open gate, and the record behind it
+abbrev pub entry_of : Record → List ℕ
+entry_of said = 1 ∷ record_octets (record_of said)

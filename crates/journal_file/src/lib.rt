@@ -8,6 +8,10 @@
 //!
 //! [`read_kept`] reads a file, or says at which place and for which cause it is damaged.
 //!
+//! [`write_gated`] and [`write_behind_gate`] append the octets of records. [`closed_gate_ends`] and
+//! [`open_gate_goes_on`] state what gates do: behind a closed one anything may stand, and opening it
+//! makes the records behind it the next ones.
+//!
 //! No program stands on this crate yet. How records are committed, with which writes and syncs in
 //! which order, is not known here.
 #![tactic(auto)]
@@ -15,10 +19,14 @@
 mod fault;
 mod fields;
 mod kept;
+mod laws;
 mod reading;
 mod record;
+mod writing;
 
 pub use fault::{JournalCause, JournalFault};
+pub use laws::{closed_gate_ends, open_gate_goes_on, records_are_read};
 pub use kept::{Kept, MARKS_MAX, Mark, Pending};
 pub use reading::read_kept;
 pub use record::{How, Record};
+pub use writing::{write_behind_gate, write_gated, write_record};

@@ -1,0 +1,206 @@
+-- What is written spells what it says, and opening a gate makes what stands behind it the next records.
+use Rattle.std.proofs.Common.{◌≡◌, ℕ, zero, suc, ◌<◌, ◌^◌, ◌==◌, Bool, true, false, nat_lt, List, [], ◌∷◌, ◌++◌, length, drop, Option, None, refl, sym, ap, ◌∙◌, arith, append_assoc, inr}
+use Rattle.std.proofs.Math.Seq.{drop-append_seam}
+use Rattle.std.proofs.lemmas.List.{append-nil, length-append}
+use Rattle.std.proofs.lemmas.Bool.{lt-ltb, eq-eqb}
+use Rattle.std.proofs.lemmas.Slice.Eq.{bytes_eq-Decides}
+use Rattle.sdnv.specs.Shortest.{spelling}
+use Rattle.sdnv.proofs.ShortestLemmas.{spelling-spells}
+use Rattle.wire_fields.specs.Format.{Spells, give, ◌>>=◌}
+use Rattle.wire_fields.specs.Words.{needs, choice}
+use Rattle.gate_cases.specs.declared.face.Face.{Face}
+use Rattle.gate_cases.specs.declared.face.Face.TheVariants.{Old, New}
+use Rattle.journal_file.specs.declared.fault.JournalCause.{JournalCause}
+use Rattle.journal_file.specs.declared.fault.JournalCause.TheVariants as causes
+use Rattle.journal_file.specs.declared.record.How.{How}
+use Rattle.journal_file.specs.declared.record.How.TheVariants as hows
+use Rattle.journal_file.specs.Values.{KeptValue, RecordValue, a_begun, a_done, a_mark, a_clear, a_reserved, nothing_kept}
+use Rattle.journal_file.specs.Keeping.{octet_of, is_pending, kept_with, kept_after}
+use Rattle.journal_file.specs.Table.{sized_number, number_where, face, how, begun_fields, done_fields, mark_fields, clear_fields, reserved_fields, fields_of, record_kind, check_of, check, entry, records}
+use Rattle.journal_file.specs.File.{opening, Reads}
+use Rattle.journal_file.specs.Spelling.{how_octet, field_octets, kind_octet, body_octets, record_octets, gated, MayCome, MayFollow, Closes}
+
+-- ---- lists
+
+-- where a list with a last element is cut, and something is left, that ends with the element
+nil-back : (a b : List ℕ) → a ++ b ≡ [] → b ≡ []
+nil-back [] b e = e
+nil-back (x ∷ a) b e = absurd (cc)
+
+tails : (x y : ℕ) (xs ys : List ℕ) → x ∷ xs ≡ y ∷ ys → xs ≡ ys
+tails x y xs ys e = cc
+
+snoc-cut : (xs a b : List ℕ) (z : ℕ) → xs ++ z ∷ [] ≡ a ++ b → (b ≡ [] → ⊥)
+    → (ys : List ℕ) × (xs ≡ a ++ ys) × (b ≡ ys ++ z ∷ [])
+snoc-cut xs [] b z e some = (xs, refl, sym e)
+snoc-cut [] (y ∷ a) b z e some = absurd (some (nil-back a b (sym (tails z y [] (a ++ b) e))))
+snoc-cut (x ∷ xs) (y ∷ a) b z e some =
+    let rest = snoc-cut xs a b z (tails x y (xs ++ z ∷ []) (a ++ b) e) some in
+    let first : x ≡ y = cc in
+    (rest.0, ap (λ (w : List ℕ). x ∷ w) rest.1 ∙ ap (λ (n : ℕ). n ∷ (a ++ rest.0)) first, rest.2)
+
+-- ---- single fields
+
+sized-spells : (front : List ℕ) (n : ℕ) → n < 2 ^ 64 → Spells sized_number front (spelling n) (n, length (spelling n))
+unfolding sized_number
+sized-spells front n small =
+    let seam : drop (length front) ((front ++ []) ++ spelling n) ≡ spelling n =
+    ap (λ (w : List ℕ). drop (length front) (w ++ spelling n)) (append-nil front) ∙ drop-append_seam front (spelling n) in
+    ([], spelling n, length front, refl, (refl, refl),
+    (spelling n, [], n, sym (append-nil (spelling n)), spelling-spells n small,
+    ([], [], spelling n, refl, (refl, sym seam), (refl, refl))))
+
+number-spells : (conditions : ℕ → Option JournalCause) (front : List ℕ) (n : ℕ) → n < 2 ^ 64 → conditions n ≡ None
+    → Spells (number_where conditions) front (spelling n) n
+unfolding number_where
+number-spells conditions front n small holds =
+    (spelling n, [], (n, length (spelling n)), sym (append-nil (spelling n)),
+    (sized-spells front n small, rw (eq-eqb (length (spelling n)) (length (spelling n)) refl, holds) refl), (refl, refl))
+
+face-spells : (front : List ℕ) (f : Face) → Spells face front (octet_of f ∷ []) f
+unfolding face
+face-spells front Old = (0 ∷ [], [], 0, refl, (refl, refl), (refl, refl))
+face-spells front New = (1 ∷ [], [], 1, refl, (refl, refl), (refl, refl))
+
+how-spells : (front : List ℕ) (h : How) → Spells how front (how_octet h ∷ []) h
+unfolding how
+how-spells front hows.Sent = (1 ∷ [], [], 1, refl, (refl, refl), (refl, refl))
+how-spells front hows.Failed = (2 ∷ [], [], 2, refl, (refl, refl), (refl, refl))
+how-spells front hows.Cancelled = (3 ∷ [], [], 3, refl, (refl, refl), (refl, refl))
+
+-- ---- what follows a kind
+
+fields-spell : (kept : KeptValue) (front : List ℕ) (said : RecordValue) → MayCome kept said
+    → Spells (fields_of (kind_octet said) kept) front (field_octets said) said
+unfolding fields_of begun_fields done_fields mark_fields clear_fields reserved_fields
+fields-spell kept front (a_begun p) may =
+    (spelling p.id, _, p.id, refl, number-spells (λ id. needs (nat_lt kept.greatest id) causes.Id) front p.id may.1 (rw (lt-ltb kept.greatest p.id may.0) refl),
+    (octet_of p.face ∷ [], _, p.face, refl, face-spells _ p.face,
+    (spelling (length p.block), _, length p.block, refl, number-spells (λ _. None) _ (length p.block) may.2 refl,
+    (p.block, [], p.block, sym (append-nil p.block), (refl, refl), (refl, refl)))))
+fields-spell kept front (a_done id h) may =
+    (spelling id, _, id, refl, number-spells (λ n. needs (is_pending n kept.pending) causes.Id) front id may.1 (rw may.0 refl),
+    (how_octet h ∷ [], [], h, refl, how-spells _ h, (refl, refl)))
+fields-spell kept front (a_mark m) may =
+    (octet_of m.face ∷ [], _, m.face, refl, face-spells front m.face,
+    (spelling m.session, _, m.session, refl, number-spells (λ _. None) _ m.session may.0 refl,
+    (spelling m.when, [], m.when, sym (append-nil (spelling m.when)), number-spells (λ _. None) _ m.when may.1 refl, (refl, refl))))
+fields-spell kept front (a_clear f session) may =
+    (octet_of f ∷ [], _, f, refl, face-spells front f,
+    (spelling session, [], session, sym (append-nil (spelling session)), number-spells (λ _. None) _ session may refl, (refl, refl)))
+fields-spell kept front (a_reserved f n) may =
+    (octet_of f ∷ [], _, f, refl, face-spells front f,
+    (spelling n, [], n, sym (append-nil (spelling n)), number-spells (λ _. None) _ n may refl, (refl, refl)))
+
+-- ---- a record
+
+check-spells : (front octets : List ℕ) → Spells (check octets) front (check_of octets) (check_of octets)
+unfolding check
+check-spells front octets = ((refl, refl), rw ((bytes_eq-Decides (check_of octets) (check_of octets)).1 refl) refl)
+
+kind-spells : (front : List ℕ) (said : RecordValue) → Spells record_kind front (kind_octet said ∷ []) (kind_octet said)
+kind-spells front (a_begun p) = (refl, refl)
+kind-spells front (a_done id h) = (refl, refl)
+kind-spells front (a_mark m) = (refl, refl)
+kind-spells front (a_clear f session) = (refl, refl)
+kind-spells front (a_reserved f n) = (refl, refl)
+
+body-since : (front : List ℕ) (said : RecordValue)
+    → drop (length front) (((front ++ []) ++ kind_octet said ∷ []) ++ field_octets said) ≡ body_octets said
+body-since front said =
+    ap (λ (w : List ℕ). drop (length front) ((w ++ kind_octet said ∷ []) ++ field_octets said)) (append-nil front)
+    ∙ ap (λ (w : List ℕ). drop (length front) w) (append_assoc front (kind_octet said ∷ []) (field_octets said))
+    ∙ drop-append_seam front (kind_octet said ∷ field_octets said)
+
+entry-spells : (kept : KeptValue) (front : List ℕ) (said : RecordValue) → MayCome kept said → Spells (entry kept) front (record_octets said) said
+unfolding entry
+entry-spells kept front said may =
+    ([], _, length front, refl, (refl, refl),
+    (kind_octet said ∷ [], field_octets said ++ check_of (body_octets said), kind_octet said, refl, kind-spells (front ++ []) said,
+    (field_octets said, check_of (body_octets said), said, refl, fields-spell kept ((front ++ []) ++ kind_octet said ∷ []) said may,
+    ([], check_of (body_octets said), body_octets said, refl, (refl, sym (body-since front said)),
+    (check_of (body_octets said), [], check_of (body_octets said), sym (append-nil (check_of (body_octets said))), check-spells _ (body_octets said), (refl, refl))))))
+
+-- ---- records
+
+record Follows (kept : KeptValue) (seen text : List ℕ) (k : KeptValue) : Type 0 where
+  most : ℕ
+  spells : Spells (records most kept) seen text k
+
+gated-spells : (kept : KeptValue) (rs : List RecordValue) (seen : List ℕ) → MayFollow kept rs → Follows kept seen (gated rs) (kept_after kept rs)
+unfolding gated records
+gated-spells kept [] seen may = record { most = 1; spells = (0 ∷ [], [], 0, refl, refl, (refl, refl)) }
+gated-spells kept (r ∷ rs) seen may =
+    let rest = gated-spells (kept_with kept r) rs ((seen ++ 1 ∷ []) ++ record_octets r) may.1 in record {
+      most = suc rest.most;
+      spells = (1 ∷ [], record_octets r ++ gated rs, 1, refl, refl,
+      (record_octets r, gated rs, r, refl, entry-spells kept (seen ++ 1 ∷ []) r may.0, rest.spells));
+    }
+
+some-left : (m : ℕ) (kept k : KeptValue) (seen w : List ℕ) → Spells (records m kept) seen w k → w ≡ [] → ⊥
+unfolding records
+some-left zero kept k seen w s none = cc
+some-left (suc m) kept k seen w (u, v, gate, parts, one, after) none = omega (arith, ap length (sym parts ∙ none), length-append u v, ap length one)
+
+opened : (m : ℕ) (kept k : KeptValue) (seen front : List ℕ) (rs : List RecordValue) → MayFollow k rs
+    → Spells (records m kept) seen (front ++ 0 ∷ []) k → Follows kept seen (front ++ gated rs) (kept_after k rs)
+unfolding records
+opened zero kept k seen front rs may s = absurd (cc)
+opened (suc m) kept k seen [] rs may (u, v, gate, parts, one, after) =
+    let zero_first : 0 ∷ [] ≡ gate ∷ v = parts ∙ ap (λ (w : List ℕ). w ++ v) one in
+    let shut : gate ≡ 0 = cc in
+    let ends : Spells (choice (0 == 1) (entry kept >>= (λ said. records m (kept_with kept said))) (give kept)) (seen ++ u) v k =
+    rw shut at after in
+    let same : k ≡ kept = ends.1 in
+    rw same (gated-spells kept rs seen (rw same at may))
+opened (suc m) kept k seen (x ∷ front) rs may (u, v, gate, parts, one, after) =
+    by (gate == 1) refl after (λ said ys far s. opened m (kept_with kept said) k far ys rs may s)
+  where
+    whole : x ∷ (front ++ 0 ∷ []) ≡ gate ∷ v
+    whole = parts ∙ ap (λ (w : List ℕ). w ++ v) one
+    first : x ≡ gate
+    first = cc
+    left : front ++ 0 ∷ [] ≡ v
+    left = cc
+    by : (on : Bool) → (gate == 1) ≡ on
+        → Spells (choice on (entry kept >>= (λ said. records m (kept_with kept said))) (give kept)) (seen ++ u) v k
+        → ((said : RecordValue) (ys far : List ℕ) → Spells (records m (kept_with kept said)) far (ys ++ 0 ∷ []) k
+        → Follows (kept_with kept said) far (ys ++ gated rs) (kept_after k rs))
+        → Follows kept seen ((x ∷ front) ++ gated rs) (kept_after k rs)
+    by false is s next = absurd (omega (arith, ap length (left ∙ s.0), length-append front (0 ∷ [])))
+    by true is (a, b, said, seam, here, rest) next =
+        let cut = snoc-cut front a b 0 (left ∙ seam) (some-left m (kept_with kept said) k ((seen ++ u) ++ a) b rest) in
+        let others = next said cut.0 ((seen ++ u) ++ a) (rw cut.2 at rest) in record {
+          most = suc others.most;
+          spells = (u, a ++ (cut.0 ++ gated rs), gate,
+          ap (λ (w : List ℕ). x ∷ (w ++ gated rs)) cut.1 ∙ ap (λ (w : List ℕ). x ∷ w) (append_assoc a cut.0 (gated rs))
+          ∙ ap (λ (y : ℕ). y ∷ (a ++ (cut.0 ++ gated rs))) first ∙ ap (λ (w : List ℕ). w ++ (a ++ (cut.0 ++ gated rs))) (sym one),
+          one, rw is (a, cut.0 ++ gated rs, said, refl, here, others.spells));
+        }
+
+-- ---- the laws
+
+pub closes-reads : (file torn : List ℕ) (kept : KeptValue) → Closes file kept → Reads (file ++ torn) kept
+closes-reads file torn kept closes = inr (record {
+  text = closes.text;
+  rest = torn;
+  most = closes.most;
+  parts = ap (λ (w : List ℕ). w ++ torn) closes.parts ∙ append_assoc opening closes.text torn;
+  spells = closes.spells;
+})
+
+pub records-closed : (rs : List RecordValue) → MayFollow nothing_kept rs → Closes (opening ++ gated rs) (kept_after nothing_kept rs)
+records-closed rs may =
+    let there = gated-spells nothing_kept rs opening may in
+    record { text = gated rs; most = there.most; parts = refl; spells = there.spells }
+
+pub gate-opened : (front : List ℕ) (kept : KeptValue) (rs : List RecordValue)
+    → Closes (front ++ 0 ∷ []) kept → MayFollow kept rs → Closes (front ++ gated rs) (kept_after kept rs)
+gate-opened front kept rs closes may =
+    let cut = snoc-cut front opening closes.text 0 closes.parts (some-left closes.most nothing_kept kept opening closes.text closes.spells) in
+    let there = opened closes.most nothing_kept kept opening cut.0 rs may (rw cut.2 at closes.spells) in record {
+      text = cut.0 ++ gated rs;
+      most = there.most;
+      parts = ap (λ (w : List ℕ). w ++ gated rs) cut.1 ∙ append_assoc opening cut.0 (gated rs);
+      spells = there.spells;
+    }

@@ -23,22 +23,35 @@ pub records-enough : (m n : ℕ) (kept k : KeptValue) (front w : List ℕ) → l
 unfolding records
 records-enough zero n kept k front w few s = absurd (cc)
 records-enough (suc m) zero kept k front w few s = absurd (omega arith)
-records-enough (suc m) (suc n) kept k front w few (u, v, gate, parts, one, after) =
-    (u, v, gate, parts, one,
-    by (gate == 1) (λ said seen y short s. records-enough m n (kept_with kept said) k seen y short s) after)
+records-enough (suc m) (suc n) kept k front w few (u, v, gate, parts, one, after) = (
+  u,
+  v,
+  gate,
+  parts,
+  one,
+  by (gate == 1) (λ said seen y short s. records-enough m n (kept_with kept said) k seen y short s) after,
+)
   where
     long : length w ≡ length u + length v
     long = ap length parts ∙ length-append u v
+
     some : length u ≡ 1
     some = ap length one
+
     by : (on : Bool)
         → ((said : RecordValue) (seen y : List ℕ) → length y < n → Spells (records m (kept_with kept said)) seen y k → Spells (records n (kept_with kept said)) seen y k)
         → Spells (choice on (entry kept >>= (λ said. records m (kept_with kept said))) (give kept)) (front ++ u) v k
         → Spells (choice on (entry kept >>= (λ said. records n (kept_with kept said))) (give kept)) (front ++ u) v k
     by false others s = s
-    by true others (x, y, said, seam, here, rest) =
-        (x, y, said, seam, here, others said ((front ++ u) ++ x) y
-        (omega (arith, few, long, some, ap length seam ∙ length-append x y)) rest)
+    by true others (x, y, said, seam, here, rest) = (
+      x,
+      y,
+      said,
+      seam,
+      here,
+      others said ((front ++ u) ++ x) y
+          (omega (arith, few, long, some, ap length seam ∙ length-append x y)) rest,
+    )
 
 -- ---- the start
 
@@ -141,6 +154,7 @@ file-refused (x ∷ file) p s fits reads = by (starts_with nat_eq (x ∷ file) o
   where
     all : List ℕ
     all = x ∷ file
+
     by : (t : Bool) → starts_with nat_eq (x ∷ file) opening ≡ t → IsDamaged (x ∷ file) p s
     by true is =
         let long : 8 ≤ length (x ∷ file) = omega (arith, ap length (starts-parts (x ∷ file) is) ∙ length-append opening (drop 8 (x ∷ file))) in
@@ -149,10 +163,14 @@ file-refused (x ∷ file) p s fits reads = by (starts_with nat_eq (x ∷ file) o
         inr (drop 8 (x ∷ file), starts-parts (x ∷ file) is, rw (sym (starts-right (x ∷ file) is)) at refusal)
     by false is =
         let same = bad-is (0, because causes.Start) (p, s) (sym (read-other (x ∷ file) (λ e. absurd (cc)) is) ∙ reads) in
-        inl (record {
-          some = λ e. absurd (cc);
-          other = λ rest e. let no : true ≡ false = sym (ap (λ (w : List ℕ). starts_with nat_eq w opening) e ∙ starts-there rest) ∙ is in absurd (cc);
-        }, sym (ap (λ (t : ℕ × Stop JournalCause). t.0) same), sym (ap (λ (t : ℕ × Stop JournalCause). t.1) same))
+        inl (
+          record {
+            some = λ e. absurd (cc);
+            other = λ rest e. let no : true ≡ false = sym (ap (λ (w : List ℕ). starts_with nat_eq w opening) e ∙ starts-there rest) ∙ is in absurd (cc);
+          },
+          sym (ap (λ (t : ℕ × Stop JournalCause). t.0) same),
+          sym (ap (λ (t : ℕ × Stop JournalCause). t.1) same),
+        )
 
 file-refuses : (file : List ℕ) (p : ℕ) (s : Stop JournalCause) → IsOctets file → IsDamaged file p s → read_file file ≡ bad (p, s)
 file-refuses file p s fits (inl (start, at, why)) = by (starts_with nat_eq file opening) refl

@@ -45,17 +45,33 @@ sized-spells : (front : List ℕ) (n : ℕ) → n < 2 ^ 64 → Spells sized_numb
 unfolding sized_number
 sized-spells front n small =
     let seam : drop (length front) ((front ++ []) ++ spelling n) ≡ spelling n =
-    ap (λ (w : List ℕ). drop (length front) (w ++ spelling n)) (append-nil front) ∙ drop-append_seam front (spelling n) in
-    ([], spelling n, length front, refl, (refl, refl),
-    (spelling n, [], n, sym (append-nil (spelling n)), spelling-spells n small,
-    ([], [], spelling n, refl, (refl, sym seam), (refl, refl))))
+    ap (λ (w : List ℕ). drop (length front) (w ++ spelling n)) (append-nil front) ∙ drop-append_seam front (spelling n) in (
+      [],
+      spelling n,
+      length front,
+      refl,
+      (refl, refl),
+      (
+        spelling n,
+        [],
+        n,
+        sym (append-nil (spelling n)),
+        spelling-spells n small,
+        ([], [], spelling n, refl, (refl, sym seam), (refl, refl)),
+      ),
+    )
 
 number-spells : (conditions : ℕ → Option JournalCause) (front : List ℕ) (n : ℕ) → n < 2 ^ 64 → conditions n ≡ None
     → Spells (number_where conditions) front (spelling n) n
 unfolding number_where
-number-spells conditions front n small holds =
-    (spelling n, [], (n, length (spelling n)), sym (append-nil (spelling n)),
-    (sized-spells front n small, rw (eq-eqb (length (spelling n)) (length (spelling n)) refl, holds) refl), (refl, refl))
+number-spells conditions front n small holds = (
+  spelling n,
+  [],
+  (n, length (spelling n)),
+  sym (append-nil (spelling n)),
+  (sized-spells front n small, rw (eq-eqb (length (spelling n)) (length (spelling n)) refl, holds) refl),
+  (refl, refl),
+)
 
 face-spells : (front : List ℕ) (f : Face) → Spells face front (octet_of f ∷ []) f
 unfolding face
@@ -73,24 +89,67 @@ how-spells front hows.Cancelled = (3 ∷ [], [], 3, refl, (refl, refl), (refl, r
 fields-spell : (kept : KeptValue) (front : List ℕ) (said : RecordValue) → MayCome kept said
     → Spells (fields_of (kind_octet said) kept) front (field_octets said) said
 unfolding fields_of begun_fields done_fields mark_fields clear_fields reserved_fields
-fields-spell kept front (a_begun p) may =
-    (spelling p.id, _, p.id, refl, number-spells (λ id. needs (nat_lt kept.greatest id) causes.Id) front p.id may.1 (rw (lt-ltb kept.greatest p.id may.0) refl),
-    (octet_of p.face ∷ [], _, p.face, refl, face-spells _ p.face,
-    (spelling (length p.block), _, length p.block, refl, number-spells (λ _. None) _ (length p.block) may.2 refl,
-    (p.block, [], p.block, sym (append-nil p.block), (refl, refl), (refl, refl)))))
-fields-spell kept front (a_done id h) may =
-    (spelling id, _, id, refl, number-spells (λ n. needs (is_pending n kept.pending) causes.Id) front id may.1 (rw may.0 refl),
-    (how_octet h ∷ [], [], h, refl, how-spells _ h, (refl, refl)))
-fields-spell kept front (a_mark m) may =
-    (octet_of m.face ∷ [], _, m.face, refl, face-spells front m.face,
-    (spelling m.session, _, m.session, refl, number-spells (λ _. None) _ m.session may.0 refl,
-    (spelling m.when, [], m.when, sym (append-nil (spelling m.when)), number-spells (λ _. None) _ m.when may.1 refl, (refl, refl))))
-fields-spell kept front (a_clear f session) may =
-    (octet_of f ∷ [], _, f, refl, face-spells front f,
-    (spelling session, [], session, sym (append-nil (spelling session)), number-spells (λ _. None) _ session may refl, (refl, refl)))
-fields-spell kept front (a_reserved f n) may =
-    (octet_of f ∷ [], _, f, refl, face-spells front f,
-    (spelling n, [], n, sym (append-nil (spelling n)), number-spells (λ _. None) _ n may refl, (refl, refl)))
+fields-spell kept front (a_begun p) may = (
+  spelling p.id,
+  _,
+  p.id,
+  refl,
+  number-spells (λ id. needs (nat_lt kept.greatest id) causes.Id) front p.id may.1 (rw (lt-ltb kept.greatest p.id may.0) refl),
+  (
+    octet_of p.face ∷ [],
+    _,
+    p.face,
+    refl,
+    face-spells _ p.face,
+    (
+      spelling (length p.block),
+      _,
+      length p.block,
+      refl,
+      number-spells (λ _. None) _ (length p.block) may.2 refl,
+      (p.block, [], p.block, sym (append-nil p.block), (refl, refl), (refl, refl)),
+    ),
+  ),
+)
+fields-spell kept front (a_done id h) may = (
+  spelling id,
+  _,
+  id,
+  refl,
+  number-spells (λ n. needs (is_pending n kept.pending) causes.Id) front id may.1 (rw may.0 refl),
+  (how_octet h ∷ [], [], h, refl, how-spells _ h, (refl, refl)),
+)
+fields-spell kept front (a_mark m) may = (
+  octet_of m.face ∷ [],
+  _,
+  m.face,
+  refl,
+  face-spells front m.face,
+  (
+    spelling m.session,
+    _,
+    m.session,
+    refl,
+    number-spells (λ _. None) _ m.session may.0 refl,
+    (spelling m.when, [], m.when, sym (append-nil (spelling m.when)), number-spells (λ _. None) _ m.when may.1 refl, (refl, refl)),
+  ),
+)
+fields-spell kept front (a_clear f session) may = (
+  octet_of f ∷ [],
+  _,
+  f,
+  refl,
+  face-spells front f,
+  (spelling session, [], session, sym (append-nil (spelling session)), number-spells (λ _. None) _ session may refl, (refl, refl)),
+)
+fields-spell kept front (a_reserved f n) may = (
+  octet_of f ∷ [],
+  _,
+  f,
+  refl,
+  face-spells front f,
+  (spelling n, [], n, sym (append-nil (spelling n)), number-spells (λ _. None) _ n may refl, (refl, refl)),
+)
 
 -- ---- a record
 
@@ -114,12 +173,35 @@ body-since front said =
 
 entry-spells : (kept : KeptValue) (front : List ℕ) (said : RecordValue) → MayCome kept said → Spells (entry kept) front (record_octets said) said
 unfolding entry
-entry-spells kept front said may =
-    ([], _, length front, refl, (refl, refl),
-    (kind_octet said ∷ [], field_octets said ++ check_of (body_octets said), kind_octet said, refl, kind-spells (front ++ []) said,
-    (field_octets said, check_of (body_octets said), said, refl, fields-spell kept ((front ++ []) ++ kind_octet said ∷ []) said may,
-    ([], check_of (body_octets said), body_octets said, refl, (refl, sym (body-since front said)),
-    (check_of (body_octets said), [], check_of (body_octets said), sym (append-nil (check_of (body_octets said))), check-spells _ (body_octets said), (refl, refl))))))
+entry-spells kept front said may = (
+  [],
+  _,
+  length front,
+  refl,
+  (refl, refl),
+  (
+    kind_octet said ∷ [],
+    field_octets said ++ check_of (body_octets said),
+    kind_octet said,
+    refl,
+    kind-spells (front ++ []) said,
+    (
+      field_octets said,
+      check_of (body_octets said),
+      said,
+      refl,
+      fields-spell kept ((front ++ []) ++ kind_octet said ∷ []) said may,
+      (
+        [],
+        check_of (body_octets said),
+        body_octets said,
+        refl,
+        (refl, sym (body-since front said)),
+        (check_of (body_octets said), [], check_of (body_octets said), sym (append-nil (check_of (body_octets said))), check-spells _ (body_octets said), (refl, refl)),
+      ),
+    ),
+  ),
+)
 
 -- ---- records
 
@@ -133,8 +215,14 @@ gated-spells kept [] seen may = record { most = 1; spells = (0 ∷ [], [], 0, re
 gated-spells kept (r ∷ rs) seen may =
     let rest = gated-spells (kept_with kept r) rs ((seen ++ 1 ∷ []) ++ record_octets r) may.1 in record {
       most = suc rest.most;
-      spells = (1 ∷ [], record_octets r ++ gated rs, 1, refl, refl,
-      (record_octets r, gated rs, r, refl, entry-spells kept (seen ++ 1 ∷ []) r may.0, rest.spells));
+      spells = (
+        1 ∷ [],
+        record_octets r ++ gated rs,
+        1,
+        refl,
+        refl,
+        (record_octets r, gated rs, r, refl, entry-spells kept (seen ++ 1 ∷ []) r may.0, rest.spells),
+      );
     }
 
 some-left : (m : ℕ) (kept k : KeptValue) (seen w : List ℕ) → Spells (records m kept) seen w k → w ≡ [] → ⊥
@@ -158,10 +246,13 @@ opened (suc m) kept k seen (x ∷ front) rs may (u, v, gate, parts, one, after) 
   where
     whole : x ∷ (front ++ 0 ∷ []) ≡ gate ∷ v
     whole = parts ∙ ap (λ (w : List ℕ). w ++ v) one
+
     first : x ≡ gate
     first = cc
+
     left : front ++ 0 ∷ [] ≡ v
     left = cc
+
     by : (on : Bool) → (gate == 1) ≡ on
         → Spells (choice on (entry kept >>= (λ said. records m (kept_with kept said))) (give kept)) (seen ++ u) v k
         → ((said : RecordValue) (ys far : List ℕ) → Spells (records m (kept_with kept said)) far (ys ++ 0 ∷ []) k
@@ -172,10 +263,15 @@ opened (suc m) kept k seen (x ∷ front) rs may (u, v, gate, parts, one, after) 
         let cut = snoc-cut front a b 0 (left ∙ seam) (some-left m (kept_with kept said) k ((seen ++ u) ++ a) b rest) in
         let others = next said cut.0 ((seen ++ u) ++ a) (rw cut.2 at rest) in record {
           most = suc others.most;
-          spells = (u, a ++ (cut.0 ++ gated rs), gate,
-          ap (λ (w : List ℕ). x ∷ (w ++ gated rs)) cut.1 ∙ ap (λ (w : List ℕ). x ∷ w) (append_assoc a cut.0 (gated rs))
-          ∙ ap (λ (y : ℕ). y ∷ (a ++ (cut.0 ++ gated rs))) first ∙ ap (λ (w : List ℕ). w ++ (a ++ (cut.0 ++ gated rs))) (sym one),
-          one, rw is (a, cut.0 ++ gated rs, said, refl, here, others.spells));
+          spells = (
+            u,
+            a ++ (cut.0 ++ gated rs),
+            gate,
+            ap (λ (w : List ℕ). x ∷ (w ++ gated rs)) cut.1 ∙ ap (λ (w : List ℕ). x ∷ w) (append_assoc a cut.0 (gated rs))
+                ∙ ap (λ (y : ℕ). y ∷ (a ++ (cut.0 ++ gated rs))) first ∙ ap (λ (w : List ℕ). w ++ (a ++ (cut.0 ++ gated rs))) (sym one),
+            one,
+            rw is (a, cut.0 ++ gated rs, said, refl, here, others.spells),
+          );
         }
 
 -- ---- the laws

@@ -73,7 +73,11 @@ impl Kept {
         match said {
             Record::Begun { id, face, block } => {
                 let block = Octets::from_slice(alloc, block)?;
-                self.begin(Pending { id: *id, face: *face, block })
+                self.begin(Pending {
+                    id: *id,
+                    face: *face,
+                    block,
+                })
             }
             Record::Done { id, .. } => {
                 end(&mut self.pending, *id);

@@ -9,20 +9,17 @@ ghost use Rattle.journal_file.specs.Spelling.{Closes, MayFollow, gated};
 /// What stands behind a closed gate counts for nothing, torn octets too.
 pub fn closed_gate_ends()
     ensures { (file torn : List ℕ) (kept : KeptValue) → Closes file kept → Reads (file ++ torn) kept }
-{
-}
+{}
 
 /// Where the octet of a closed gate becomes an open one before records that may follow, they are the next
 /// ones: all of them are done.
 pub fn open_gate_goes_on()
     ensures { (front : List ℕ) (kept : KeptValue) (rs : List RecordValue)
         → Closes (front ++ 0 ∷ []) kept → MayFollow kept rs → Closes (front ++ gated rs) (kept_after kept rs) }
-{
-}
+{}
 
 /// A file of records that may follow one another stands for what they leave.
 pub fn records_are_read()
     ensures { (rs : List RecordValue) → MayFollow nothing_kept rs
         → Closes (opening ++ gated rs) (kept_after nothing_kept rs) }
-{
-}
+{}

@@ -25,8 +25,8 @@ mod record;
 mod writing;
 
 pub use fault::{JournalCause, JournalFault};
-pub use laws::{closed_gate_ends, open_gate_goes_on, records_are_read};
 pub use kept::{Kept, MARKS_MAX, Mark, Pending};
+pub use laws::{closed_gate_ends, open_gate_goes_on, records_are_read};
 pub use reading::read_kept;
 pub use record::{How, Record};
 pub use writing::{write_behind_gate, write_gated, write_record};

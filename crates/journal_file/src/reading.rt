@@ -57,11 +57,7 @@ fn read_all(alloc: Global, file: &[u8]) -> Result<Kept, JournalFault>
 }
 
 /// All records from a place on, up to the closed gate.
-fn read_records(
-    alloc: Global,
-    text: &[u8],
-    at: usize,
-) -> Result<(Kept, usize), JournalFault>
+fn read_records(alloc: Global, text: &[u8], at: usize) -> Result<(Kept, usize), JournalFault>
     requires place { at ≤ length text.now }
     requires behind { 0 < at }
     ensures exact { Gives kept_of refusal result (read (records (length text.now) nothing_kept) text.now at) }

@@ -18,13 +18,26 @@ pub enum How {
 #[derive(Clone, Copy, Debug)]
 pub enum Record<'a> {
     /// A block is begun at a face, under an id above all earlier ones.
-    Begun { id: u64, face: Face, block: &'a [u8] },
+    Begun {
+        id: u64,
+        face: Face,
+        block: &'a [u8],
+    },
     /// The session of a pending id ended.
-    Done { id: u64, how: How },
+    Done {
+        id: u64,
+        how: How,
+    },
     /// A report goes out about a session of the peer that isn't handed up.
     Marked(Mark),
     /// That session was handed up, or its sender cancelled it.
-    Clear { face: Face, session: u64 },
+    Clear {
+        face: Face,
+        session: u64,
+    },
     /// The numbers of a face below this one may have been used.
-    Reserved { face: Face, number: u64 },
+    Reserved {
+        face: Face,
+        number: u64,
+    },
 }

@@ -18,11 +18,7 @@ use std::alloc::{AllocError, Global};
 const CLOSED: u8 = 0;
 
 /// Appends a record with its check.
-pub fn write_record(
-    alloc: Global,
-    said: &Record,
-    out: &mut Vec<u8>,
-) -> Result<(), AllocError>
+pub fn write_record(alloc: Global, said: &Record, out: &mut Vec<u8>) -> Result<(), AllocError>
     ensures ok { OnOk result (out.new.items ≡ out.old.items ++ record_octets (record_of said.now)) }
 {
     let body = body_of(alloc, said)?;
@@ -32,11 +28,7 @@ pub fn write_record(
 }
 
 /// Appends records, each after an open gate, and a closed gate.
-pub fn write_gated(
-    alloc: Global,
-    records: &[Record],
-    out: &mut Vec<u8>,
-) -> Result<(), AllocError>
+pub fn write_gated(alloc: Global, records: &[Record], out: &mut Vec<u8>) -> Result<(), AllocError>
     ensures ok { OnOk result (out.new.items ≡ out.old.items ++ gated (map record_of records.now)) }
 {
     write_entries(alloc, records, out)?;
@@ -45,11 +37,7 @@ pub fn write_gated(
 }
 
 /// Appends records, each after an open gate.
-fn write_entries(
-    alloc: Global,
-    records: &[Record],
-    out: &mut Vec<u8>,
-) -> Result<(), AllocError>
+fn write_entries(alloc: Global, records: &[Record], out: &mut Vec<u8>) -> Result<(), AllocError>
     ensures ok { OnOk result (out.new.items ≡ out.old.items ++ flat_map entry_of records.now) }
 {
     'entries: for said in records {

@@ -46,11 +46,11 @@ def new(payload):
 # What a row is called, the words of the run, its bundle, how many lines are wanted, and the most memory in MB: twice
 # the payload and 4 where that is long, and else so much that the pieces, or the text, could not be there at once.
 ROWS = (
-    ("2,000 pieces with 1,000 references each", ["cut", "1"], lambda: named(1000, REPLICATED, bytes(2000)), 2000, 5),
+    ("2,000 pieces with 1,000 references each", ["cut", "1"], lambda: named(1000, REPLICATED, bytes(2000)), 2000, 4),
     ("1 MiB of payload, octet by octet", ["cut", "1"], lambda: old(bytes(1 << 20)), 1 << 20, 6),
     ("the same of version 7", ["cut", "1"], lambda: new(bytes(1 << 20)), 1 << 20, 6),
-    ("25,000 references", ["convert"], lambda: named(25_000, 0, b"abc"), 1, 110),
-    ("25,000 references", ["join"], lambda: named(25_000, 0, b"abc"), 1, 60),
+    ("25,000 references", ["convert"], lambda: named(25_000, 0, b"abc"), 1, 60),
+    ("25,000 references", ["join"], lambda: named(25_000, 0, b"abc"), 1, 4),
     ("60 MB of payload, version 6", ["convert"], lambda: old(bytes(LONG)), 1, 124),
     ("60 MB of payload, version 7", ["convert"], lambda: new(bytes(LONG)), 1, 124),
     ("60 MB of payload, version 6", ["cut", "1000"], lambda: old(bytes(LONG)), LONG // 1000, 124),

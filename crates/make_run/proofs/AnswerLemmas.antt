@@ -10,8 +10,8 @@ use Rattle.edge_traits.proofs.FaultsLemmas.{NoneFailed-same}
 use Rattle.endpoint.specs.declared.name.Endpoint.TheVariants.{Ipn}
 use Rattle.ltp_segment.specs.declared.session.TheConstants.{BLOCK_MAX}
 use Rattle.path_laws.specs.Path.{PathSetup, Path, PathEvent, path_run, starts_path}
-use Rattle.path_ends.specs.Left.{IsTimed}
-use Rattle.path_ends.proofs.TimedLemmas.{paths-are-timed}
+use Rattle.path_drain.specs.Left.{IsTimed}
+use Rattle.path_drain.proofs.TimedLemmas.{paths-are-timed}
 use Rattle.path_world.specs.Values.{PathValue, setup_of}
 use Rattle.path_world.specs.Shows.{ShowsRun}
 use Rattle.world_run.specs.Shows.{StandsOn}

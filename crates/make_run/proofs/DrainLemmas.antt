@@ -8,8 +8,8 @@ use Rattle.command_frame.specs.Lines.{passes, ends_run}
 use Rattle.path_laws.specs.declared.effects.PathEffects.{PathEffects}
 use Rattle.path_laws.specs.Path.{PathSetup, Path, PathEvent, path_step, path_run, starts_path}
 use Rattle.path_laws.specs.Log.{ups_in}
-use Rattle.path_drain_laws.specs.Clean.{path_clean_event, path_passed}
-use Rattle.path_ends.specs.Drained.{EndsBy, DrainsAreOne}
+use Rattle.path_drain.specs.Clean.{path_clean_event, path_passed}
+use Rattle.path_drain.specs.Drained.{EndsBy, DrainsAreOne}
 use Rattle.path_world.specs.declared.drained.PathDrained.{PathDrained}
 use Rattle.path_world.specs.Drain.{DrainsAll, DrainsUntilLate, done_in, ups_told}
 use Rattle.path_world.specs.Shows.{path_after}

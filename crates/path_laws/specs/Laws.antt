@@ -91,7 +91,7 @@ pub record IsPieceOf
 -- this bundle comes at some moment to a gate with some room at its other face, spelled with that
 -- moment and some number. They are the clock, the room and the counter of the gate as the event
 -- comes that hands the bundle up; but what was begun and handed up doesn't tell them, so it isn't
--- said here. `IsReportAt` of `path_completion` says it of each event that begins a report.
+-- said here. `IsReportAt` of `path_drain` says it of each event that begins a report.
 pub record IsReportOn
     (s : PathSetup) (begun : List Begun) (ups : List UpAt) (end : PathEnd) (n : ℕ)
     (body : List ℕ) : Type 0 where

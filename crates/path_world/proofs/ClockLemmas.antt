@@ -6,8 +6,8 @@ use Rattle.std.proofs.lemmas.Bool.Decides.{nat_tests}
 use Rattle.ltp_engine.specs.Steps.{is_due_at}
 use Rattle.path_laws.specs.declared.effects.PathEffects.{PathEffects}
 use Rattle.path_laws.specs.Path.{PathEvent, PathStep, clock_shows, path_step}
-use Rattle.path_ends.specs.Moments.{IsBeforeAny}
-use Rattle.path_ends.proofs.QuietLemmas.{quiet-clocks}
+use Rattle.path_drain.specs.Moments.{IsBeforeAny}
+use Rattle.path_drain.proofs.QuietLemmas.{quiet-clocks}
 use Rattle.path_world.specs.declared.parts.Parts.{Parts}
 use Rattle.path_world.specs.Drain.{IsDueEarly}
 use Rattle.path_world.specs.Shows.{ShowsRun, path_after}

@@ -18,12 +18,12 @@ use Rattle.path_laws.specs.Laws.{ReceivedAsSent}
 use Rattle.path_laws.specs.Log.{ups_in}
 use Rattle.path_laws.specs.Path.{Path, PathEvent, PathSetup, clock_shows, delivers, path_run, path_step, starts_path}
 use Rattle.path_laws.specs.Places.{across}
-use Rattle.path_drain_laws.specs.Clean.{AreCleanOnPath, path_clean_event, path_passed, path_passed_after}
-use Rattle.path_drain_laws.specs.Clean.{path_deadline as due_on}
-use Rattle.path_drain_laws.specs.Completion.{IsPathReady}
-use Rattle.path_drain_laws.specs.Completion.{Completes as CompletesPath}
-use Rattle.path_drain_laws.specs.Effects.{IsNotedSent, IsUpAt, IsUpWhole, notes_in}
-use Rattle.path_drain_laws.proofs.LawLemmas.{runs-complete}
+use Rattle.path_drain.specs.Clean.{AreCleanOnPath, path_clean_event, path_passed, path_passed_after}
+use Rattle.path_drain.specs.Clean.{path_deadline as due_on}
+use Rattle.path_drain.specs.Completion.{IsPathReady}
+use Rattle.path_drain.specs.Completion.{Completes as CompletesPath}
+use Rattle.path_drain.specs.Effects.{IsNotedSent, IsUpAt, IsUpWhole, notes_in}
+use Rattle.path_drain.proofs.LawLemmas.{runs-complete}
 use Rattle.path_world.specs.declared.drained.PathDrained.{PathDrained}
 use Rattle.path_world.specs.Clean.{LeadsIn, LeadsOn}
 use Rattle.path_world.specs.Drain.{Completed, Completes, DrainsAll, DrainsAsSent, DrainsUntilLate, Drains, HandsUpAsSentIn, IsEarly, IsLate, done_in, notes_told, ups_told}

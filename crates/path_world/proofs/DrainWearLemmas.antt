@@ -14,10 +14,10 @@ use Rattle.ltp_engine.specs.Values.{EngineValue}
 use Rattle.path_laws.specs.declared.effects.PathEffects.{PathEffects}
 use Rattle.path_laws.specs.Links.{link_parties}
 use Rattle.path_laws.specs.Path.{Path, PathEvent, PathSetup, SentFrom, clock_shows, delivers, path_run, path_step}
-use Rattle.path_drain_laws.proofs.PathLists.{step-sends}
-use Rattle.path_ends.specs.Left.{IsTimed, engine_left, path_burden, path_left}
-use Rattle.path_ends.proofs.PathEnds.{clock-now, deliver-now}
-use Rattle.path_ends.proofs.PathWears.{path-clock, path-drains-wear-out, runs-reach}
+use Rattle.path_drain.proofs.PathLists.{step-sends}
+use Rattle.path_drain.specs.Left.{IsTimed, engine_left, path_burden, path_left}
+use Rattle.path_drain.proofs.PathEnds.{clock-now, deliver-now}
+use Rattle.path_drain.proofs.PathWears.{path-clock, path-drains-wear-out, runs-reach}
 use Rattle.path_world.specs.declared.parts.Parts.{Parts}
 use Rattle.path_world.specs.Clean.{LeadsOn}
 use Rattle.path_world.specs.Shows.{AreBounded, IsSmallSetup, ShowsPath, ShowsRun, Stands, path_after}

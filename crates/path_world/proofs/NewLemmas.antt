@@ -23,8 +23,8 @@ use Rattle.ltp_segment.specs.Policy.{PolicyValue}
 use Rattle.ltp_session.specs.Engine.{starts}
 use Rattle.path_laws.specs.Links.{link_parties}
 use Rattle.path_laws.specs.Path.{path_setup, path_run}
-use Rattle.path_drain_laws.specs.Hopeful.{IsFitPath}
-use Rattle.path_drain_laws.proofs.PolicyLemmas.{short-fits}
+use Rattle.path_drain.specs.Hopeful.{IsFitPath}
+use Rattle.path_drain.proofs.PolicyLemmas.{short-fits}
 use Rattle.path_world.specs.declared.node.Node.{Node}
 use Rattle.path_world.specs.declared.parts.Parts.{Parts}
 use Rattle.path_world.specs.Shows.{IsSmallSetup, ShowsRun}

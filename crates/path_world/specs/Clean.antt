@@ -4,7 +4,7 @@ use Rattle.std.specs.Prelude.{◌≡◌, ℕ, List, ◌++◌}
 use Rattle.std.specs.List.{AllByRecursion}
 use Rattle.path_laws.specs.declared.effects.PathEffects.{PathEffects}
 use Rattle.path_laws.specs.Path.{Path, PathEvent, PathSetup}
-use Rattle.path_drain_laws.specs.Clean.{AreCleanOnPath, path_passed}
+use Rattle.path_drain.specs.Clean.{AreCleanOnPath, path_passed}
 use Rattle.path_world.specs.Drain.{InEveryRun, IsEarly, done_in}
 use Rattle.path_world.specs.Shows.{ShowsRun, path_after}
 use Rattle.path_world.specs.Values.{PathValue, setup_of}

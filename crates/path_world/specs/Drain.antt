@@ -16,13 +16,13 @@ use Rattle.path_laws.specs.Log.{Begun, begun_in, ups_in}
 use Rattle.path_laws.specs.Path.{Path, PathEvent, PathSetup, clock_shows, delivers, path_run}
 use Rattle.path_laws.specs.Path.{path_step, sends, starts_path}
 use Rattle.path_laws.specs.Places.{across}
-use Rattle.path_room.specs.PathRoom.{PathRoom}
-use Rattle.path_drain_laws.specs.Clean.{AreCleanOnPathFrom, PathCleanRun, path_clean_event}
-use Rattle.path_drain_laws.specs.Clean.{path_passed}
-use Rattle.path_drain_laws.specs.Completion.{IsPathComplete}
-use Rattle.path_drain_laws.specs.Effects.{IsNotedSent, IsUpAt, IsUpWhole, notes_in}
-use Rattle.path_drain_laws.specs.Hopeful.{PathHopeful, path_cost, session_at}
-use Rattle.path_ends.specs.Left.{IsBefore}
+use Rattle.path_drain.specs.PathRoom.{PathRoom}
+use Rattle.path_drain.specs.Clean.{AreCleanOnPathFrom, PathCleanRun, path_clean_event}
+use Rattle.path_drain.specs.Clean.{path_passed}
+use Rattle.path_drain.specs.Completion.{IsPathComplete}
+use Rattle.path_drain.specs.Effects.{IsNotedSent, IsUpAt, IsUpWhole, notes_in}
+use Rattle.path_drain.specs.Hopeful.{PathHopeful, path_cost, session_at}
+use Rattle.path_drain.specs.Left.{IsBefore}
 use Rattle.path_world.specs.declared.drained.PathDrained.{PathDrained}
 use Rattle.path_world.specs.Shows.{ShowsRun, path_after}
 use Rattle.path_world.specs.Values.{PathValue, effects_told, path_deadline, setup_of}

@@ -8,7 +8,7 @@ use Rattle.gateway_core.specs.Shows.{ShowsGate, IsGateBounded}
 use Rattle.link_laws.specs.Writable.{HasSmallNumbers}
 use Rattle.ltp_engine.specs.Bounds.{IsBounded}
 use Rattle.ltp_engine.specs.Shows.{Shows}
-use Rattle.path_drain_laws.specs.Hopeful.{AreAlikeOnPath}
+use Rattle.path_drain.specs.Hopeful.{AreAlikeOnPath}
 use Rattle.path_laws.specs.Laws.{IsLinked}
 use Rattle.path_laws.specs.Links.{link_parties}
 use Rattle.path_laws.specs.Path.{Path, PathEvent, PathSetup, path_run, starts_path}

@@ -5,7 +5,7 @@ use Rattle.ltp_segment.specs.Reading.{segment_of}
 use Rattle.drain_laws.specs.Left.{senders_left}
 use Rattle.ltp_engine.specs.Values.{EngineValue}
 use Rattle.ltp_world.specs.Work.{read_burden}
-use Rattle.path_ends.specs.Left.{session_left}
+use Rattle.path_drain.specs.Left.{session_left}
 use Rattle.path_laws.specs.Path.{PathSetup}
 use Rattle.path_world.specs.declared.sent.Sent.{Sent}
 use Rattle.path_world.specs.Values.{PathValue, setup_of}

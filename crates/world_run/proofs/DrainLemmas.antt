@@ -8,9 +8,9 @@ use Rattle.edge_traits.specs.declared.status.Status.TheVariants as statuses
 use Rattle.command_frame.specs.Lines.{Turn, passes, ends_run}
 use Rattle.ltp_segment.specs.declared.session.TheConstants.{BLOCK_MAX}
 use Rattle.path_laws.specs.Path.{PathSetup, Path, PathEvent, sends, delivers, clock_shows, path_step, path_run, starts_path}
-use Rattle.path_drain_laws.specs.Clean.{AreCleanOnPath, IsPathDrained, path_clean_event, path_deadline, path_passed, path_passed_after}
-use Rattle.path_ends.specs.Left.{IsOverBy, IsTimed}
-use Rattle.path_ends.specs.Drained.{EndsBy, DrainsAreOne}
+use Rattle.path_drain.specs.Clean.{AreCleanOnPath, IsPathDrained, path_clean_event, path_deadline, path_passed, path_passed_after}
+use Rattle.path_drain.specs.Left.{IsOverBy, IsTimed}
+use Rattle.path_drain.specs.Drained.{EndsBy, DrainsAreOne}
 use Rattle.path_world.specs.declared.drained.PathDrained.{PathDrained}
 use Rattle.path_world.specs.Drain.{DrainsAll, DrainsUntilLate, IsLate, done_in}
 use Rattle.path_world.specs.Shows.{ShowsRun, path_after}

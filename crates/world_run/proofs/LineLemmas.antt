@@ -25,7 +25,7 @@ use Rattle.path_laws.specs.declared.places.PathEnd.{PathEnd}
 use Rattle.path_laws.specs.Places.{node_place}
 use Rattle.path_laws.specs.Path.{PathSetup, Path, PathEffectsValue, SentFrom, PathEvent, sends, delivers, clock_shows, sends_block, path_step, path_run}
 use Rattle.path_laws.specs.Log.{ups_in}
-use Rattle.path_drain_laws.specs.Effects.{notes_in}
+use Rattle.path_drain.specs.Effects.{notes_in}
 use Rattle.endpoint.specs.Endpoints.{begins}
 use Rattle.world_run.specs.WrittenLines.{sent_words, place_word, whole_word, up_words, up_line, note_words, end_words, sent_line, sent_lines, join_line, note_line, effects_text, refused_line, refusal_line, after_drain_line, end_line}
 use Rattle.world_run.specs.World.{unless_sent, unless_there, refused_text, event_text, events_text}

@@ -8,9 +8,9 @@ use Rattle.command_frame.specs.Lines.{passes, ends_run, turn_at, after_turn, lin
 use Rattle.ltp_segment.specs.declared.session.TheConstants.{BLOCK_MAX}
 use Rattle.replay_script.specs.declared.fault.LineFault.{LineFault}
 use Rattle.path_laws.specs.Path.{PathSetup, Path, PathEvent, sends, delivers, clock_shows, path_step, path_run, starts_path}
-use Rattle.path_drain_laws.specs.Hopeful.{IsPathReached}
-use Rattle.path_ends.specs.Left.{IsOverBy, IsTimed}
-use Rattle.path_ends.specs.Drained.{EndsBy, DrainsAreMade}
+use Rattle.path_drain.specs.Hopeful.{IsPathReached}
+use Rattle.path_drain.specs.Left.{IsOverBy, IsTimed}
+use Rattle.path_drain.specs.Drained.{EndsBy, DrainsAreMade}
 use Rattle.world_run.specs.WrittenLines.{refusal_line, after_drain_line}
 use Rattle.world_run.specs.World.{WorldState, on_path, drained, LaterLine, says_event, says_drain, line_in, event_text, events_text, is_late, is_late_if_any, no_moment, most_sent, octets_sent, clean_after, drain_made, drain_text, if_kept, happens, drains_by, line_turn, world_rules}
 use Rattle.world_run.specs.Headline.{lines_said, DrainMakes, if_drained_text, ClosesAs}

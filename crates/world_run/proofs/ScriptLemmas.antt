@@ -12,12 +12,12 @@ use Rattle.replay_script.specs.declared.fault.LineFault.{LineFault}
 use Rattle.path_laws.specs.Path.{PathSetup, Path, PathEvent, starts_path, path_run}
 use Rattle.path_laws.specs.Log.{ups_in}
 use Rattle.path_laws.specs.Laws.{ReceivedAsSent}
-use Rattle.path_drain_laws.specs.Effects.{notes_in}
-use Rattle.path_drain_laws.specs.Hopeful.{IsFitPath, IsPathReached, PathsAreFit}
-use Rattle.path_completion.specs.Decided.{BegunAreDecided}
-use Rattle.path_completion.specs.Runs.{CasesAreNotedInRuns}
-use Rattle.path_completion.specs.WholeRun.{WholeRunsComplete, run_path}
-use Rattle.path_ends.specs.Drained.{DrainsAreMade, PathsAreTimed}
+use Rattle.path_drain.specs.Effects.{notes_in}
+use Rattle.path_drain.specs.Hopeful.{IsFitPath, IsPathReached, PathsAreFit}
+use Rattle.path_drain.specs.Decided.{BegunAreDecided}
+use Rattle.path_drain.specs.Runs.{CasesAreNotedInRuns}
+use Rattle.path_drain.specs.WholeRun.{WholeRunsComplete, run_path}
+use Rattle.path_drain.specs.Drained.{DrainsAreMade, PathsAreTimed}
 use Rattle.world_run.specs.World.{PathStart, WorldState, no_path, on_path, start_in, no_moment, start_turn, world_rules, settles}
 use Rattle.world_run.specs.Headline.{DrainMakes, DrainCompletes, lines_with, up_lines, note_lines, end_lines, up_text, note_text, end_texts, PlaysScript, ClosesFirst, EndsLawfully, WorldsKeepHeadline}
 use Rattle.world_run.proofs.StartLemmas.{starts_fit, starts_timed}

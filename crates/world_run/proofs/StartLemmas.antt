@@ -12,9 +12,9 @@ use Rattle.replay_script.specs.Events.{event_of, is_path_line, Reads}
 use Rattle.replay_script.specs.Laws.{IsSoundPath}
 use Rattle.replay_script.proofs.PathLemmas.{path_sound}
 use Rattle.path_laws.specs.Path.{path_setup}
-use Rattle.path_drain_laws.specs.Hopeful.{IsFitPath, PathsAreFit}
-use Rattle.path_ends.specs.Drained.{PathsAreTimed}
-use Rattle.path_ends.specs.Left.{IsTimed}
+use Rattle.path_drain.specs.Hopeful.{IsFitPath, PathsAreFit}
+use Rattle.path_drain.specs.Drained.{PathsAreTimed}
+use Rattle.path_drain.specs.Left.{IsTimed}
 use Rattle.world_run.specs.World.{PathStart, first_said, start_said, start_in}
 
 -- what was read as a path is one, and the first line says it

@@ -20,7 +20,7 @@ use Rattle.path_laws.specs.declared.places.PathEnd.{PathEnd}
 use Rattle.path_laws.specs.Places.{node_place}
 use Rattle.path_laws.specs.Path.{PathSetup, Path, PathEffectsValue, SentFrom, PathEvent, sends, delivers, clock_shows, sends_block, path_step, path_run, starts_path}
 use Rattle.ltp_segment.specs.declared.session.TheConstants.{BLOCK_MAX}
-use Rattle.path_ends.specs.Left.{IsTimed}
+use Rattle.path_drain.specs.Left.{IsTimed}
 use Rattle.path_world.specs.Values.{PathValue, setup_of, octets_in, spelled, sent_at, numbered, effects_told, nothing_told}
 use Rattle.path_world.specs.Shows.{ShowsRun, path_after}
 use Rattle.path_world.specs.Steps.{Happens, Stays, Sends, OfSend}

@@ -23,14 +23,14 @@ use Rattle.path_laws.specs.Path.{PathSetup, Path, PathEvent, starts_path}
 use Rattle.path_laws.specs.Laws.{HandsOn}
 use Rattle.path_laws.specs.Log.{Begun}
 use Rattle.path_laws.specs.Places.{face_place}
-use Rattle.path_room.specs.PathRoom.{PathRoom}
-use Rattle.path_drain_laws.specs.Clean.{AreCleanOnPathFrom}
-use Rattle.path_drain_laws.specs.Completion.{IsCaseNotedIn}
-use Rattle.path_drain_laws.specs.Effects.{notes_in}
-use Rattle.path_drain_laws.specs.Hopeful.{PathHopeful}
-use Rattle.path_ends.specs.Left.{IsBefore}
-use Rattle.path_completion.specs.Decided.{IsBegunIn}
-use Rattle.path_completion.specs.WholeRun.{IsRunComplete, run_begun, run_path, run_ups}
+use Rattle.path_drain.specs.PathRoom.{PathRoom}
+use Rattle.path_drain.specs.Clean.{AreCleanOnPathFrom}
+use Rattle.path_drain.specs.Completion.{IsCaseNotedIn}
+use Rattle.path_drain.specs.Effects.{notes_in}
+use Rattle.path_drain.specs.Hopeful.{PathHopeful}
+use Rattle.path_drain.specs.Left.{IsBefore}
+use Rattle.path_drain.specs.Decided.{IsBegunIn}
+use Rattle.path_drain.specs.WholeRun.{IsRunComplete, run_begun, run_path, run_ups}
 use Rattle.world_run.specs.WrittenLines.{up_words, note_words, end_words, refusal_line}
 use Rattle.world_run.specs.WrittenLines.{after_drain_line}
 use Rattle.world_run.specs.World.{PathStart, LaterLine, says_event, says_drain, start_in, line_in}

@@ -8,7 +8,7 @@ use Rattle.note_lines.specs.NoteLines.{line_of}
 use Rattle.path_laws.specs.declared.effects.PathEffects.{PathEffects}
 use Rattle.path_laws.specs.declared.effects.SentAt.{SentAt}
 use Rattle.path_laws.specs.Path.{PathSetup, Path, PathEvent, path_setup}
-use Rattle.path_ends.specs.Left.{IsTimed}
+use Rattle.path_drain.specs.Left.{IsTimed}
 use Rattle.path_world.specs.Values.{PathValue, setup_of}
 use Rattle.path_world.specs.Shows.{ShowsRun, path_after}
 use Rattle.replay_script.specs.declared.fault.LineFault.{LineFault}

@@ -20,8 +20,8 @@ use Rattle.path_laws.specs.Places.{node_place}
 use Rattle.path_laws.specs.Path.{PathSetup, Path, SentFrom, PathEvent, sends, delivers}
 use Rattle.path_laws.specs.Path.{clock_shows, path_setup, starts_path, sends_block, path_step}
 use Rattle.path_laws.specs.Path.{path_run}
-use Rattle.path_drain_laws.specs.Clean.{path_clean_event, path_passed}
-use Rattle.path_ends.specs.Drained.{drain_events}
+use Rattle.path_drain.specs.Clean.{path_clean_event, path_passed}
+use Rattle.path_drain.specs.Drained.{drain_events}
 use Rattle.world_run.specs.WrittenLines.{effects_text, send_refusal, deliver_refusal, refusal_line}
 use Rattle.world_run.specs.WrittenLines.{after_drain_line, end_line}
 

@@ -13,10 +13,10 @@ pub fn worlds_keep_headline()
     ensures { WorldsKeepHeadline }
 {
     path_laws::laws::received_as_sent();
-    path_drain_laws::laws::paths_are_fit();
-    path_ends::laws::paths_are_timed();
-    path_ends::laws::drains_are_made();
-    path_completion::laws::cases_are_noted_in_runs();
-    path_completion::laws::begun_are_decided();
-    path_completion::laws::whole_runs_complete();
+    path_drain::completion::paths_are_fit();
+    path_drain::ends::paths_are_timed();
+    path_drain::ends::drains_are_made();
+    path_drain::whole_runs::cases_are_noted_in_runs();
+    path_drain::whole_runs::begun_are_decided();
+    path_drain::whole_runs::whole_runs_complete();
 }

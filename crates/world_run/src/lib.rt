@@ -7,7 +7,7 @@
 //! is left to do.
 //!
 //! The definition is `specs/World.antt`: the steps of a path of `path_laws` over the events, as lines,
-//! and after them the events of a drain of `path_ends`. [`World`] is a `LineStep` of `command_frame`
+//! and after them the events of a drain of `path_drain`. [`World`] is a `LineStep` of `command_frame`
 //! over the path of `path_world`, which is answered line by line. [`laws::worlds_keep_headline`] says
 //! what the `up` lines of a text are, each block whole, once in its session, and as it was sent; and
 //! that a drain completes the sessions of a path that is hopeful and has room. [`write_effects`] and the

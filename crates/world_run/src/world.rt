@@ -24,7 +24,7 @@ use command_frame::{PartLineStep, Turned};
 use edge_traits::Status;
 use ltp_engine::SubmitRefused;
 use ltp_world::{DeliverRefused, DrainRefused};
-use path_ends::laws::{drains_are_one, paths_are_timed};
+use path_drain::ends::{drains_are_one, paths_are_timed};
 use path_laws::{PathEffects, PathEnd};
 use path_world::{PathDrained, PathWorld};
 use replay_script::{Event, LineFault};

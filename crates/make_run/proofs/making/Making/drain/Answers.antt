@@ -1,5 +1,5 @@
 use Rattle.std.proofs.Common.{refl, ◌∙◌}
-use Rattle.path_ends.proofs.OneDrain.{drains-are-one}
+use Rattle.path_drain.proofs.OneDrain.{drains-are-one}
 use Rattle.path_world.specs.Drain.{ups_told}
 use Rattle.world_run.specs.World.{drain_made}
 use Rattle.world_run.specs.WrittenLines.{end_line}

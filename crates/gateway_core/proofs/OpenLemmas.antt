@@ -16,7 +16,7 @@ use Rattle.ltp_session.specs.Engine.{Party, Engine, EngineStep, Reply, SubmitFau
 use Rattle.ltp_session.specs.Receiver.{receiver_answers}
 use Rattle.ltp_sender.specs.Sender.{is_kept_open}
 use Rattle.ltp_engine.specs.Sessions.{is_open}
-use Rattle.link_laws.proofs.TableLemmas.{find-settled, find-settled_other, ascending-settled, ascending-ticked, find-ticked, after_tick}
+use Rattle.ltp_laws.proofs.TableLemmas.{find-settled, find-settled_other, ascending-settled, ascending-ticked, find-ticked, after_tick}
 use Rattle.gate_cases.specs.declared.face.Face.{Face}
 use Rattle.gate_cases.specs.declared.face.Face.TheVariants as faces
 use Rattle.gate_cases.specs.declared.judged.Judged.{Judged}

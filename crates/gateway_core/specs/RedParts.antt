@@ -4,7 +4,7 @@ use Rattle.std.specs.Prelude.{◌≡◌, ℕ, ◌↔◌, List, [], ◌∷◌, �
 use Rattle.ltp_session.specs.RedPart.{BecomesWhole}
 use Rattle.ltp_session.specs.Engine.{UpValue}
 use Rattle.ltp_engine.specs.RedParts.{engine_after, pieces_of, EachOnce}
-use Rattle.link_laws.specs.View.{IsIn}
+use Rattle.ltp_laws.specs.View.{IsIn}
 use Rattle.gate_cases.specs.declared.face.Face.{Face}
 use Rattle.gateway_core.specs.declared.effects.FaceUp.{FaceUp}
 use Rattle.gateway_core.specs.Gate.{GateSetup, GateEvent, EventIn, at_face, event_in}

@@ -9,12 +9,12 @@ use Rattle.command_frame.specs.InputLines.{ended_part}
 use Rattle.ltp_session.specs.Engine.{Party, Reply, SubmitFault, submit_step, submits}
 use Rattle.ltp_session.specs.World.{End as LinkEnd}
 use Rattle.ltp_session.specs.World.{Event, World, at_end, clock, happens, replies, run, submit, submitted as submitted_world, unless_refused}
-use Rattle.drain_laws.specs.Clean.{link_deadline}
-use Rattle.drain_laws.specs.Effects.{effects_at}
-use Rattle.drain_laws.specs.Hopeful.{IsReached}
-use Rattle.drain_laws.specs.Left.{AreTimed}
-use Rattle.pick_laws.specs.Picks.{Crossing, Pick, Placed, Turn as PickTurn, after_pick, after_picks, after_turns, as_turns, crosses_at, events_of, next_turn, pick_turn, picked_turns}
-use Rattle.pick_laws.specs.PickedRuns.{run_events}
+use Rattle.ltp_drain.specs.Clean.{link_deadline}
+use Rattle.ltp_drain.specs.Effects.{effects_at}
+use Rattle.ltp_drain.specs.Hopeful.{IsReached}
+use Rattle.ltp_drain.specs.Left.{AreTimed}
+use Rattle.ltp_picks.specs.Picks.{Crossing, Pick, Placed, Turn as PickTurn, after_pick, after_picks, after_turns, as_turns, crosses_at, events_of, next_turn, pick_turn, picked_turns}
+use Rattle.ltp_picks.specs.PickedRuns.{run_events}
 use Rattle.ltp_world.specs.Drain.{done_in}
 use Rattle.ltp_world.specs.Steps.{submission_at}
 use Rattle.ltp_world.proofs.DrainLemmas.{run-append}

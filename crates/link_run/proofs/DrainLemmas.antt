@@ -7,8 +7,8 @@ use Rattle.std.specs.List.{AllByRecursion}
 use Rattle.std.specs.Option.{option_map}
 use Rattle.ltp_session.specs.Engine.{Party}
 use Rattle.ltp_session.specs.World.{Event, World, clock, deliver, happens, run, submit}
-use Rattle.drain_laws.specs.Clean.{clean_event, link_deadline, passed}
-use Rattle.drain_laws.specs.Left.{AreTimed}
+use Rattle.ltp_drain.specs.Clean.{clean_event, link_deadline, passed}
+use Rattle.ltp_drain.specs.Left.{AreTimed}
 use Rattle.ltp_world.specs.Shows.{ShowsRun, link_after}
 use Rattle.ltp_world.specs.Values.{parties_of}
 use Rattle.contact_plan.specs.declared.window.Window.{Window}

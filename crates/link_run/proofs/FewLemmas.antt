@@ -5,7 +5,7 @@ use Rattle.std.proofs.lemmas.Bool.{ltb-false}
 use Rattle.std.proofs.lemmas.List.{length-map}
 use Rattle.endpoint.specs.Numeral.{number_of}
 use Rattle.ltp_session.specs.Engine.{Party}
-use Rattle.pick_laws.specs.Picks.{Crossing, Pick, Turn, after_pick, copies, copies_of, old_copy, oldest_of, pick_turn}
+use Rattle.ltp_picks.specs.Picks.{Crossing, Pick, Turn, after_pick, copies, copies_of, old_copy, oldest_of, pick_turn}
 use Rattle.replay_script.specs.declared.fault.LineFault.{LineFault}
 use Rattle.replay_script.specs.declared.fault.LineFault.TheVariants as faults
 use Rattle.replay_script.specs.declared.link.LinkEvent.{LinkEvent}

@@ -13,14 +13,14 @@ use Rattle.command_frame.proofs.FrontLemmas.{from-end, from-limit}
 use Rattle.ltp_segment.specs.Policy.{PolicyValue}
 use Rattle.ltp_session.specs.Engine.{Party, tick_remarks, tick_step}
 use Rattle.ltp_session.specs.World.{ArePeers, Event, clock, first_end, happens, second_end, starts_world}
-use Rattle.link_laws.specs.Log.{submissions}
-use Rattle.link_laws.proofs.LogLemmas.{red_parts_are_fronts}
-use Rattle.drain_laws.proofs.CompletionLemmas.{clean-completes, clean-few}
-use Rattle.drain_laws.proofs.DrainedLemmas.{none-left}
-use Rattle.drain_laws.specs.Hopeful.{AreAlike, IsReached}
-use Rattle.drain_laws.specs.Left.{AreTimed}
-use Rattle.pick_laws.proofs.CopyEnds.{copied-completes, copied-costs, copied-few}
-use Rattle.pick_laws.proofs.CrossingRuns.{crossing-completes, crossing-few}
+use Rattle.ltp_laws.specs.Log.{submissions}
+use Rattle.ltp_laws.proofs.LogLemmas.{red_parts_are_fronts}
+use Rattle.ltp_drain.proofs.CompletionLemmas.{clean-completes, clean-few}
+use Rattle.ltp_drain.proofs.DrainedLemmas.{none-left}
+use Rattle.ltp_drain.specs.Hopeful.{AreAlike, IsReached}
+use Rattle.ltp_drain.specs.Left.{AreTimed}
+use Rattle.ltp_picks.proofs.CopyEnds.{copied-completes, copied-costs, copied-few}
+use Rattle.ltp_picks.proofs.CrossingRuns.{crossing-completes, crossing-few}
 use Rattle.contact_plan.specs.Windows.{elapsed}
 use Rattle.replay_script.specs.declared.fault.LineFault.{LineFault}
 use Rattle.replay_script.specs.declared.fault.LineFault.TheVariants as faults

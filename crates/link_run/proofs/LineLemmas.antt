@@ -8,7 +8,7 @@ use Rattle.command_frame.specs.Lines.{Turn, TurnsAs, ends_run, passes}
 use Rattle.ltp_session.specs.Engine.{EngineStep, SubmitFault}
 use Rattle.ltp_session.specs.World.{Sent as LinkSent}
 use Rattle.ltp_session.specs.World.{Event, clock, deliver, happens, submit}
-use Rattle.drain_laws.specs.Effects.{effects_at}
+use Rattle.ltp_drain.specs.Effects.{effects_at}
 use Rattle.ltp_world.specs.declared.effects.EndEffects.{EndEffects}
 use Rattle.ltp_world.specs.declared.ends.End.{End}
 use Rattle.ltp_world.specs.Drain.{told_of}

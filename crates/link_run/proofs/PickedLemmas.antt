@@ -10,13 +10,13 @@ use Rattle.edge_traits.specs.declared.status.Status.TheVariants as statuses
 use Rattle.command_frame.specs.Lines.{TurnsAs, ends_run}
 use Rattle.ltp_session.specs.Engine.{Party}
 use Rattle.ltp_session.specs.World.{Event, World, clock, deliver, happens, submit}
-use Rattle.drain_laws.specs.Draining.{since}
-use Rattle.drain_laws.specs.Hopeful.{IsReached}
-use Rattle.drain_laws.specs.Left.{AreTimed}
-use Rattle.pick_laws.specs.Picks.{AreNext, Crossing, IsOver, Pick, Turn, after_pick, after_picks, after_turn, after_turns, as_turns, crosses_at, events_of, is_old, next_turn, old_copy, oldest_of, pick_turn, picked_turns}
-use Rattle.pick_laws.specs.PickedRuns.{run_events}
-use Rattle.pick_laws.proofs.CrossingLemmas.{clock-sent, delivered-sent}
-use Rattle.pick_laws.proofs.CrossingSteps.{IsNewTurn, oldest-turn, sets_to, takes_new}
+use Rattle.ltp_drain.specs.Draining.{since}
+use Rattle.ltp_drain.specs.Hopeful.{IsReached}
+use Rattle.ltp_drain.specs.Left.{AreTimed}
+use Rattle.ltp_picks.specs.Picks.{AreNext, Crossing, IsOver, Pick, Turn, after_pick, after_picks, after_turn, after_turns, as_turns, crosses_at, events_of, is_old, next_turn, old_copy, oldest_of, pick_turn, picked_turns}
+use Rattle.ltp_picks.specs.PickedRuns.{run_events}
+use Rattle.ltp_picks.proofs.CrossingLemmas.{clock-sent, delivered-sent}
+use Rattle.ltp_picks.proofs.CrossingSteps.{IsNewTurn, oldest-turn, sets_to, takes_new}
 use Rattle.ltp_world.specs.declared.effects.Drained.{Drained}
 use Rattle.ltp_world.specs.declared.effects.EndEffects.{EndEffects}
 use Rattle.ltp_world.specs.declared.picks.Pick.{Pick as CodePick}

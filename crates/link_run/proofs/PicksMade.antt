@@ -7,15 +7,15 @@ use Rattle.std.specs.List.{slice_get}
 use Rattle.std.specs.Option.{option_map}
 use Rattle.ltp_session.specs.Engine.{Party}
 use Rattle.ltp_session.specs.World.{Event, Sent, World, clock, deliver, delivered, happens, starts_world, submit}
-use Rattle.link_laws.specs.View.{IsIn}
-use Rattle.drain_laws.specs.Clean.{link_deadline}
-use Rattle.drain_laws.specs.Draining.{since}
-use Rattle.drain_laws.specs.Hopeful.{IsReached}
-use Rattle.drain_laws.specs.Left.{AreTimed, burden, link_left, sent_burden}
-use Rattle.drain_laws.proofs.LeftLemmas.{delivery-falls, sent_burden-append}
-use Rattle.drain_laws.proofs.WearLemmas.{reached-ahead, reached-tame}
-use Rattle.pick_laws.specs.Picks.{Crossing, Placed, Turn, after_turn, after_turns, next_turn, placed_from}
-use Rattle.pick_laws.proofs.CrossingLemmas.{ArePlaced, clock-sent, delivered-sent, placed-after, sent_of, sent_of-append, sent_of-placed}
+use Rattle.ltp_laws.specs.View.{IsIn}
+use Rattle.ltp_drain.specs.Clean.{link_deadline}
+use Rattle.ltp_drain.specs.Draining.{since}
+use Rattle.ltp_drain.specs.Hopeful.{IsReached}
+use Rattle.ltp_drain.specs.Left.{AreTimed, burden, link_left, sent_burden}
+use Rattle.ltp_drain.proofs.LeftLemmas.{delivery-falls, sent_burden-append}
+use Rattle.ltp_drain.proofs.WearLemmas.{reached-ahead, reached-tame}
+use Rattle.ltp_picks.specs.Picks.{Crossing, Placed, Turn, after_turn, after_turns, next_turn, placed_from}
+use Rattle.ltp_picks.proofs.CrossingLemmas.{ArePlaced, clock-sent, delivered-sent, placed-after, sent_of, sent_of-append, sent_of-placed}
 use Rattle.ltp_world.proofs.DrainLemmas.{run-append}
 use Rattle.window_world.specs.Made.{IsBefore, IsOverBy}
 use Rattle.window_world.proofs.WindowLemmas.{now-of-delivered, now-of-tick}

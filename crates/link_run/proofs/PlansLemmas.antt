@@ -8,8 +8,8 @@ use Rattle.edge_traits.specs.Settled.{Settled}
 use Rattle.command_frame.specs.Lines.{ends_run, turn_at, after_turn, lines_settle}
 use Rattle.ltp_session.specs.Engine.{Party}
 use Rattle.ltp_session.specs.World.{clock, happens, starts_world}
-use Rattle.drain_laws.specs.Hopeful.{IsReached}
-use Rattle.drain_laws.specs.Left.{AreTimed}
+use Rattle.ltp_drain.specs.Hopeful.{IsReached}
+use Rattle.ltp_drain.specs.Left.{AreTimed}
 use Rattle.contact_plan.specs.declared.fault.PlanFault.{PlanFault}
 use Rattle.contact_plan.specs.declared.window.Window.{Window}
 use Rattle.contact_plan.specs.Fault.{plan_fault}

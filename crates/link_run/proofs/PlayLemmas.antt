@@ -9,12 +9,12 @@ use Rattle.command_frame.specs.Lines.{passes, ends_run, turn_at, after_turn}
 use Rattle.ltp_session.specs.Engine.{EngineStep, Party, SubmitFault}
 use Rattle.ltp_session.specs.World.{Sent as LinkSent}
 use Rattle.ltp_session.specs.World.{Event, World, clock, deliver, happens, run, starts_world, submit}
-use Rattle.drain_laws.specs.Clean.{link_deadline}
-use Rattle.drain_laws.specs.Effects.{effects_at}
-use Rattle.drain_laws.specs.Hopeful.{IsReached}
-use Rattle.drain_laws.specs.Left.{AreTimed}
-use Rattle.pick_laws.specs.Picks.{Turn as PickTurn, after_picks, crosses_at, next_turn}
-use Rattle.pick_laws.specs.PickedRuns.{run_events}
+use Rattle.ltp_drain.specs.Clean.{link_deadline}
+use Rattle.ltp_drain.specs.Effects.{effects_at}
+use Rattle.ltp_drain.specs.Hopeful.{IsReached}
+use Rattle.ltp_drain.specs.Left.{AreTimed}
+use Rattle.ltp_picks.specs.Picks.{Turn as PickTurn, after_picks, crosses_at, next_turn}
+use Rattle.ltp_picks.specs.PickedRuns.{run_events}
 use Rattle.ltp_engine.specs.Refused.{refusal_of, submit_word}
 use Rattle.ltp_world.specs.Drain.{told_of}
 use Rattle.ltp_world.specs.Ends.{link_end}

@@ -6,11 +6,11 @@ use Rattle.std.specs.List.{AllByRecursion}
 use Rattle.std.specs.Option.{option_map}
 use Rattle.ltp_session.specs.Engine.{Party, Reply}
 use Rattle.ltp_session.specs.World.{Event, World, clock, deliver, happens, run, starts_world, submit, submit_reply}
-use Rattle.link_laws.specs.Log.{Submission, submission_of, submissions, submissions_at}
-use Rattle.link_laws.proofs.ListLemmas.{all-append}
-use Rattle.drain_laws.specs.Clean.{AreClean, clean_event, link_deadline, passed_after}
-use Rattle.pick_laws.specs.Picks.{AreNext, Crossing, Pick, Turn as PickTurn, after_pick, after_picks, after_turn as after_picked, as_turns, crosses_at, events_of, is_old, old_copy, oldest_of, pick_turn, picked_turns}
-use Rattle.pick_laws.proofs.CrossingSteps.{IsNewTurn, next-turn, oldest-turn, sets_to, takes_new}
+use Rattle.ltp_laws.specs.Log.{Submission, submission_of, submissions, submissions_at}
+use Rattle.ltp_laws.proofs.ListLemmas.{all-append}
+use Rattle.ltp_drain.specs.Clean.{AreClean, clean_event, link_deadline, passed_after}
+use Rattle.ltp_picks.specs.Picks.{AreNext, Crossing, Pick, Turn as PickTurn, after_pick, after_picks, after_turn as after_picked, as_turns, crosses_at, events_of, is_old, old_copy, oldest_of, pick_turn, picked_turns}
+use Rattle.ltp_picks.proofs.CrossingSteps.{IsNewTurn, next-turn, oldest-turn, sets_to, takes_new}
 use Rattle.ltp_world.specs.Ends.{link_end}
 use Rattle.contact_plan.specs.Windows.{elapsed, is_open}
 use Rattle.replay_script.specs.declared.link.LinkEvent.{LinkEvent}

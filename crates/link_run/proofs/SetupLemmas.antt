@@ -4,7 +4,7 @@ use Rattle.std.proofs.Common.{◌≡◌, ℕ, Bool, false, List, [], ◌∷◌, 
 use Rattle.ltp_segment.specs.Policy.{PolicyValue}
 use Rattle.ltp_session.specs.Engine.{Party}
 use Rattle.ltp_session.specs.World.{Event, clock, happens, starts_world}
-use Rattle.drain_laws.specs.Left.{AreTimed}
+use Rattle.ltp_drain.specs.Left.{AreTimed}
 use Rattle.ltp_engine.specs.Steps.{new_engine}
 use Rattle.ltp_engine.specs.Values.{EngineValue}
 use Rattle.ltp_world.specs.Shows.{ShowsRun}

@@ -15,7 +15,7 @@ use Rattle.ltp_session.specs.Views.{headed_all}
 use Rattle.ltp_session.specs.World.{Sent as LinkSent}
 use Rattle.ltp_session.specs.World.{End as LinkEnd}
 use Rattle.ltp_session.specs.World.{Event, World, at_end, clock, deliver, delivered, first_end, happens, other, replies, run, second_end, sent_by, submit, submit_reply, submitted, ticks, unless_refused}
-use Rattle.drain_laws.specs.Effects.{effects_at, submit_effects}
+use Rattle.ltp_drain.specs.Effects.{effects_at, submit_effects}
 use Rattle.ltp_world.specs.declared.effects.EndEffects.{EndEffects}
 use Rattle.ltp_world.specs.Drain.{told_of}
 use Rattle.ltp_world.specs.Shows.{link_after}
@@ -76,7 +76,7 @@ deliver-count parties w k = by_got (slice_get w.sent k)
     by_reply d (Some reply) = replies-count w (other d.from) (record { originator = d.segment.originator; number = d.segment.session }) reply ∙ omega arith
 
     by_got : (got : Option LinkSent)
-        → length (delivered parties w got).sent ≡ length w.sent + count_sent (map told_of (Rattle.drain_laws.specs.Effects.deliver_effects parties w got))
+        → length (delivered parties w got).sent ≡ length w.sent + count_sent (map told_of (Rattle.ltp_drain.specs.Effects.deliver_effects parties w got))
     by_got None = omega arith
     by_got (Some d) = by_reply d (arrives (at_end parties (other d.from)) (at_end w.engines (other d.from)) d.segment w.now)
 

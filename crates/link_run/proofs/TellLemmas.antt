@@ -16,10 +16,10 @@ use Rattle.ltp_segment.specs.Notes.{note_name}
 use Rattle.ltp_session.specs.Engine.{Party, Reply, SubmitFault, UpValue, arrives, datagram_step, list_of, replied_or_stranger, submit_fault, submit_step, submits, submits_unless, tick_step}
 use Rattle.ltp_session.specs.World.{End as LinkEnd}
 use Rattle.ltp_session.specs.World.{Event, Sent as LinkSent, World, at_end, clock, deliver, first_end, happens, other, run, second_end, submit}
-use Rattle.link_laws.specs.HandUps.{up_of as reply_up}
-use Rattle.link_laws.specs.Log.{hand_up_of, hand_ups, hand_ups_at, hand_ups_by}
-use Rattle.drain_laws.specs.Effects.{deliver_effects, effects_at, effects_in, submit_effects}
-use Rattle.drain_laws.specs.Effects.{EndEffects as LinkEffects}
+use Rattle.ltp_laws.specs.HandUps.{up_of as reply_up}
+use Rattle.ltp_laws.specs.Log.{hand_up_of, hand_ups, hand_ups_at, hand_ups_by}
+use Rattle.ltp_drain.specs.Effects.{deliver_effects, effects_at, effects_in, submit_effects}
+use Rattle.ltp_drain.specs.Effects.{EndEffects as LinkEffects}
 use Rattle.ltp_engine.specs.Effects.{up_of}
 use Rattle.ltp_world.specs.declared.effects.EndEffects.{EndEffects}
 use Rattle.ltp_world.specs.declared.ends.End.{End}

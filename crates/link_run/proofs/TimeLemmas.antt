@@ -4,14 +4,14 @@ use Rattle.std.proofs.Common.{◌≡◌, ℕ, ◌≤◌, Bool, true, false, nat_
 use Rattle.std.specs.Option.{option_map}
 use Rattle.ltp_session.specs.Engine.{Party}
 use Rattle.ltp_session.specs.World.{ArePeers, Event, World, clock, deliver, run}
-use Rattle.link_laws.specs.Laws.{RedPartsAreFronts}
-use Rattle.drain_laws.specs.Clean.{AreCleanFrom, IsDrained, clean_event, link_deadline, passed}
-use Rattle.drain_laws.specs.Completion.{CleanEventsAreFew, CleanRunsComplete, IsComplete, IsReady}
-use Rattle.drain_laws.specs.Effects.{effects_in}
-use Rattle.drain_laws.specs.Hopeful.{AreAlike, Hopeful, IsReached, Room}
-use Rattle.pick_laws.specs.CopyCosts.{CopiesCostTheirSessions}
-use Rattle.pick_laws.specs.PickedRuns.{CopiedRunsComplete, CopiesCostThree, CrossingEventsAreFew, CrossingRunsComplete, IsCopiedRun, NoneTurnedAway}
-use Rattle.pick_laws.specs.Picks.{Pick, copies, crosses_at}
+use Rattle.ltp_laws.specs.Laws.{RedPartsAreFronts}
+use Rattle.ltp_drain.specs.Clean.{AreCleanFrom, IsDrained, clean_event, link_deadline, passed}
+use Rattle.ltp_drain.specs.Completion.{CleanEventsAreFew, CleanRunsComplete, IsComplete, IsReady}
+use Rattle.ltp_drain.specs.Effects.{effects_in}
+use Rattle.ltp_drain.specs.Hopeful.{AreAlike, Hopeful, IsReached, Room}
+use Rattle.ltp_picks.specs.CopyCosts.{CopiesCostTheirSessions}
+use Rattle.ltp_picks.specs.PickedRuns.{CopiedRunsComplete, CopiesCostThree, CrossingEventsAreFew, CrossingRunsComplete, IsCopiedRun, NoneTurnedAway}
+use Rattle.ltp_picks.specs.Picks.{Pick, copies, crosses_at}
 use Rattle.contact_plan.specs.Windows.{total}
 use Rattle.replay_script.specs.declared.link.LinkEvent.{LinkEvent}
 use Rattle.replay_script.specs.declared.link.LinkEvent.TheVariants as events

@@ -10,9 +10,9 @@ use Rattle.command_frame.specs.Lines.{Turn, TurnsAs, ends_run}
 use Rattle.ltp_session.specs.Engine.{EngineStep, Party, SubmitFault}
 use Rattle.ltp_session.specs.World.{Sent as LinkSent}
 use Rattle.ltp_session.specs.World.{World, clock, deliver, run, submit}
-use Rattle.drain_laws.specs.Clean.{link_deadline}
-use Rattle.drain_laws.specs.Effects.{effects_at}
-use Rattle.drain_laws.specs.Left.{AreTimed}
+use Rattle.ltp_drain.specs.Clean.{link_deadline}
+use Rattle.ltp_drain.specs.Effects.{effects_at}
+use Rattle.ltp_drain.specs.Left.{AreTimed}
 use Rattle.ltp_engine.specs.declared.effects.Effects.{Effects}
 use Rattle.ltp_engine.specs.declared.refused.SubmitRefused.{SubmitRefused}
 use Rattle.ltp_engine.specs.declared.refused.SubmitRefused.TheVariants as causes

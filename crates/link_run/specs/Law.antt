@@ -21,16 +21,16 @@ use Rattle.ltp_segment.specs.Notes.{note_name}
 use Rattle.ltp_session.specs.Engine.{Party}
 use Rattle.ltp_session.specs.World.{End as LinkEnd}
 use Rattle.ltp_session.specs.World.{Event, World, clock, deliver, run, starts_world, submit}
-use Rattle.link_laws.specs.Log.{HandUp, HandsUpFronts, Submission, hand_ups, submissions}
-use Rattle.link_laws.specs.View.{IsIn}
-use Rattle.drain_laws.specs.Clean.{link_deadline}
-use Rattle.drain_laws.specs.Completion.{IsComplete}
-use Rattle.drain_laws.specs.Effects.{effects_in}
-use Rattle.drain_laws.specs.Effects.{EndEffects as LinkEffects}
-use Rattle.drain_laws.specs.Hopeful.{Hopeful, Room, cost}
-use Rattle.pick_laws.specs.CopyCosts.{copies_cost}
-use Rattle.pick_laws.specs.PickedRuns.{NoneTurnedAway, PickedRun, PicksNew, run_events}
-use Rattle.pick_laws.specs.Picks.{Pick, copies, crosses_at}
+use Rattle.ltp_laws.specs.Log.{HandUp, HandsUpFronts, Submission, hand_ups, submissions}
+use Rattle.ltp_laws.specs.View.{IsIn}
+use Rattle.ltp_drain.specs.Clean.{link_deadline}
+use Rattle.ltp_drain.specs.Completion.{IsComplete}
+use Rattle.ltp_drain.specs.Effects.{effects_in}
+use Rattle.ltp_drain.specs.Effects.{EndEffects as LinkEffects}
+use Rattle.ltp_drain.specs.Hopeful.{Hopeful, Room, cost}
+use Rattle.ltp_picks.specs.CopyCosts.{copies_cost}
+use Rattle.ltp_picks.specs.PickedRuns.{NoneTurnedAway, PickedRun, PicksNew, run_events}
+use Rattle.ltp_picks.specs.Picks.{Pick, copies, crosses_at}
 use Rattle.ltp_world.specs.Ends.{link_end, named}
 use Rattle.contact_plan.specs.declared.window.Window.{Window}
 use Rattle.contact_plan.specs.Windows.{elapsed, is_open, total}

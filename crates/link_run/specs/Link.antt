@@ -14,10 +14,10 @@ use Rattle.ltp_segment.specs.Policy.{PolicyValue}
 use Rattle.ltp_session.specs.Engine.{EngineStep, Party, SubmitFault}
 use Rattle.ltp_session.specs.World.{Event, World, clock, deliver, happens, run, starts_world, submit}
 use Rattle.ltp_session.specs.World.{Sent as LinkSent}
-use Rattle.drain_laws.specs.Clean.{link_deadline}
-use Rattle.drain_laws.specs.Effects.{effects_at}
-use Rattle.pick_laws.specs.Picks.{Crossing, Pick, Turn as PickTurn, after_picks, after_turns}
-use Rattle.pick_laws.specs.Picks.{crosses_at, events_of, next_turn, picked_turns}
+use Rattle.ltp_drain.specs.Clean.{link_deadline}
+use Rattle.ltp_drain.specs.Effects.{effects_at}
+use Rattle.ltp_picks.specs.Picks.{Crossing, Pick, Turn as PickTurn, after_picks, after_turns}
+use Rattle.ltp_picks.specs.Picks.{crosses_at, events_of, next_turn, picked_turns}
 use Rattle.ltp_engine.specs.Refused.{refusal_of, submit_word}
 use Rattle.ltp_segment.specs.declared.session.TheConstants.{BLOCK_MAX}
 use Rattle.ltp_world.specs.declared.effects.EndEffects.{EndEffects}

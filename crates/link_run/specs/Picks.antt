@@ -7,10 +7,10 @@ use Rattle.std.specs.Prelude.{◌≡◌, ℕ, zero, suc, ◌+◌, ◌-◌, nat_l
 use Rattle.std.specs.Prelude.{◌∷◌, map, Option, None, Some, if◌then◌else◌}
 use Rattle.ltp_session.specs.Engine.{Party}
 use Rattle.ltp_session.specs.World.{Event, World, clock, deliver, first_end, second_end, submit}
-use Rattle.drain_laws.specs.Hopeful.{IsReached}
-use Rattle.drain_laws.specs.Left.{AreTimed, senders_left, sent_burden}
-use Rattle.pick_laws.specs.Picks.{AreNext, Crossing, Pick, Turn, after_picks, after_turn}
-use Rattle.pick_laws.specs.Picks.{after_turns, crosses_at, events_of, next_turn, old_copy, oldest_of}
+use Rattle.ltp_drain.specs.Hopeful.{IsReached}
+use Rattle.ltp_drain.specs.Left.{AreTimed, senders_left, sent_burden}
+use Rattle.ltp_picks.specs.Picks.{AreNext, Crossing, Pick, Turn, after_picks, after_turn}
+use Rattle.ltp_picks.specs.Picks.{after_turns, crosses_at, events_of, next_turn, old_copy, oldest_of}
 use Rattle.replay_script.specs.declared.picks.PickWord.{PickWord}
 use Rattle.replay_script.specs.declared.picks.PickWord.TheVariants as words
 use Rattle.window_world.specs.Made.{IsBefore, IsOverBy}

@@ -3,7 +3,7 @@
 use Rattle.std.specs.Prelude.{◌≡◌, ℕ, ◌-◌, ◌^◌, ◌≤◌, Bool, true, false, List, ◌++◌, Option, None, Some, Result, Ok, Err, min}
 use Rattle.edge_traits.specs.declared.status.Status.{Status}
 use Rattle.command_frame.specs.Lines.{Turn, TurnsAs}
-use Rattle.drain_laws.specs.Left.{AreTimed}
+use Rattle.ltp_drain.specs.Left.{AreTimed}
 use Rattle.ltp_segment.specs.PolicyViews.{policy_value}
 use Rattle.ltp_session.specs.World.{Event}
 use Rattle.ltp_world.specs.Shows.{ShowsRun, link_after}

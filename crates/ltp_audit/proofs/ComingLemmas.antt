@@ -13,7 +13,7 @@ use Rattle.ltp_session.specs.Table.{find}
 use Rattle.ltp_session.specs.Sender.{Sending}
 use Rattle.ltp_session.specs.Receiver.{Receiving}
 use Rattle.ltp_session.specs.Engine.{Party, Engine, starts}
-use Rattle.link_laws.specs.Kept.{IfKept}
+use Rattle.ltp_laws.specs.Kept.{IfKept}
 use Rattle.ltp_audit.specs.declared.entry.Entry.{Entry}
 use Rattle.ltp_audit.specs.Sides.{is_of_sender, is_on_its_side}
 use Rattle.ltp_audit.specs.Recorded.{segment_in, if_on_its_side, said_in}

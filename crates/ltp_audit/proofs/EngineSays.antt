@@ -18,8 +18,8 @@ use Rattle.ltp_session.specs.Sender.{Sending, begin, sender_answers}
 use Rattle.ltp_session.specs.Receiver.{Receiving, Place, receiver_answers}
 use Rattle.ltp_segment.specs.declared.session.Note.TheVariants as notes
 use Rattle.ltp_session.specs.Engine.{Party, Engine, Reply, EngineStep, sender_replies, receiver_replies, replied_or_stranger, noted, place_of, is_used, to_sender, to_receiver, arrives, datagram_step, begun, replied, submits, submit_step, submits_unless, block_empty, block_too_large, numbers_spent, senders_busy, SubmitFault, tick_step, tick_out, tick_segments, sender_ticks, receiver_ticks, sender_changes, receiver_changes}
-use Rattle.link_laws.specs.Kept.{IfKept, IfKeeps}
-use Rattle.link_laws.proofs.TableLemmas.{self_eqb, find-settled_other, ascending-settled, ascending-ticked, find-ticked, after_tick}
+use Rattle.ltp_laws.specs.Kept.{IfKept, IfKeeps}
+use Rattle.ltp_laws.proofs.TableLemmas.{self_eqb, find-settled_other, ascending-settled, ascending-ticked, find-ticked, after_tick}
 use Rattle.ltp_audit.specs.declared.entry.Entry.{Entry}
 use Rattle.ltp_audit.specs.Sides.{is_of_sender, is_on_its_side}
 use Rattle.ltp_audit.specs.Recorded.{said_in}

@@ -13,9 +13,9 @@ use Rattle.ltp_session.specs.Table.{find, settled, ticked, AreAscending}
 use Rattle.ltp_session.specs.Step.{Change, after, StepValue}
 use Rattle.ltp_session.specs.Engine.{Party, tick_segments}
 use Rattle.ltp_session.specs.Views.{headed_all}
-use Rattle.link_laws.specs.Kept.{IfKept}
-use Rattle.link_laws.proofs.TableLemmas.{self_eqb, find-settled, find-settled_other}
-use Rattle.link_laws.proofs.TableLemmas.{find_below, find-ticked, after_tick}
+use Rattle.ltp_laws.specs.Kept.{IfKept}
+use Rattle.ltp_laws.proofs.TableLemmas.{self_eqb, find-settled, find-settled_other}
+use Rattle.ltp_laws.proofs.TableLemmas.{find_below, find-ticked, after_tick}
 use Rattle.ltp_audit.specs.declared.entry.Entry.{Entry}
 use Rattle.ltp_audit.specs.Recorded.{said_in}
 use Rattle.ltp_audit.specs.Recording.{went}

@@ -21,14 +21,14 @@ use Rattle.ltp_session.specs.Receiver.{takes_checkpoint, takes_red, takes_green,
 use Rattle.ltp_session.specs.Receiver.{is_cancelling, piece_for, on_piece, acknowledged_in, acknowledged, receiver_answers, receiver_tick}
 use Rattle.ltp_session.specs.Step.{StepValue}
 use Rattle.ltp_session.specs.Timer.{is_past_serials}
-use Rattle.link_laws.specs.Claims.{IsFilled}
-use Rattle.link_laws.specs.Blocks.{IfKnown}
-use Rattle.link_laws.specs.Kept.{IfKept, IfKeeps}
-use Rattle.link_laws.proofs.CellLemmas.{cell-filled}
-use Rattle.link_laws.proofs.ClaimLemmas.{report_of-is}
-use Rattle.link_laws.proofs.ListLemmas.{both_arms, by_arms, answered}
-use Rattle.link_laws.proofs.TableLemmas.{self_eqb}
-use Rattle.link_laws.proofs.WalkLemmas.{walk-tick}
+use Rattle.ltp_laws.specs.Claims.{IsFilled}
+use Rattle.ltp_laws.specs.Blocks.{IfKnown}
+use Rattle.ltp_laws.specs.Kept.{IfKept, IfKeeps}
+use Rattle.ltp_laws.proofs.CellLemmas.{cell-filled}
+use Rattle.ltp_laws.proofs.ClaimLemmas.{report_of-is}
+use Rattle.ltp_laws.proofs.ListLemmas.{both_arms, by_arms, answered}
+use Rattle.ltp_laws.proofs.TableLemmas.{self_eqb}
+use Rattle.ltp_laws.proofs.WalkLemmas.{walk-tick}
 use Rattle.ltp_receiver.proofs.ReportLemmas.{upper-legal, end-within}
 use Rattle.ltp_audit.specs.Recorded.{red_pieces, red_piece, with_red, are_held, are_claims_held, is_checkpoint_of, is_sender_cancel}
 use Rattle.ltp_audit.specs.Knows.{IsSeen, ReceiverMay, Waits, ReceiverKnown}

@@ -14,10 +14,10 @@ use Rattle.ltp_session.specs.Step.{Change, stays, keeps, ends, after, StepValue}
 use Rattle.ltp_session.specs.Sender.{Sending, sender_answers}
 use Rattle.ltp_session.specs.Receiver.{Receiving, Place, receiver_answers}
 use Rattle.ltp_session.specs.Engine.{Party, Engine, with_sender, with_receiver, evicted_by, without_evicted}
-use Rattle.link_laws.specs.Kept.{IfKept, IfKeeps}
-use Rattle.link_laws.proofs.ListLemmas.{answered}
-use Rattle.link_laws.proofs.FrameLemmas.{opening, find-with_receiver, roomy-received}
-use Rattle.link_laws.proofs.TableLemmas.{self_eqb, find-settled_other, find-put_other, find-without_other, ascending-settled}
+use Rattle.ltp_laws.specs.Kept.{IfKept, IfKeeps}
+use Rattle.ltp_laws.proofs.ListLemmas.{answered}
+use Rattle.ltp_laws.proofs.FrameLemmas.{opening, find-with_receiver, roomy-received}
+use Rattle.ltp_laws.proofs.TableLemmas.{self_eqb, find-settled_other, find-put_other, find-without_other, ascending-settled}
 use Rattle.ltp_audit.specs.declared.entry.Entry.{Entry}
 use Rattle.ltp_audit.specs.Recorded.{said_in}
 use Rattle.ltp_audit.specs.Keeping.{followed_by}

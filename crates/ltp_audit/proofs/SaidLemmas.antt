@@ -17,9 +17,9 @@ use Rattle.ltp_session.specs.declared.name.SessionName.{SessionName}
 use Rattle.ltp_session.specs.Cells.{octet_in}
 use Rattle.ltp_session.specs.RedPart.{RedPiece}
 use Rattle.ltp_session.specs.Views.{headed, headed_all}
-use Rattle.link_laws.specs.Blocks.{IsOf}
-use Rattle.link_laws.proofs.ListLemmas.{both_arms}
-use Rattle.link_laws.proofs.TableLemmas.{self_eqb}
+use Rattle.ltp_laws.specs.Blocks.{IsOf}
+use Rattle.ltp_laws.proofs.ListLemmas.{both_arms}
+use Rattle.ltp_laws.proofs.TableLemmas.{self_eqb}
 use Rattle.ltp_audit.specs.declared.entry.Entry.{Entry}
 use Rattle.ltp_audit.specs.Sides.{is_of_sender, is_on_its_side}
 use Rattle.ltp_audit.specs.Recorded.{segment_in, if_on_its_side, said_in, red_pieces, red_piece, agrees, has_no_other, are_alike}

@@ -21,12 +21,12 @@ use Rattle.ltp_session.specs.Sender.{sender_due, sender_tick, sending_timer, end
 use Rattle.ltp_session.specs.Sender.{sender_answers, is_all_claimed}
 use Rattle.ltp_session.specs.Step.{StepValue}
 use Rattle.ltp_session.specs.Timer.{first_serial, is_past_serials}
-use Rattle.link_laws.specs.Blocks.{IsOf}
-use Rattle.link_laws.specs.Kept.{IfKept, IfKeeps}
-use Rattle.link_laws.proofs.CheckpointLemmas.{checkpoint_at-asks}
-use Rattle.link_laws.proofs.ListLemmas.{both_arms, by_arms, all-append, answered}
-use Rattle.link_laws.proofs.SenderLemmas.{last-part, unclaimed-parts}
-use Rattle.link_laws.proofs.TableLemmas.{self_eqb}
+use Rattle.ltp_laws.specs.Blocks.{IsOf}
+use Rattle.ltp_laws.specs.Kept.{IfKept, IfKeeps}
+use Rattle.ltp_laws.proofs.CheckpointLemmas.{checkpoint_at-asks}
+use Rattle.ltp_laws.proofs.ListLemmas.{both_arms, by_arms, all-append, answered}
+use Rattle.ltp_laws.proofs.SenderLemmas.{last-part, unclaimed-parts}
+use Rattle.ltp_laws.proofs.TableLemmas.{self_eqb}
 use Rattle.ltp_audit.specs.Recorded.{is_report_of}
 use Rattle.ltp_audit.specs.Knows.{IsCut, SenderMay, Awaits}
 

@@ -15,8 +15,8 @@ use Rattle.ltp_session.specs.Receiver.{Receiving, ReceivingPhase, receiver_open}
 use Rattle.ltp_session.specs.Receiver.{receiver_cancelling}
 use Rattle.ltp_session.specs.Table.{find, AreAscending}
 use Rattle.ltp_session.specs.Engine.{Party, Engine}
-use Rattle.link_laws.specs.Blocks.{IsOf}
-use Rattle.link_laws.specs.Kept.{IfKept}
+use Rattle.ltp_laws.specs.Blocks.{IsOf}
+use Rattle.ltp_laws.specs.Kept.{IfKept}
 use Rattle.ltp_audit.specs.declared.entry.Entry.{Entry}
 use Rattle.ltp_engine.specs.Values.{EngineValue}
 use Rattle.ltp_engine.specs.Shows.{Shows}

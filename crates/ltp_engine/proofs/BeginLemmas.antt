@@ -18,7 +18,7 @@ use Rattle.ltp_session.specs.Table.{settled, AreAscending}
 use Rattle.ltp_session.specs.Engine.{Party, Engine, EngineStep, SubmitFault, submit_fault, submits, submit_step, notes_of, block_empty, block_too_large, numbers_spent, senders_busy}
 use Rattle.ltp_session.specs.Views.{SessionValue, datagrams_of, note_of}
 use Rattle.ltp_sender.specs.Sender.{begun_with}
-use Rattle.link_laws.proofs.TableLemmas.{ascending-settled}
+use Rattle.ltp_laws.proofs.TableLemmas.{ascending-settled}
 use Rattle.ltp_engine.specs.declared.effects.Effects.{Effects}
 use Rattle.ltp_engine.specs.declared.inbound.Inbound.{Inbound}
 use Rattle.ltp_engine.specs.Refused.{refusal_of}

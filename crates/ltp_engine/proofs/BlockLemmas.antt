@@ -14,10 +14,10 @@ use Rattle.ltp_session.specs.Step.{Change, stays, keeps, ends, StepValue}
 use Rattle.ltp_session.specs.Table.{find, put, without, settled, ticked, then_kept}
 use Rattle.ltp_session.specs.Timer.{first_serial, is_past_serials}
 use Rattle.ltp_session.proofs.CellLemmas.{length-filled}
-use Rattle.link_laws.specs.Kept.{IfKept, IfKeeps}
-use Rattle.link_laws.specs.Steps.{ReceiverStep, idle, over, turns, again, fills, reports_on}
-use Rattle.link_laws.proofs.ListLemmas.{both_arms, by_arms, answered}
-use Rattle.link_laws.proofs.StepLemmas.{met, hears-form, tick-form}
+use Rattle.ltp_laws.specs.Kept.{IfKept, IfKeeps}
+use Rattle.ltp_laws.specs.Steps.{ReceiverStep, idle, over, turns, again, fills, reports_on}
+use Rattle.ltp_laws.proofs.ListLemmas.{both_arms, by_arms, answered}
+use Rattle.ltp_laws.proofs.StepLemmas.{met, hears-form, tick-form}
 use Rattle.ltp_engine.specs.Bounds.{SendsAtMost, ReceivesAtMost}
 
 -- ---- what holds of all entries of a table

@@ -9,7 +9,7 @@ use Rattle.ltp_session.specs.Sender.{Sending}
 use Rattle.ltp_session.specs.Table.{find, ticked, AreAscending}
 use Rattle.ltp_session.specs.Engine.{Party, tick_step, tick_segments, tick_remarks}
 use Rattle.ltp_session.specs.Views.{SessionValue}
-use Rattle.link_laws.proofs.TableLemmas.{ascending-ticked}
+use Rattle.ltp_laws.proofs.TableLemmas.{ascending-ticked}
 use Rattle.ltp_engine.specs.declared.closed.TheConstants.{LAST}
 use Rattle.ltp_engine.specs.declared.effects.Effects.{Effects}
 use Rattle.ltp_engine.specs.declared.inbound.Inbound.{Inbound}

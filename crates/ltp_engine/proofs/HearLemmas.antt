@@ -23,9 +23,9 @@ use Rattle.std.proofs.Common.{Result, Ok, Err}
 use Rattle.ltp_segment.specs.declared.fault.SegmentCause.{SegmentCause}
 use Rattle.std.proofs.lemmas.Bool.{ne_eqb, eq-eqb}
 use Rattle.std.proofs.lemmas.Bool.Decides.{nat_tests}
-use Rattle.link_laws.specs.Kept.{IfKept, IfKeeps}
-use Rattle.link_laws.proofs.TableLemmas.{self_eqb, ascending-settled}
-use Rattle.link_laws.proofs.FrameLemmas.{senders-with_receiver, next-with_receiver}
+use Rattle.ltp_laws.specs.Kept.{IfKept, IfKeeps}
+use Rattle.ltp_laws.proofs.TableLemmas.{self_eqb, ascending-settled}
+use Rattle.ltp_laws.proofs.FrameLemmas.{senders-with_receiver, next-with_receiver}
 use Rattle.ltp_engine.specs.declared.closed.TheConstants.{LAST}
 use Rattle.ltp_engine.specs.declared.effects.Effects.{Effects}
 use Rattle.ltp_engine.specs.declared.effects.Up.{Up}

@@ -19,7 +19,7 @@ use Rattle.ltp_session.specs.Cells.{is_no_part}
 use Rattle.ltp_segment.specs.declared.session.Note.TheVariants as notes
 use Rattle.ltp_engine.specs.Values.{InboundValue}
 use Rattle.ltp_session.specs.Table.{find, without}
-use Rattle.link_laws.proofs.TableLemmas.{find-without, find-without_other}
+use Rattle.ltp_laws.proofs.TableLemmas.{find-without, find-without_other}
 use Rattle.ltp_session.specs.Views.{SessionValue, changed, answer_of, note_of}
 use Rattle.ltp_session.specs.Engine.{longest_untouched}
 use Rattle.ltp_session.specs.Timer.{is_past_serials}

@@ -9,7 +9,7 @@ use Rattle.ltp_session.specs.Step.{Change, stays, keeps, ends, after}
 use Rattle.ltp_session.specs.Receiver.{Receiving, Place}
 use Rattle.ltp_session.specs.Table.{find, put, without, AreAscending, ticked, ended, then_kept, then_ended}
 use Rattle.ltp_session.specs.Engine.{is_closed, untouched_all, longest_untouched}
-use Rattle.link_laws.proofs.TableLemmas.{self_eqb, find_below, find-put_other, find-without, find-without_other, find-ticked, after_tick, ascending-put, ascending-without, ascending-ticked}
+use Rattle.ltp_laws.proofs.TableLemmas.{self_eqb, find_below, find-put_other, find-without, find-without_other, find-ticked, after_tick, ascending-put, ascending-without, ascending-ticked}
 use Rattle.ltp_engine.specs.declared.closed.TheConstants.{LAST}
 use Rattle.ltp_engine.specs.Closed.{ClosedValue, is_among, also_closed, all_closed}
 use Rattle.ltp_engine.specs.Values.{InboundValue}

@@ -22,7 +22,7 @@ use Rattle.ltp_session.specs.Step.{Change, stays, keeps, ends}
 use Rattle.ltp_session.specs.Receiver.{Receiving}
 use Rattle.ltp_session.specs.Table.{find, put, without, AreAscending}
 use Rattle.ltp_session.specs.Engine.{untouched, untouched_all, earlier, least_deadline}
-use Rattle.link_laws.proofs.TableLemmas.{self_eqb, find_below, find-put, find-put_other, find-without, find-without_other, ascending-put, ascending-without}
+use Rattle.ltp_laws.proofs.TableLemmas.{self_eqb, find_below, find-put, find-put_other, find-without, find-without_other, ascending-put, ascending-without}
 use Rattle.ltp_engine.specs.Tables.{by_number, is_ended}
 use Rattle.ltp_engine.specs.Inbound.{with_touched, then_last, numbers_after}
 use Rattle.ltp_engine.proofs.TableLemmas.{at-number, earlier_assoc}

@@ -19,11 +19,11 @@ use Rattle.ltp_session.specs.Engine.{Party, Engine, Reply, SubmitFault, UpValue,
 use Rattle.ltp_session.specs.World.{first_end, second_end}
 use Rattle.ltp_receiver.specs.RedPart.{is_taken, red_piece}
 use Rattle.ltp_receiver.proofs.LawLemmas.{Stands, Told, ByLaw, piece-law, ack-law, tick-law, nothing-stands}
-use Rattle.link_laws.specs.View.{IsIn, View, closed_after}
-use Rattle.link_laws.proofs.FrameLemmas.{receiver-here, receiver-others, roomy-received, Left, alone, closed_for_room}
-use Rattle.link_laws.proofs.RunLemmas.{two_ends}
-use Rattle.link_laws.proofs.ListLemmas.{both_arms, answered}
-use Rattle.link_laws.proofs.TableLemmas.{find-ticked, after_tick, ascending-ticked}
+use Rattle.ltp_laws.specs.View.{IsIn, View, closed_after}
+use Rattle.ltp_laws.proofs.FrameLemmas.{receiver-here, receiver-others, roomy-received, Left, alone, closed_for_room}
+use Rattle.ltp_laws.proofs.RunLemmas.{two_ends}
+use Rattle.ltp_laws.proofs.ListLemmas.{both_arms, answered}
+use Rattle.ltp_laws.proofs.TableLemmas.{find-ticked, after_tick, ascending-ticked}
 use Rattle.ltp_engine.specs.RedParts.{Coming, a_block_comes, a_datagram_comes, a_moment_comes, unless_faulty, engine_with, ups_with, engine_after, ups_of, meets, is_taken_by, counts, with_content, is_of_peer, with_coming, pieces_of, HandsUpRedParts, EachOnce, HandsUpEachOnce}
 use Rattle.ltp_engine.proofs.KeepLemmas.{is_over_by, closed-ended}
 

@@ -11,7 +11,7 @@ use Rattle.ltp_session.specs.Step.{Change, stays, keeps, ends}
 use Rattle.ltp_session.specs.Receiver.{Receiving}
 use Rattle.ltp_session.specs.Table.{find, AreAscending, ended, then_ended}
 use Rattle.ltp_session.specs.Engine.{is_closed, closed_runs}
-use Rattle.link_laws.proofs.TableLemmas.{self_eqb}
+use Rattle.ltp_laws.proofs.TableLemmas.{self_eqb}
 use Rattle.ltp_engine.specs.declared.closed.TheConstants.{LAST}
 use Rattle.ltp_engine.specs.Closed.{ClosedValue, is_among, also_closed, all_closed, runs_with, begins_run}
 use Rattle.ltp_engine.specs.Shows.{AreDistinct, ShowsClosed}

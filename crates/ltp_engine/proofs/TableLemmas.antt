@@ -26,7 +26,7 @@ use Rattle.ltp_engine.specs.declared.effects.Effects.{Effects}
 use Rattle.ltp_engine.specs.Ticks.{with_ticks}
 use Rattle.ltp_engine.specs.Effects.{with_sent}
 use Rattle.ltp_engine.specs.Tables.{is_ended, table_of, live, live_entry, live_all, AreLive, Does, swept}
-use Rattle.link_laws.proofs.TableLemmas.{self_eqb, find_below}
+use Rattle.ltp_laws.proofs.TableLemmas.{self_eqb, find_below}
 
 -- a query for a number finds the entries of that number
 pub at-number : (n k : ℕ) → is_eq (nat_cmp n k) ≡ (k == n)

@@ -17,7 +17,7 @@ use Rattle.ltp_session.specs.Table.{find}
 use Rattle.ltp_session.specs.Engine.{Party, Engine, EngineStep, SubmitFault, UpValue, starts}
 use Rattle.ltp_session.specs.Engine.{place_of, submits, submit_step, datagram_step, tick_step}
 use Rattle.ltp_receiver.specs.RedPart.{is_taken, red_piece}
-use Rattle.link_laws.specs.View.{IsIn}
+use Rattle.ltp_laws.specs.View.{IsIn}
 
 -- ---- what comes to an engine, and what it does
 

@@ -7,11 +7,11 @@ use Rattle.std.proofs.lemmas.List.{append-nil, append_assoc, map-append}
 use Rattle.ltp_session.specs.Engine.{Party, Reply, UpValue, arrives, datagram_step, list_of, replied_or_stranger, tick_step}
 use Rattle.ltp_session.specs.World.{Event, World, at_end, clock, deliver, first_end, happens, other, run, second_end, starts_world, submit}
 use Rattle.ltp_session.specs.World.{Sent as LinkSent}
-use Rattle.link_laws.specs.HandUps.{up_of as reply_up}
-use Rattle.link_laws.specs.Log.{HandsUpFronts, IsFront, hand_up_of, hand_ups, hand_ups_at, hand_ups_by, submissions, submissions_at}
-use Rattle.link_laws.proofs.LogLemmas.{red_parts_are_fronts}
-use Rattle.drain_laws.specs.Clean.{AreClean, clean_event, link_deadline, passed_after}
-use Rattle.drain_laws.specs.Effects.{deliver_effects, effects_at}
+use Rattle.ltp_laws.specs.HandUps.{up_of as reply_up}
+use Rattle.ltp_laws.specs.Log.{HandsUpFronts, IsFront, hand_up_of, hand_ups, hand_ups_at, hand_ups_by, submissions, submissions_at}
+use Rattle.ltp_laws.proofs.LogLemmas.{red_parts_are_fronts}
+use Rattle.ltp_drain.specs.Clean.{AreClean, clean_event, link_deadline, passed_after}
+use Rattle.ltp_drain.specs.Effects.{deliver_effects, effects_at}
 use Rattle.ltp_engine.specs.declared.effects.Up.{Up}
 use Rattle.ltp_engine.specs.Effects.{up_of}
 use Rattle.ltp_world.specs.declared.effects.Drained.{Drained}

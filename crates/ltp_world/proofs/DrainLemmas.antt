@@ -13,18 +13,18 @@ use Rattle.ltp_session.specs.Engine.{Party, Reply, next_deadline, arrives, tick_
 use Rattle.ltp_session.specs.Views.{headed_all}
 use Rattle.ltp_session.specs.World.{End, first_end, second_end, other, at_end, Event, World, sent_by, deliver, clock, replies, delivered, ticks, happens, run, starts_world}
 use Rattle.ltp_session.specs.World.{Sent as LinkSent}
-use Rattle.link_laws.proofs.ListLemmas.{all-append}
-use Rattle.drain_laws.specs.Effects.{effects_at, effects_in, deliver_effects, IsNoted, IsHandedUp}
-use Rattle.drain_laws.specs.Effects.{EndEffects as LinkEffects}
-use Rattle.drain_laws.specs.Hopeful.{cost}
-use Rattle.drain_laws.specs.Left.{link_left, sent_burden}
-use Rattle.drain_laws.proofs.LeftLemmas.{delivery-falls, runs-are-tame, deadline-ahead}
-use Rattle.drain_laws.specs.Completion.{IsReady, IsComplete}
-use Rattle.drain_laws.proofs.CompletionLemmas.{clean-completes, clean-few}
-use Rattle.drain_laws.specs.Clean.{link_deadline, clean_event, passed_after, AreClean, passed}
+use Rattle.ltp_laws.proofs.ListLemmas.{all-append}
+use Rattle.ltp_drain.specs.Effects.{effects_at, effects_in, deliver_effects, IsNoted, IsHandedUp}
+use Rattle.ltp_drain.specs.Effects.{EndEffects as LinkEffects}
+use Rattle.ltp_drain.specs.Hopeful.{cost}
+use Rattle.ltp_drain.specs.Left.{link_left, sent_burden}
+use Rattle.ltp_drain.proofs.LeftLemmas.{delivery-falls, runs-are-tame, deadline-ahead}
+use Rattle.ltp_drain.specs.Completion.{IsReady, IsComplete}
+use Rattle.ltp_drain.proofs.CompletionLemmas.{clean-completes, clean-few}
+use Rattle.ltp_drain.specs.Clean.{link_deadline, clean_event, passed_after, AreClean, passed}
 use Rattle.ltp_segment.specs.declared.session.Note.{Note}
 use Rattle.ltp_segment.specs.declared.session.Note.TheVariants as notes
-use Rattle.link_laws.specs.View.{IsIn}
+use Rattle.ltp_laws.specs.View.{IsIn}
 use Rattle.ltp_engine.specs.Effects.{up_of}
 use Rattle.ltp_engine.specs.Shows.{Shows}
 use Rattle.ltp_engine.specs.Steps.{deadline_of}

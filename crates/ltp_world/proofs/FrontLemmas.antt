@@ -5,8 +5,8 @@ use Rattle.std.specs.List.{AllByRecursion}
 use Rattle.std.proofs.lemmas.List.{append-nil, append_assoc}
 use Rattle.ltp_session.specs.Engine.{Party}
 use Rattle.ltp_session.specs.World.{Event, World, happens, run, starts_world, deliver}
-use Rattle.link_laws.specs.Log.{HandUp, IsFront, IsSame, AtMostOnce, Submission, HandsUpFronts, hand_ups, hand_ups_at, submissions, submissions_at}
-use Rattle.link_laws.proofs.LogLemmas.{red_parts_are_fronts}
+use Rattle.ltp_laws.specs.Log.{HandUp, IsFront, IsSame, AtMostOnce, Submission, HandsUpFronts, hand_ups, hand_ups_at, submissions, submissions_at}
+use Rattle.ltp_laws.proofs.LogLemmas.{red_parts_are_fronts}
 use Rattle.ltp_world.specs.Values.{WorldValue, parties_of}
 use Rattle.ltp_world.specs.Shows.{ShowsRun, link_after}
 use Rattle.ltp_world.specs.RedParts.{IsFrontOnce}

@@ -9,7 +9,7 @@ use Rattle.ltp_session.specs.Engine.{Party, Engine}
 use Rattle.ltp_session.specs.World.{first_end, second_end, other, at_end, with_end, Event, World, sent_by, happens, run, starts_world}
 use Rattle.ltp_session.specs.World.{End as LinkEnd}
 use Rattle.ltp_session.specs.World.{Sent as LinkSent}
-use Rattle.drain_laws.proofs.CleanSteps.{run-more}
+use Rattle.ltp_drain.proofs.CleanSteps.{run-more}
 use Rattle.ltp_engine.specs.Shows.{Shows}
 use Rattle.ltp_world.specs.declared.sent.Sent.{Sent}
 use Rattle.ltp_world.specs.Ends.{named}

@@ -8,9 +8,9 @@ use Rattle.std.proofs.lemmas.Bool.Decides.{nat_tests}
 use Rattle.ltp_session.specs.World.{End, at_end, deliver, first_end, other}
 use Rattle.ltp_session.specs.World.{second_end, with_end}
 use Rattle.ltp_session.specs.World.{Sent as LinkSent}
-use Rattle.link_laws.specs.View.{same_end}
-use Rattle.pick_laws.specs.Picks.{Placed, behind_new}
-use Rattle.pick_laws.specs.Picks.{oldest_turn, placed_from}
+use Rattle.ltp_laws.specs.View.{same_end}
+use Rattle.ltp_picks.specs.Picks.{Placed, behind_new}
+use Rattle.ltp_picks.specs.Picks.{oldest_turn, placed_from}
 use Rattle.ltp_world.specs.declared.ends.End.{End as CodeEnd}
 use Rattle.ltp_world.specs.declared.ends.End.TheVariants as ends
 use Rattle.ltp_world.specs.Ends.{is_end, link_end, named}

@@ -10,14 +10,14 @@ use Rattle.ltp_session.specs.Engine.{Party}
 use Rattle.ltp_session.specs.World.{End, Event, World, at_end, clock, deliver, first_end, happens}
 use Rattle.ltp_session.specs.World.{other, second_end, with_end}
 use Rattle.ltp_session.specs.World.{Sent as LinkSent}
-use Rattle.drain_laws.specs.Clean.{link_deadline}
-use Rattle.drain_laws.specs.Draining.{since}
-use Rattle.drain_laws.specs.Effects.{effects_at}
-use Rattle.pick_laws.specs.Picks.{Crossing, Placed, Turn, after_pick, after_turn}
-use Rattle.pick_laws.specs.Picks.{as_turns, clock_turn}
-use Rattle.pick_laws.specs.Picks.{is_old, oldest_of, oldest_turn, or_clock, pick_turn}
-use Rattle.pick_laws.specs.Picks.{placed_from}
-use Rattle.pick_laws.proofs.CrossingLemmas.{clock-sent, delivered-sent}
+use Rattle.ltp_drain.specs.Clean.{link_deadline}
+use Rattle.ltp_drain.specs.Draining.{since}
+use Rattle.ltp_drain.specs.Effects.{effects_at}
+use Rattle.ltp_picks.specs.Picks.{Crossing, Placed, Turn, after_pick, after_turn}
+use Rattle.ltp_picks.specs.Picks.{as_turns, clock_turn}
+use Rattle.ltp_picks.specs.Picks.{is_old, oldest_of, oldest_turn, or_clock, pick_turn}
+use Rattle.ltp_picks.specs.Picks.{placed_from}
+use Rattle.ltp_picks.proofs.CrossingLemmas.{clock-sent, delivered-sent}
 use Rattle.ltp_world.specs.declared.effects.EndEffects.{EndEffects}
 use Rattle.ltp_world.specs.declared.ends.End.{End as CodeEnd}
 use Rattle.ltp_world.specs.declared.ends.End.TheVariants as ends

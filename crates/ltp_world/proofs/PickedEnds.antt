@@ -10,19 +10,19 @@ use Rattle.ltp_segment.specs.declared.session.Note.{Note}
 use Rattle.ltp_segment.specs.declared.session.Note.TheVariants as notes
 use Rattle.ltp_session.specs.Engine.{Party}
 use Rattle.ltp_session.specs.World.{End, Event, World, clock, deliver, other}
-use Rattle.link_laws.proofs.ListLemmas.{all-append}
-use Rattle.drain_laws.specs.Clean.{link_deadline}
-use Rattle.drain_laws.specs.Completion.{IsComplete, IsReady}
-use Rattle.drain_laws.specs.Effects.{IsNoted, effects_in}
-use Rattle.drain_laws.specs.Hopeful.{Hopeful, Room, cost}
-use Rattle.pick_laws.specs.Picks.{AreNext, Crossing, Turn, after_pick, after_picks, after_turn}
-use Rattle.pick_laws.specs.Picks.{after_turns, as_turns, behind_new, clock_turn, crosses_at}
-use Rattle.pick_laws.specs.Picks.{events_of, is_old, next_turn, old_copy, oldest_of, oldest_turn}
-use Rattle.pick_laws.specs.Picks.{or_clock, pick_turn, picked_turns, Placed}
-use Rattle.pick_laws.specs.Picks.{Pick as LinkPick}
-use Rattle.pick_laws.specs.PickedRuns.{IsCopiedRun, run_events}
-use Rattle.pick_laws.proofs.CopyEnds.{copied-completes, copied-few}
-use Rattle.pick_laws.proofs.CrossingRuns.{crossing-completes, crossing-few}
+use Rattle.ltp_laws.proofs.ListLemmas.{all-append}
+use Rattle.ltp_drain.specs.Clean.{link_deadline}
+use Rattle.ltp_drain.specs.Completion.{IsComplete, IsReady}
+use Rattle.ltp_drain.specs.Effects.{IsNoted, effects_in}
+use Rattle.ltp_drain.specs.Hopeful.{Hopeful, Room, cost}
+use Rattle.ltp_picks.specs.Picks.{AreNext, Crossing, Turn, after_pick, after_picks, after_turn}
+use Rattle.ltp_picks.specs.Picks.{after_turns, as_turns, behind_new, clock_turn, crosses_at}
+use Rattle.ltp_picks.specs.Picks.{events_of, is_old, next_turn, old_copy, oldest_of, oldest_turn}
+use Rattle.ltp_picks.specs.Picks.{or_clock, pick_turn, picked_turns, Placed}
+use Rattle.ltp_picks.specs.Picks.{Pick as LinkPick}
+use Rattle.ltp_picks.specs.PickedRuns.{IsCopiedRun, run_events}
+use Rattle.ltp_picks.proofs.CopyEnds.{copied-completes, copied-few}
+use Rattle.ltp_picks.proofs.CrossingRuns.{crossing-completes, crossing-few}
 use Rattle.ltp_world.specs.declared.effects.Drained.{Drained}
 use Rattle.ltp_world.specs.declared.effects.EndEffects.{EndEffects}
 use Rattle.ltp_world.specs.declared.picks.Marks.{Marks}

@@ -12,15 +12,15 @@ use Rattle.ltp_session.specs.Engine.{Party}
 use Rattle.ltp_session.specs.World.{End, Event, World, at_end, clock, deliver, first_end, happens}
 use Rattle.ltp_session.specs.World.{run, second_end}
 use Rattle.ltp_session.specs.World.{Sent as LinkSent}
-use Rattle.link_laws.proofs.ListLemmas.{all-append}
-use Rattle.drain_laws.specs.Clean.{AreClean, clean_event, link_deadline, passed, passed_after}
-use Rattle.drain_laws.specs.Draining.{since}
-use Rattle.drain_laws.proofs.CleanSteps.{taken}
-use Rattle.pick_laws.specs.Picks.{AreNext, Crossing, Turn, after_pick, after_picks}
-use Rattle.pick_laws.specs.Picks.{after_turn, after_turns, as_turns, crosses_at, events_of}
-use Rattle.pick_laws.specs.Picks.{next_turn, pick_turn, picked_turns, placed_from}
-use Rattle.pick_laws.specs.Picks.{Pick as LinkPick}
-use Rattle.pick_laws.proofs.CrossingLemmas.{clock-sent, delivered-sent}
+use Rattle.ltp_laws.proofs.ListLemmas.{all-append}
+use Rattle.ltp_drain.specs.Clean.{AreClean, clean_event, link_deadline, passed, passed_after}
+use Rattle.ltp_drain.specs.Draining.{since}
+use Rattle.ltp_drain.proofs.CleanSteps.{taken}
+use Rattle.ltp_picks.specs.Picks.{AreNext, Crossing, Turn, after_pick, after_picks}
+use Rattle.ltp_picks.specs.Picks.{after_turn, after_turns, as_turns, crosses_at, events_of}
+use Rattle.ltp_picks.specs.Picks.{next_turn, pick_turn, picked_turns, placed_from}
+use Rattle.ltp_picks.specs.Picks.{Pick as LinkPick}
+use Rattle.ltp_picks.proofs.CrossingLemmas.{clock-sent, delivered-sent}
 use Rattle.ltp_world.specs.declared.effects.EndEffects.{EndEffects}
 use Rattle.ltp_world.specs.declared.picks.Marks.{Marks}
 use Rattle.ltp_world.specs.declared.picks.Pick.{Pick}

@@ -14,14 +14,14 @@ use Rattle.ltp_session.specs.Engine.{Party}
 use Rattle.ltp_session.specs.World.{End, Event, World, at_end, deliver, first_end, happens}
 use Rattle.ltp_session.specs.World.{run, second_end}
 use Rattle.ltp_session.specs.World.{Sent as LinkSent}
-use Rattle.link_laws.proofs.ListLemmas.{all-append}
-use Rattle.drain_laws.specs.Draining.{since}
-use Rattle.drain_laws.specs.Left.{burden}
-use Rattle.drain_laws.specs.Effects.{effects_at}
-use Rattle.drain_laws.proofs.CleanSteps.{Taken, drop-end, taken}
-use Rattle.pick_laws.specs.Picks.{AreNext, Crossing, Placed, Turn, after_turn, after_turns}
-use Rattle.pick_laws.specs.Picks.{events_of, next_turn, placed_from}
-use Rattle.pick_laws.proofs.CrossingLemmas.{delivered-sent}
+use Rattle.ltp_laws.proofs.ListLemmas.{all-append}
+use Rattle.ltp_drain.specs.Draining.{since}
+use Rattle.ltp_drain.specs.Left.{burden}
+use Rattle.ltp_drain.specs.Effects.{effects_at}
+use Rattle.ltp_drain.proofs.CleanSteps.{Taken, drop-end, taken}
+use Rattle.ltp_picks.specs.Picks.{AreNext, Crossing, Placed, Turn, after_turn, after_turns}
+use Rattle.ltp_picks.specs.Picks.{events_of, next_turn, placed_from}
+use Rattle.ltp_picks.proofs.CrossingLemmas.{delivered-sent}
 use Rattle.ltp_world.specs.declared.effects.EndEffects.{EndEffects}
 use Rattle.ltp_world.specs.declared.picks.Marks.{Marks}
 use Rattle.ltp_world.specs.declared.sent.Sent.{Sent}

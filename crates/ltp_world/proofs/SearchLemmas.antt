@@ -9,8 +9,8 @@ use Rattle.std.proofs.lemmas.Bool.Decides.{nat_tests}
 use Rattle.std.specs.List.{list_any, slice_get}
 use Rattle.ltp_session.specs.World.{at_end}
 use Rattle.ltp_session.specs.World.{Sent as LinkSent}
-use Rattle.drain_laws.proofs.CleanSteps.{drop-end, taken}
-use Rattle.pick_laws.specs.Picks.{Crossing, is_old}
+use Rattle.ltp_drain.proofs.CleanSteps.{drop-end, taken}
+use Rattle.ltp_picks.specs.Picks.{Crossing, is_old}
 use Rattle.ltp_world.specs.declared.ends.End.{End as CodeEnd}
 use Rattle.ltp_world.specs.declared.sent.Sent.{Sent}
 use Rattle.ltp_world.specs.Ends.{is_end}

@@ -21,13 +21,13 @@ use Rattle.ltp_engine.specs.declared.effects.Effects.{Effects}
 use Rattle.ltp_engine.specs.declared.refused.SubmitRefused.{SubmitRefused}
 use Rattle.ltp_engine.specs.declared.refused.SubmitRefused.TheVariants as causes
 use Rattle.ltp_engine.specs.Effects.{effects_of, nothing_done, up_of}
-use Rattle.link_laws.specs.HandUps.{up_of as reply_up}
+use Rattle.ltp_laws.specs.HandUps.{up_of as reply_up}
 use Rattle.ltp_engine.specs.Values.{EngineValue}
 use Rattle.ltp_engine.specs.Shows.{Shows}
 use Rattle.ltp_engine.specs.Steps.{Steps, IsSent, IsFault, IsNoFault}
-use Rattle.link_laws.specs.Log.{hand_ups_by, hand_up_of}
-use Rattle.drain_laws.specs.Hopeful.{AreAlike}
-use Rattle.link_laws.proofs.WritableLemmas.{segments_can_be_written}
+use Rattle.ltp_laws.specs.Log.{hand_ups_by, hand_up_of}
+use Rattle.ltp_drain.specs.Hopeful.{AreAlike}
+use Rattle.ltp_laws.proofs.WritableLemmas.{segments_can_be_written}
 use Rattle.ltp_world.specs.declared.ends.End.{End}
 use Rattle.ltp_world.specs.declared.ends.End.TheVariants as ends
 use Rattle.ltp_world.specs.declared.sent.Sent.{Sent}

@@ -5,10 +5,10 @@ use Rattle.std.specs.Prelude.{None, Some, Result, Ok, Err}
 use Rattle.std.specs.List.{AllByRecursion}
 use Rattle.ltp_session.specs.Engine.{Party, earlier}
 use Rattle.ltp_session.specs.World.{Event, World}
-use Rattle.drain_laws.specs.Clean.{AreClean, passed}
+use Rattle.ltp_drain.specs.Clean.{AreClean, passed}
 use Rattle.ltp_engine.specs.Steps.{deadline_of}
 use Rattle.ltp_world.specs.declared.effects.EndEffects.{EndEffects}
-use Rattle.drain_laws.specs.Effects.{effects_at}
+use Rattle.ltp_drain.specs.Effects.{effects_at}
 use Rattle.ltp_world.specs.declared.refused.DrainRefused.{DrainRefused}
 use Rattle.ltp_world.specs.declared.refused.DrainRefused.TheVariants as causes
 use Rattle.ltp_world.specs.Drain.{IsEarly, InEveryRun, done_in, told_of}

@@ -8,11 +8,11 @@ use Rattle.ltp_segment.specs.declared.session.Note.TheVariants as notes
 use Rattle.ltp_session.specs.Engine.{Party}
 use Rattle.ltp_session.specs.World.{Event, World, clock, deliver, happens, other, run, submit}
 use Rattle.ltp_session.specs.World.{End as LinkEnd}
-use Rattle.link_laws.specs.View.{IsIn, view}
-use Rattle.drain_laws.specs.Clean.{AreCleanFrom, CleanRun, clean_event, passed}
-use Rattle.drain_laws.specs.Effects.{effects_at}
-use Rattle.drain_laws.specs.Effects.{EndEffects as LinkEffects}
-use Rattle.drain_laws.specs.Hopeful.{Hopeful, IsHanded, IsOpen, Room, cost}
+use Rattle.ltp_laws.specs.View.{IsIn, view}
+use Rattle.ltp_drain.specs.Clean.{AreCleanFrom, CleanRun, clean_event, passed}
+use Rattle.ltp_drain.specs.Effects.{effects_at}
+use Rattle.ltp_drain.specs.Effects.{EndEffects as LinkEffects}
+use Rattle.ltp_drain.specs.Hopeful.{Hopeful, IsHanded, IsOpen, Room, cost}
 use Rattle.ltp_engine.specs.declared.effects.Up.{Up}
 use Rattle.ltp_engine.specs.Effects.{effects_of}
 use Rattle.ltp_world.specs.declared.effects.Drained.{Drained}

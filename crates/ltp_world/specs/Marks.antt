@@ -7,10 +7,10 @@ use Rattle.std.specs.List.{AllByRecursion, slice_get}
 use Rattle.ltp_session.specs.Engine.{Party}
 use Rattle.ltp_session.specs.World.{Event, at_end, clock}
 use Rattle.ltp_session.specs.World.{Sent as LinkSent}
-use Rattle.pick_laws.specs.Picks.{AreNext, Crossing, Placed, Turn, after_pick, after_turns}
-use Rattle.pick_laws.specs.Picks.{after_picks, as_turns, crosses_at, events_of, pick_turn}
-use Rattle.pick_laws.specs.Picks.{picked_turns}
-use Rattle.pick_laws.specs.Picks.{Pick as LinkPick}
+use Rattle.ltp_picks.specs.Picks.{AreNext, Crossing, Placed, Turn, after_pick, after_turns}
+use Rattle.ltp_picks.specs.Picks.{after_picks, as_turns, crosses_at, events_of, pick_turn}
+use Rattle.ltp_picks.specs.Picks.{picked_turns}
+use Rattle.ltp_picks.specs.Picks.{Pick as LinkPick}
 use Rattle.ltp_world.specs.declared.effects.EndEffects.{EndEffects}
 use Rattle.ltp_world.specs.declared.ends.End.{End}
 use Rattle.ltp_world.specs.declared.ends.End.TheVariants as ends

@@ -8,13 +8,13 @@ use Rattle.ltp_segment.specs.declared.session.Note.TheVariants as notes
 use Rattle.ltp_session.specs.Engine.{Party}
 use Rattle.ltp_session.specs.World.{Event, World, first_end, second_end, other}
 use Rattle.ltp_session.specs.World.{End as LinkEnd}
-use Rattle.link_laws.specs.View.{view}
-use Rattle.drain_laws.specs.Hopeful.{Hopeful, IsHanded, IsOpen, Room, cost}
-use Rattle.pick_laws.specs.Picks.{AreNext, Crossing, Turn, after_picks, after_turns, crosses_at}
-use Rattle.pick_laws.specs.Picks.{copies, events_of, next_turn, old_copy, oldest_of, pick_turn}
-use Rattle.pick_laws.specs.Picks.{picked_turns}
-use Rattle.pick_laws.specs.Picks.{Pick as LinkPick}
-use Rattle.pick_laws.specs.PickedRuns.{PickedRun, PicksNew, run_events}
+use Rattle.ltp_laws.specs.View.{view}
+use Rattle.ltp_drain.specs.Hopeful.{Hopeful, IsHanded, IsOpen, Room, cost}
+use Rattle.ltp_picks.specs.Picks.{AreNext, Crossing, Turn, after_picks, after_turns, crosses_at}
+use Rattle.ltp_picks.specs.Picks.{copies, events_of, next_turn, old_copy, oldest_of, pick_turn}
+use Rattle.ltp_picks.specs.Picks.{picked_turns}
+use Rattle.ltp_picks.specs.Picks.{Pick as LinkPick}
+use Rattle.ltp_picks.specs.PickedRuns.{PickedRun, PicksNew, run_events}
 use Rattle.ltp_world.specs.declared.effects.Drained.{Drained}
 use Rattle.ltp_world.specs.declared.effects.EndEffects.{EndEffects}
 use Rattle.ltp_world.specs.declared.picks.Pick.{Pick}

@@ -3,8 +3,8 @@
 use Rattle.std.specs.Prelude.{◌≡◌, List, ◌++◌, map}
 use Rattle.std.specs.List.{AllByRecursion, flat_map}
 use Rattle.ltp_session.specs.World.{Event, starts_world}
-use Rattle.link_laws.specs.Log.{AtMostOnce, HandUp, IsFront, IsSame, Submission, hand_ups}
-use Rattle.link_laws.specs.Log.{hand_ups_at, submissions}
+use Rattle.ltp_laws.specs.Log.{AtMostOnce, HandUp, IsFront, IsSame, Submission, hand_ups}
+use Rattle.ltp_laws.specs.Log.{hand_ups_at, submissions}
 use Rattle.ltp_engine.specs.declared.effects.Up.{Up}
 use Rattle.ltp_world.specs.declared.effects.EndEffects.{EndEffects}
 use Rattle.ltp_world.specs.declared.ends.End.{End}

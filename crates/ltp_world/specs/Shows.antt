@@ -9,8 +9,8 @@ use Rattle.ltp_session.specs.World.{Sent as LinkSent}
 use Rattle.ltp_engine.specs.Values.{EngineValue}
 use Rattle.ltp_engine.specs.Shows.{Shows}
 use Rattle.ltp_engine.specs.Bounds.{IsBounded}
-use Rattle.drain_laws.specs.Hopeful.{AreAlike}
-use Rattle.link_laws.specs.Writable.{HasSmallNumbers}
+use Rattle.ltp_drain.specs.Hopeful.{AreAlike}
+use Rattle.ltp_laws.specs.Writable.{HasSmallNumbers}
 use Rattle.ltp_world.specs.declared.sent.Sent.{Sent}
 use Rattle.ltp_world.specs.Ends.{named}
 use Rattle.ltp_world.specs.Values.{WorldValue, parties_of}

@@ -4,7 +4,7 @@
 //! is told what happens: an end submits a block, a datagram of the list comes to the end that
 //! didn't send it, any number of times, or the clock goes on. A datagram that is never delivered is
 //! lost. Each call is one event of the link that `ltp_session` defines, whose datagrams are decoded
-//! segments: `ShowsRun` says after which events a value stands. So what `link_laws` says of every
+//! segments: `ShowsRun` says after which events a value stands. So what `ltp_laws` says of every
 //! run holds of every world.
 //!
 //! Nothing is delivered unasked, and no deadline is looked at before the clock is set, but in a

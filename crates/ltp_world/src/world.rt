@@ -4,7 +4,7 @@ ghost use Rattle.std.specs.Prelude.{◌≡◌, ◌<◌, ◌≤◌, ◌^◌, fals
 ghost use Rattle.std.specs.Prelude.{List, true, ◌||◌, Ok, IfSome};
 ghost use Rattle.std.specs.List.{slice_get};
 ghost use Rattle.ltp_session.specs.World.{ArePeers, Event, clock, deliver};
-ghost use Rattle.drain_laws.specs.Hopeful.{AreAlike};
+ghost use Rattle.ltp_drain.specs.Hopeful.{AreAlike};
 ghost use Rattle.ltp_world.specs.Ends.{link_end};
 ghost use Rattle.ltp_world.specs.Values.{WorldValue, parties_of};
 ghost use Rattle.ltp_world.specs.Shows.{IsNew, AreBounded, ShowsRun};

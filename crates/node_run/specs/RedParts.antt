@@ -8,7 +8,7 @@ use Rattle.command_frame.specs.Within.{within}
 use Rattle.ltp_segment.specs.Reading.{segment_of}
 use Rattle.ltp_session.specs.RedPart.{BecomesWhole}
 use Rattle.ltp_session.specs.Engine.{Party, EngineStep, SubmitFault, UpValue}
-use Rattle.link_laws.specs.View.{IsIn}
+use Rattle.ltp_laws.specs.View.{IsIn}
 use Rattle.ltp_engine.specs.Effects.{effects_of}
 use Rattle.ltp_engine.specs.RedParts.{Coming, a_block_comes, a_datagram_comes, a_moment_comes, unless_faulty, pieces_of, EachOnce}
 use Rattle.replay_script.specs.declared.event.NodeEvent.{NodeEvent}

@@ -1,10 +1,10 @@
 -- What becomes of a session in one step, and then in another.
 
 use Rattle.std.proofs.Common.{ℕ, List, [], ◌∷◌, ◌++◌, ◌⊎◌, inl, inr}
-use Rattle.link_laws.specs.View.{IsIn, View}
-use Rattle.drain_laws.specs.Calm.{Advances}
-use Rattle.drain_laws.specs.Effects.{IsHandedUp, IsNoted}
-use Rattle.drain_laws.specs.Hopeful.{IsHanded, IsOpen}
+use Rattle.ltp_laws.specs.View.{IsIn, View}
+use Rattle.ltp_drain.specs.Calm.{Advances}
+use Rattle.ltp_drain.specs.Effects.{IsHandedUp, IsNoted}
+use Rattle.ltp_drain.specs.Hopeful.{IsHanded, IsOpen}
 use Rattle.ltp_segment.specs.declared.session.Note.{Note}
 use Rattle.ltp_session.specs.World.{End}
 

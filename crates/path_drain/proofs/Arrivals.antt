@@ -18,26 +18,26 @@ use Rattle.ltp_session.specs.Sender.{Sending, sender_answers}
 use Rattle.ltp_session.specs.Step.{Change, StepValue, after, ends, keeps, stays}
 use Rattle.ltp_session.specs.Table.{find}
 use Rattle.ltp_session.specs.World.{ArePeers, End, Sent, at_end, first_end, other, second_end}
-use Rattle.link_laws.specs.Blocks.{BlockFacts, IsSenderOf}
-use Rattle.link_laws.specs.Facts.{SessionFacts}
-use Rattle.link_laws.specs.Kept.{IfKeeps, IfKept, KeepsOrEnds}
-use Rattle.link_laws.specs.Steps.{HandsUp}
-use Rattle.link_laws.specs.View.{View, said, view_by}
-use Rattle.link_laws.proofs.FrameLemmas.{AreTwo}
-use Rattle.link_laws.proofs.ListLemmas.{answered}
-use Rattle.link_laws.proofs.RedPartLemmas.{hears-ups}
-use Rattle.link_laws.proofs.RunLemmas.{Linked}
-use Rattle.link_laws.proofs.SenderLemmas.{sender-keeps}
-use Rattle.link_laws.proofs.StepLemmas.{hears-form, met}
-use Rattle.link_laws.proofs.WalkLemmas.{OnPiece, walk-segment}
-use Rattle.drain_laws.specs.Calm.{Calm, IsComing, Setting}
-use Rattle.drain_laws.specs.Draining.{Draining, Oldest, oldest}
-use Rattle.drain_laws.specs.Hopeful.{IsHanded, IsOpen, is_unknown}
-use Rattle.drain_laws.specs.Standing.{DrainHolds, IsRoomy, Stands, setting, setting_by}
-use Rattle.drain_laws.proofs.DrainFrame.{AllStand, Begun, Shorter, is-begun, never_begun, shorter}
-use Rattle.drain_laws.proofs.DrainFrame.{stands-so, was_begun}
-use Rattle.drain_laws.proofs.ReceiverDrains.{receiver-opens}
-use Rattle.drain_laws.proofs.RoomSteps.{Comes_to, OfComing, OfKept}
+use Rattle.ltp_laws.specs.Blocks.{BlockFacts, IsSenderOf}
+use Rattle.ltp_laws.specs.Facts.{SessionFacts}
+use Rattle.ltp_laws.specs.Kept.{IfKeeps, IfKept, KeepsOrEnds}
+use Rattle.ltp_laws.specs.Steps.{HandsUp}
+use Rattle.ltp_laws.specs.View.{View, said, view_by}
+use Rattle.ltp_laws.proofs.FrameLemmas.{AreTwo}
+use Rattle.ltp_laws.proofs.ListLemmas.{answered}
+use Rattle.ltp_laws.proofs.RedPartLemmas.{hears-ups}
+use Rattle.ltp_laws.proofs.RunLemmas.{Linked}
+use Rattle.ltp_laws.proofs.SenderLemmas.{sender-keeps}
+use Rattle.ltp_laws.proofs.StepLemmas.{hears-form, met}
+use Rattle.ltp_laws.proofs.WalkLemmas.{OnPiece, walk-segment}
+use Rattle.ltp_drain.specs.Calm.{Calm, IsComing, Setting}
+use Rattle.ltp_drain.specs.Draining.{Draining, Oldest, oldest}
+use Rattle.ltp_drain.specs.Hopeful.{IsHanded, IsOpen, is_unknown}
+use Rattle.ltp_drain.specs.Standing.{DrainHolds, IsRoomy, Stands, setting, setting_by}
+use Rattle.ltp_drain.proofs.DrainFrame.{AllStand, Begun, Shorter, is-begun, never_begun, shorter}
+use Rattle.ltp_drain.proofs.DrainFrame.{stands-so, was_begun}
+use Rattle.ltp_drain.proofs.ReceiverDrains.{receiver-opens}
+use Rattle.ltp_drain.proofs.RoomSteps.{Comes_to, OfComing, OfKept}
 use Rattle.path_drain.specs.OnTheWay.{is_handed_up}
 use Rattle.path_drain.proofs.WayLemmas.{OfBlock}
 use Rattle.path_drain.proofs.FullLemmas.{FindsRoom, NotFull, receiver-not_full, sender-not_full}

@@ -16,10 +16,10 @@ use Rattle.ltp_session.specs.Sender.{begin, green_pieces, last_segment, red_piec
 use Rattle.ltp_session.specs.Sender.{segments_from, sender_answers, sender_tick}
 use Rattle.ltp_session.specs.Table.{ended, find, put, ticked, without}
 use Rattle.ltp_session.specs.World.{End, at_end, first_end, other, second_end}
-use Rattle.link_laws.specs.Kept.{IfKept}
-use Rattle.link_laws.specs.View.{view}
-use Rattle.link_laws.proofs.ListLemmas.{both_arms}
-use Rattle.drain_laws.specs.Hopeful.{Hopeful, IsHopeful, limit_at}
+use Rattle.ltp_laws.specs.Kept.{IfKept}
+use Rattle.ltp_laws.specs.View.{view}
+use Rattle.ltp_laws.proofs.ListLemmas.{both_arms}
+use Rattle.ltp_drain.specs.Hopeful.{Hopeful, IsHopeful, limit_at}
 use Rattle.gate_cases.specs.declared.face.Face.{Face}
 use Rattle.gate_cases.specs.declared.face.Face.TheVariants as faces
 use Rattle.gate_cases.specs.Blocks.{found_at}

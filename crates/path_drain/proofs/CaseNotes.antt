@@ -12,8 +12,8 @@ use Rattle.ltp_session.specs.declared.name.SessionName.{SessionName}
 use Rattle.ltp_session.specs.Engine.{Engine, EngineStep, Party, Reply, SubmitFault, UpValue}
 use Rattle.ltp_session.specs.Engine.{arrives, datagram_step, list_of, replied_or_stranger}
 use Rattle.ltp_session.specs.Engine.{tick_step}
-use Rattle.link_laws.specs.View.{IsIn}
-use Rattle.link_laws.proofs.RunLemmas.{in-left, in-right}
+use Rattle.ltp_laws.specs.View.{IsIn}
+use Rattle.ltp_laws.proofs.RunLemmas.{in-left, in-right}
 use Rattle.gate_cases.specs.declared.face.Face.{Face}
 use Rattle.gate_cases.specs.declared.face.Face.TheVariants as faces
 use Rattle.gate_cases.specs.declared.report.AskedReport.{AskedReport}

@@ -2,10 +2,10 @@
 
 use Rattle.std.proofs.Common.{◌≡◌, ℕ, ◌+◌, ◌^◌, ◌≤◌, List, [], ◌∷◌, length, None, ◌⊎◌, inl, inr}
 use Rattle.std.proofs.Common.{refl, sym, ◌∙◌, ap, arith, subst}
-use Rattle.link_laws.specs.View.{IsIn}
+use Rattle.ltp_laws.specs.View.{IsIn}
 use Rattle.ltp_session.specs.Engine.{Engine}
 use Rattle.ltp_session.specs.World.{first_end, second_end}
-use Rattle.drain_laws.specs.Hopeful.{HasRoom, IsOpen, Room}
+use Rattle.ltp_drain.specs.Hopeful.{HasRoom, IsOpen, Room}
 use Rattle.gate_cases.specs.declared.face.Face.{Face}
 use Rattle.gate_cases.specs.declared.face.Face.TheVariants as faces
 use Rattle.path_laws.specs.declared.effects.UpAt.{UpAt}

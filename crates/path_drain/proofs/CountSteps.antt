@@ -13,18 +13,18 @@ use Rattle.ltp_session.specs.Sender.{Sending}
 use Rattle.ltp_session.specs.Step.{Change, after, stays, keeps, ends}
 use Rattle.ltp_session.specs.Table.{AreAscending, ended, find, put, settled, without}
 use Rattle.ltp_session.specs.World.{End, sent_by}
-use Rattle.link_laws.specs.Runs.{receiver_after}
-use Rattle.link_laws.specs.View.{View, closed_after, view_by}
-use Rattle.link_laws.proofs.FrameLemmas.{AreTwo, closed-with_receiver, find-with_receiver}
-use Rattle.link_laws.proofs.FrameLemmas.{senders-with_receiver, tick-peer}
-use Rattle.link_laws.proofs.RunLemmas.{Linked}
-use Rattle.drain_laws.specs.Hopeful.{HasRoom, coming, is_unknown}
-use Rattle.drain_laws.proofs.DrainFrame.{find-with_receiver_other}
-use Rattle.drain_laws.proofs.RoomLemmas.{count-is, how_many, length-put, length-put_new}
-use Rattle.drain_laws.proofs.RoomLemmas.{length-ticked, length-without, length-without_kept}
-use Rattle.drain_laws.proofs.RoomLemmas.{many-less, many-most, many-put, many-ticked}
-use Rattle.drain_laws.proofs.RoomLemmas.{many-without, runs-append, runs-more}
-use Rattle.drain_laws.proofs.RoomSteps.{OfComing, OfKept}
+use Rattle.ltp_laws.specs.Runs.{receiver_after}
+use Rattle.ltp_laws.specs.View.{View, closed_after, view_by}
+use Rattle.ltp_laws.proofs.FrameLemmas.{AreTwo, closed-with_receiver, find-with_receiver}
+use Rattle.ltp_laws.proofs.FrameLemmas.{senders-with_receiver, tick-peer}
+use Rattle.ltp_laws.proofs.RunLemmas.{Linked}
+use Rattle.ltp_drain.specs.Hopeful.{HasRoom, coming, is_unknown}
+use Rattle.ltp_drain.proofs.DrainFrame.{find-with_receiver_other}
+use Rattle.ltp_drain.proofs.RoomLemmas.{count-is, how_many, length-put, length-put_new}
+use Rattle.ltp_drain.proofs.RoomLemmas.{length-ticked, length-without, length-without_kept}
+use Rattle.ltp_drain.proofs.RoomLemmas.{many-less, many-most, many-put, many-ticked}
+use Rattle.ltp_drain.proofs.RoomLemmas.{many-without, runs-append, runs-more}
+use Rattle.ltp_drain.proofs.RoomSteps.{OfComing, OfKept}
 use Rattle.path_drain.specs.PathRoom.{HasRoomFor}
 
 -- engine e is e' after an event, and its peer f is f': it needs no more room

@@ -5,7 +5,7 @@ use Rattle.std.proofs.Common.{◌⊎◌, inl, inr, refl, sym, ◌∙◌, ap, ari
 use Rattle.std.specs.List.{AllByRecursion, slice_get}
 use Rattle.ltp_segment.specs.Values.{SegmentValue}
 use Rattle.ltp_session.specs.Engine.{Engine, EngineStep, SubmitFault, UpValue}
-use Rattle.link_laws.specs.View.{IsIn}
+use Rattle.ltp_laws.specs.View.{IsIn}
 use Rattle.gate_cases.specs.declared.face.Face.{Face}
 use Rattle.gate_cases.specs.declared.judged.Judged.{Judged}
 use Rattle.gate_cases.specs.Bundles.{status_bundle}

@@ -17,7 +17,7 @@ use Rattle.ltp_session.specs.Sender.{report_step, sender_answers, sender_cancell
 use Rattle.ltp_session.specs.Sender.{sends_again, takes_report, with_report}
 use Rattle.ltp_session.specs.Step.{StepValue, note_history_full}
 use Rattle.ltp_session.specs.Timer.{is_past_serials}
-use Rattle.link_laws.proofs.ListLemmas.{answered, both_arms, by_arms}
+use Rattle.ltp_laws.proofs.ListLemmas.{answered, both_arms, by_arms}
 
 -- there was room for the session
 abbrev pub NotFull : {S : Type 0} → StepValue S → Type 0

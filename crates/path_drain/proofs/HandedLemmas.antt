@@ -9,14 +9,14 @@ use Rattle.ltp_segment.specs.Values.{ContentValue}
 use Rattle.ltp_session.specs.Cells.{all_octets, cell, whole_part}
 use Rattle.ltp_session.specs.Receiver.{Receiving}
 use Rattle.ltp_session.specs.Step.{Change, StepValue, after, ends, keeps, stays}
-use Rattle.link_laws.specs.Blocks.{BlockFacts, IfKnown, IsAt, IsReceiverOf}
-use Rattle.link_laws.specs.Steps.{HandsUp, ReceiverStep, again, fills, idle, over, reports_on}
-use Rattle.link_laws.specs.Steps.{turns}
-use Rattle.link_laws.specs.View.{IsIn, View}
-use Rattle.link_laws.proofs.CellLemmas.{all_octets-cell, all_octets-length}
-use Rattle.link_laws.proofs.HandUpLemmas.{heard-piece, met-kept}
-use Rattle.link_laws.proofs.ReceiverLemmas.{fresh-is, with_red-is}
-use Rattle.link_laws.proofs.StepLemmas.{met}
+use Rattle.ltp_laws.specs.Blocks.{BlockFacts, IfKnown, IsAt, IsReceiverOf}
+use Rattle.ltp_laws.specs.Steps.{HandsUp, ReceiverStep, again, fills, idle, over, reports_on}
+use Rattle.ltp_laws.specs.Steps.{turns}
+use Rattle.ltp_laws.specs.View.{IsIn, View}
+use Rattle.ltp_laws.proofs.CellLemmas.{all_octets-cell, all_octets-length}
+use Rattle.ltp_laws.proofs.HandUpLemmas.{heard-piece, met-kept}
+use Rattle.ltp_laws.proofs.ReceiverLemmas.{fresh-is, with_red-is}
+use Rattle.ltp_laws.proofs.StepLemmas.{met}
 use Rattle.path_drain.specs.OnTheWay.{is_handed_up}
 
 -- ---- what was handed up stays so

@@ -20,18 +20,18 @@ use Rattle.ltp_session.specs.World.{ArePeers, End, Event, Sent, World, at_end, c
 use Rattle.ltp_session.specs.World.{delivered, first_end, happens, other, replies, run, second_end}
 use Rattle.ltp_session.specs.World.{sent_by, starts_world, submit, submit_reply, submitted, ticks}
 use Rattle.ltp_session.specs.World.{unless_refused, with_end}
-use Rattle.link_laws.specs.HandUps.{up_by, up_of}
-use Rattle.link_laws.specs.Log.{HandUp, hand_up_of, hand_ups, hand_ups_at, hand_ups_by}
-use Rattle.link_laws.specs.Runs.{HoldsIn, IsInvariant, receiver_after}
-use Rattle.link_laws.specs.Steps.{ReceiverStep, again, fills, idle, over, reports_on, turns}
-use Rattle.link_laws.specs.View.{IsIn, View, session_of, view, view_by}
-use Rattle.link_laws.proofs.FrameLemmas.{AreTwo, Left, alone, closed_for_room, opening}
-use Rattle.link_laws.proofs.FrameLemmas.{receiver-here, receiver-others, tick-peer}
-use Rattle.link_laws.proofs.RunLemmas.{any_time, holds-happens, holds-start, in-left}
-use Rattle.link_laws.proofs.RunLemmas.{in-right, linked-at, no_submissions, two_ends}
-use Rattle.link_laws.proofs.StepLemmas.{tick-form}
-use Rattle.drain_laws.specs.Hopeful.{IsHanded}
-use Rattle.drain_laws.proofs.HandedLemmas.{hands-up-now}
+use Rattle.ltp_laws.specs.HandUps.{up_by, up_of}
+use Rattle.ltp_laws.specs.Log.{HandUp, hand_up_of, hand_ups, hand_ups_at, hand_ups_by}
+use Rattle.ltp_laws.specs.Runs.{HoldsIn, IsInvariant, receiver_after}
+use Rattle.ltp_laws.specs.Steps.{ReceiverStep, again, fills, idle, over, reports_on, turns}
+use Rattle.ltp_laws.specs.View.{IsIn, View, session_of, view, view_by}
+use Rattle.ltp_laws.proofs.FrameLemmas.{AreTwo, Left, alone, closed_for_room, opening}
+use Rattle.ltp_laws.proofs.FrameLemmas.{receiver-here, receiver-others, tick-peer}
+use Rattle.ltp_laws.proofs.RunLemmas.{any_time, holds-happens, holds-start, in-left}
+use Rattle.ltp_laws.proofs.RunLemmas.{in-right, linked-at, no_submissions, two_ends}
+use Rattle.ltp_laws.proofs.StepLemmas.{tick-form}
+use Rattle.ltp_drain.specs.Hopeful.{IsHanded}
+use Rattle.ltp_drain.proofs.HandedLemmas.{hands-up-now}
 
 -- ---- one receiver
 

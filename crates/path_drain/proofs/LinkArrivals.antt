@@ -13,16 +13,16 @@ use Rattle.ltp_session.specs.Step.{StepValue, ends}
 use Rattle.ltp_session.specs.Table.{find}
 use Rattle.ltp_session.specs.World.{End, World, arrival, at_end, first_end, other, replies}
 use Rattle.ltp_session.specs.World.{second_end, with_end}
-use Rattle.link_laws.specs.Facts.{SessionFacts}
-use Rattle.link_laws.specs.View.{closed_after, session_of}
-use Rattle.link_laws.proofs.FrameLemmas.{closed-with_receiver}
-use Rattle.link_laws.proofs.RunLemmas.{linked-at, two_ends}
-use Rattle.drain_laws.specs.Draining.{Draining, Oldest, oldest, since}
-use Rattle.drain_laws.specs.Hopeful.{IsOpen}
-use Rattle.drain_laws.specs.Standing.{IsRoomy, NextOf}
-use Rattle.drain_laws.proofs.DrainRun.{all-stand, delivery-next}
-use Rattle.drain_laws.proofs.RoomSteps.{Comes_to}
-use Rattle.drain_laws.proofs.StartLemmas.{session-gives}
+use Rattle.ltp_laws.specs.Facts.{SessionFacts}
+use Rattle.ltp_laws.specs.View.{closed_after, session_of}
+use Rattle.ltp_laws.proofs.FrameLemmas.{closed-with_receiver}
+use Rattle.ltp_laws.proofs.RunLemmas.{linked-at, two_ends}
+use Rattle.ltp_drain.specs.Draining.{Draining, Oldest, oldest, since}
+use Rattle.ltp_drain.specs.Hopeful.{IsOpen}
+use Rattle.ltp_drain.specs.Standing.{IsRoomy, NextOf}
+use Rattle.ltp_drain.proofs.DrainRun.{all-stand, delivery-next}
+use Rattle.ltp_drain.proofs.RoomSteps.{Comes_to}
+use Rattle.ltp_drain.proofs.StartLemmas.{session-gives}
 use Rattle.path_drain.proofs.Arrivals.{Arrived, LinkDrains, arrives-form, unclosed-in}
 
 -- ---- on a link

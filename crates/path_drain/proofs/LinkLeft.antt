@@ -8,14 +8,14 @@ use Rattle.std.proofs.lemmas.Option.{slice_get_within}
 use Rattle.ltp_session.specs.Engine.{Party}
 use Rattle.ltp_session.specs.World.{End, Event, Sent, World, arrival, at_end, clock, deliver, delivered}
 use Rattle.ltp_session.specs.World.{first_end, happens, other, run, second_end, submit}
-use Rattle.drain_laws.specs.Draining.{since}
-use Rattle.drain_laws.specs.Hopeful.{IsReached}
-use Rattle.drain_laws.specs.Left.{AreTimed, link_left}
-use Rattle.drain_laws.proofs.CleanSteps.{reached-more, since-arrival}
-use Rattle.drain_laws.proofs.DrainRun.{arrival-next}
-use Rattle.drain_laws.proofs.LeftLemmas.{delivery-falls}
-use Rattle.drain_laws.proofs.RankSteps.{submitted-grows}
-use Rattle.drain_laws.proofs.WearLemmas.{reached-tame}
+use Rattle.ltp_drain.specs.Draining.{since}
+use Rattle.ltp_drain.specs.Hopeful.{IsReached}
+use Rattle.ltp_drain.specs.Left.{AreTimed, link_left}
+use Rattle.ltp_drain.proofs.CleanSteps.{reached-more, since-arrival}
+use Rattle.ltp_drain.proofs.DrainRun.{arrival-next}
+use Rattle.ltp_drain.proofs.LeftLemmas.{delivery-falls}
+use Rattle.ltp_drain.proofs.RankSteps.{submitted-grows}
+use Rattle.ltp_drain.proofs.WearLemmas.{reached-tame}
 use Rattle.path_drain.specs.Left.{all_left}
 use Rattle.path_drain.proofs.SubmitLemmas.{submit-left}
 

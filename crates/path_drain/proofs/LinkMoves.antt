@@ -11,20 +11,20 @@ use Rattle.ltp_session.specs.Engine.{Party}
 use Rattle.ltp_session.specs.World.{ArePeers, End, Event, Sent, World, at_end, clock}
 use Rattle.ltp_session.specs.World.{deliver, delivered, first_end, happens, other, second_end}
 use Rattle.ltp_session.specs.World.{ticks}
-use Rattle.link_laws.specs.Facts.{SessionFacts}
-use Rattle.drain_laws.specs.Clean.{clean_event, link_deadline, passed_after}
-use Rattle.drain_laws.specs.Effects.{effects_at}
-use Rattle.drain_laws.specs.Hopeful.{AreAlike, IsReached, cost, session_cost, sum_below}
-use Rattle.drain_laws.specs.Standing.{AllAdvance, DrainHolds, TickedTo, sum_of}
-use Rattle.drain_laws.proofs.CleanSteps.{IsGoing, clean-goes, drop-end, reached-more}
-use Rattle.drain_laws.proofs.CleanSteps.{since-arrival}
-use Rattle.drain_laws.proofs.DrainLists.{sum-below}
-use Rattle.drain_laws.proofs.DrainRun.{all-still, arrival-next, sent-ticked, since-ticks}
-use Rattle.drain_laws.proofs.DrainRun.{tick-advances, tick-holds, ticked-new, ticked-next}
-use Rattle.drain_laws.proofs.DrainRun.{ticked-world, ticks-are}
-use Rattle.drain_laws.proofs.RankSteps.{Grows, cost-grows, ticked-grows}
-use Rattle.drain_laws.proofs.RoomRuns.{tick-room}
-use Rattle.drain_laws.proofs.StartLemmas.{session-gives}
+use Rattle.ltp_laws.specs.Facts.{SessionFacts}
+use Rattle.ltp_drain.specs.Clean.{clean_event, link_deadline, passed_after}
+use Rattle.ltp_drain.specs.Effects.{effects_at}
+use Rattle.ltp_drain.specs.Hopeful.{AreAlike, IsReached, cost, session_cost, sum_below}
+use Rattle.ltp_drain.specs.Standing.{AllAdvance, DrainHolds, TickedTo, sum_of}
+use Rattle.ltp_drain.proofs.CleanSteps.{IsGoing, clean-goes, drop-end, reached-more}
+use Rattle.ltp_drain.proofs.CleanSteps.{since-arrival}
+use Rattle.ltp_drain.proofs.DrainLists.{sum-below}
+use Rattle.ltp_drain.proofs.DrainRun.{all-still, arrival-next, sent-ticked, since-ticks}
+use Rattle.ltp_drain.proofs.DrainRun.{tick-advances, tick-holds, ticked-new, ticked-next}
+use Rattle.ltp_drain.proofs.DrainRun.{ticked-world, ticks-are}
+use Rattle.ltp_drain.proofs.RankSteps.{Grows, cost-grows, ticked-grows}
+use Rattle.ltp_drain.proofs.RoomRuns.{tick-room}
+use Rattle.ltp_drain.proofs.StartLemmas.{session-gives}
 
 -- ---- what is kept
 

@@ -8,7 +8,7 @@ use Rattle.std.proofs.lemmas.Bool.Decides.{nat_tests}
 use Rattle.std.specs.List.{slice_get}
 use Rattle.ltp_session.specs.Engine.{Party}
 use Rattle.ltp_session.specs.World.{Event, World, happens, run, starts_world}
-use Rattle.drain_laws.specs.Hopeful.{IsReached}
+use Rattle.ltp_drain.specs.Hopeful.{IsReached}
 use Rattle.path_drain.specs.Clean.{path_clean_event, path_passed_after}
 use Rattle.path_laws.specs.Links.{events_at, link_at, link_parties}
 use Rattle.path_laws.specs.Path.{Path, PathEvent, PathSetup, SentFrom, all_tick}

@@ -6,9 +6,9 @@ use Rattle.std.specs.List.{AllByRecursion, slice_get}
 use Rattle.std.proofs.lemmas.List.{append_assoc}
 use Rattle.gate_cases.specs.declared.face.Face.{Face}
 use Rattle.gate_cases.specs.declared.face.Face.TheVariants as faces
-use Rattle.link_laws.proofs.ListLemmas.{all-append}
+use Rattle.ltp_laws.proofs.ListLemmas.{all-append}
 use Rattle.ltp_session.specs.World.{Sent as LinkSent}
-use Rattle.drain_laws.specs.Left.{burden, sent_burden}
+use Rattle.ltp_drain.specs.Left.{burden, sent_burden}
 use Rattle.path_laws.specs.Links.{link_at, link_sent, sent_on, submit_of, submits_on}
 use Rattle.path_laws.specs.Log.{Begun}
 use Rattle.path_laws.specs.Path.{Path, SentFrom}

@@ -9,8 +9,8 @@ use Rattle.std.proofs.lemmas.Bool.{leb-true, ltb-true}
 use Rattle.std.proofs.lemmas.Bool.Decides.{nat_tests}
 use Rattle.ltp_segment.specs.declared.session.Note.{Note}
 use Rattle.ltp_session.specs.Engine.{EngineStep, SubmitFault, UpValue}
-use Rattle.link_laws.specs.View.{IsIn}
-use Rattle.link_laws.proofs.ListLemmas.{all-append}
+use Rattle.ltp_laws.specs.View.{IsIn}
+use Rattle.ltp_laws.proofs.ListLemmas.{all-append}
 use Rattle.gate_cases.specs.declared.case.GateCase.{GateCase}
 use Rattle.gate_cases.specs.declared.case.GateCase.TheVariants as cases
 use Rattle.gate_cases.specs.declared.face.Face.{Face}

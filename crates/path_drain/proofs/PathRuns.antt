@@ -9,19 +9,19 @@ use Rattle.std.specs.Option.{option_map}
 use Rattle.ltp_session.specs.Engine.{earlier}
 use Rattle.ltp_session.specs.Receiver.{Receiving, is_cancelling}
 use Rattle.ltp_session.specs.World.{End, Sent, at_end, clock, other}
-use Rattle.link_laws.specs.Facts.{SessionFacts}
-use Rattle.link_laws.specs.View.{IsIn, view}
-use Rattle.link_laws.proofs.FrameLemmas.{same_self}
-use Rattle.link_laws.proofs.RunLemmas.{in-left, in-right}
-use Rattle.drain_laws.specs.Clean.{link_deadline}
-use Rattle.drain_laws.specs.Completion.{IsReady}
-use Rattle.drain_laws.specs.Draining.{oldest}
-use Rattle.drain_laws.specs.Hopeful.{IsHanded, IsOpen, IsReached, Room}
-use Rattle.drain_laws.specs.Standing.{setting}
-use Rattle.drain_laws.proofs.CleanSteps.{IsGoing, drop-end, idle-link, idle-senders}
-use Rattle.drain_laws.proofs.CompletionLemmas.{first_rank, starts-going, starts-low}
-use Rattle.drain_laws.proofs.DrainFrame.{Begun, is-begun, never_begun, was_begun}
-use Rattle.drain_laws.proofs.DrainRun.{used-low}
+use Rattle.ltp_laws.specs.Facts.{SessionFacts}
+use Rattle.ltp_laws.specs.View.{IsIn, view}
+use Rattle.ltp_laws.proofs.FrameLemmas.{same_self}
+use Rattle.ltp_laws.proofs.RunLemmas.{in-left, in-right}
+use Rattle.ltp_drain.specs.Clean.{link_deadline}
+use Rattle.ltp_drain.specs.Completion.{IsReady}
+use Rattle.ltp_drain.specs.Draining.{oldest}
+use Rattle.ltp_drain.specs.Hopeful.{IsHanded, IsOpen, IsReached, Room}
+use Rattle.ltp_drain.specs.Standing.{setting}
+use Rattle.ltp_drain.proofs.CleanSteps.{IsGoing, drop-end, idle-link, idle-senders}
+use Rattle.ltp_drain.proofs.CompletionLemmas.{first_rank, starts-going, starts-low}
+use Rattle.ltp_drain.proofs.DrainFrame.{Begun, is-begun, never_begun, was_begun}
+use Rattle.ltp_drain.proofs.DrainRun.{used-low}
 use Rattle.gate_cases.specs.declared.face.Face.{Face}
 use Rattle.gate_cases.specs.declared.face.Face.TheVariants as faces
 use Rattle.path_laws.specs.declared.effects.NoteAt.{NoteAt}

@@ -13,15 +13,15 @@ use Rattle.ltp_segment.specs.declared.session.Note.TheVariants as notes
 use Rattle.ltp_session.specs.Engine.{earlier}
 use Rattle.ltp_session.specs.World.{ArePeers, End, Event, World, at_end, clock, deliver}
 use Rattle.ltp_session.specs.World.{happens, other, run}
-use Rattle.link_laws.specs.Log.{Submission, submissions}
-use Rattle.link_laws.specs.View.{view}
-use Rattle.drain_laws.specs.Calm.{Advances}
-use Rattle.drain_laws.specs.Clean.{link_deadline}
-use Rattle.drain_laws.specs.Effects.{EndEffects, IsHandedUp, IsNoted, deliver_effects, effects_at}
-use Rattle.drain_laws.specs.Hopeful.{AreAlike}
-use Rattle.drain_laws.specs.Standing.{AllAdvance, sum_of}
-use Rattle.drain_laws.proofs.CleanSteps.{IsGoing}
-use Rattle.drain_laws.proofs.DrainRun.{all-still}
+use Rattle.ltp_laws.specs.Log.{Submission, submissions}
+use Rattle.ltp_laws.specs.View.{view}
+use Rattle.ltp_drain.specs.Calm.{Advances}
+use Rattle.ltp_drain.specs.Clean.{link_deadline}
+use Rattle.ltp_drain.specs.Effects.{EndEffects, IsHandedUp, IsNoted, deliver_effects, effects_at}
+use Rattle.ltp_drain.specs.Hopeful.{AreAlike}
+use Rattle.ltp_drain.specs.Standing.{AllAdvance, sum_of}
+use Rattle.ltp_drain.proofs.CleanSteps.{IsGoing}
+use Rattle.ltp_drain.proofs.DrainRun.{all-still}
 use Rattle.gate_cases.specs.declared.face.Face.{Face}
 use Rattle.gate_cases.specs.declared.face.Face.TheVariants as faces
 use Rattle.gate_cases.specs.Faces.{other_of}

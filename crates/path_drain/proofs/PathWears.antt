@@ -12,10 +12,10 @@ use Rattle.gate_cases.specs.declared.face.Face.{Face}
 use Rattle.gate_cases.specs.declared.face.Face.TheVariants as faces
 use Rattle.ltp_session.specs.Engine.{earlier}
 use Rattle.ltp_session.specs.World.{World, clock, deliver, run}
-use Rattle.drain_laws.specs.Clean.{link_deadline}
-use Rattle.drain_laws.specs.Hopeful.{IsReached}
-use Rattle.drain_laws.proofs.CleanSteps.{taken}
-use Rattle.drain_laws.proofs.WearLemmas.{reached-ahead}
+use Rattle.ltp_drain.specs.Clean.{link_deadline}
+use Rattle.ltp_drain.specs.Hopeful.{IsReached}
+use Rattle.ltp_drain.proofs.CleanSteps.{taken}
+use Rattle.ltp_drain.proofs.WearLemmas.{reached-ahead}
 use Rattle.path_laws.specs.Links.{delivery_on, link_at, link_events, link_parties}
 use Rattle.path_laws.specs.Links.{link_sent, submits_on}
 use Rattle.path_laws.specs.Log.{begun_at}

@@ -22,7 +22,7 @@ use Rattle.gate_cases.specs.Faces.{other_of, octets_at}
 use Rattle.gate_cases.specs.Passage.{passage, pieces_on}
 use Rattle.gate_cases.proofs.CaseLemmas.{first-after, first-refused}
 use Rattle.gate_cases.proofs.PieceLemmas.{length-from}
-use Rattle.link_laws.specs.View.{IsIn}
+use Rattle.ltp_laws.specs.View.{IsIn}
 use Rattle.path_drain.specs.OnTheWay.{piece_count, pieces_found}
 use Rattle.path_drain.specs.Pieces.{AreCounted, HasLongPiece, PassageKeepsPieces, PiecesAreCounted}
 use Rattle.path_drain.specs.Pieces.{StorageIsOfLength}

@@ -8,8 +8,8 @@ use Rattle.endpoint.specs.declared.name.Endpoint.{Endpoint}
 use Rattle.ltp_segment.specs.declared.policy.PolicyFault.TheVariants as faults
 use Rattle.ltp_segment.specs.Policy.{PolicyValue, is_between, policy_of}
 use Rattle.ltp_session.specs.World.{ArePeers}
-use Rattle.link_laws.specs.Deadlines.{Waits}
-use Rattle.drain_laws.specs.Hopeful.{AreAlike}
+use Rattle.ltp_laws.specs.Deadlines.{Waits}
+use Rattle.ltp_drain.specs.Hopeful.{AreAlike}
 use Rattle.gate_cases.specs.declared.face.Face.{Face}
 use Rattle.gate_cases.specs.declared.face.Face.TheVariants as faces
 use Rattle.path_laws.specs.Path.{path_setup}

@@ -9,10 +9,10 @@ use Rattle.ltp_session.specs.Examples.{policy}
 use Rattle.ltp_session.specs.Sender.{begin, green_pieces, last_segment, red_pieces, segments_from}
 use Rattle.ltp_session.specs.Table.{find, put}
 use Rattle.ltp_session.specs.World.{End, at_end, first_end, other, second_end}
-use Rattle.link_laws.specs.Kept.{IfKept}
-use Rattle.link_laws.specs.View.{view}
-use Rattle.link_laws.proofs.ListLemmas.{both_arms}
-use Rattle.drain_laws.specs.Hopeful.{Hopeful, IsHopeful, limit_at}
+use Rattle.ltp_laws.specs.Kept.{IfKept}
+use Rattle.ltp_laws.specs.View.{view}
+use Rattle.ltp_laws.proofs.ListLemmas.{both_arms}
+use Rattle.ltp_drain.specs.Hopeful.{Hopeful, IsHopeful, limit_at}
 use Rattle.path_laws.specs.declared.places.PathEnd.TheVariants as ends
 use Rattle.path_laws.specs.Path.{path_run, path_setup, path_step, sends, starts_path}
 use Rattle.path_laws.specs.Links.{link_at, link_parties}

@@ -19,8 +19,8 @@ use Rattle.ltp_session.specs.Table.{put, settled}
 use Rattle.ltp_session.specs.World.{End, Event, World, at_end, clock, deliver, first_end, happens}
 use Rattle.ltp_session.specs.World.{replies, run, second_end, submit, submit_reply, submitted}
 use Rattle.ltp_session.specs.World.{unless_refused}
-use Rattle.drain_laws.specs.Hopeful.{HasRoom, Room, coming, is_unknown}
-use Rattle.drain_laws.proofs.RoomLemmas.{how_many}
+use Rattle.ltp_drain.specs.Hopeful.{HasRoom, Room, coming, is_unknown}
+use Rattle.ltp_drain.proofs.RoomLemmas.{how_many}
 use Rattle.path_drain.specs.RoomKept.{IsRoomyThrough}
 use Rattle.path_drain.proofs.CountSteps.{coming-is}
 use Rattle.path_drain.proofs.SubmitSteps.{with_begun}

@@ -5,11 +5,11 @@ use Rattle.std.proofs.Common.{Some, Ok, sym, ◌∙◌, subst, nat_lt, if◌then
 use Rattle.std.specs.List.{AllByRecursion, slice_get}
 use Rattle.ltp_session.specs.Engine.{UpValue}
 use Rattle.ltp_session.specs.World.{End, Sent, run}
-use Rattle.link_laws.specs.View.{IsIn}
-use Rattle.link_laws.proofs.ListLemmas.{all-append}
-use Rattle.link_laws.proofs.RunLemmas.{in-left}
-use Rattle.drain_laws.specs.Draining.{Oldest, oldest}
-use Rattle.drain_laws.specs.Hopeful.{Room}
+use Rattle.ltp_laws.specs.View.{IsIn}
+use Rattle.ltp_laws.proofs.ListLemmas.{all-append}
+use Rattle.ltp_laws.proofs.RunLemmas.{in-left}
+use Rattle.ltp_drain.specs.Draining.{Oldest, oldest}
+use Rattle.ltp_drain.specs.Hopeful.{Room}
 use Rattle.gate_cases.specs.declared.face.Face.{Face}
 use Rattle.gate_cases.specs.declared.face.Face.TheVariants as faces
 use Rattle.gateway_core.specs.Gate.{and_then, arrives_at, at_face, does_at, hears_at, in_turn}

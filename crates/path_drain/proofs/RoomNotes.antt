@@ -20,8 +20,8 @@ use Rattle.ltp_session.specs.Step.{note_closed, note_failed, note_history_full, 
 use Rattle.ltp_session.specs.Step.{note_sent}
 use Rattle.ltp_session.specs.Timer.{is_due, may_repeat}
 use Rattle.ltp_session.specs.Views.{note_of}
-use Rattle.link_laws.proofs.ListLemmas.{all-append, both_arms}
-use Rattle.link_laws.proofs.WalkLemmas.{walk-tick}
+use Rattle.ltp_laws.proofs.ListLemmas.{all-append, both_arms}
+use Rattle.ltp_laws.proofs.WalkLemmas.{walk-tick}
 use Rattle.path_drain.proofs.Arrivals.{Arrived, by_receiver, by_sender, unheard}
 use Rattle.path_drain.proofs.FullLemmas.{NotFull}
 

@@ -6,7 +6,7 @@ use Rattle.ltp_session.specs.Engine.{Engine, EngineStep, SubmitFault, block_empt
 use Rattle.ltp_session.specs.Engine.{block_too_large}
 use Rattle.ltp_session.specs.Step.{StepValue}
 use Rattle.ltp_session.specs.Sender.{Sending}
-use Rattle.drain_laws.specs.Hopeful.{Room}
+use Rattle.ltp_drain.specs.Hopeful.{Room}
 use Rattle.gate_cases.specs.declared.face.Face.{Face}
 use Rattle.gate_cases.specs.declared.face.Face.TheVariants as faces
 use Rattle.gateway_core.specs.Gate.{at_face, sends_at, sends_unless, submission_at, with_face}

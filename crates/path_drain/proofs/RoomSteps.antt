@@ -8,11 +8,11 @@ use Rattle.ltp_session.specs.Engine.{Engine, Party, Reply, UpValue, arrives, dat
 use Rattle.ltp_session.specs.Engine.{list_of, replied_or_stranger, tick_engine, tick_step}
 use Rattle.ltp_session.specs.Table.{AreAscending}
 use Rattle.ltp_session.specs.World.{End, Sent, first_end, second_end}
-use Rattle.link_laws.specs.HandUps.{up_of}
-use Rattle.link_laws.proofs.FrameLemmas.{next-with_receiver}
-use Rattle.link_laws.proofs.RunLemmas.{linked-at, two_ends}
-use Rattle.drain_laws.specs.Draining.{Oldest, oldest}
-use Rattle.drain_laws.proofs.RoomRuns.{room-roomy}
+use Rattle.ltp_laws.specs.HandUps.{up_of}
+use Rattle.ltp_laws.proofs.FrameLemmas.{next-with_receiver}
+use Rattle.ltp_laws.proofs.RunLemmas.{linked-at, two_ends}
+use Rattle.ltp_drain.specs.Draining.{Oldest, oldest}
+use Rattle.ltp_drain.proofs.RoomRuns.{room-roomy}
 use Rattle.gate_cases.specs.declared.face.Face.{Face}
 use Rattle.gate_cases.specs.declared.face.Face.TheVariants as faces
 use Rattle.gate_cases.specs.Faces.{other_of}

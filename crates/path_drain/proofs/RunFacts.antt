@@ -9,15 +9,15 @@ use Rattle.ltp_session.specs.Sender.{Sending}
 use Rattle.ltp_session.specs.Table.{find}
 use Rattle.ltp_session.specs.World.{ArePeers, End, World, at_end, clock, first_end, run}
 use Rattle.ltp_session.specs.World.{second_end, starts_world}
-use Rattle.link_laws.specs.Blocks.{BlockFacts, IsSenderOf}
-use Rattle.link_laws.specs.Engines.{ClosedFacts}
-use Rattle.link_laws.specs.Kept.{IfKept}
-use Rattle.link_laws.specs.Log.{HasFacts, HasFactsBy, Submission, submissions}
-use Rattle.link_laws.specs.View.{IsIn, View, view}
-use Rattle.link_laws.proofs.ClosedLemmas.{closed-keep}
-use Rattle.link_laws.proofs.FactLemmas.{facts-keep}
-use Rattle.link_laws.proofs.LogLemmas.{every_submitted}
-use Rattle.drain_laws.specs.Hopeful.{IsReached}
+use Rattle.ltp_laws.specs.Blocks.{BlockFacts, IsSenderOf}
+use Rattle.ltp_laws.specs.Engines.{ClosedFacts}
+use Rattle.ltp_laws.specs.Kept.{IfKept}
+use Rattle.ltp_laws.specs.Log.{HasFacts, HasFactsBy, Submission, submissions}
+use Rattle.ltp_laws.specs.View.{IsIn, View, view}
+use Rattle.ltp_laws.proofs.ClosedLemmas.{closed-keep}
+use Rattle.ltp_laws.proofs.FactLemmas.{facts-keep}
+use Rattle.ltp_laws.proofs.LogLemmas.{every_submitted}
+use Rattle.ltp_drain.specs.Hopeful.{IsReached}
 use Rattle.gate_cases.specs.declared.face.Face.{Face}
 use Rattle.gate_cases.specs.declared.face.Face.TheVariants as faces
 use Rattle.path_laws.specs.Links.{link_at, link_events, link_parties}

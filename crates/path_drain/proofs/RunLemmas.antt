@@ -2,7 +2,7 @@
 
 use Rattle.std.proofs.Common.{◌≡◌, List, [], ◌∷◌, ◌++◌, refl, sym, ◌∙◌, ap, subst}
 use Rattle.std.proofs.lemmas.List.{append_assoc}
-use Rattle.link_laws.specs.View.{IsIn}
+use Rattle.ltp_laws.specs.View.{IsIn}
 use Rattle.path_laws.specs.declared.effects.NoteAt.{NoteAt}
 use Rattle.path_laws.specs.Path.{PathSetup, Path, PathEvent, path_run, path_step}
 use Rattle.path_laws.specs.Places.{face_place}

@@ -7,9 +7,9 @@ use Rattle.ltp_segment.specs.declared.session.Note.TheVariants as notes
 use Rattle.ltp_segment.specs.Values.{SegmentValue}
 use Rattle.ltp_session.specs.Engine.{EffectsValue, EngineStep, UpValue, datagram_step}
 use Rattle.ltp_session.specs.World.{End, at_end, other}
-use Rattle.link_laws.specs.View.{IsIn}
-use Rattle.link_laws.proofs.RunLemmas.{in-left}
-use Rattle.drain_laws.specs.Effects.{EndEffects, IsHandedUp, IsNoted}
+use Rattle.ltp_laws.specs.View.{IsIn}
+use Rattle.ltp_laws.proofs.RunLemmas.{in-left}
+use Rattle.ltp_drain.specs.Effects.{EndEffects, IsHandedUp, IsNoted}
 use Rattle.gate_cases.specs.declared.face.Face.{Face}
 use Rattle.gate_cases.specs.declared.face.Face.TheVariants as faces
 use Rattle.gateway_core.specs.Gate.{GateStep, and_then, arrives_at, does_at, engine_note_at}

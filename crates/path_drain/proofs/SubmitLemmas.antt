@@ -20,11 +20,11 @@ use Rattle.ltp_session.specs.Views.{headed_all}
 use Rattle.ltp_session.specs.World.{End, World, at_end, first_end, happens, replies, second_end}
 use Rattle.ltp_session.specs.World.{sent_by, submit, submit_reply, submitted, unless_refused}
 use Rattle.ltp_session.specs.declared.name.SessionName.{SessionName}
-use Rattle.drain_laws.specs.Left.{round_burden}
-use Rattle.drain_laws.specs.Left.{sent_burden}
-use Rattle.drain_laws.proofs.FallLemmas.{contents-append, contents_burden, kept_left}
-use Rattle.drain_laws.proofs.FallLemmas.{left-settled, parts-few, pieces-burden}
-use Rattle.drain_laws.proofs.LeftLemmas.{sent_burden-append, sent_burden-by}
+use Rattle.ltp_drain.specs.Left.{round_burden}
+use Rattle.ltp_drain.specs.Left.{sent_burden}
+use Rattle.ltp_drain.proofs.FallLemmas.{contents-append, contents_burden, kept_left}
+use Rattle.ltp_drain.proofs.FallLemmas.{left-settled, parts-few, pieces-burden}
+use Rattle.ltp_drain.proofs.LeftLemmas.{sent_burden-append, sent_burden-by}
 use Rattle.path_drain.specs.Left.{all_left, engine_left, session_left}
 
 -- ---- what a session sends when it is begun

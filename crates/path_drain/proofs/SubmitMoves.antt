@@ -20,23 +20,23 @@ use Rattle.ltp_session.specs.Views.{headed_all}
 use Rattle.ltp_session.specs.World.{ArePeers, End, Event, Sent, World, at_end, first_end}
 use Rattle.ltp_session.specs.World.{clock, deliver, other, replies, run, second_end, sent_by, submit}
 use Rattle.ltp_session.specs.World.{submit_reply, submitted, unless_refused, with_end}
-use Rattle.link_laws.specs.Facts.{SessionFacts}
-use Rattle.link_laws.specs.Log.{Submission, submission_of, submissions, submissions_at}
-use Rattle.link_laws.specs.View.{IsIn, View, begins, session_of, view}
-use Rattle.link_laws.proofs.FrameLemmas.{begun-here, begun-others, next-unused, peers-stay}
-use Rattle.link_laws.proofs.RunLemmas.{linked-at, two_ends}
-use Rattle.drain_laws.specs.Draining.{since}
-use Rattle.drain_laws.specs.Effects.{EndEffects}
-use Rattle.drain_laws.specs.Hopeful.{AreAlike, IsHanded, IsOpen, IsReached, Room, different}
-use Rattle.drain_laws.specs.Hopeful.{offsets_of, session_cost}
-use Rattle.drain_laws.specs.Standing.{AfterSubmit, AllAdvance, DrainHolds, begun_rank}
-use Rattle.drain_laws.proofs.CleanSteps.{IsGoing, reached-more}
-use Rattle.drain_laws.proofs.DrainBegins.{AfterBlock, left_alone, one_more, submit-next}
-use Rattle.drain_laws.proofs.DrainRun.{all-still}
-use Rattle.drain_laws.proofs.OffsetLemmas.{begin-differ}
-use Rattle.drain_laws.proofs.RankSteps.{Grows, submitted-grows}
-use Rattle.drain_laws.proofs.SizeLemmas.{cuts-at}
-use Rattle.drain_laws.proofs.StartLemmas.{session-gives}
+use Rattle.ltp_laws.specs.Facts.{SessionFacts}
+use Rattle.ltp_laws.specs.Log.{Submission, submission_of, submissions, submissions_at}
+use Rattle.ltp_laws.specs.View.{IsIn, View, begins, session_of, view}
+use Rattle.ltp_laws.proofs.FrameLemmas.{begun-here, begun-others, next-unused, peers-stay}
+use Rattle.ltp_laws.proofs.RunLemmas.{linked-at, two_ends}
+use Rattle.ltp_drain.specs.Draining.{since}
+use Rattle.ltp_drain.specs.Effects.{EndEffects}
+use Rattle.ltp_drain.specs.Hopeful.{AreAlike, IsHanded, IsOpen, IsReached, Room, different}
+use Rattle.ltp_drain.specs.Hopeful.{offsets_of, session_cost}
+use Rattle.ltp_drain.specs.Standing.{AfterSubmit, AllAdvance, DrainHolds, begun_rank}
+use Rattle.ltp_drain.proofs.CleanSteps.{IsGoing, reached-more}
+use Rattle.ltp_drain.proofs.DrainBegins.{AfterBlock, left_alone, one_more, submit-next}
+use Rattle.ltp_drain.proofs.DrainRun.{all-still}
+use Rattle.ltp_drain.proofs.OffsetLemmas.{begin-differ}
+use Rattle.ltp_drain.proofs.RankSteps.{Grows, submitted-grows}
+use Rattle.ltp_drain.proofs.SizeLemmas.{cuts-at}
+use Rattle.ltp_drain.proofs.StartLemmas.{session-gives}
 use Rattle.path_drain.specs.RoomKept.{IsRoomyThrough}
 use Rattle.path_drain.proofs.AdvanceLemmas.{advances-both, in-either, none-handed, none-noted}
 use Rattle.path_drain.proofs.AdvanceLemmas.{open-stays}

@@ -10,8 +10,8 @@ use Rattle.ltp_session.specs.Engine.{submits, submits_unless}
 use Rattle.ltp_session.specs.Sender.{Sending, begin}
 use Rattle.ltp_session.specs.Step.{Change, StepValue, ends, keeps, stays}
 use Rattle.ltp_session.specs.Table.{settled}
-use Rattle.drain_laws.specs.Hopeful.{coming, is_unknown}
-use Rattle.drain_laws.proofs.RoomLemmas.{how_many, length-put_new, length-without, many-without}
+use Rattle.ltp_drain.specs.Hopeful.{coming, is_unknown}
+use Rattle.ltp_drain.proofs.RoomLemmas.{how_many, length-put_new, length-without, many-without}
 use Rattle.path_drain.specs.PathRoom.{HasRoomFor}
 use Rattle.path_drain.proofs.CountSteps.{coming-is, many-new}
 

@@ -13,18 +13,18 @@ use Rattle.ltp_session.specs.Step.{Change, StepValue, after, ends, keeps, stays}
 use Rattle.ltp_session.specs.Table.{AreAscending, find}
 use Rattle.ltp_session.specs.Timer.{is_due, may_repeat}
 use Rattle.ltp_session.specs.World.{ArePeers, End, at_end, first_end, other, second_end}
-use Rattle.link_laws.specs.Facts.{SessionFacts}
-use Rattle.link_laws.specs.Runs.{receiver_after}
-use Rattle.link_laws.specs.View.{IsIn, View, closed_after, view_by}
-use Rattle.link_laws.proofs.FrameLemmas.{AreTwo, tick-peer}
-use Rattle.link_laws.proofs.ListLemmas.{both_arms}
-use Rattle.link_laws.proofs.RunLemmas.{Linked, linked-at, two_ends}
-use Rattle.link_laws.proofs.StepLemmas.{tick-form}
-use Rattle.link_laws.proofs.TableLemmas.{after_tick, find-ticked}
-use Rattle.drain_laws.specs.Draining.{Draining}
-use Rattle.drain_laws.specs.Standing.{DrainHolds, TickedTo}
-use Rattle.drain_laws.proofs.DrainRun.{tick-holds, ticked-new, ticked-world}
-use Rattle.drain_laws.proofs.StartLemmas.{session-gives}
+use Rattle.ltp_laws.specs.Facts.{SessionFacts}
+use Rattle.ltp_laws.specs.Runs.{receiver_after}
+use Rattle.ltp_laws.specs.View.{IsIn, View, closed_after, view_by}
+use Rattle.ltp_laws.proofs.FrameLemmas.{AreTwo, tick-peer}
+use Rattle.ltp_laws.proofs.ListLemmas.{both_arms}
+use Rattle.ltp_laws.proofs.RunLemmas.{Linked, linked-at, two_ends}
+use Rattle.ltp_laws.proofs.StepLemmas.{tick-form}
+use Rattle.ltp_laws.proofs.TableLemmas.{after_tick, find-ticked}
+use Rattle.ltp_drain.specs.Draining.{Draining}
+use Rattle.ltp_drain.specs.Standing.{DrainHolds, TickedTo}
+use Rattle.ltp_drain.proofs.DrainRun.{tick-holds, ticked-new, ticked-world}
+use Rattle.ltp_drain.proofs.StartLemmas.{session-gives}
 use Rattle.path_drain.specs.OnTheWay.{is_handed_up, is_on_its_way, sum_on_way}
 use Rattle.path_drain.specs.RoomKept.{SendsRed}
 use Rattle.path_drain.proofs.Arrivals.{unclosed-in}

@@ -7,8 +7,8 @@ use Rattle.gate_cases.specs.declared.face.Face.TheVariants as faces
 use Rattle.ltp_segment.specs.declared.session.TheConstants.{BLOCK_MAX}
 use Rattle.ltp_segment.specs.Policy.{PolicyValue}
 use Rattle.ltp_session.specs.World.{End, at_end, first_end, second_end}
-use Rattle.link_laws.specs.Writable.{HasSmallNumbers}
-use Rattle.drain_laws.specs.Left.{AreTimed}
+use Rattle.ltp_laws.specs.Writable.{HasSmallNumbers}
+use Rattle.ltp_drain.specs.Left.{AreTimed}
 use Rattle.gateway_core.specs.Gate.{party_of}
 use Rattle.path_laws.specs.Links.{link_parties}
 use Rattle.path_laws.specs.Path.{path_setup}

@@ -7,8 +7,8 @@ use Rattle.ltp_session.specs.Receiver.{Receiving}
 use Rattle.ltp_session.specs.Sender.{Sending}
 use Rattle.ltp_session.specs.Step.{Change, stays, keeps, ends}
 use Rattle.ltp_session.specs.Table.{AreAscending, find, put, settled, then_kept, ticked, without}
-use Rattle.link_laws.specs.View.{IsIn}
-use Rattle.link_laws.proofs.TableLemmas.{find_below}
+use Rattle.ltp_laws.specs.View.{IsIn}
+use Rattle.ltp_laws.proofs.TableLemmas.{find_below}
 use Rattle.path_drain.specs.OnTheWay.{is_on_its_way, sum_on_way}
 
 -- what a session adds

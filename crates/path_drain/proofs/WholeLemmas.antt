@@ -2,8 +2,8 @@
 
 use Rattle.std.proofs.Common.{◌≡◌, ℕ, List, [], ◌∷◌, ◌++◌, inl, inr, refl, sym, ◌∙◌, ap, subst}
 use Rattle.std.proofs.lemmas.List.{append_assoc}
-use Rattle.link_laws.specs.View.{IsIn}
-use Rattle.link_laws.proofs.RunLemmas.{in-right}
+use Rattle.ltp_laws.specs.View.{IsIn}
+use Rattle.ltp_laws.proofs.RunLemmas.{in-right}
 use Rattle.gate_cases.specs.declared.face.Face.{Face}
 use Rattle.path_laws.specs.declared.effects.UpAt.{UpAt}
 use Rattle.path_laws.specs.declared.places.Place.{Place}

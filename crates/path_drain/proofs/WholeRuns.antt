@@ -2,9 +2,9 @@
 
 use Rattle.std.proofs.Common.{◌≡◌, ℕ, List, ◌∷◌, ◌++◌, length, ◌⊎◌, inl, inr, refl, sym, ◌∙◌, ap, subst}
 use Rattle.ltp_session.specs.World.{End, clock, other, starts_world}
-use Rattle.link_laws.specs.Log.{hand_ups}
-use Rattle.link_laws.specs.View.{IsIn, view}
-use Rattle.drain_laws.specs.Hopeful.{IsHanded}
+use Rattle.ltp_laws.specs.Log.{hand_ups}
+use Rattle.ltp_laws.specs.View.{IsIn, view}
+use Rattle.ltp_drain.specs.Hopeful.{IsHanded}
 use Rattle.gate_cases.specs.declared.face.Face.{Face}
 use Rattle.path_laws.specs.declared.effects.UpAt.{UpAt}
 use Rattle.path_laws.specs.declared.places.Place.{Place}

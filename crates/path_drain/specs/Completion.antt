@@ -2,8 +2,8 @@
 
 use Rattle.std.specs.Prelude.{◌≡◌, ℕ, ◌≤◌, false, List, ◌∷◌, ◌++◌, length, None, Some, ◌⊎◌}
 use Rattle.ltp_session.specs.Receiver.{Receiving, is_cancelling}
-use Rattle.link_laws.specs.View.{IsIn}
-use Rattle.drain_laws.specs.Hopeful.{IsHanded, IsOpen}
+use Rattle.ltp_laws.specs.View.{IsIn}
+use Rattle.ltp_drain.specs.Hopeful.{IsHanded, IsOpen}
 use Rattle.gate_cases.specs.declared.face.Face.{Face}
 use Rattle.path_laws.specs.declared.effects.UpAt.{UpAt}
 use Rattle.path_laws.specs.declared.places.Place.{Place}

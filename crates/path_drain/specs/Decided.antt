@@ -2,7 +2,7 @@
 -- the clock, and by its room at the other face, as the event comes.
 
 use Rattle.std.specs.Prelude.{◌≡◌, ℕ, List, ◌∷◌, ◌++◌, Some, slice_get}
-use Rattle.link_laws.specs.View.{IsIn}
+use Rattle.ltp_laws.specs.View.{IsIn}
 use Rattle.gate_cases.specs.declared.report.AskedReport.{AskedReport}
 use Rattle.gate_cases.specs.Bundles.{status_bundle}
 use Rattle.gateway_core.specs.Gate.{judged_at}

@@ -2,7 +2,7 @@
 
 use Rattle.std.specs.Prelude.{◌≡◌, ℕ, List, [], ◌∷◌, ◌++◌}
 use Rattle.ltp_segment.specs.declared.session.Note.TheVariants as notes
-use Rattle.link_laws.specs.View.{IsIn}
+use Rattle.ltp_laws.specs.View.{IsIn}
 use Rattle.gate_cases.specs.declared.face.Face.{Face}
 use Rattle.gateway_core.specs.declared.note.GateNote.TheVariants as gate_notes
 use Rattle.path_laws.specs.declared.effects.NoteAt.{NoteAt}

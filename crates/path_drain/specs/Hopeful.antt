@@ -4,8 +4,8 @@
 use Rattle.std.specs.Prelude.{◌≡◌, ℕ, ◌+◌, List, Ok}
 use Rattle.endpoint.specs.declared.name.Endpoint.{Endpoint}
 use Rattle.ltp_segment.specs.Policy.{PolicyValue, policy_of}
-use Rattle.link_laws.specs.View.{View, view}
-use Rattle.drain_laws.specs.Hopeful.{AreAlike, Hopeful, cost}
+use Rattle.ltp_laws.specs.View.{View, view}
+use Rattle.ltp_drain.specs.Hopeful.{AreAlike, Hopeful, cost}
 use Rattle.gate_cases.specs.declared.face.Face.{Face}
 use Rattle.gate_cases.specs.declared.face.Face.TheVariants as faces
 use Rattle.path_laws.specs.declared.places.Place.{Place}

@@ -8,7 +8,7 @@ use Rattle.std.specs.Prelude.{None, Some}
 use Rattle.gate_cases.specs.declared.face.Face.{Face}
 use Rattle.ltp_session.specs.Engine.{Engine}
 use Rattle.ltp_session.specs.World.{End, World, at_end}
-use Rattle.drain_laws.specs.Left.{AreTimed, burden, round_burden, senders_left, sent_burden}
+use Rattle.ltp_drain.specs.Left.{AreTimed, burden, round_burden, senders_left, sent_burden}
 use Rattle.path_drain.specs.Clean.{path_clean_event}
 use Rattle.path_laws.specs.Links.{link_parties}
 use Rattle.path_laws.specs.Path.{Path, PathEvent, PathSetup, SentFrom, clock_shows, delivers}

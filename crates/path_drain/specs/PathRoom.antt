@@ -4,7 +4,7 @@
 use Rattle.std.specs.Prelude.{ℕ, ◌+◌, ◌≤◌, length}
 use Rattle.gate_cases.specs.declared.face.Face.{Face}
 use Rattle.ltp_session.specs.Engine.{Engine, closed_runs}
-use Rattle.drain_laws.specs.Hopeful.{coming}
+use Rattle.ltp_drain.specs.Hopeful.{coming}
 use Rattle.path_laws.specs.Path.{Path, PathSetup}
 use Rattle.path_drain.specs.OnTheWay.{gate_at, node_at, will_begin}
 

@@ -7,11 +7,11 @@ use Rattle.ltp_session.specs.Engine.{Engine, Party}
 use Rattle.ltp_session.specs.Sender.{Sending}
 use Rattle.ltp_session.specs.Table.{find}
 use Rattle.ltp_session.specs.World.{ArePeers, End, Event, Sent, World, happens, run}
-use Rattle.link_laws.specs.Facts.{SessionFacts}
-use Rattle.link_laws.specs.View.{IsIn}
-use Rattle.drain_laws.specs.Draining.{Oldest, oldest}
-use Rattle.drain_laws.specs.Hopeful.{IsReached, Room}
-use Rattle.drain_laws.specs.Standing.{DrainHolds}
+use Rattle.ltp_laws.specs.Facts.{SessionFacts}
+use Rattle.ltp_laws.specs.View.{IsIn}
+use Rattle.ltp_drain.specs.Draining.{Oldest, oldest}
+use Rattle.ltp_drain.specs.Hopeful.{IsReached, Room}
+use Rattle.ltp_drain.specs.Standing.{DrainHolds}
 use Rattle.gate_cases.specs.declared.face.Face.{Face}
 use Rattle.gateway_core.specs.declared.note.GateNote.TheVariants as gate_notes
 use Rattle.path_laws.specs.declared.effects.NoteAt.{NoteAt}

@@ -1,8 +1,8 @@
 -- What holds of every run of a path, whether or not a drain follows.
 
 use Rattle.std.specs.Prelude.{◌≡◌, ℕ, List, ◌++◌}
-use Rattle.link_laws.specs.View.{IsIn}
-use Rattle.drain_laws.specs.Hopeful.{IsHanded}
+use Rattle.ltp_laws.specs.View.{IsIn}
+use Rattle.ltp_drain.specs.Hopeful.{IsHanded}
 use Rattle.gate_cases.specs.declared.face.Face.{Face}
 use Rattle.path_laws.specs.declared.effects.UpAt.{UpAt}
 use Rattle.path_laws.specs.declared.places.Place.{Place}

@@ -14,7 +14,7 @@
 //! - [`completion`]. `specs/Hopeful` says when a drain completes all sessions and what it costs,
 //!   `Completion` what it promises, and `Effects` how that shows. On each link an event of the path is
 //!   a delivery of the oldest segment there, or a clock, or nothing; and then come the blocks that the
-//!   gate submits. So the laws of drains of one link (`drain_laws`) hold of both, with the sessions
+//!   gate submits. So the laws of drains of one link (`ltp_drain`) hold of both, with the sessions
 //!   that the gate begins in the drain.
 //! - [`whole_runs`]. What a drain promises together with the run before it, whatever happened then: a
 //!   session that is open where the drain begins was begun and perhaps handed up before, and a block

@@ -9,8 +9,8 @@ use Rattle.ltp_session.specs.declared.name.SessionName.{SessionName}
 use Rattle.ltp_session.specs.Engine.{Party, Engine, EngineStep, Reply, SubmitFault, UpValue, submit_fault, submits_unless, submits, submit_step, arrives, datagram_step, replied_or_stranger, tick_step, list_of}
 use Rattle.ltp_session.specs.World.{End, first_end, second_end, other, at_end, with_end, Event, World, sent_by, replies, unless_refused, submitted, delivered, ticks, happens, run, submit, deliver, clock}
 use Rattle.ltp_session.specs.World.{Sent as LinkSent}
-use Rattle.link_laws.specs.HandUps.{up_of}
-use Rattle.link_laws.specs.Log.{HandUp, Submission, hand_up_of, hand_ups, hand_ups_at, hand_ups_by, submissions, submissions_at, submission_of}
+use Rattle.ltp_laws.specs.HandUps.{up_of}
+use Rattle.ltp_laws.specs.Log.{HandUp, Submission, hand_up_of, hand_ups, hand_ups_at, hand_ups_by, submissions, submissions_at, submission_of}
 use Rattle.gate_cases.specs.declared.face.Face.{Face}
 use Rattle.gate_cases.specs.declared.face.Face.TheVariants as faces
 use Rattle.gate_cases.specs.Faces.{other_of}

@@ -3,10 +3,10 @@
 use Rattle.std.proofs.Common.{◌≡◌, ℕ, List, [], ◌∷◌, length, map, take, refl, sym, ◌∙◌, ap, subst}
 use Rattle.std.specs.List.{AllByRecursion}
 use Rattle.ltp_session.specs.World.{End, first_end, second_end, other, at_end, ArePeers, clock, starts_world}
-use Rattle.link_laws.specs.Log.{HandUp, IsFront, IsSame, AtMostOnce, Submission, EachOnce, HandsUpFronts, hand_ups, submissions}
-use Rattle.link_laws.specs.Log.{IsSameNumber as IsSameSubmission}
-use Rattle.link_laws.specs.View.{IsIn}
-use Rattle.link_laws.proofs.LogLemmas.{red_parts_are_fronts}
+use Rattle.ltp_laws.specs.Log.{HandUp, IsFront, IsSame, AtMostOnce, Submission, EachOnce, HandsUpFronts, hand_ups, submissions}
+use Rattle.ltp_laws.specs.Log.{IsSameNumber as IsSameSubmission}
+use Rattle.ltp_laws.specs.View.{IsIn}
+use Rattle.ltp_laws.proofs.LogLemmas.{red_parts_are_fronts}
 use Rattle.gate_cases.specs.declared.face.Face.{Face}
 use Rattle.gate_cases.specs.declared.face.Face.TheVariants as faces
 use Rattle.path_laws.specs.declared.effects.UpAt.{UpAt}

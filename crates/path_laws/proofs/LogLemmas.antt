@@ -2,7 +2,7 @@
 
 use Rattle.std.proofs.Common.{◌≡◌, List, [], ◌∷◌, ◌++◌, map, refl, sym, ◌∙◌, ap, subst, inl, inr}
 use Rattle.std.specs.List.{AllByRecursion}
-use Rattle.link_laws.specs.View.{IsIn}
+use Rattle.ltp_laws.specs.View.{IsIn}
 use Rattle.gate_cases.specs.declared.face.Face.{Face}
 use Rattle.gate_cases.specs.declared.face.Face.TheVariants as faces
 use Rattle.path_laws.specs.declared.places.Place.{Place}

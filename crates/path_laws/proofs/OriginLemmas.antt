@@ -4,7 +4,7 @@ use Rattle.std.proofs.Common.{◌≡◌, ℕ, suc, ◌+◌, ◌<◌, ◌≤◌, 
 use Rattle.std.specs.List.{AllByRecursion, slice_get}
 use Rattle.ltp_segment.specs.Values.{SegmentValue}
 use Rattle.ltp_session.specs.Engine.{EngineStep, SubmitFault, UpValue}
-use Rattle.link_laws.specs.View.{IsIn}
+use Rattle.ltp_laws.specs.View.{IsIn}
 use Rattle.translate.specs.declared.refused.Refused.{Refused}
 use Rattle.translate.specs.Refusals.{first_that_holds}
 use Rattle.gate_cases.specs.declared.case.GateCase.{GateCase}

@@ -9,7 +9,7 @@ use Rattle.ltp_segment.specs.Values.{SegmentValue}
 use Rattle.ltp_session.specs.Engine.{Party, EngineStep, SubmitFault, datagram_step, tick_step, starts}
 use Rattle.ltp_session.specs.World.{End, first_end, second_end, other, at_end, Event, happens, submit, deliver, clock, starts_world, ticks}
 use Rattle.ltp_session.specs.World.{Sent as LinkSent}
-use Rattle.link_laws.specs.Log.{hand_ups, submissions}
+use Rattle.ltp_laws.specs.Log.{hand_ups, submissions}
 use Rattle.gate_cases.specs.declared.face.Face.{Face}
 use Rattle.gate_cases.specs.declared.face.Face.TheVariants as faces
 use Rattle.gate_cases.specs.Faces.{other_of}

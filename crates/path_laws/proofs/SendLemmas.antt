@@ -12,9 +12,9 @@ use Rattle.ltp_session.specs.Sender.{Sending, sender_answers}
 use Rattle.ltp_session.specs.Receiver.{Receiving, receiver_answers}
 use Rattle.ltp_session.specs.Table.{find}
 use Rattle.ltp_session.specs.Engine.{Party, Engine, EngineStep, Reply, SubmitFault, UpValue, submit_fault, submits_unless, submits, submit_step, is_used, sender_replies, evicted_by, without_evicted, receiver_replies, place_of, to_sender, to_receiver, arrives, replied_or_stranger, datagram_step, tick_step}
-use Rattle.link_laws.specs.View.{IsIn}
-use Rattle.link_laws.proofs.FrameLemmas.{next-with_receiver}
-use Rattle.link_laws.proofs.ListLemmas.{both_arms}
+use Rattle.ltp_laws.specs.View.{IsIn}
+use Rattle.ltp_laws.proofs.FrameLemmas.{next-with_receiver}
+use Rattle.ltp_laws.proofs.ListLemmas.{both_arms}
 use Rattle.gate_cases.specs.declared.face.Face.{Face}
 use Rattle.gateway_core.specs.Gate.{Gate, GateSetup, does_at, hears_at, judged_at, sends_at, in_turn, passes_at}
 use Rattle.gate_cases.specs.declared.judged.Judged.{Judged}

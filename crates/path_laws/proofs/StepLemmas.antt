@@ -6,7 +6,7 @@ use Rattle.ltp_segment.specs.Values.{SegmentValue}
 use Rattle.ltp_session.specs.Engine.{Party, Engine, EngineStep, SubmitFault, UpValue}
 use Rattle.ltp_session.specs.World.{End, first_end, second_end, Event, World, sent_by, submit}
 use Rattle.ltp_session.specs.World.{Sent as LinkSent}
-use Rattle.link_laws.specs.Log.{hand_ups, submissions}
+use Rattle.ltp_laws.specs.Log.{hand_ups, submissions}
 use Rattle.gate_cases.specs.declared.face.Face.{Face}
 use Rattle.gate_cases.specs.declared.face.Face.TheVariants as faces
 use Rattle.gate_cases.specs.declared.judged.Judged.{Judged}

@@ -6,7 +6,7 @@
 //! of times, or the clock goes on. A datagram that is never delivered is lost.
 //!
 //! `specs/Links` says what a path's events are on each link, and [`laws::links_run`] that each link
-//! then runs as two engines on a link do. So what `link_laws` says of every run holds of both. What
+//! then runs as two engines on a link do. So what `ltp_laws` says of every run holds of both. What
 //! that comes to for the bundles is [`laws::received_as_sent`]. Each law is the contract of a
 //! function that does nothing.
 #![tactic(auto)]

@@ -5,7 +5,7 @@ use Rattle.std.proofs.Common.{Option, None, Some, Ok, Err, inl, inr, refl, sym, 
 use Rattle.std.proofs.lemmas.Bool.Decides.{nat_tests}
 use Rattle.std.proofs.lemmas.List.{append-nil, append_assoc, length-map}
 use Rattle.std.specs.Option.{option_map}
-use Rattle.link_laws.proofs.ListLemmas.{all-append}
+use Rattle.ltp_laws.proofs.ListLemmas.{all-append}
 use Rattle.ltp_engine.specs.Shows.{Shows}
 use Rattle.ltp_engine.specs.Steps.{deadline_of}
 use Rattle.ltp_engine.specs.Values.{EngineValue}

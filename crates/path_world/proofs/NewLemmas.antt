@@ -13,8 +13,8 @@ use Rattle.gateway_core.specs.Gate.{starts_gate}
 use Rattle.gateway_core.specs.Shows.{ShowsGate, IsGateBounded}
 use Rattle.gateway_core.specs.Values.{GatewayValue, new_gateway}
 use Rattle.gateway_core.specs.Values.{setup_of as gate_setup_of}
-use Rattle.link_laws.specs.Deadlines.{Waits}
-use Rattle.link_laws.specs.Writable.{HasSmallNumbers}
+use Rattle.ltp_laws.specs.Deadlines.{Waits}
+use Rattle.ltp_laws.specs.Writable.{HasSmallNumbers}
 use Rattle.ltp_engine.specs.Bounds.{IsBounded}
 use Rattle.ltp_engine.specs.Shows.{Shows}
 use Rattle.ltp_engine.specs.Steps.{new_engine}

@@ -5,7 +5,7 @@ use Rattle.std.proofs.lemmas.Bool.Decides.{nat_tests}
 use Rattle.std.proofs.lemmas.List.{append-nil, append_assoc, length-map}
 use Rattle.std.specs.List.{slice_get}
 use Rattle.gate_cases.specs.declared.face.Face.{Face}
-use Rattle.link_laws.proofs.WritableLemmas.{segments_can_be_written}
+use Rattle.ltp_laws.proofs.WritableLemmas.{segments_can_be_written}
 use Rattle.ltp_segment.specs.Reading.{segment_of}
 use Rattle.ltp_segment.specs.Spelling.{segment_octets}
 use Rattle.ltp_segment.specs.Values.{SegmentValue}

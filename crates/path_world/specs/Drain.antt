@@ -3,8 +3,8 @@
 use Rattle.std.specs.Prelude.{◌≡◌, ℕ, ◌<◌, ◌≤◌, ◌^◌, true, false, List, [], ◌∷◌, ◌++◌, length}
 use Rattle.std.specs.Prelude.{Option, None, Some, Result, Ok, Err, ◌⊎◌}
 use Rattle.std.specs.List.{AllByRecursion, flat_map}
-use Rattle.link_laws.specs.View.{IsIn}
-use Rattle.drain_laws.specs.Hopeful.{IsHanded, IsOpen}
+use Rattle.ltp_laws.specs.View.{IsIn}
+use Rattle.ltp_drain.specs.Hopeful.{IsHanded, IsOpen}
 use Rattle.ltp_world.specs.declared.refused.DrainRefused.{DrainRefused}
 use Rattle.ltp_world.specs.declared.refused.DrainRefused.TheVariants as causes
 use Rattle.path_laws.specs.declared.effects.NoteAt.{NoteAt}

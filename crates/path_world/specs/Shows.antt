@@ -5,7 +5,7 @@ use Rattle.std.specs.Prelude.{◌≡◌, ℕ, List, map}
 use Rattle.fragments.specs.Again.{IsBounded as IsJoinBounded}
 use Rattle.gate_cases.specs.declared.face.Face.{Face}
 use Rattle.gateway_core.specs.Shows.{ShowsGate, IsGateBounded}
-use Rattle.link_laws.specs.Writable.{HasSmallNumbers}
+use Rattle.ltp_laws.specs.Writable.{HasSmallNumbers}
 use Rattle.ltp_engine.specs.Bounds.{IsBounded}
 use Rattle.ltp_engine.specs.Shows.{Shows}
 use Rattle.path_drain.specs.Hopeful.{AreAlikeOnPath}

@@ -2,7 +2,7 @@
 
 use Rattle.std.specs.Prelude.{ℕ, ◌+◌, ◌-◌, ◌*◌, ◌^◌, List, [], ◌∷◌, drop}
 use Rattle.ltp_segment.specs.Reading.{segment_of}
-use Rattle.drain_laws.specs.Left.{senders_left}
+use Rattle.ltp_drain.specs.Left.{senders_left}
 use Rattle.ltp_engine.specs.Values.{EngineValue}
 use Rattle.ltp_world.specs.Work.{read_burden}
 use Rattle.path_drain.specs.Left.{session_left}

@@ -12,7 +12,7 @@ use Rattle.command_frame.specs.Lines.{turn_at, after_turn, lines_settle, lines_f
 use Rattle.command_frame.specs.Within.{within, or_limit}
 use Rattle.command_frame.proofs.FrontLemmas.{from-end, from-limit}
 use Rattle.wire_fields.specs.Reading.{IsOctets}
-use Rattle.link_laws.proofs.ListLemmas.{both_arms}
+use Rattle.ltp_laws.proofs.ListLemmas.{both_arms}
 use Rattle.ltp_session.specs.Engine.{Party, Engine, EngineStep, SubmitFault, submits, submit_step}
 use Rattle.ltp_audit.specs.declared.entry.Entry.{Entry}
 use Rattle.ltp_audit.specs.Keeping.{followed_by, KeepsRules}

@@ -6,10 +6,10 @@ use Rattle.std.proofs.lemmas.Bool.Decides.{nat_tests}
 use Rattle.std.specs.List.{slice_get}
 use Rattle.ltp_session.specs.Engine.{Party}
 use Rattle.ltp_session.specs.World.{Event, World, clock, deliver, happens, starts_world, submit}
-use Rattle.drain_laws.specs.Clean.{clean_event, passed_after}
-use Rattle.drain_laws.specs.Hopeful.{IsReached}
-use Rattle.drain_laws.specs.Left.{AreTimed, link_left}
-use Rattle.drain_laws.proofs.WearLemmas.{drains-wear-out}
+use Rattle.ltp_drain.specs.Clean.{clean_event, passed_after}
+use Rattle.ltp_drain.specs.Hopeful.{IsReached}
+use Rattle.ltp_drain.specs.Left.{AreTimed, link_left}
+use Rattle.ltp_drain.proofs.WearLemmas.{drains-wear-out}
 use Rattle.ltp_world.proofs.DrainLemmas.{run-append}
 use Rattle.window_world.specs.Made.{DrainsAreMade, DrainsAreOne, EndsBy, IsBefore, IsOverBy, Onward, drain_events, event_then, events_within, next_and_on}
 use Rattle.window_world.proofs.WindowLemmas.{now-of-delivered, now-of-tick}

@@ -10,7 +10,7 @@ use Rattle.ltp_session.specs.Receiver.{Receiving, ReceivingPhase, receiver_cance
 use Rattle.ltp_session.specs.Sender.{Sending, sender_deadline, sender_tick}
 use Rattle.ltp_session.specs.Step.{StepValue, sending, stays}
 use Rattle.ltp_session.specs.World.{World}
-use Rattle.drain_laws.specs.Clean.{link_deadline}
+use Rattle.ltp_drain.specs.Clean.{link_deadline}
 use Rattle.ltp_engine.specs.Effects.{effects_of, nothing_done}
 use Rattle.ltp_world.specs.declared.effects.EndEffects.{EndEffects}
 use Rattle.ltp_world.specs.Clean.{deadline_in}

@@ -9,10 +9,10 @@ use Rattle.ltp_session.specs.declared.name.SessionName.{SessionName}
 use Rattle.ltp_session.specs.Engine.{Party, Reply, arrives}
 use Rattle.ltp_session.specs.World.{Sent as LinkSent}
 use Rattle.ltp_session.specs.World.{End, Event, World, at_end, clock, deliver, delivered, happens, other, replies, run, starts_world, submit, submit_reply, submitted, ticks}
-use Rattle.drain_laws.specs.Clean.{AreClean, link_deadline, passed}
-use Rattle.drain_laws.specs.Completion.{IsReady}
-use Rattle.drain_laws.specs.Effects.{effects_at}
-use Rattle.drain_laws.proofs.CompletionLemmas.{clean-few}
+use Rattle.ltp_drain.specs.Clean.{AreClean, link_deadline, passed}
+use Rattle.ltp_drain.specs.Completion.{IsReady}
+use Rattle.ltp_drain.specs.Effects.{effects_at}
+use Rattle.ltp_drain.proofs.CompletionLemmas.{clean-few}
 use Rattle.ltp_engine.specs.declared.effects.Effects.{Effects}
 use Rattle.ltp_engine.specs.declared.refused.SubmitRefused.{SubmitRefused}
 use Rattle.ltp_engine.specs.declared.refused.SubmitRefused.TheVariants as causes

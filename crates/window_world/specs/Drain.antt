@@ -4,9 +4,9 @@ use Rattle.std.specs.Prelude.{◌≡◌, ℕ, ◌≤◌, Bool, true, false, List
 use Rattle.std.specs.Prelude.{None, Some}
 use Rattle.ltp_session.specs.Engine.{Party}
 use Rattle.ltp_session.specs.World.{Event, World, clock, deliver, happens, run, submit}
-use Rattle.drain_laws.specs.Clean.{AreCleanFrom, link_deadline, passed}
-use Rattle.drain_laws.specs.Effects.{effects_at}
-use Rattle.drain_laws.specs.Hopeful.{Hopeful, Room, cost}
+use Rattle.ltp_drain.specs.Clean.{AreCleanFrom, link_deadline, passed}
+use Rattle.ltp_drain.specs.Effects.{effects_at}
+use Rattle.ltp_drain.specs.Hopeful.{Hopeful, Room, cost}
 use Rattle.ltp_world.specs.declared.effects.Drained.{Drained}
 use Rattle.ltp_world.specs.declared.effects.EndEffects.{EndEffects}
 use Rattle.ltp_world.specs.Drain.{Completed, InEveryRun, told_of}

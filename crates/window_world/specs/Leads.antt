@@ -3,7 +3,7 @@
 use Rattle.std.specs.Prelude.{◌≡◌, ℕ, false, List, ◌++◌}
 use Rattle.ltp_session.specs.Engine.{Party}
 use Rattle.ltp_session.specs.World.{Event, World}
-use Rattle.drain_laws.specs.Clean.{AreClean, passed}
+use Rattle.ltp_drain.specs.Clean.{AreClean, passed}
 use Rattle.ltp_world.specs.Drain.{InEveryRun}
 use Rattle.ltp_world.specs.Shows.{ShowsRun, link_after}
 use Rattle.ltp_world.specs.Values.{WorldValue, parties_of}

@@ -6,9 +6,9 @@ use Rattle.std.specs.Prelude.{◌≡◌, ℕ, zero, suc, ◌-◌, ◌<◌, ◌�
 use Rattle.std.specs.Prelude.{Some, if◌then◌else◌}
 use Rattle.ltp_session.specs.Engine.{Party}
 use Rattle.ltp_session.specs.World.{Event, World, clock, deliver, happens, run, submit}
-use Rattle.drain_laws.specs.Clean.{AreClean, clean_event, passed, passed_after}
-use Rattle.drain_laws.specs.Hopeful.{IsReached}
-use Rattle.drain_laws.specs.Left.{AreTimed, link_left}
+use Rattle.ltp_drain.specs.Clean.{AreClean, clean_event, passed, passed_after}
+use Rattle.ltp_drain.specs.Hopeful.{IsReached}
+use Rattle.ltp_drain.specs.Left.{AreTimed, link_left}
 
 -- ---- event by event
 

@@ -2,7 +2,7 @@
 
 ghost use Rattle.std.specs.Prelude.{◌≡◌, ◌<◌, ◌≤◌, ◌^◌, false, true, List, length, IfOk, OnOk, OnErr};
 ghost use Rattle.ltp_session.specs.World.{ArePeers, Event, deliver};
-ghost use Rattle.drain_laws.specs.Hopeful.{AreAlike};
+ghost use Rattle.ltp_drain.specs.Hopeful.{AreAlike};
 ghost use Rattle.ltp_world.specs.RedParts.{HandsUpFronts};
 ghost use Rattle.ltp_world.specs.Shows.{AreBounded, IsNew, ShowsRun};
 ghost use Rattle.ltp_world.specs.Values.{parties_of};

@@ -15,7 +15,7 @@ use Rattle.endpoint.specs.Endpoints.{begins}
 use Rattle.replay_script.specs.declared.fault.LineFault.{LineFault}
 use Rattle.replay_script.specs.declared.fault.LineFault.TheVariants as faults
 use Rattle.replay_script.specs.Words.{spaced}
-use Rattle.link_laws.specs.View.{IsIn}
+use Rattle.ltp_laws.specs.View.{IsIn}
 use Rattle.gate_cases.specs.declared.face.Face.{Face}
 use Rattle.path_laws.specs.declared.effects.NoteAt.{NoteAt}
 use Rattle.path_laws.specs.declared.effects.UpAt.{UpAt}

@@ -1,6 +1,6 @@
 use Rattle.link_run.proofs.PickedLemmas.{goes-at}
 use Rattle.link_run.proofs.PicksMade.{turns-made}
-use Rattle.pick_laws.specs.Picks.{after_picks, crosses_at}
+use Rattle.ltp_picks.specs.Picks.{after_picks, crosses_at}
 use Rattle.link_run.proofs.laws.turns_are_made.Goals as goal
 
 pub returns : goal.returns

@@ -1,7 +1,7 @@
 use Rattle.link_run.proofs.PickedLemmas.{goes-at}
 use Rattle.link_run.proofs.PicksMade.{one-end, turns-made}
 use Rattle.link_run.specs.Picks.{turns_after}
-use Rattle.pick_laws.specs.Picks.{after_picks, crosses_at}
+use Rattle.ltp_picks.specs.Picks.{after_picks, crosses_at}
 use Rattle.link_run.proofs.laws.turns_are_one.Goals as goal
 
 pub returns : goal.returns

@@ -1,6 +1,6 @@
 use Rattle.std.proofs.Common.{refl}
-use Rattle.drain_laws.specs.Hopeful.{cost, different, sum_below}
-use Rattle.link_laws.specs.View.{said}
+use Rattle.ltp_drain.specs.Hopeful.{cost, different, sum_below}
+use Rattle.ltp_laws.specs.View.{said}
 use Rattle.ltp_session.specs.Engine.{least_deadline, submits}
 use Rattle.ltp_session.specs.Sender.{begin, green_pieces, last_segment, red_pieces, segments_from}
 use Rattle.ltp_session.specs.Table.{find, put}

@@ -1,5 +1,0 @@
-use Rattle.drain_laws.proofs.ReadyLemmas.{block-ready}
-use Rattle.drain_laws.proofs.examples.a_link_that_sent_a_block_is_ready.Goals as goal
-
-pub returns : goal.returns
-returns c = block-ready

@@ -1,9 +1,0 @@
-use Rattle.link_laws.specs.Acknowledgements.{AckFacts, CloseFacts}
-use Rattle.link_laws.proofs.LogLemmas.{every_fact}
-use Rattle.link_laws.proofs.laws.acknowledgements_name_reports.Goals as goal
-
-pub returns : goal.returns
-returns c = record {
-  acks = every_fact AckFacts (λ block red v f. f.acks);
-  closes = every_fact CloseFacts (λ block red v f. f.closes);
-}

@@ -1,6 +1,0 @@
-use Rattle.link_laws.specs.Cancels.{CancelFacts}
-use Rattle.link_laws.proofs.LogLemmas.{every_fact}
-use Rattle.link_laws.proofs.laws.cancelled_sessions_stay_so.Goals as goal
-
-pub returns : goal.returns
-returns c = every_fact CancelFacts (λ block red v f. f.offs)

@@ -1,9 +1,0 @@
-use Rattle.link_laws.specs.Checkpoints.{CheckpointFacts, FirstFacts}
-use Rattle.link_laws.proofs.LogLemmas.{every_fact}
-use Rattle.link_laws.proofs.laws.checkpoints_follow_reports.Goals as goal
-
-pub returns : goal.returns
-returns c = record {
-  asked = every_fact CheckpointFacts (λ block red v f. f.asks);
-  first = every_fact FirstFacts (λ block red v f. f.firsts);
-}

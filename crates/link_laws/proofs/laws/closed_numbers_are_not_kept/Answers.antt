@@ -1,7 +1,0 @@
-use Rattle.link_laws.specs.Engines.{ClosedFacts}
-use Rattle.link_laws.proofs.ClosedLemmas.{closed-keep}
-use Rattle.link_laws.proofs.LogLemmas.{every_submitted}
-use Rattle.link_laws.proofs.laws.closed_numbers_are_not_kept.Goals as goal
-
-pub returns : goal.returns
-returns c = every_submitted ClosedFacts closed-keep

@@ -1,5 +1,0 @@
-use Rattle.link_laws.proofs.LogLemmas.{engines_are_well_formed}
-use Rattle.link_laws.proofs.laws.engines_are_well_formed.Goals as goal
-
-pub returns : goal.returns
-returns c = engines_are_well_formed

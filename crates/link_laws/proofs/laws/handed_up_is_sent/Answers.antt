@@ -1,5 +1,0 @@
-use Rattle.link_laws.proofs.LawLemmas.{handed_up_is_sent}
-use Rattle.link_laws.proofs.laws.handed_up_is_sent.Goals as goal
-
-pub returns : goal.returns
-returns c = handed_up_is_sent

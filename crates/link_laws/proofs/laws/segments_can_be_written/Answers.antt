@@ -1,5 +1,0 @@
-use Rattle.link_laws.proofs.WritableLemmas.{segments_can_be_written}
-use Rattle.link_laws.proofs.laws.segments_can_be_written.Goals as goal
-
-pub returns : goal.returns
-returns c = segments_can_be_written

@@ -1,5 +1,0 @@
-use Rattle.link_laws.proofs.SegmentLemmas.{segments_have_sessions}
-use Rattle.link_laws.proofs.laws.segments_have_sessions.Goals as goal
-
-pub returns : goal.returns
-returns c = segments_have_sessions

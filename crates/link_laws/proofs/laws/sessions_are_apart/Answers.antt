@@ -1,5 +1,0 @@
-use Rattle.link_laws.proofs.ApartLemmas.{sessions_are_apart}
-use Rattle.link_laws.proofs.laws.sessions_are_apart.Goals as goal
-
-pub returns : goal.returns
-returns c = sessions_are_apart

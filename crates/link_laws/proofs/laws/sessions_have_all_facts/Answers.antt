@@ -1,6 +1,0 @@
-use Rattle.link_laws.specs.Facts.{SessionFacts}
-use Rattle.link_laws.proofs.LogLemmas.{every_fact}
-use Rattle.link_laws.proofs.laws.sessions_have_all_facts.Goals as goal
-
-pub returns : goal.returns
-returns c = every_fact SessionFacts (λ block red v f. f)

@@ -1,0 +1,88 @@
+-- What a rank counts: the events that one session of a drain still takes, at most.
+--
+-- Whatever is on its way is delivered, and what it brings about is counted with it. Beside that, a
+-- timer whose answer isn't on its way fires once; and a sender whose checkpoint may find octets
+-- missing sends them in one more round.
+
+use Rattle.std.specs.Prelude.{◌≡◌, ℕ, ◌+◌, ◌<◌, ◌≤◌, Bool, true, false, not, ◌==◌, ◌&&◌, ◌||◌}
+use Rattle.std.specs.Prelude.{nat_lt, nat_le, List, [], ◌∷◌, length, take, Option, None, Some}
+use Rattle.std.specs.Prelude.{is_some, ◌⊎◌, if◌then◌else◌}
+use Rattle.ltp_segment.specs.Kinds.{is_red, is_checkpoint}
+use Rattle.ltp_segment.specs.Values.{PieceValue, ReportValue, ContentValue, a_piece, a_report}
+use Rattle.ltp_segment.specs.Values.{a_report_ack}
+use Rattle.ltp_session.specs.Cells.{cell}
+use Rattle.ltp_session.specs.Receiver.{Pending, Receiving}
+use Rattle.ltp_session.specs.Sender.{Sending, segments_of, sender_open}
+use Rattle.ltp_session.specs.declared.timer.Timer.{Timer}
+use Rattle.ltp_laws.specs.Claims.{IsWhole}
+use Rattle.ltp_laws.specs.Serials.{pending_of}
+use Rattle.ltp_laws.specs.View.{IsIn, View}
+
+-- a checkpoint is delivered, and so are the report on it and that report's acknowledgement; a
+-- report and its acknowledgement; anything else alone
+abbrev pub weight : ContentValue → ℕ
+weight (a_piece q) = if is_checkpoint q.kind then 3 else 1
+weight (a_report x) = 2
+weight content = 1
+
+unfoldable pub weights : List ContentValue → ℕ
+weights [] = 0
+weights (c ∷ cs) = weight c + weights cs
+
+-- a red piece that has a place
+abbrev pub has_cell : ℕ → ContentValue → Bool
+has_cell i (a_piece q) = is_red q.kind && nat_le q.offset i && nat_lt i (q.offset + length q.body)
+has_cell i content = false
+
+-- a checkpoint with this serial
+abbrev pub is_checkpoint_of : ℕ → ContentValue → Bool
+is_checkpoint_of c (a_piece q) = is_checkpoint q.kind && (q.checkpoint == c)
+is_checkpoint_of c content = false
+
+-- a piece with the place comes before the checkpoint with this serial, or is it
+unfoldable pub ahead : ℕ → ℕ → List ContentValue → Bool
+ahead c i [] = false
+ahead c i (e ∷ es) = has_cell i e || (not (is_checkpoint_of c e) && ahead c i es)
+
+-- the receiver has an octet at a place
+abbrev pub HasFilled : ℕ → Option Receiving → Type 0
+HasFilled i None = ⊥
+HasFilled i (Some r) = is_some (cell r.cells i) ≡ true
+
+-- no more rounds follow the checkpoint with serial c: each report on it is whole, and every octet
+-- has come, or comes before it
+pub record Settled (red : ℕ) (v : View) (c : ℕ) (new : List ContentValue) : Type 0 where
+  pub whole : (x : ReportValue) → IsIn (a_report x) v.by_receiver → x.checkpoint ≡ c
+      → IsWhole red x
+  pub cells : (i : ℕ) → i < red → HasFilled i v.receiver ⊎ (ahead c i new ≡ true)
+
+-- a report with this serial, or its acknowledgement, is on its way
+abbrev pub IsReportedOn : ℕ → List ContentValue → List ContentValue → Type 0
+IsReportedOn serial new_s new_r = ((x : ReportValue) × IsIn (a_report x) new_r
+    × (x.serial ≡ serial)) ⊎ IsIn (a_report_ack serial) new_s
+
+-- a checkpoint with this serial, or a report that names it, is on its way
+abbrev pub IsAskedOn : ℕ → List ContentValue → List ContentValue → Type 0
+IsAskedOn c new_s new_r =
+    ((q : PieceValue) × IsIn (a_piece q) new_s × (is_checkpoint q.kind ≡ true)
+    × (q.checkpoint ≡ c))
+    ⊎ ((x : ReportValue) × IsIn (a_report x) new_r × (x.checkpoint ≡ c))
+
+-- a rank is no more than n, by three numbers: what its report's timer, its checkpoint's timer and
+-- a round of its sender take
+pub record RankAtMost (z red : ℕ) (v : View) (new_s new_r : List ContentValue)
+    (n : ℕ) : Type 0 where
+  pub report : ℕ
+  pub checkpoint : ℕ
+  pub round : ℕ
+  pub sum : weights new_s + weights new_r + report + checkpoint + round ≤ n
+  pub reporting : (r : Receiving) (p : Pending) → v.receiver ≡ Some r
+      → pending_of r.phase ≡ Some p
+      → IsReportedOn (p.report).serial new_s new_r ⊎ (3 ≤ report)
+  pub asking : (s : Sending) (c : PieceValue) (timer : Timer) → v.sender ≡ Some s
+      → s.phase ≡ sender_open c timer
+      → IsAskedOn c.checkpoint new_s new_r ⊎ (4 ≤ checkpoint)
+  pub rounding : (s : Sending) (c : PieceValue) (timer : Timer) → v.sender ≡ Some s
+      → s.phase ≡ sender_open c timer
+      → Settled red v c.checkpoint new_s ⊎ (length (segments_of z 0 (take s.red s.block)) + 2 ≤
+      round)

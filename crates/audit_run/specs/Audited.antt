@@ -13,7 +13,7 @@ use Rattle.ltp_audit.specs.Words.{rule_word}
 use Rattle.ltp_audit.specs.Rules.{fault_of}
 use Rattle.replay_script.specs.declared.fault.LineFault.{LineFault}
 use Rattle.replay_script.specs.Fault.{word_of}
-use Rattle.note_lines.specs.NoteLines.{line_of}
+use Rattle.replay_script.specs.NoteLines.{line_of}
 use Rattle.audit_run.specs.EntryLine.{entry_of}
 
 -- ---- lines that are written

@@ -8,7 +8,7 @@ use Rattle.gateway_core.specs.Notes.{gate_note_name}
 use Rattle.translate.specs.Refusals.{word_of as refused_word}
 use Rattle.replay_script.specs.declared.line.Site.{Site}
 use Rattle.replay_script.specs.Lines.{site_word}
-use Rattle.note_lines.specs.NoteLines.{line_of, note_details}
+use Rattle.replay_script.specs.NoteLines.{line_of, note_details}
 
 -- the words of a note after its name
 abbrev pub gate_details : GateNote → List (List ℕ)

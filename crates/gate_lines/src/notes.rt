@@ -2,12 +2,11 @@
 
 ghost use Rattle.std.specs.Prelude.{◌≡◌, ◌++◌, OnOk};
 ghost use Rattle.std.specs.String.{string_bytes};
-ghost use Rattle.note_lines.specs.NoteLines.{detail_words};
+ghost use Rattle.replay_script.specs.NoteLines.{detail_words};
 ghost use Rattle.gate_lines.specs.GateLines.{gate_details, gate_note_line};
 
 use gateway_core::GateNote;
-use note_lines::{NoteDetails, details_of, push_note};
-use replay_script::Site;
+use replay_script::{NoteDetails, Site, details_of, push_note};
 use std::alloc::{AllocError, Global};
 
 /// What a note says after its name.

@@ -17,7 +17,7 @@ use Rattle.ltp_session.specs.Engine.{SubmitFault, block_empty, block_too_large, 
 use Rattle.ltp_engine.specs.Refused.{submit_word, refusal_of}
 use Rattle.ltp_world.specs.declared.ends.End.{End}
 use Rattle.ltp_world.specs.declared.ends.End.TheVariants as ends
-use Rattle.note_lines.specs.NoteLines.{note_details}
+use Rattle.replay_script.specs.NoteLines.{note_details}
 use Rattle.replay_script.specs.declared.fault.LineFault.{LineFault}
 use Rattle.replay_script.specs.declared.fault.LineFault.TheVariants as faults
 use Rattle.replay_script.specs.Fault.{word_of}

@@ -25,7 +25,7 @@ use Rattle.ltp_world.specs.declared.effects.EndEffects.{EndEffects}
 use Rattle.ltp_world.specs.declared.ends.End.{End}
 use Rattle.ltp_world.specs.Drain.{told_of}
 use Rattle.ltp_world.specs.Ends.{named}
-use Rattle.note_lines.specs.NoteLines.{line_of, note_details, note_line}
+use Rattle.replay_script.specs.NoteLines.{line_of, note_details, note_line}
 use Rattle.replay_script.specs.declared.fault.LineFault.{LineFault}
 use Rattle.replay_script.specs.Fault.{word_of}
 use Rattle.replay_script.specs.Lines.{route_word}

@@ -34,7 +34,7 @@ use Rattle.ltp_picks.specs.Picks.{Pick, copies, crosses_at}
 use Rattle.ltp_world.specs.Ends.{link_end, named}
 use Rattle.contact_plan.specs.declared.window.Window.{Window}
 use Rattle.contact_plan.specs.Windows.{elapsed, is_open, total}
-use Rattle.note_lines.specs.NoteLines.{note_details}
+use Rattle.replay_script.specs.NoteLines.{note_details}
 use Rattle.replay_script.specs.declared.fault.LineFault.{LineFault}
 use Rattle.replay_script.specs.declared.link.LinkEvent.{LinkEvent}
 use Rattle.replay_script.specs.declared.link.LinkEvent.TheVariants as events

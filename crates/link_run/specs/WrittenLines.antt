@@ -9,7 +9,7 @@ use Rattle.ltp_engine.specs.declared.effects.Up.{Up}
 use Rattle.ltp_world.specs.declared.effects.EndEffects.{EndEffects}
 use Rattle.ltp_world.specs.declared.ends.End.{End}
 use Rattle.ltp_world.specs.declared.ends.End.TheVariants as ends
-use Rattle.note_lines.specs.NoteLines.{line_of, note_line}
+use Rattle.replay_script.specs.NoteLines.{line_of, note_line}
 use Rattle.replay_script.specs.declared.fault.LineFault.{LineFault}
 use Rattle.replay_script.specs.declared.line.Route.{Route}
 use Rattle.replay_script.specs.declared.line.Route.TheVariants as routes

@@ -4,15 +4,14 @@ ghost use Rattle.std.specs.Prelude.{◌≡◌, ◌++◌, ◌+◌, ◌∷◌, ◌
 ghost use Rattle.std.specs.List.{flat_map};
 ghost use Rattle.std.specs.String.{string_bytes};
 ghost use Rattle.link_run.specs.WrittenLines.{at_line, closed_refusal, count_sent, count_steps, count_timed, deliver_refusal, if_moved, last_line, note_lines, out_lines, refusal_line, refused_line, route_of, send_refusal, sent_line, sent_lines, site_of, steps_text, timed_text, told_text, up_line, up_lines};
-ghost use Rattle.note_lines.specs.NoteLines.{note_line};
+ghost use Rattle.replay_script.specs.NoteLines.{note_line};
 
 use crate::counting::count_sent;
 use endpoint::Octets;
 use ltp_engine::Up;
 use ltp_segment::Note;
 use ltp_world::{End, EndEffects, WorldEffects};
-use note_lines::{details_of, push_note};
-use replay_script::{Line, LineFault, Route, Site, push_line};
+use replay_script::{Line, LineFault, Route, Site, details_of, push_line, push_note};
 use std::alloc::{AllocError, Global};
 use window_world::At;
 

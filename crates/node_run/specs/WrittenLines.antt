@@ -11,7 +11,7 @@ use Rattle.ltp_engine.specs.Refused.{submit_word, refusal_of}
 use Rattle.replay_script.specs.declared.fault.LineFault.{LineFault}
 use Rattle.replay_script.specs.Fault.{word_of}
 use Rattle.replay_script.specs.Lines.{bit_word}
-use Rattle.note_lines.specs.NoteLines.{line_of, note_line}
+use Rattle.replay_script.specs.NoteLines.{line_of, note_line}
 
 -- ---- what an engine does
 

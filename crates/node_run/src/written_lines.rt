@@ -6,14 +6,13 @@ ghost use Rattle.std.specs.String.{string_bytes};
 ghost use Rattle.ltp_session.specs.Engine.{SubmitFault};
 ghost use Rattle.ltp_engine.specs.Refused.{refusal_of};
 ghost use Rattle.replay_script.specs.Lines.{line_text};
-ghost use Rattle.note_lines.specs.NoteLines.{note_line};
+ghost use Rattle.replay_script.specs.NoteLines.{note_line};
 ghost use Rattle.node_run.specs.WrittenLines.{out_line, up_line, green_line, effects_text, block_line, refusal_line};
 
 use endpoint::Octets;
 use ltp_engine::{Effects, Greens, Notes, SubmitRefused, Up, Ups};
 use ltp_segment::{Green, Note, Outs};
-use note_lines::{details_of, push_note};
-use replay_script::{Line, LineFault, push_line};
+use replay_script::{Line, LineFault, details_of, push_line, push_note};
 use std::alloc::{AllocError, Global};
 
 /// Writes what an engine did: what is sent, red parts, pieces of green parts, and notes.

@@ -16,7 +16,7 @@ use Rattle.replay_script.specs.declared.event.NodeEvent.{NodeEvent}
 use Rattle.replay_script.specs.declared.event.NodeEvent.TheVariants as events
 use Rattle.replay_script.specs.declared.fault.LineFault.{LineFault}
 use Rattle.replay_script.specs.Events.{node_event_of}
-use Rattle.note_lines.specs.NoteLines.{line_of}
+use Rattle.replay_script.specs.NoteLines.{line_of}
 use Rattle.node_run.specs.WrittenLines.{refusal_line}
 use Rattle.node_run.specs.Node.{NodeState, moment_of, engine_does, is_late, at_moment}
 use Rattle.node_run.specs.Node.{node_party, begins}

@@ -1,6 +1,7 @@
 -- What public clauses cite, in reading order.
 pub mod Words
 pub mod Lines
+pub mod NoteLines
 pub mod Events
 pub mod LinkEvents
 pub mod Fault

@@ -7,7 +7,8 @@
 //! judged before memory is taken for it, so that a refusal costs none.
 //!
 //! [`write_line`] appends a line of a transcript to octets, and [`push_line`] to a text; a line's
-//! octets are written in lower case. [`number_in`] reads a number, of a line or of a call; [`is_gate`]
+//! octets are written in lower case. [`details_of`] has what a note of an LTP engine says after its
+//! name (RFC 5326), and [`push_note`] appends its line. [`number_in`] reads a number, of a line or of a call; [`is_gate`]
 //! judges the name of a gate, and [`gate_in`] reads it.
 //!
 //! Which line may follow which, where a run ends, and the lines of the other commands are not known
@@ -22,6 +23,7 @@ pub mod laws;
 mod line;
 mod link;
 mod link_judging;
+mod notes;
 mod numeral;
 mod path;
 mod picks;
@@ -33,6 +35,7 @@ pub use event::{Event, NodeEvent};
 pub use fault::LineFault;
 pub use line::{Line, Route, Site};
 pub use link::{LinkEvent, is_link_line, read_link_line};
+pub use notes::{NoteDetails, details_of, push_note};
 pub use numeral::number_in;
 pub use path::is_gate;
 pub use picks::{PickWord, PickWords};

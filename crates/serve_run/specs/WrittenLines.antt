@@ -10,7 +10,7 @@ use Rattle.gateway_core.specs.declared.effects.FaceNote.{FaceNote}
 use Rattle.replay_script.specs.declared.line.Site.{Site}
 use Rattle.replay_script.specs.declared.line.Site.TheVariants as sites
 use Rattle.replay_script.specs.Lines.{site_word}
-use Rattle.note_lines.specs.NoteLines.{line_of}
+use Rattle.replay_script.specs.NoteLines.{line_of}
 use Rattle.gate_lines.specs.GateLines.{gate_note_line}
 
 -- where a line stands that is about a face: `g.o` or `g.n`

@@ -14,7 +14,7 @@ use Rattle.ltp_segment.specs.Spelling.{segment_octets}
 use Rattle.replay_script.specs.declared.fault.LineFault.{LineFault}
 use Rattle.replay_script.specs.Words.{spaced}
 use Rattle.replay_script.specs.Fault.{word_of}
-use Rattle.note_lines.specs.NoteLines.{line_of}
+use Rattle.replay_script.specs.NoteLines.{line_of}
 use Rattle.path_laws.specs.Words.{join_word}
 use Rattle.ltp_engine.specs.Refused.{submit_word, refusal_of}
 use Rattle.std.specs.Fmt.{decimal}

@@ -34,7 +34,7 @@ use Rattle.replay_script.specs.declared.fault.LineFault.TheVariants as faults
 use Rattle.replay_script.specs.Fault.{word_of}
 use Rattle.replay_script.specs.Lines.{route_word}
 use Rattle.replay_script.specs.Words.{spaced, after_spaces}
-use Rattle.note_lines.specs.NoteLines.{note_details}
+use Rattle.replay_script.specs.NoteLines.{note_details}
 use Rattle.gate_lines.specs.GateLines.{gate_details}
 use Rattle.path_laws.specs.declared.effects.EndJoin.{EndJoin}
 use Rattle.path_laws.specs.declared.effects.EndJoin.TheVariants as told

@@ -4,7 +4,7 @@ use Rattle.std.specs.List.{flat_map}
 use Rattle.gateway_core.specs.Config.{IsGateConfig}
 use Rattle.ltp_segment.specs.declared.session.TheConstants.{BLOCK_MAX}
 use Rattle.ltp_segment.specs.PolicyViews.{policy_value}
-use Rattle.note_lines.specs.NoteLines.{line_of}
+use Rattle.replay_script.specs.NoteLines.{line_of}
 use Rattle.path_laws.specs.declared.effects.PathEffects.{PathEffects}
 use Rattle.path_laws.specs.declared.effects.SentAt.{SentAt}
 use Rattle.path_laws.specs.Path.{PathSetup, Path, PathEvent, path_setup}

@@ -13,7 +13,7 @@ use Rattle.replay_script.specs.declared.line.Site.TheVariants as sites
 use Rattle.replay_script.specs.declared.fault.LineFault.{LineFault}
 use Rattle.replay_script.specs.Fault.{word_of}
 use Rattle.replay_script.specs.Lines.{route_word, site_word}
-use Rattle.note_lines.specs.NoteLines.{line_of}
+use Rattle.replay_script.specs.NoteLines.{line_of}
 use Rattle.gate_lines.specs.GateLines.{gate_details}
 use Rattle.gateway_core.specs.Notes.{gate_note_name}
 use Rattle.path_laws.specs.declared.effects.EndJoin.{EndJoin}

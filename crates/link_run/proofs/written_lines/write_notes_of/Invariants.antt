@@ -2,7 +2,7 @@ use Rattle.std.proofs.Common.{◌≡◌, ◌++◌, take}
 use Rattle.std.specs.List.{flat_map}
 use Rattle.std.specs.String.{string_bytes}
 use Rattle.std.specs.Prelude.{Some}
-use Rattle.note_lines.specs.NoteLines.{note_line}
+use Rattle.replay_script.specs.NoteLines.{note_line}
 use Rattle.link_run.specs.WrittenLines.{site_of}
 use Rattle.link_run.proofs.written_lines.write_notes_of.Given as goal
 

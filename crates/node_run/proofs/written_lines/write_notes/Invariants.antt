@@ -1,7 +1,7 @@
 use Rattle.std.proofs.Common.{◌≡◌, ◌++◌, None}
 use Rattle.std.specs.List.{flat_map}
 use Rattle.std.specs.String.{string_bytes}
-use Rattle.note_lines.specs.NoteLines.{note_line}
+use Rattle.replay_script.specs.NoteLines.{note_line}
 use Rattle.node_run.proofs.written_lines.write_notes.Given as goal
 
 abbrev pub invariant-each : goal.invariant-each

@@ -8,7 +8,7 @@ use Rattle.ltp_segment.specs.Cause.{word_of as cause_word}
 use Rattle.replay_script.specs.declared.line.Site.{Site}
 use Rattle.replay_script.specs.Words.{spaced}
 use Rattle.replay_script.specs.Lines.{if_site, numbers, if_word}
-use Rattle.note_lines.specs.declared.details.NoteDetails.{NoteDetails}
+use Rattle.replay_script.specs.declared.notes.NoteDetails.{NoteDetails}
 
 -- a line of these words
 abbrev pub line_of : List (List ℕ) → List ℕ

@@ -3,10 +3,11 @@
 ghost use Rattle.std.specs.Prelude.{◌≡◌, ◌++◌, ◌∷◌, None, Some, OnOk, codes};
 ghost use Rattle.std.specs.String.{string_bytes};
 ghost use Rattle.replay_script.specs.Lines.{if_site};
-ghost use Rattle.note_lines.specs.NoteLines.{line_of, detail_words, note_details};
+ghost use Rattle.replay_script.specs.NoteLines.{line_of, detail_words, note_details};
 
+use crate::line::{Line, Site};
+use crate::writing::push_line;
 use ltp_segment::Note;
-use replay_script::{Line, Site, push_line};
 use std::alloc::{AllocError, Global};
 
 /// What a note says after its name: numbers, the second only with the first, and a word.
@@ -73,7 +74,7 @@ pub fn details_of(note: Note) -> NoteDetails
 
 /// Appends the line of a note that has this name and says this, at a site where there are several.
 /// After a refusal the text may have a part of it.
-#[tactic(auto, unfolding(replay_script::specs::Lines::line_text))]
+#[tactic(auto, unfolding(crate::specs::Lines::line_text))]
 pub fn push_note(
     alloc: Global,
     text: &mut String,

@@ -1,4 +1,5 @@
-//! The project's tables of tests over whole runs, and over the outside that runs stand on.
+//! The project's tables of tests over whole runs, and over the outside that runs stand on; and of
+//! blocks that a gate judges, with the reports on them.
 //!
 //! A row has words, an input, reads and writes that fail, and what is written and how the run
 //! ends. What is wanted comes from the formats' own documents and from outside, never from what
@@ -12,6 +13,8 @@
 #[cfg(test)]
 mod adapters;
 #[cfg(test)]
+mod blocks;
+#[cfg(test)]
 mod node;
 #[cfg(test)]
 mod receive;
@@ -21,5 +24,9 @@ mod recorded;
 mod runs;
 #[cfg(test)]
 mod script_end;
+#[cfg(test)]
+mod serving;
+#[cfg(test)]
+mod sockets;
 #[cfg(test)]
 mod world;

@@ -88,7 +88,7 @@ passes-up_none s face now up g =
     ups-none _ _ (pieces-up_none s (other_of face) now (judged_at s face now up.body g).pieces g)
     (answers-up_none s face now up.session (judged_at s face now up.body g).report _)
 
-all-up_none : (s : GateSetup) (face : Face) (now : ℕ) (ups : List UpValue) (g : Gate)
+pub all-up_none : (s : GateSetup) (face : Face) (now : ℕ) (ups : List UpValue) (g : Gate)
     → (in_turn (passes_at s face now) ups g).effects.ups ≡ []
 unfolding in_turn and_then
 all-up_none s face now [] g = refl
@@ -182,19 +182,19 @@ cases-noted s face read now g up among =
 
 -- ---- on a path
 
--- of what an end does
-none-at_node : (s : PathSetup) (w : Path) (end : PathEnd) (ups : List UpValue) (noted : List NoteAt)
-    (face : Face) (up : UpAt) → IsIn up (map (up_from (node_place end)) ups)
-    → up.place ≡ face_place face → IsCaseNotedAt s w noted face up
-none-at_node s w end ups noted face up among at =
+-- no node stands at a face
+pub no-node : (end : PathEnd) (face : Face) → node_place end ≡ face_place face → ⊥
+no-node ends.Old faces.Old is = cc
+no-node ends.Old faces.New is = cc
+no-node ends.New faces.Old is = cc
+no-node ends.New faces.New is = cc
+
+-- so what an end does is handed up at none
+pub none-at : (end : PathEnd) (ups : List UpValue) (face : Face) (up : UpAt)
+    → IsIn up (map (up_from (node_place end)) ups) → up.place ≡ face_place face → ⊥
+none-at end ups face up among at =
     let m = made-in (up_from (node_place end)) ups up among in
-    absurd (apart end face (ap (λ (u : UpAt). u.place) m.is ∙ at))
-  where
-    apart : (end : PathEnd) (face : Face) → node_place end ≡ face_place face → ⊥
-    apart ends.Old faces.Old is = cc
-    apart ends.Old faces.New is = cc
-    apart ends.New faces.Old is = cc
-    apart ends.New faces.New is = cc
+    no-node end face (ap (λ (u : UpAt). u.place) m.is ∙ at)
 
 pub same-face : (a b : Face) → face_place a ≡ face_place b → a ≡ b
 same-face faces.Old faces.Old is = refl
@@ -224,12 +224,12 @@ come-noted : (s : PathSetup) (w : Path) (stand : Stand) (segment : SegmentValue)
     (up : UpAt) → IsIn up (comes_to s w stand segment).effects.ups → up.place ≡ face_place face
     → IsCaseNotedAt s w (comes_to s w stand segment).effects.notes face up
 come-noted s w (at_node end) segment face up among at =
-    none-at_node s w end _ _ face up among at
+    absurd (none-at end _ face up among at)
 come-noted s w (at_gate arrived) segment face up among at =
     gate-noted s w (arrives_at s.gate arrived (Ok segment) w.now w.gate)
     (λ u is_in. cases-noted s.gate arrived (Ok segment) w.now w.gate u is_in) face up among at
 
-tick-up_none : (s : PathSetup) (w : Path) (now : ℕ) → (all_tick s now w).effects.ups ≡ []
+pub tick-up_none : (s : PathSetup) (w : Path) (now : ℕ) → (all_tick s now w).effects.ups ≡ []
 unfolding then_does ticks_in and_then tick_step
 tick-up_none s w now = refl
 
@@ -239,7 +239,7 @@ path-notes s w (sends end block) face up among at = by (sends_block s w end bloc
   where
     by : (r : Result EngineStep SubmitFault) → IsIn up (sent_unless end w r).effects.ups
         → IsCaseNotedAt s w (sent_unless end w r).effects.notes face up
-    by (Ok step) among = none-at_node s w end step.effects.ups _ face up among at
+    by (Ok step) among = absurd (none-at end step.effects.ups face up among at)
     by (Err fault) among = absurd among
 path-notes s w (delivers k) face up among at = by (slice_get w.sent k) among
   where

@@ -35,22 +35,22 @@ use Rattle.path_drain.specs.Decided.{BegunAreDecided, IsBegunIn, IsDecidedAt}
 
 -- ---- one block
 
-abbrev IsDecided : PathSetup → Path → List UpAt → Begun → Type 0
-IsDecided s w ups b = IsDecidedAt s w ups b.origin b.block
+abbrev IsDecided : PathSetup → Path → PathEvent → List UpAt → Begun → Type 0
+IsDecided s w event ups b = IsDecidedAt s w event ups b.origin b.block
 
 -- at a gate h that the event has left as w's gate was, but for the face at which the block came
-block-decided : (s : PathSetup) (w : Path) (face : Face) (n : ℕ) (body : List ℕ) (h : Gate)
-    (ups : List UpAt)
+block-decided : (s : PathSetup) (w : Path) (event : PathEvent) (face : Face) (n : ℕ)
+    (body : List ℕ) (h : Gate) (ups : List UpAt)
     → at_face h.engines (other_of face) ≡ at_face w.gate.engines (other_of face)
     → h.counter ≡ w.gate.counter
     → IsIn (came_up (end_of face) n body) ups
-    → AllByRecursion (IsDecided s w ups)
+    → AllByRecursion (IsDecided s w event ups)
     (decided_begun s.gate face w.now n (judged_at s.gate face w.now body h) h)
-block-decided s w face n body h ups room counter came =
-    all-more (IsDecided s w ups)
+block-decided s w event face n body h ups room counter came =
+    all-more (IsDecided s w event ups)
     (pieces_begun s.gate (other_of face) w.now (end_of face) n 0 j.pieces h)
     (report_begun s.gate face w.now (end_of face) n j.report sent)
-    (pieces-all (IsDecided s w ups) s.gate (other_of face) w.now (end_of face) n 0 j.pieces h
+    (pieces-all (IsDecided s w event ups) s.gate (other_of face) w.now (end_of face) n 0 j.pieces h
     (λ k piece session is. record {
       bundle = body;
       came = came;
@@ -59,7 +59,7 @@ block-decided s w face n body h ups room counter came =
           (none_plus k)
           (subst (λ (j : Judged). slice_get j.pieces k ≡ Some piece) same is);
     }))
-    (report-all (IsDecided s w ups) s.gate face w.now (end_of face) n j.report sent
+    (report-all (IsDecided s w event ups) s.gate face w.now (end_of face) n j.report sent
     (λ asked session is. record {
       bundle = body;
       came = came;
@@ -86,32 +86,33 @@ block-decided s w face n body h ups room counter came =
 
 -- ---- an event
 
-passed-decided : (s : PathSetup) (w : Path) (face : Face) (ups : List UpValue) (h : Gate)
-    (all : List UpAt) → HasOneAtMost ups
+passed-decided : (s : PathSetup) (w : Path) (event : PathEvent) (face : Face)
+    (ups : List UpValue) (h : Gate) (all : List UpAt) → HasOneAtMost ups
     → at_face h.engines (other_of face) ≡ at_face w.gate.engines (other_of face)
     → h.counter ≡ w.gate.counter
     → ((up : UpValue) → IsIn up ups → IsIn (up_from (face_place face) up) all)
-    → AllByRecursion (IsDecided s w all) (passed_begun s.gate face w.now ups h)
+    → AllByRecursion (IsDecided s w event all) (passed_begun s.gate face w.now ups h)
 unfolding passed_begun
-passed-decided s w face [] h all one room counter among = tt
-passed-decided s w face (up ∷ ups) h all one room counter among =
-    all-more (IsDecided s w all)
+passed-decided s w event face [] h all one room counter among = tt
+passed-decided s w event face (up ∷ ups) h all one room counter among =
+    all-more (IsDecided s w event all)
     (decided_begun s.gate face w.now up.session (judged_at s.gate face w.now up.body h) h)
     (passed_begun s.gate face w.now ups (passes_at s.gate face w.now up h).gate)
-    (block-decided s w face up.session up.body h all room counter
+    (block-decided s w event face up.session up.body h all room counter
     (subst (λ (f : Face). IsIn {X = UpAt}
     (record { place = face_place f; session = up.session; body = up.body }) all)
     (sym (face-end face)) (among up (inl refl))))
-    (subst (λ (us : List UpValue). AllByRecursion (IsDecided s w all)
+    (subst (λ (us : List UpValue). AllByRecursion (IsDecided s w event all)
     (passed_begun s.gate face w.now us (passes_at s.gate face w.now up h).gate)) (sym one) tt)
 
-come-decided : (s : PathSetup) (w : Path) (stand : Stand) (segment : SegmentValue)
-    → AllByRecursion (IsDecided s w (comes_to s w stand segment).effects.ups)
+come-decided : (s : PathSetup) (w : Path) (event : PathEvent) (stand : Stand)
+    (segment : SegmentValue)
+    → AllByRecursion (IsDecided s w event (comes_to s w stand segment).effects.ups)
     (come_begun s w stand segment)
 unfolding arrives_in and_then
-come-decided s w (at_node end) segment = tt
-come-decided s w (at_gate face) segment =
-    passed-decided s w face heard.effects.ups (does_at face w.gate heard).gate
+come-decided s w event (at_node end) segment = tt
+come-decided s w event (at_gate face) segment =
+    passed-decided s w event face heard.effects.ups (does_at face w.gate heard).gate
     (comes_to s w (at_gate face) segment).effects.ups
     (heard-one (at_face s.gate.parties face) (at_face w.gate.engines face) (Ok segment) w.now)
     (other-stays w.gate.engines face heard.engine) refl
@@ -137,22 +138,23 @@ sent_begun s w end block = record {
 }
 
 step-decided : (s : PathSetup) (w : Path) (event : PathEvent)
-    → AllByRecursion (IsDecided s w (path_step s w event).effects.ups) (begun_at s w event)
+    → AllByRecursion (IsDecided s w event (path_step s w event).effects.ups) (begun_at s w event)
 unfolding path_step
 step-decided s w (sends end block) = by (sends_block s w end block)
   where
     by : (r : Result EngineStep SubmitFault)
-        → AllByRecursion (IsDecided s w (path_step s w (sends end block)).effects.ups)
+        → AllByRecursion (IsDecided s w (sends end block)
+        (path_step s w (sends end block)).effects.ups)
         (begun_unless (sent_begun s w end block) r)
-    by (Ok step) = (tt, tt)
+    by (Ok step) = (refl, tt)
     by (Err fault) = tt
 step-decided s w (delivers k) = by (slice_get w.sent k)
   where
     by : (got : Option SentFrom)
-        → AllByRecursion (IsDecided s w (delivers_if s w got).effects.ups)
+        → AllByRecursion (IsDecided s w (delivers k) (delivers_if s w got).effects.ups)
         (delivered_begun s w got)
     by None = tt
-    by (Some d) = come-decided s w (stand_of (across d.from)) d.segment
+    by (Some d) = come-decided s w (delivers k) (stand_of (across d.from)) d.segment
 step-decided s w (clock_shows now) = tt
 
 -- ---- a run
@@ -174,7 +176,7 @@ begun-decided s w (event ∷ events) b is =
       later = events;
       among = refl;
       begins = here;
-      decided = all-in (IsDecided s w (path_step s w event).effects.ups) (begun_at s w event)
+      decided = all-in (IsDecided s w event (path_step s w event).effects.ups) (begun_at s w event)
           (step-decided s w event) b here;
     }
     by rest (inr there) =

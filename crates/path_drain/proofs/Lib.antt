@@ -35,6 +35,8 @@ pub mod ReadyExamples
 pub mod HandedUps
 pub mod RunLemmas
 pub mod DecidedLemmas
+pub mod CarriedLemmas
+pub mod ArrivalLemmas
 pub mod WholeRuns
 pub mod DrainedExamples
 pub mod CameLemmas

@@ -17,7 +17,7 @@ use Rattle.path_drain.proofs.CountSteps.{coming-is, many-new}
 
 -- ---- a session more
 
-length-more : (n : ℕ) (c : Change Sending) (es : List (ℕ × Sending))
+pub length-more : (n : ℕ) (c : Change Sending) (es : List (ℕ × Sending))
     → length (settled n c es) ≤ length es + 1
 length-more n stays es = omega arith
 length-more n (keeps s) es = length-put_new n s es

@@ -16,8 +16,11 @@ pub mod Completion
 -- what holds of every run of a path
 pub mod Runs
 pub mod Decided
+pub mod CarriedOut
 -- what a run promises together with a drain after it
 pub mod WholeRun
+-- and what passes in it arrives
+pub mod Arrival
 -- how much is left of a drain
 pub mod Left
 -- when timers are due, and what a clock does before

@@ -1,5 +1,7 @@
 //! What a run of a path and a drain after it have done.
 
+ghost use Rattle.path_drain.specs.Arrival.{WhatPassesArrives};
+ghost use Rattle.path_drain.specs.CarriedOut.{DecisionsAreCarriedOut};
 ghost use Rattle.path_drain.specs.Decided.{BegunAreDecided};
 ghost use Rattle.path_drain.specs.Runs.{CaseNotesStandInRuns, CasesAreNotedInRuns};
 ghost use Rattle.path_drain.specs.Runs.{HandedUpInRuns, RunsGoOn};
@@ -34,6 +36,13 @@ pub fn begun_are_decided()
     ensures { BegunAreDecided }
 {}
 
+/// What the gate decides about a block it does, with the event that hands the block up and notes its
+/// case: each piece of a bundle that passes begins a session at the other face. No piece is refused
+/// there, whatever happened before.
+pub fn decisions_are_carried_out()
+    ensures { DecisionsAreCarriedOut }
+{}
+
 /// Whatever happened on a path, sent, delivered, lost, repeated or late: where it is hopeful and has
 /// room, and the clean events of a drain follow until none is left, these are no more than the
 /// sessions cost. Each session that was open at its sender is noted as sent, and so is each that is
@@ -42,4 +51,10 @@ pub fn begun_are_decided()
 /// No timer runs at the end.
 pub fn whole_runs_complete()
     ensures { WholeRunsComplete }
+{}
+
+/// Where a drain completes its sessions, each piece of a bundle that comes whole to the gate in it, and
+/// passes, is handed up whole at the other end in it.
+pub fn what_passes_arrives()
+    ensures { WhatPassesArrives }
 {}

@@ -14,13 +14,14 @@ use Rattle.path_laws.specs.Log.{ups_in}
 use Rattle.path_laws.specs.Laws.{ReceivedAsSent}
 use Rattle.path_drain.specs.Effects.{notes_in}
 use Rattle.path_drain.specs.Hopeful.{IsFitPath, IsPathReached, PathsAreFit}
+use Rattle.path_drain.specs.Arrival.{WhatPassesArrives}
+use Rattle.path_drain.specs.CarriedOut.{DecisionsAreCarriedOut, TakesBlocks}
 use Rattle.path_drain.specs.Decided.{BegunAreDecided}
-use Rattle.path_drain.specs.Runs.{CasesAreNotedInRuns}
 use Rattle.path_drain.specs.WholeRun.{WholeRunsComplete, run_path}
 use Rattle.path_drain.specs.Drained.{DrainsAreMade, PathsAreTimed}
 use Rattle.world_run.specs.World.{PathStart, WorldState, no_path, on_path, start_in, no_moment, start_turn, world_rules, settles}
 use Rattle.world_run.specs.Headline.{DrainMakes, DrainCompletes, lines_with, up_lines, note_lines, end_lines, up_text, note_text, end_texts, PlaysScript, ClosesFirst, EndsLawfully, WorldsKeepHeadline}
-use Rattle.world_run.proofs.StartLemmas.{starts_fit, starts_timed}
+use Rattle.world_run.proofs.StartLemmas.{starts_fit, starts_takes, starts_timed}
 use Rattle.world_run.proofs.PlayLemmas.{Plays, EndsLines, plays_from}
 use Rattle.world_run.proofs.LineLemmas.{Has, HasLines, nothing, and_then, told_in, told_if, both-have, events-have, drained-have, closing-has, ups-append, notes-append}
 
@@ -35,9 +36,10 @@ record Laws : Type 0 where
   fit : PathsAreFit
   timed : PathsAreTimed
   made : DrainsAreMade
-  cases : CasesAreNotedInRuns
+  carried_out : DecisionsAreCarriedOut
   decided : BegunAreDecided
   complete : WholeRunsComplete
+  arrives : WhatPassesArrives
 
 -- ---- a path is set up
 
@@ -70,11 +72,12 @@ module _ (s : PathSetup) (w : Path) (n : ℕ) (lines : List (List ℕ)) (settled
   end-is = alone (codes "end ") settled.text _ all-have.ends ∙ append-nil (end_texts plays.drains (length plays.made))
 
 module _ (laws : Laws) where
-  completes : (drains : Bool) (s : PathSetup) (start : ℕ) (events made : List PathEvent) → IsFitPath s
+  completes : (drains : Bool) (s : PathSetup) (start : ℕ) (events made : List PathEvent) → IsFitPath s → TakesBlocks s
       → DrainMakes drains s (run_path s start events) made → DrainCompletes drains s start events made
-  completes true s start events made fit (clean, early, none) = λ hopeful room.
-      laws.complete s start events made fit.linked fit.alike hopeful room clean none
-  completes false s start events made fit makes = tt
+  completes true s start events made fit takes (clean, early, none) = λ hopeful room.
+      let sessions = laws.complete s start events made fit.linked fit.alike hopeful room clean none in
+      record { sessions = sessions; arrives = laws.arrives s start events made takes sessions }
+  completes false s start events made fit takes makes = tt
 
   played : (first : List ℕ) (lines : List (List ℕ)) (start : PathStart) (settled : Settled) → start_in first ≡ Ok start
       → Plays start.setup (starts_path start.setup start.now) 2 lines settled → Settles (first ∷ lines) settled
@@ -100,10 +103,13 @@ module _ (laws : Laws) where
         ups = ups-are start.setup (starts_path start.setup start.now) 2 lines settled plays;
         notes = notes-are start.setup (starts_path start.setup start.now) 2 lines settled plays;
         end = end-is start.setup (starts_path start.setup start.now) 2 lines settled plays;
-        hands_on = laws.received start.setup start.now (plays.events ++ plays.made) fit.linked;
-        cases = laws.cases start.setup (starts_path start.setup start.now) (plays.events ++ plays.made);
+        hands_on = λ earlier later is. laws.received start.setup start.now earlier fit.linked;
+        carried_out = λ face up among at.
+            laws.carried_out start.setup (starts_path start.setup start.now) (plays.events ++ plays.made) face up
+            (starts_takes first start said) among at;
         decided = laws.decided start.setup (starts_path start.setup start.now) (plays.events ++ plays.made);
-        completes = completes plays.drains start.setup start.now plays.events plays.made fit plays.drain;
+        completes = completes plays.drains start.setup start.now plays.events plays.made fit
+            (starts_takes first start said) plays.drain;
       })
 
 -- ---- from the first line on
@@ -175,13 +181,13 @@ kept : (most : ℕ) (input : List ℕ) → Settles (lines_within most input) (wi
 kept most input (on_a_path ending ends plays) = record { ending = ending; ends = ends; law = inl plays }
 kept most input (on_none ending ends closes) = record { ending = ending; ends = ends; law = inr closes }
 
-pub keep_headline : ReceivedAsSent → PathsAreFit → PathsAreTimed → DrainsAreMade → CasesAreNotedInRuns → BegunAreDecided
-    → WholeRunsComplete → WorldsKeepHeadline
+pub keep_headline : ReceivedAsSent → PathsAreFit → PathsAreTimed → DrainsAreMade → DecisionsAreCarriedOut → BegunAreDecided
+    → WholeRunsComplete → WhatPassesArrives → WorldsKeepHeadline
 unfolding within lines_within
-keep_headline received fit timed made cases decided complete most input = kept most input (by_test (nat_lt most (length input)))
+keep_headline received fit timed made carried_out decided complete arrives most input = kept most input (by_test (nat_lt most (length input)))
   where
     laws : Laws
-    laws = record { received = received; fit = fit; timed = timed; made = made; cases = cases; decided = decided; complete = complete }
+    laws = record { received = received; fit = fit; timed = timed; made = made; carried_out = carried_out; decided = decided; complete = complete; arrives = arrives }
 
     by_test : (t : Bool) → Settles (if t then lines_of (ended_part (take most input)) else lines_of input)
         (if t then or_limit (lines_from world_rules 1 no_path going_on (take most input)) else lines_from world_rules 1 no_path at_end input)

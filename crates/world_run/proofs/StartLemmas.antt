@@ -11,8 +11,12 @@ use Rattle.replay_script.specs.declared.fault.LineFault.TheVariants as faults
 use Rattle.replay_script.specs.Events.{event_of, is_path_line, Reads}
 use Rattle.replay_script.specs.Laws.{IsSoundPath}
 use Rattle.replay_script.proofs.PathLemmas.{path_sound}
+use Rattle.gate_cases.specs.declared.face.Face.{Face}
+use Rattle.gate_cases.specs.declared.face.Face.TheVariants as faces
+use Rattle.gateway_core.specs.Gate.{at_face}
 use Rattle.path_laws.specs.Path.{path_setup}
 use Rattle.path_drain.specs.Hopeful.{IsFitPath, PathsAreFit}
+use Rattle.path_drain.specs.CarriedOut.{TakesBlocks}
 use Rattle.path_drain.specs.Drained.{PathsAreTimed}
 use Rattle.path_drain.specs.Left.{IsTimed}
 use Rattle.world_run.specs.World.{PathStart, first_said, start_said, start_in}
@@ -103,6 +107,14 @@ module _ (line : List ℕ) (start : PathStart) (said : start_in line ≡ Ok star
       rw setup-is
       (fit says.gate says.policy.segment says.policy.timeout says.policy.limit says.policy.cap says.cut says.policy
       (policy-is line start says))
+
+  -- the gate's take blocks of the greatest length
+  pub starts_takes : TakesBlocks start.setup
+  starts_takes = rw setup-is (record { each = takes })
+    where
+      takes : (face : Face) → (at_face (path_setup says.gate says.policy says.cut).gate.parties face).most ≡ BLOCK_MAX
+      takes faces.Old = refl
+      takes faces.New = refl
 
   -- and every drain of the path ends
   pub starts_timed : PathsAreTimed → IsTimed start.setup BLOCK_MAX

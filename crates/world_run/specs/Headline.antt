@@ -21,14 +21,15 @@ use Rattle.path_laws.specs.declared.effects.NoteAt.{NoteAt}
 use Rattle.path_laws.specs.declared.effects.UpAt.{UpAt}
 use Rattle.path_laws.specs.Path.{PathSetup, Path, PathEvent, starts_path}
 use Rattle.path_laws.specs.Laws.{HandsOn}
-use Rattle.path_laws.specs.Log.{Begun}
+use Rattle.path_laws.specs.Log.{Begun, ups_in}
 use Rattle.path_laws.specs.Places.{face_place}
 use Rattle.path_drain.specs.PathRoom.{PathRoom}
 use Rattle.path_drain.specs.Clean.{AreCleanOnPathFrom}
-use Rattle.path_drain.specs.Completion.{IsCaseNotedIn}
 use Rattle.path_drain.specs.Effects.{notes_in}
 use Rattle.path_drain.specs.Hopeful.{PathHopeful}
 use Rattle.path_drain.specs.Left.{IsBefore}
+use Rattle.path_drain.specs.Arrival.{IsPassedOnIn}
+use Rattle.path_drain.specs.CarriedOut.{IsCarriedOutIn}
 use Rattle.path_drain.specs.Decided.{IsBegunIn}
 use Rattle.path_drain.specs.WholeRun.{IsRunComplete, run_begun, run_path, run_ups}
 use Rattle.world_run.specs.WrittenLines.{up_words, note_words, end_words, refusal_line}
@@ -129,24 +130,35 @@ end_texts false n = []
 
 -- ---- the law
 
--- where a path is drained that is hopeful and has room, the drain completes its sessions: each that
--- was open at its sender, and each that was begun meanwhile, in no more events than they cost
+-- a drain completes its sessions: each that was open at its sender, and each that was begun meanwhile, in
+-- no more events than they cost; and each piece of a bundle that comes whole to the gate in it, and
+-- passes, is handed up at the other end
+pub record CompletesDrain (s : PathSetup) (start : ℕ) (events made : List PathEvent) : Type 0 where
+  pub sessions : IsRunComplete s start events made
+  pub arrives :
+      (face : Face) (up : UpAt) → IsIn up (ups_in s (run_path s start events) made)
+      → up.place ≡ face_place face
+      → IsPassedOnIn s (run_path s start events) made face up
+
+-- so it is where a path is drained that is hopeful and has room
 abbrev pub DrainCompletes : Bool → PathSetup → ℕ → List PathEvent → List PathEvent → Type 0
 DrainCompletes true s start events made =
     PathHopeful s (run_path s start events) → PathRoom s (run_path s start events)
-    → IsRunComplete s start events made
+    → CompletesDrain s start events made
 DrainCompletes false s start events made = Unit {0}
 
 -- The text of a script that sets up a path. It is what happens in these events, and in those of a
 -- drain after them, where there is one, with their number; after it at most the line of a refusal
 -- follows. Its `up` lines are exactly the blocks that came whole, and its notes those that were made.
--- Of the blocks holds all that `HandsOn` says, by the sessions that were begun in the same events:
+-- After each of the events holds of the blocks all that `HandsOn` says, by what was begun up to then:
 -- each is the whole block of the session of that number that was begun across the link; no two came
 -- at one place in one session; and at either end each is a piece of what becomes of one bundle that
 -- the other end sent, or a report on one that it sent itself, different ones from different origins.
--- Each block that came whole to the gate has its case noted with it, as the gate decided then; and
--- each session that the gate began is a piece of such a block, or a report on it, as it decided then.
--- And from a path that is hopeful and has room a drain completes the sessions.
+-- Each block that came whole to the gate has its case noted with it, as the gate decided then, and each
+-- of the pieces of one that passes began a session at the other face with it; and each session that the
+-- gate began is a piece of such a block, or a report on it, as it decided then.
+-- And from a path that is hopeful and has room a drain completes the sessions, and what passes in it
+-- arrives.
 pub record PlaysScript (lines : List (List ℕ)) (text : List ℕ) (ending : Status) : Type 0 where
   pub start : PathStart
   pub events : List PathEvent
@@ -167,12 +179,13 @@ pub record PlaysScript (lines : List (List ℕ)) (text : List ℕ) (ending : Sta
       ≡ map note_text (notes_in start.setup (starts_path start.setup start.now) (events ++ made))
   pub end : end_lines text ≡ end_texts drains (length made)
   pub hands_on :
-      HandsOn start.setup (run_begun start.setup start.now (events ++ made))
-      (run_ups start.setup start.now (events ++ made))
-  pub cases :
+      (earlier later : List PathEvent) → events ++ made ≡ earlier ++ later
+      → HandsOn start.setup (run_begun start.setup start.now earlier)
+      (run_ups start.setup start.now earlier)
+  pub carried_out :
       (face : Face) (up : UpAt) → IsIn up (run_ups start.setup start.now (events ++ made))
       → up.place ≡ face_place face
-      → IsCaseNotedIn start.setup (starts_path start.setup start.now) (events ++ made) face up
+      → IsCarriedOutIn start.setup (starts_path start.setup start.now) (events ++ made) face up
   pub decided :
       (b : Begun) → IsIn b (run_begun start.setup start.now (events ++ made))
       → IsBegunIn start.setup (starts_path start.setup start.now) (events ++ made) b

@@ -7,8 +7,10 @@ ghost use Rattle.world_run.specs.Headline.{WorldsKeepHeadline};
 /// their order, then those to the events of a drain, where a line says one, with their number; and
 /// after them at most the line of a refusal, which the next line has. The `up` lines of the text are
 /// blocks that came whole, as they were sent, and once; so what either end receives is a piece of what
-/// becomes of one bundle that the other end sent, or a report on one that it sent itself. From where
-/// the path is hopeful and has room a drain completes every session, in no more events than they cost.
+/// becomes of one bundle that the other end sent, or a report on one that it sent itself. Each piece of
+/// a bundle that the gate notes as passed begins a session at the other face with that event. From
+/// where the path is hopeful and has room a drain completes every session, in no more events than they
+/// cost, and each piece of a bundle that passes in it arrives at the other end.
 pub fn worlds_keep_headline()
     ensures { WorldsKeepHeadline }
 {
@@ -16,7 +18,8 @@ pub fn worlds_keep_headline()
     path_drain::completion::paths_are_fit();
     path_drain::ends::paths_are_timed();
     path_drain::ends::drains_are_made();
-    path_drain::whole_runs::cases_are_noted_in_runs();
+    path_drain::whole_runs::decisions_are_carried_out();
     path_drain::whole_runs::begun_are_decided();
     path_drain::whole_runs::whole_runs_complete();
+    path_drain::whole_runs::what_passes_arrives();
 }

@@ -1,0 +1,49 @@
+-- What the gate decides about a block it does, with the event that hands the block up: each piece of a
+-- bundle that passes begins a session at the other face.
+
+use Rattle.std.specs.Prelude.{◌≡◌, ℕ, List, Some, slice_get}
+use Rattle.ltp_segment.specs.declared.session.TheConstants.{BLOCK_MAX}
+use Rattle.ltp_laws.specs.View.{IsIn}
+use Rattle.gate_cases.specs.declared.face.Face.{Face}
+use Rattle.gate_cases.specs.Faces.{other_of}
+use Rattle.gateway_core.specs.Gate.{at_face, judged_at}
+use Rattle.path_laws.specs.declared.effects.UpAt.{UpAt}
+use Rattle.path_laws.specs.declared.places.Place.{Place}
+use Rattle.path_laws.specs.Places.{end_of, face_place}
+use Rattle.path_laws.specs.Path.{PathSetup, Path, PathEvent, path_run}
+use Rattle.path_laws.specs.Log.{Begun, Origin, a_piece, begun_at, ups_in}
+use Rattle.path_drain.specs.Completion.{IsCaseNotedIn}
+
+-- the engines of the gate take blocks of up to BLOCK_MAX octets
+pub record TakesBlocks (s : PathSetup) : Type 0 where
+  pub each : (face : Face) → (at_face s.gate.parties face).most ≡ BLOCK_MAX
+
+-- among these sessions is one that began at a place, with this block, which comes from there
+pub record IsBegun (begun : List Begun) (place : Place) (block : List ℕ) (origin : Origin) : Type 0
+  where
+    pub session : ℕ
+    pub among :
+        IsIn (record { place = place; session = session; block = block; origin = origin }) begun
+
+-- each piece of what becomes of a block that an event hands up at a face, as the gate decides about it
+-- when the event comes to the path w, begins a session at the other face with that event
+abbrev pub PiecesBegin : PathSetup → Path → PathEvent → Face → UpAt → Type 0
+PiecesBegin s w event face up =
+    (i : ℕ) (piece : List ℕ)
+    → slice_get (judged_at s.gate face w.now up.body w.gate).pieces i ≡ Some piece
+    → IsBegun (begun_at s w event) (face_place (other_of face)) piece
+    (a_piece (end_of face) up.session i)
+
+-- A block came whole at a face in one of some events. The event notes its case, with the number of its
+-- pieces where it passes; and with it each of these pieces begins its session.
+pub record IsCarriedOutIn
+    (s : PathSetup) (w : Path) (events : List PathEvent) (face : Face) (up : UpAt) : Type 0 where
+  pub case : IsCaseNotedIn s w events face up
+  pub pieces : PiecesBegin s (path_run s w case.earlier) case.event face up
+
+-- so it is with each block that comes whole at a face, in every run
+abbrev pub DecisionsAreCarriedOut : Type 0
+DecisionsAreCarriedOut =
+    (s : PathSetup) (w : Path) (events : List PathEvent) (face : Face) (up : UpAt) → TakesBlocks s
+    → IsIn up (ups_in s w events) → up.place ≡ face_place face
+    → IsCarriedOutIn s w events face up

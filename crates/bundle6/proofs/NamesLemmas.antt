@@ -14,7 +14,7 @@ use Rattle.endpoint.specs.declared.name.Endpoint.{Endpoint}
 use Rattle.endpoint.specs.declared.name.Endpoint.TheVariants.{Null, Ipn, Dtn}
 use Rattle.endpoint.specs.Endpoints.{IsEndpoint, is_ssp, ssp_of, scheme_of}
 use Rattle.endpoint.specs.Reading.{named}
-use Rattle.endpoint.proofs.ReadingLemmas.{named-found}
+use Rattle.endpoint.proofs.ReadingLemmas.{named-found, named-written}
 use Rattle.endpoint.specs.Places.{endpoint_at}
 use Rattle.bundle6.specs.Names.{is_nul, up_to_nul, text_at, named_by, place_named, resolve}
 use Rattle.bundle6.specs.declared.names.Offsets.{Offsets}
@@ -175,7 +175,8 @@ pub place-named : (dictionary ssp : List ℕ) (scheme : List ℕ) (offset : ℕ)
     → endpoint_at dictionary (place_named endpoint offset (length ssp)) ≡ endpoint
 unfolding text_at
 place-named dictionary ssp scheme offset Null there is = refl
-place-named dictionary ssp scheme offset (Ipn node service) there is = refl
+place-named dictionary ssp scheme offset (Ipn node service) there is =
+    rw (up_to_nul-front (drop offset dictionary) ssp there, named-written scheme ssp node service is) refl
 place-named dictionary ssp scheme offset (Dtn own) there is =
     let same : ssp ≡ own = (named-found scheme ssp (Dtn own) is).ssp_is in
     rw (up_to_nul-front (drop offset dictionary) ssp there, same) refl

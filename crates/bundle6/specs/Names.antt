@@ -77,7 +77,7 @@ names_of dictionary pairs = record {
 -- the place of an endpoint whose scheme-specific part has so many octets from there on
 abbrev pub place_named : Endpoint → ℕ → ℕ → Place
 place_named Null from size = places.Null
-place_named (Ipn node service) from size = places.Ipn node service
+place_named (Ipn node service) from size = places.Written from size
 place_named (Dtn ssp) from size = places.Dtn from size
 
 -- the endpoint that two numbers name, or that they name none

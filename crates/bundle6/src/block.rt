@@ -13,7 +13,7 @@ use crate::fault::{Cause6, Fail6, Refused6};
 use crate::fields::{number, octet, octets};
 use crate::flags::{LAST, REFS, has_bit, without};
 use crate::names::{Offsets, place_in};
-use endpoint::{Fragment, Octets, Place, Refs, Texts};
+use endpoint::{Fragment, Octets, Place, PlaceList, Refs, Texts};
 use std::alloc::{AllocError, Global};
 use std::marker::Model;
 
@@ -206,18 +206,10 @@ pub(crate) fn count_at(text: &[u8], at: usize, present: bool) -> Result<(u64, us
 }
 
 /// Room for the places of so many references. Each has two octets at least, and that many are there.
-fn room_for(alloc: Global, count: u64, octets: usize) -> Result<Vec<Place>, AllocError>
-    ensures { IfOk result (λ places. places.items ≡ []) }
+fn room_for(alloc: Global, count: u64, octets: usize) -> Result<PlaceList, AllocError>
+    ensures { IfOk result (λ places. places ≡ []) }
 {
-    Vec::with_capacity(alloc, (octets / 2).min(count as usize))
-}
-
-/// Adds a place at the end.
-fn add(places: &mut Vec<Place>, place: Place) -> Result<(), AllocError>
-    ensures { OnOk result (places.new.items ≡ places.old.items ++ place ∷ []) }
-{
-    places.push(place)?;
-    Ok(())
+    PlaceList::with_room(alloc, (octets / 2).min(count as usize))
 }
 
 /// The places of so many references.
@@ -227,17 +219,17 @@ fn places_at(
     at: usize,
     count: u64,
     dictionary: &[u8],
-) -> Result<(Vec<Place>, usize), Fail6>
+) -> Result<(PlaceList, usize), Fail6>
     requires { at ≤ length text.now }
     ensures within { IfOk result (λ x. IsOn at text.now x.1) }
-    ensures exact { Gives (λ places. endpoints_at dictionary.now places.items) refusal result
+    ensures exact { Gives (λ places. endpoints_at dictionary.now places) refusal result
         (read (listed count (λ earlier. name dictionary.now)) text.now at) }
 {
     let mut places = room_for(alloc, count, text.len() - at)?;
     let mut after = at;
     'references: for _ in 0..count {
         let (place, next) = reference_at(text, after, dictionary)?;
-        add(&mut places, place)?;
+        places.push(place)?;
         after = next;
     }
     Ok((places, after))

@@ -157,7 +157,7 @@ fn place_named(name: Name<'_>, from: usize, size: usize) -> Place
 {
     match name {
         Name::Null => Place::Null,
-        Name::Ipn { node, service } => Place::Ipn { node, service },
+        Name::Ipn { .. } => Place::Written { from, size },
         Name::Dtn(_) => Place::Dtn { from, size },
     }
 }

@@ -1,3 +1,4 @@
 pub mod NumeralLemmas
 pub mod ReadingLemmas
 pub mod PlacesLemmas
+pub mod PlaceWordsLemmas

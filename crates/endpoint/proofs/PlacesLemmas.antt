@@ -1,6 +1,6 @@
 -- Places stay what they are however the texts go on.
 
-use Rattle.std.proofs.Common.{◌≡◌, ℕ, List, [], ◌∷◌, ◌++◌, length, drop, get_or, suc, refl, arith, length-append}
+use Rattle.std.proofs.Common.{◌≡◌, ℕ, List, [], ◌∷◌, ◌++◌, ◌+◌, ◌≤◌, length, take, drop, get_or, suc, refl, arith, length-append}
 use Rattle.std.specs.Prelude.{Result, Ok, Err}
 use Rattle.std.specs.List.{All}
 use Rattle.std.specs.Result.{OnErr}
@@ -12,20 +12,27 @@ use Rattle.endpoint.specs.declared.place.Place.TheVariants as places
 use Rattle.endpoint.specs.declared.name.Endpoint.TheVariants.{Dtn}
 use Rattle.endpoint.specs.Places.{endpoint_at, endpoints_at, IsIn, IsFixed}
 
--- a place in the texts
-pub endpoint_at-more : (texts more : List ℕ) (place : Place) → IsIn texts place
-    → endpoint_at (texts ++ more) place ≡ endpoint_at texts place
-endpoint_at-more texts more places.Null inside = refl
-endpoint_at-more texts more (places.Ipn node service) inside = refl
-endpoint_at-more texts more (places.Dtn from size) inside =
+-- a part of the texts
+part-more : (texts more : List ℕ) (from size : ℕ) → from + size ≤ length texts
+    → take size (drop from (texts ++ more)) ≡ take size (drop from texts)
+part-more texts more from size inside =
     rw (
       drop-append-le from texts more (omega (arith, inside)),
       take-append-le size (drop from texts) more (omega (arith, inside, length-drop from texts)),
     ) refl
 
+-- a place in the texts
+pub endpoint_at-more : (texts more : List ℕ) (place : Place) → IsIn texts place
+    → endpoint_at (texts ++ more) place ≡ endpoint_at texts place
+endpoint_at-more texts more places.Null inside = refl
+endpoint_at-more texts more (places.Ipn node service) inside = refl
+endpoint_at-more texts more (places.Written from size) inside = rw (part-more texts more from size inside) refl
+endpoint_at-more texts more (places.Dtn from size) inside = rw (part-more texts more from size inside) refl
+
 pub is_in-more : (texts more : List ℕ) (place : Place) → IsIn texts place → IsIn (texts ++ more) place
 is_in-more texts more places.Null inside = tt
 is_in-more texts more (places.Ipn node service) inside = tt
+is_in-more texts more (places.Written from size) inside = omega (arith, inside, length-append texts more)
 is_in-more texts more (places.Dtn from size) inside = omega (arith, inside, length-append texts more)
 
 -- places in the texts
@@ -42,11 +49,13 @@ are_in-more texts more at inside = λ k d low. is_in-more texts more (get_or at 
 fixed-anywhere : (texts : List ℕ) (place : Place) → IsFixed place → endpoint_at texts place ≡ endpoint_at [] place
 fixed-anywhere texts places.Null fixed = refl
 fixed-anywhere texts (places.Ipn node service) fixed = refl
+fixed-anywhere texts (places.Written from size) fixed = absurd fixed
 fixed-anywhere texts (places.Dtn from size) fixed = absurd fixed
 
 fixed-in : (texts : List ℕ) (place : Place) → IsFixed place → IsIn texts place
 fixed-in texts places.Null fixed = tt
 fixed-in texts (places.Ipn node service) fixed = tt
+fixed-in texts (places.Written from size) fixed = absurd fixed
 fixed-in texts (places.Dtn from size) fixed = absurd fixed
 
 -- one place more that needs no text

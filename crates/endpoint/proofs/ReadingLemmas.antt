@@ -202,6 +202,13 @@ named-found scheme ssp endpoint is =
       | inr ipn ↦ rw ((bytes_eq-Decides scheme (codes "ipn")).0 ipn.0) (ipn_named-found ssp endpoint ipn.1)
     ]
 
+-- the part of a service of a node writes its two numbers
+pub named-written : (scheme ssp : List ℕ) (node service : ℕ) → named scheme ssp ≡ Some (Ipn node service)
+    → ipn_named ssp ≡ Some (Ipn node service)
+named-written scheme ssp node service is =
+    let found = named-found scheme ssp (Ipn node service) is in
+    rw (found.ssp_is, pair_of-decimal node service found.legal.0 found.legal.1) refl
+
 -- an endpoint's scheme and part name it
 pub named-only : (endpoint : Endpoint) → IsEndpoint endpoint
     → named (scheme_of endpoint) (ssp_of endpoint) ≡ Some endpoint

@@ -6,3 +6,4 @@ pub mod Fault
 -- What only ties code to it.
 pub mod Lent
 pub mod Places
+pub mod PlaceWords

@@ -19,6 +19,7 @@ mod lists;
 mod name;
 mod numeral;
 mod place;
+mod place_list;
 mod refs;
 mod text;
 
@@ -28,5 +29,6 @@ pub use lent::Name;
 pub use lists::Octets;
 pub use name::Endpoint;
 pub use place::Place;
+pub use place_list::PlaceList;
 pub use refs::{Listing, Refs, Texts};
 pub use text::{ipn_named, is_ssp, lend_named, named};

@@ -1,10 +1,13 @@
 //! Where a name is among texts.
 
-ghost use Rattle.std.specs.Prelude.{◌≡◌, take, drop};
+ghost use Rattle.std.specs.Prelude.{◌≡◌, take, drop, unwrap_or};
+ghost use Rattle.endpoint.specs.declared.name.Endpoint.TheVariants.{Null};
+ghost use Rattle.endpoint.specs.Reading.{ipn_named};
 ghost use Rattle.endpoint.specs.Lent.{endpoint_of};
 ghost use Rattle.endpoint.specs.Places.{endpoint_at};
 
 use super::lent::Name;
+use super::text::ipn_name;
 
 /// A name by its place in texts.
 #[derive(Clone, Copy, Debug)]
@@ -17,6 +20,13 @@ pub enum Place {
         node: u64,
         /// The service's number.
         service: u64,
+    },
+    /// The service of a node whose two numbers these octets of the texts write, joined by a dot.
+    Written {
+        /// The place of the first.
+        from: usize,
+        /// How many there are.
+        size: usize,
     },
     /// The dtn name whose scheme-specific part these octets of the texts are.
     Dtn {
@@ -35,8 +45,19 @@ impl Place {
         match self {
             Place::Null => Name::Null,
             Place::Ipn { node, service } => Name::Ipn { node, service },
+            Place::Written { from, size } => written(part(texts, from, size)),
             Place::Dtn { from, size } => Name::Dtn(part(texts, from, size)),
         }
+    }
+}
+
+/// The service of a node whose two numbers a text writes; of another text the null endpoint.
+fn written(text: &[u8]) -> Name<'_>
+    ensures { endpoint_of result ≡ unwrap_or (ipn_named text.now) Null }
+{
+    match ipn_name(text) {
+        Some(name) => name,
+        None => Name::Null,
     }
 }
 

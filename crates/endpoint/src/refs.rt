@@ -7,7 +7,7 @@ ghost use Rattle.endpoint.specs.Lent.{endpoint_of};
 ghost use Rattle.endpoint.specs.Places.{endpoint_at, endpoints_at, IsFixed};
 
 use super::lent::Name;
-use super::{Octets, Place};
+use super::{Octets, Place, PlaceList};
 use std::alloc::{AllocError, Global};
 use std::marker::Model;
 use std::rc::Rc;
@@ -57,7 +57,7 @@ impl Texts {
 #[derive(Debug, Drop)]
 struct Listed {
     texts: Texts,
-    places: Vec<Place>,
+    places: PlaceList,
 }
 
 impl Model for Listed {
@@ -67,7 +67,7 @@ impl Model for Listed {
 
     ghost Value = { List Endpoint };
 
-    ghost view = { λ listed. endpoints_at listed.texts listed.places.items };
+    ghost view = { λ listed. endpoints_at listed.texts listed.places };
 }
 
 /// The endpoints that a version 6 block refers to (RFC 5050, section 4.5.2). A copy shares what the
@@ -95,8 +95,8 @@ impl Refs {
     }
 
     /// The endpoints at these places in the texts, which are shared.
-    pub fn from_places(alloc: Global, texts: &Texts, places: Vec<Place>) -> Result<Refs, AllocError>
-        ensures { IfOk result (λ refs. refs ≡ endpoints_at texts.now places.items) }
+    pub fn from_places(alloc: Global, texts: &Texts, places: PlaceList) -> Result<Refs, AllocError>
+        ensures { IfOk result (λ refs. refs ≡ endpoints_at texts.now places) }
     {
         if places.is_empty() {
             return Ok(Refs::new(alloc));
@@ -156,7 +156,7 @@ impl Listed {
 #[derive(Debug, Drop)]
 pub struct Listing {
     texts: Vec<u8>,
-    places: Vec<Place>,
+    places: PlaceList,
 }
 
 impl Model for Listing {
@@ -167,9 +167,9 @@ impl Model for Listing {
 
     ghost Value = { List Endpoint };
 
-    ghost view = { λ listing. endpoints_at listing.texts.items listing.places.items };
+    ghost view = { λ listing. endpoints_at listing.texts.items listing.places };
 
-    ghost invariant = { λ listing. All (IsIn listing.texts.items) listing.places.items };
+    ghost invariant = { λ listing. All (IsIn listing.texts.items) listing.places };
 }
 
 impl Listing {
@@ -179,7 +179,7 @@ impl Listing {
     {
         Listing {
             texts: Vec::new(alloc),
-            places: Vec::new(alloc),
+            places: PlaceList::new(alloc),
         }
     }
 

@@ -16,9 +16,9 @@ returns-in_err-place-clause-exact c =
     let dictionary = c.args.dictionary.now in
     let names = λ (earlier : List Endpoint). name dictionary in
     let all = read (listed c.args.count names) c.args.text.now c.args.at in
-    gives-fault (λ places. endpoints_at dictionary places.items) refusal c.from_residual-in_err-place.result
+    gives-fault (λ places. endpoints_at dictionary places) refusal c.from_residual-in_err-place.result
     c.in_err-place.field-0.0 all c.from_residual-in_err-place.ensures.1
-    (listed-fails names c.args.text.now c.args.count c.references.counter (endpoints_at dictionary c.references.places.items)
+    (listed-fails names c.args.text.now c.args.count c.references.counter (endpoints_at dictionary c.references.places)
     c.references.after (refusal c.in_err-place.field-0.0) all c.references-test.true c.in_err-place.ensures.exact
     c.references.invariant.rest)
 
@@ -32,8 +32,8 @@ references-preserved c =
         behind = omega (arith, c.references.invariant.place.behind, c.in_ok-place.ensures.within.behind);
         within = c.in_ok-place.ensures.within.within;
       };
-      rest = rw (c.in_ok-add.ensures, map-append (endpoint_at dictionary) c.references.places.items (c.in_ok-place.place ∷ []))
-          (listed-step names c.args.text.now c.args.count c.references.counter (endpoints_at dictionary c.references.places.items)
+      rest = rw (c.in_ok-push.ensures.ok, map-append (endpoint_at dictionary) c.references.places (c.in_ok-place.place ∷ []))
+          (listed-step names c.args.text.now c.args.count c.references.counter (endpoints_at dictionary c.references.places)
           (endpoint_at dictionary c.in_ok-place.place)
           c.references.after c.in_ok-place.next all c.references-test.true c.in_ok-place.ensures.exact
           c.references.invariant.rest);

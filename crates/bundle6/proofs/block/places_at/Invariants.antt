@@ -10,6 +10,6 @@ use Rattle.bundle6.proofs.block.places_at.Given as goal
 abbrev pub invariant-references : goal.invariant-references
 invariant-references l = record {
   place : IsOn l.at l.text l.after;
-  rest : read (repeated (l.count - l.counter) (one_more (λ earlier. name l.dictionary)) (endpoints_at l.dictionary l.places.items)) l.text l.after
+  rest : read (repeated (l.count - l.counter) (one_more (λ earlier. name l.dictionary)) (endpoints_at l.dictionary l.places)) l.text l.after
       ≡ read (listed l.count (λ earlier. name l.dictionary)) l.text l.at;
 }

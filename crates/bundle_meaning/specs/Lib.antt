@@ -12,3 +12,4 @@ pub mod Wrap
 pub mod Word
 -- what only ties code to it
 pub mod Views
+pub mod Room

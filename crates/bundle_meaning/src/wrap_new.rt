@@ -10,14 +10,16 @@ ghost use Rattle.wire_fields.specs.Gives.{Gives, IsOn};
 ghost use Rattle.bundle_meaning.specs.Body.{refusal, name, name_octets, GivesBody, LendsBody, SpellsNone, IsWritten};
 ghost use Rattle.bundle_meaning.specs.Blocks.{IsBlock6, is_marked};
 ghost use Rattle.bundle_meaning.specs.Wrap.{kind6, references, wrap_new, wrap_new_octets};
+ghost use Rattle.endpoint.specs.Lent.{endpoint_of};
 ghost use Rattle.bundle_meaning.specs.Views.{names_lent, block6_lent};
+ghost use Rattle.bundle_meaning.specs.Room.{most, names_room, wrap_room};
 
 use crate::bits::BLOCK_MARKS;
 use crate::blocks::Block6Like;
 use crate::fault::BlockFault;
 use crate::field::{Unfit, all_left, flags_without, mark, name, shortest};
 use crate::writing::{NUMBER, begin, write_name, write_numbers};
-use endpoint::{Endpoint, Listing, Octets, Refs};
+use endpoint::{Endpoint, Listing, Name, Octets, Refs};
 use std::alloc::{AllocError, Global};
 use wire_fields::Miss;
 
@@ -42,13 +44,15 @@ pub struct LentBlock6<'a> {
     pub body: &'a [u8],
 }
 
-/// The body of the wrap that holds a block of version 6 in version 7.
+/// The body of the wrap that holds a block of version 6 in version 7. A block of some octets may have
+/// millions of references to one long name, so the names are summed before anything is written: where
+/// memory has no room for them, none is taken.
 pub fn write_wrap_new(alloc: Global, block: &Block6Like) -> Result<Octets, AllocError>
     requires { IsBlock6 block.now }
     ensures { IfOk result (λ octets. IsWritten (wrap_new (length octets)) block.now
         (wrap_new_octets block.now) octets) }
 {
-    let mut out = begin(alloc, block.body.len().saturating_add(3 * NUMBER))?;
+    let mut out = begin(alloc, wrap_room(block))?;
     write_numbers(
         &[u64::from(block.kind), block.flags, block.refs.len() as u64],
         &mut out,
@@ -56,6 +60,40 @@ pub fn write_wrap_new(alloc: Global, block: &Block6Like) -> Result<Octets, Alloc
     write_names(alloc, &block.refs, &mut out)?;
     out.extend_from_slice(block.body.as_slice())?;
     Ok(Octets::from_vec(out))
+}
+
+/// How many octets the wrap of a block has at most.
+fn wrap_room(block: &Block6Like) -> usize
+    ensures { result ≡ wrap_room block.now }
+{
+    let names = names_room(&block.refs);
+    block
+        .body
+        .len()
+        .saturating_add(names)
+        .saturating_add(3 * NUMBER)
+}
+
+/// How many octets endpoints have at most in a wrap.
+fn names_room(refs: &Refs) -> usize
+    ensures { result ≡ names_room refs.now }
+{
+    let mut room: usize = 0;
+    'summing: for at in 0..refs.len() {
+        room = room.saturating_add(most(refs.get(at)));
+    }
+    room
+}
+
+/// How many octets an endpoint has at most in a wrap.
+fn most(name: Name<'_>) -> usize
+    ensures { result ≡ most (endpoint_of name.entry) }
+{
+    match name {
+        Name::Null => 8 + NUMBER,
+        Name::Ipn { .. } => 45 + NUMBER,
+        Name::Dtn(ssp) => ssp.len().saturating_add(4 + NUMBER),
+    }
 }
 
 /// Appends endpoints, one after the other.

@@ -15,24 +15,24 @@
 
 mod fitting;
 mod laws;
-mod new_reading;
-mod new_report;
-mod new_view;
-mod old_reading;
-mod old_report;
-mod old_view;
 mod private;
+mod reading6;
+mod reading7;
 mod refused;
+mod report6;
+mod report7;
 mod translation;
+mod writing6;
+mod writing7;
 
 pub use laws::{
     late_is_refused, no_more_blocks, plain_is_normal, reads_soundly6, reads_soundly7,
     says_the_same, there_and_back, view_is_normal, view6_is_legal, view6_reads, view7_is_legal,
     view7_reads,
 };
-pub use new_reading::from7;
-pub use new_view::{fits7, view7};
-pub use old_reading::from6;
-pub use old_view::{fits6, view6};
+pub use reading6::from6;
+pub use reading7::from7;
 pub use refused::{Refused, ViewRefused};
 pub use translation::{norm6, norm7, to_new, to_old};
+pub use writing6::{fits6, view6};
+pub use writing7::{fits7, view7};

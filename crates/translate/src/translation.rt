@@ -12,11 +12,11 @@ ghost use Rattle.translate.specs.Answers.{Translates};
 ghost use Rattle.translate.specs.Translation.{HoldsOctets6, HoldsOctets7, there6, there7, norm6_of, norm7_of, to_new_refusal, to_old_refusal, norm6_refusal, norm7_refusal};
 
 use crate::fitting::{fits_new, fits_old};
-use crate::new_reading::{full7, refusal7};
-use crate::new_view::bundle7_of;
-use crate::old_reading::{full6, refusal6};
-use crate::old_view::bundle6_of;
+use crate::reading6::{full6, refusal6};
+use crate::reading7::{full7, refusal7};
 use crate::refused::Refused;
+use crate::writing6::bundle6_of;
+use crate::writing7::bundle7_of;
 use bundle_meaning::Full;
 use bundle6::{Block6, Bundle6};
 use bundle7::{Block7, Bundle7};

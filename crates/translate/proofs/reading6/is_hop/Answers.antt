@@ -1,0 +1,11 @@
+use Rattle.std.proofs.Common.{sym, arith}
+use Rattle.bundle7.specs.Body.{hop}
+use Rattle.translate.proofs.BodyLemmas.{whole-yes, whole-no, none-spelled}
+use Rattle.translate.proofs.reading6.is_hop.Goals as goal
+
+pub returns-in-Some : goal.returns-in-Some
+returns-in-Some c = sym (whole-yes hop c.args.body.now c.in-Some.field-0 c.in-Some.ensures.found)
+
+pub returns-in-None : goal.returns-in-None
+returns-in-None c =
+    sym (whole-no hop c.args.body.now (λ i. omega (arith, c.type_inv.body i)) (none-spelled hop c.args.body.now c.in-None.ensures.only))

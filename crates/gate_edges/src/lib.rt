@@ -8,6 +8,17 @@
 
 mod board;
 mod clocks;
+mod edges;
+mod failing;
+mod mem_acts;
+mod mem_face;
+mod mem_outside;
+mod outside;
 
 pub use board::{Board, FileBoard, MemBoard};
 pub use clocks::{Clocks, MemClocks, SystemClocks};
+pub use edges::Edges;
+pub use mem_acts::MemAct;
+pub use mem_face::MemFace;
+pub use mem_outside::MemOutside;
+pub use outside::Outside;

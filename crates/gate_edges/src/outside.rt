@@ -1,0 +1,66 @@
+//! All that the gateway sees and does outside, as one thing.
+
+ghost use Rattle.std.specs.Prelude.{◌≡◌, ◌<◌, ◌≤◌, ◌^◌, List, [], ◌∷◌, Option, length, is_err};
+ghost use Rattle.edge_traits.specs.Content.{Gains};
+ghost use Rattle.edge_traits.specs.Datagrams.{PollsAtMost};
+ghost use Rattle.edge_traits.specs.Faults.{Calls, Went};
+ghost use Rattle.gate_edges.specs.Ahead.{Ahead, polled_at, past_poll, reading_next, past_reading};
+ghost use Rattle.gate_edges.specs.Ahead.{send_fails, past_send, show_fails, past_show};
+ghost use Rattle.gate_edges.specs.Made.{Made, AsTold, Writes, Shows, polled_in, tried};
+
+use edge_traits::{Failed, LONGEST_DATAGRAM};
+use gate_cases::Face;
+use outbox::Reading;
+
+/// Two clocks, the links of two faces, where lines are written, and where the metrics are put. What is
+/// made there is one list, so that a contract sees in which order it was made.
+pub trait Outside {
+    // What its calls will give from here on, but for its writes, where that is told.
+    ghost ahead: { Self → Option Ahead };
+
+    // What was made so far, in the order made, where that is told.
+    ghost made: { Self → Option (List Made) };
+
+    // Its writes: how many failed, up to the greatest number that 64 bits show; and which of those to
+    // come are to fail, where that is told.
+    ghost writes: { Self → Calls };
+
+    /// What both clocks show now: the wall clock less than 2^62.
+    fn read(&mut self) -> Reading
+        ensures small { result.wall < 2 ^ 62 }
+        ensures ahead { AsTold (ahead self.old) (ahead self.new) result reading_next past_reading }
+        ensures made { made self.new ≡ made self.old }
+        ensures writes { writes self.new ≡ writes self.old };
+
+    /// Takes the next datagram at a face into the front of `buf` and answers its length, or None where
+    /// no datagram is there.
+    fn poll(&mut self, face: Face, buf: &mut [u8]) -> Result<Option<usize>, Failed>
+        requires { LONGEST_DATAGRAM ≤ length buf.old }
+        ensures bound { PollsAtMost result buf.new }
+        ensures ahead { AsTold (ahead self.old) (ahead self.new) (polled_in buf.new result)
+            (polled_at face) (past_poll face) }
+        ensures made { made self.new ≡ made self.old }
+        ensures writes { writes self.new ≡ writes self.old };
+
+    /// Sends a datagram at a face. `Failed` sends nothing: it is lost.
+    fn send(&mut self, face: Face, datagram: &[u8]) -> Result<(), Failed>
+        ensures ahead { AsTold (ahead self.old) (ahead self.new) (is_err result)
+            (send_fails face) (past_send face) }
+        ensures made { Gains (made self.old) (made self.new)
+            (tried face (is_err result) datagram.now ∷ []) }
+        ensures writes { writes self.new ≡ writes self.old };
+
+    /// Writes a text to its end. Where a write fails, a front of the text was written, and no write
+    /// follows it.
+    fn write(&mut self, text: &[u8]) -> Result<(), Failed>
+        ensures ahead { ahead self.new ≡ ahead self.old }
+        ensures made { Writes (made self.old) (made self.new) result text.now }
+        ensures writes { Went result (writes self.old) (writes self.new) };
+
+    /// Puts a text in the place of the one before. `Failed` leaves that as it was.
+    fn show(&mut self, text: &[u8]) -> Result<(), Failed>
+        ensures ahead { AsTold (ahead self.old) (ahead self.new) (is_err result)
+            show_fails past_show }
+        ensures made { Shows (made self.old) (made self.new) result text.now }
+        ensures writes { writes self.new ≡ writes self.old };
+}

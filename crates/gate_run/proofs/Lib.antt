@@ -1,0 +1,9 @@
+pub mod MadeLemmas
+pub mod PollLemmas
+pub mod SendLemmas
+pub mod TellLemmas
+pub mod HalfLemmas
+pub mod TurnLemmas
+pub mod RunLemmas
+pub mod WholeLemmas
+pub mod ConfigLemmas

@@ -1,0 +1,8 @@
+use Rattle.std.proofs.Common.{rules, refl}
+use Rattle.gate_run.proofs.TellLemmas.{stops-unwritten}
+use Rattle.gate_run.proofs.telling.write_unshown.Goals as goal
+
+pub returns-in_err-write_metrics_failed-clause-writes :
+    goal.returns-in_err-write_metrics_failed-clause-writes
+returns-in_err-write_metrics_failed-clause-writes g c =
+    stops-unwritten c.from_residual.result _ _ (search rules) refl

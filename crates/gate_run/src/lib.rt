@@ -1,0 +1,20 @@
+//! The run of the gateway that an operator runs: `fimdahol gate FILE`.
+//!
+//! A run is made in turns, each a half of the old face and one of the new. A half reads the clocks,
+//! lets time pass, polls its face's link, lets the old face send and then the new one, writes the lines
+//! in one piece, and shows the metrics where they are due. [`gate`] makes exactly the acts of
+//! `gate_half`'s definition over what the outside gives (`specs/Course.antt`), in one order across all
+//! that is outside, or a front of them where it ends early (`specs/Outcome.antt`). Where an outside
+//! tells nothing, it is still told how the run ended, and that nothing was written after a failed write.
+#![tactic(auto)]
+
+mod driven;
+pub mod laws;
+mod running;
+mod sending;
+mod status;
+mod stop;
+mod telling;
+
+pub use running::run_from;
+pub use status::GateStatus;

@@ -1,0 +1,38 @@
+//! Why a run stopped.
+
+ghost use Rattle.std.specs.Prelude.{◌≡◌};
+ghost use Rattle.gate_run.specs.Outcome.{status_of};
+
+use crate::status::GateStatus;
+use std::alloc::AllocError;
+
+/// Why a run stopped before its last turn was made.
+#[derive(Clone, Copy, Debug, PartialEq, Eq, Drop)]
+pub enum Stop {
+    /// A write failed.
+    Fault,
+    /// Memory ran out.
+    NoMemory,
+}
+
+impl Stop {
+    /// How the run ends.
+    pub fn status(self) -> GateStatus
+        ensures { result ≡ status_of self }
+    {
+        match self {
+            Stop::Fault => GateStatus::WriteFault,
+            Stop::NoMemory => GateStatus::Memory,
+        }
+    }
+}
+
+impl From<AllocError> for Stop {
+    ghost use Rattle.gate_run.specs.declared.stop.Stop.TheVariants.{NoMemory};
+
+    ghost from_gives = { λ _ stop. stop ≡ NoMemory };
+
+    fn from(_: AllocError) -> Stop {
+        Stop::NoMemory
+    }
+}

@@ -1,0 +1,247 @@
+//! The gateway at work, while memory lasts.
+
+ghost use Rattle.std.specs.Prelude.{◌≡◌, ◌<◌, ◌^◌, ◌++◌, IfOk, OnOk, Some, flat_map, length};
+ghost use Rattle.std.specs.String.{string_bytes};
+ghost use Rattle.gate_log.specs.declared.event.Event.TheVariants as events;
+ghost use Rattle.gate_log.specs.Lines.{line_of};
+ghost use Rattle.gate_metrics.specs.Text.{metrics_text};
+ghost use Rattle.gate_face.specs.Halves.{taking};
+ghost use Rattle.outbox.specs.Outbox.{next_of};
+ghost use Rattle.gate_half.specs.Setup.{IsRunnable};
+ghost use Rattle.gate_half.specs.Standing.{Standing, doing_at, face_of, saying, starts_at, wall_of};
+ghost use Rattle.gate_half.specs.Parts as parts;
+ghost use Rattle.gateway_core.specs.Moments.{AreMoments, moments_value};
+ghost use Rattle.gateway_core.specs.declared.moments.Moments.TheVariants as moments;
+
+use crate::kept::Kept;
+use crate::setup::{gate_of, party_in};
+use endpoint::Octets;
+use gate_cases::Face;
+use gate_config::GateFile;
+use gate_log::{Event, LinkEvent, write_line};
+use gate_metrics::{Counted, FaceGauges, Gauges, write_metrics};
+use gateway_core::{Gateway, Moments};
+use outbox::Reading;
+use std::alloc::{AllocError, Global};
+
+/// The metrics are written again after so many milliseconds.
+const BETWEEN_METRICS: u64 = 10_000;
+
+/// A gateway at work, while memory lasts.
+#[derive(Debug, Drop)]
+pub(crate) struct Work {
+    alloc: Global,
+    gate: Gateway,
+    /// The moments of this half.
+    moments: Moments,
+    kept: Kept,
+    /// The numbers of the first sessions.
+    old_first: u64,
+    new_first: u64,
+    /// Whether the line `start` was said.
+    started: bool,
+    /// What the wall clock showed when the metrics were written last.
+    shown: Option<u64>,
+}
+
+impl Work {
+    ghost use Rattle.gate_live.specs.Shows.{Does, IsWhole, ShowsWork, reads_clocks};
+
+    /// Before the first half, at whose reading the wall clock shows this.
+    pub fn new(alloc: Global, file: &GateFile, wall: u64) -> Result<Work, AllocError>
+        requires runnable { IsRunnable file.now }
+        requires small { wall < 2 ^ 62 }
+        ensures whole { IfOk result IsWhole }
+        ensures shows { IfOk result (λ work. ShowsWork work (starts_at file.now wall)) }
+    {
+        let old = party_in(&file.old, wall);
+        let new = party_in(&file.new, wall);
+        let gate = gate_of(alloc, file, old, new)?;
+        let kept = Kept::new(alloc, file, wall)?;
+        Ok(Work {
+            alloc,
+            gate,
+            moments: Moments::Same(wall),
+            kept,
+            old_first: old.first_session,
+            new_first: new.first_session,
+            started: false,
+            shown: None,
+        })
+    }
+
+    /// The clocks are read.
+    pub fn read(&mut self, reading: Reading) -> Result<(), AllocError>
+        requires whole { IsWhole self.old }
+        requires small { reading.wall < 2 ^ 62 }
+        ensures { OnOk result (Does self.old self.new (parts.reads reading)) }
+    {
+        self.read_clocks(reading)?;
+        self.start()
+    }
+
+    /// The clocks are read, and what there is to tell of the contacts is said.
+    fn read_clocks(&mut self, reading: Reading) -> Result<(), AllocError>
+        requires whole { IsWhole self.old }
+        requires small { reading.wall < 2 ^ 62 }
+        ensures { OnOk result (Does self.old self.new (reads_clocks reading)) }
+    {
+        let of_faces = self.kept.read(reading)?;
+        let (old, new) = of_faces;
+        let wall = reading.wall;
+        self.moments = Moments::Apart { wall, old, new };
+        Ok(())
+    }
+
+    /// The line `start`, in the first half.
+    fn start(&mut self) -> Result<(), AllocError>
+        requires { IsWhole self.old }
+        ensures { OnOk result (Does self.old self.new parts.starting) }
+    {
+        if self.started {
+            return Ok(());
+        }
+        self.started = true;
+        self.kept.say(&Event::Start {
+            old: self.old_first,
+            new: self.new_first,
+            marks: 0,
+            pending: 0,
+        })
+    }
+
+    /// Time passes.
+    pub fn tick(&mut self) -> Result<(), AllocError>
+        requires { IsWhole self.old }
+        ensures { OnOk result (Does self.old self.new parts.ticks) }
+    {
+        let answer = self.gate.tick_in(self.moments)?;
+        self.kept.tell(self.alloc, answer, &self.gate)
+    }
+
+    /// A datagram comes at a face.
+    pub fn arrive(&mut self, face: Face, datagram: &[u8]) -> Result<(), AllocError>
+        requires { IsWhole self.old }
+        ensures { OnOk result (Does self.old self.new (parts.arrives face datagram.now)) }
+    {
+        let octets = datagram.len() as u64;
+        self.kept.count(face, Counted::Received { octets });
+        let answer = self.gate.arrive_in(face, datagram, self.moments)?;
+        self.kept.tell(self.alloc, answer, &self.gate)
+    }
+
+    /// The last poll of the half failed.
+    pub fn poll_failed(&mut self, face: Face) -> Result<(), AllocError>
+        requires { IsWhole self.old }
+        ensures { OnOk result (Does self.old self.new (parts.fails_polling face)) }
+    {
+        let what = LinkEvent::PollFailed;
+        self.kept.say(&Event::Link { face, what })
+    }
+
+    /// How many datagrams wait at a face.
+    pub fn waiting(&self, face: Face) -> usize
+        ensures { (s : Standing)
+            → ShowsWork self.now s → result ≡ length ((face_of face s).outbox).waiting }
+    {
+        self.kept.faces.at(face).outbox().len()
+    }
+
+    /// Takes out the datagram that may go next at a face, if one may.
+    pub fn next(&mut self, face: Face) -> Option<Octets>
+        ensures next { (s : Standing)
+            → ShowsWork self.old s → result ≡ next_of (face_of face s).outbox }
+        ensures after { IsWhole self.old → Does self.old self.new (doing_at face taking) }
+    {
+        self.kept.next(face)
+    }
+
+    /// A datagram that was taken out went, or its send failed.
+    pub fn gone(&mut self, face: Face, datagram: &Octets, failed: bool)
+        ensures { IsWhole self.old → Does self.old self.new (parts.goes face failed datagram.now) }
+    {
+        if failed {
+            self.kept.lose(face);
+        } else {
+            let octets = datagram.len() as u64;
+            self.kept.count(face, Counted::Sent { octets });
+        }
+    }
+
+    /// Both faces have sent: what went wrong there in this half is told.
+    pub fn end_sending(&mut self) -> Result<(), AllocError>
+        requires { IsWhole self.old }
+        ensures { OnOk result (Does self.old self.new parts.ends_sending) }
+    {
+        self.kept.say_troubles(Face::Old)?;
+        self.kept.say_troubles(Face::New)
+    }
+
+    /// The lines of this half, end to end.
+    pub fn text(&self) -> &str
+        ensures { (s : Standing)
+            → ShowsWork self.now s → result.now ≡ flat_map (line_of (wall_of s)) s.said }
+    {
+        self.kept.log.text()
+    }
+
+    /// Whether the metrics are to be written in this half.
+    pub fn is_due(&self) -> bool
+        ensures { (s : Standing)
+            → ShowsWork self.now s → result ≡ parts.is_due s.shown (wall_of s) }
+    {
+        match self.shown {
+            Some(last) => self.moments.wall().saturating_sub(last) >= BETWEEN_METRICS,
+            None => true,
+        }
+    }
+
+    /// Appends the text of the metrics, and remembers when it was written.
+    pub fn write_metrics(&mut self, text: &mut String) -> Result<(), AllocError>
+        requires { IsWhole self.old }
+        ensures after { OnOk result (Does self.old self.new
+            (λ s. record s { shown = Some (wall_of s) })) }
+        ensures text { OnOk result ((s : Standing) → ShowsWork self.old s → string_bytes text.new
+            ≡ string_bytes text.old ++ metrics_text s.counters (parts.gauges_in s)) }
+    {
+        let gauges = self.gauges();
+        write_metrics(text, self.kept.log.counters(), &gauges)?;
+        self.shown = Some(self.moments.wall());
+        Ok(())
+    }
+
+    /// How things stand.
+    fn gauges(&self) -> Gauges
+        requires { IsWhole self.now }
+        ensures { (s : Standing) → ShowsWork self.now s → result ≡ parts.gauges_in s }
+    {
+        Gauges {
+            old: self.gauges_at(Face::Old),
+            new: self.gauges_at(Face::New),
+            pending_pieces: 0,
+        }
+    }
+
+    /// How things stand at a face.
+    fn gauges_at(&self, face: Face) -> FaceGauges
+        requires { IsWhole self.now }
+        ensures { (s : Standing) → ShowsWork self.now s → result ≡ parts.face_gauges face s }
+    {
+        let run = self.kept.faces.at(face);
+        FaceGauges {
+            sending_sessions: self.gate.sending(face) as u64,
+            receiving_sessions: self.gate.receiving(face) as u64,
+            outbox_datagrams: run.outbox().len() as u64,
+            outbox_octets: run.outbox().octets(),
+            link: run.link(self.moments.wall()),
+        }
+    }
+
+    /// Appends the line that says that the metrics couldn't be put in place.
+    pub fn write_metrics_failed(&self, text: &mut String) -> Result<(), AllocError>
+        ensures { OnOk result ((s : Standing) → ShowsWork self.now s → string_bytes text.new
+            ≡ string_bytes text.old ++ line_of (wall_of s) events.MetricsFailed) }
+    {
+        write_line(text, self.moments.wall(), &Event::MetricsFailed)
+    }
+}

@@ -1,0 +1,5 @@
+use Rattle.gate_laws.proofs.OwnLemmas.{open-are-own}
+use Rattle.gate_laws.proofs.laws.open_are_own.Goals as goal
+
+pub returns : goal.returns
+returns c = open-are-own c.opens_by_beginning.ensures

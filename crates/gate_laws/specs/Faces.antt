@@ -1,0 +1,144 @@
+-- What a face sends in a run, and how its time goes.
+
+use Rattle.std.specs.Prelude.{◌≡◌, ℕ, ◌+◌, ◌-◌, ◌*◌, ◌/◌, ◌≤◌, Bool, List, [], ◌∷◌, ◌++◌, ◌⊎◌, map}
+use Rattle.std.specs.Prelude.{Some, IsSomeAnd}
+use Rattle.gate_cases.specs.declared.face.Face.{Face}
+use Rattle.gate_cases.specs.declared.face.Face.TheVariants.{Old}
+use Rattle.gate_cases.specs.Faces.{other_of}
+use Rattle.gateway_core.specs.declared.effects.Routed.{Routed}
+use Rattle.gateway_core.specs.Comings.{if_same}
+use Rattle.gateway_core.specs.Effects.{gate_effects_of}
+use Rattle.gateway_core.specs.Gate.{EventIn, Gate, GateSetup, at_face, gate_in}
+use Rattle.outbox.specs.FaceTime.{FaceMoment}
+use Rattle.outbox.specs.Laws.{IsHeldAt, IsOpenAt}
+use Rattle.outbox.specs.Outbox.{octets_in}
+use Rattle.outbox.specs.Run.{Call, kept, longest, puts, reads}
+use Rattle.outbox.specs.Schedule.{ScheduleValue, contact_at, rate_of}
+use Rattle.gate_face.specs.Schedules.{schedule_in}
+use Rattle.gate_half.specs.Standing.{Standing, face_of}
+use Rattle.gate_half.specs.Half.{Came, half}
+use Rattle.gate_half.specs.Laws.{tried_at, waiting_at}
+use Rattle.gate_half.specs.Run.{halves}
+use Rattle.gate_laws.specs.Runs.{Run, acts_of, begins_at, events_in, moments_in, stands_at}
+
+-- ---- what is put into a face's outbox
+
+-- of what is sent, the datagrams of a face
+unfoldable pub routed_to : Face → List Routed → List (List ℕ)
+routed_to at [] = []
+routed_to at (routed ∷ more) =
+    if_same routed.face at (routed.datagram ∷ routed_to at more) (routed_to at more)
+
+-- what a gate sends at a face with some events, the oldest first
+unfoldable pub sends_with : GateSetup → Face → Gate → List EventIn → List (List ℕ)
+sends_with setup at g [] = []
+sends_with setup at g (event ∷ more) =
+    routed_to at (gate_effects_of (gate_in setup g event).effects).out
+    ++ sends_with setup at (gate_in setup g event).gate more
+
+-- what happens to a face's outbox in a half, before anything is sent: the clocks are read, and what
+-- the half's events send at the face is put
+abbrev pub calls_in : Face → Face → Came → Standing → List Call
+calls_in at face came s =
+    reads came.reading ∷ map puts (sends_with s.setup at s.gate (events_in face came s))
+
+-- what is put there in a half and not dropped
+abbrev pub accepted_in : Face → Face → Came → Standing → List (List ℕ)
+accepted_in at face came s = kept (face_of at s).outbox (calls_in at face came s)
+
+-- and in some halves
+unfoldable pub accepted_over : Face → (board : Bool) → Face → List Came → Standing → List (List ℕ)
+accepted_over at board face [] s = []
+accepted_over at board face (came ∷ more) s =
+    accepted_in at face came s
+    ++ accepted_over at board (other_of face) more (half board face came s).standing
+
+-- ---- what goes out
+
+-- what went out at a face in a run, sent or lost, and after it what still waits, is what was put
+-- there and not dropped, in order: each goes out once
+abbrev pub GoesOnceInOrder : Type 0
+GoesOnceInOrder =
+    (r : Run) (at : Face)
+    → tried_at at (acts_of r) ++ waiting_at at (stands_at r)
+    ≡ accepted_over at r.board Old r.comes (begins_at r)
+
+-- ---- contact
+
+-- when a face's link is open, by the run's file
+abbrev pub plan_of : Run → Face → ScheduleValue
+plan_of r at = at_face (schedule_in (r.file).old, schedule_in (r.file).new) at
+
+-- in each of some halves with which something goes out at a face, the link is open at its reading
+unfoldable pub AreInContact :
+    ScheduleValue → Face → (board : Bool) → Face → List Came → Standing → Type 0
+AreInContact plan at board face [] s = Unit {0}
+AreInContact plan at board face (came ∷ more) s =
+    ((tried_at at (half board face came s).acts ≡ []) ⊎ IsOpenAt plan (came.reading).wall)
+    × AreInContact plan at board (other_of face) more (half board face came s).standing
+
+-- so it is in each half of a run
+abbrev pub GoesInContactInRuns : Type 0
+GoesInContactInRuns =
+    (r : Run) (at : Face) → AreInContact (plan_of r at) at r.board Old r.comes (begins_at r)
+
+-- ---- pace
+
+-- all readings of some halves lie in this contact
+abbrev pub LieIn : ScheduleValue → ℕ → List Came → Type 0
+LieIn s contact [] = Unit {0}
+LieIn s contact (came ∷ more) =
+    (contact_at s (came.reading).wall ≡ Some contact) × LieIn s contact more
+
+-- from this one on, no reading of the monotonic clock is below the one before
+abbrev pub ClockRises : ℕ → List Came → Type 0
+ClockRises monotonic [] = Unit {0}
+ClockRises monotonic (came ∷ more) =
+    (monotonic ≤ (came.reading).monotonic) × ClockRises (came.reading).monotonic more
+
+-- the last reading of the monotonic clock, or this one
+abbrev pub last_clock : ℕ → List Came → ℕ
+last_clock monotonic [] = monotonic
+last_clock monotonic (came ∷ more) = last_clock (came.reading).monotonic more
+
+-- in halves whose readings lie in one contact with a rate, from a run's beginning or later, no more
+-- octets go out at a face than the rate carries from the first reading to the last and 10
+-- milliseconds more, but for those of the longest datagram
+abbrev pub KeepsPaceInRuns : Type 0
+KeepsPaceInRuns =
+    (s : Standing) (at : Face) (contact rate : ℕ) (board : Bool) (face : Face) (came : Came)
+    (more : List Came)
+    → rate_of ((face_of at s).outbox).schedule (Some contact) ≡ Some rate
+    → LieIn ((face_of at s).outbox).schedule contact (came ∷ more)
+    → ClockRises (came.reading).monotonic more
+    → octets_in (tried_at at (halves board face (came ∷ more) s).acts)
+    ≤ rate * (last_clock (came.reading).monotonic more - (came.reading).monotonic + 10) / 1000
+    + longest (tried_at at (halves board face (came ∷ more) s).acts)
+
+-- ---- a face's time
+
+-- a face's moment in a half is the one at which its engine's events are
+abbrev pub TimeIsOfHalf : Type 0
+TimeIsOfHalf =
+    (board : Bool) (face : Face) (came : Came) (s : Standing) (at : Face)
+    → (face_of at (half board face came s).standing).time
+    ≡ Some (record { moment = (moments_in came s).at at; reading = came.reading })
+
+-- from one half to the next it never falls, and grows by no more than the monotonic clock does
+abbrev pub TimeRises : Type 0
+TimeRises =
+    (s : Standing) (at : Face) (before : FaceMoment) (board : Bool) (face : Face) (came : Came)
+    → (face_of at s).time ≡ Some before
+    → (before.reading).monotonic ≤ (came.reading).monotonic
+    → IsSomeAnd (face_of at (half board face came s).standing).time (λ now.
+    (before.moment ≤ now.moment)
+    × (now.moment ≤ before.moment + ((came.reading).monotonic - (before.reading).monotonic)))
+
+-- it stays where datagrams waited at the end of the half before, or the link was closed since
+abbrev pub TimeIsHeld : Type 0
+TimeIsHeld =
+    (s : Standing) (at : Face) (before : FaceMoment) (board : Bool) (face : Face) (came : Came)
+    → (face_of at s).time ≡ Some before
+    → IsHeldAt (face_of at s).outbox before (reads came.reading)
+    → IsSomeAnd (face_of at (half board face came s).standing).time (λ now.
+    now.moment ≡ before.moment)

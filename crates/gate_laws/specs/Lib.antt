@@ -1,0 +1,6 @@
+-- What a reader must believe, in this order.
+pub mod Runs
+pub mod Sessions
+pub mod Faces
+pub mod Ticks
+pub mod Ends

@@ -1,0 +1,59 @@
+-- The sessions of a run: which are the gateway's own, and what is handed up in them.
+
+use Rattle.std.specs.Prelude.{◌≡◌, ℕ, ◌↔◌, true, List, ◌∷◌, ◌++◌}
+use Rattle.std.specs.Option.{is_some}
+use Rattle.ltp_engine.specs.RedParts.{EachOnce, engine_after, pieces_of}
+use Rattle.ltp_session.specs.RedPart.{BecomesWhole}
+use Rattle.ltp_laws.specs.View.{IsIn}
+use Rattle.gate_cases.specs.declared.face.Face.{Face}
+use Rattle.gateway_core.specs.Gate.{EventIn, at_face, gate_after_in}
+use Rattle.gateway_core.specs.Comings.{comings_in}
+use Rattle.gateway_core.specs.RedParts.{face_ups_in, ups_in, ups_on}
+use Rattle.gate_events.specs.Own.{find_own}
+use Rattle.gate_half.specs.Setup.{setup_in}
+use Rattle.gate_half.specs.Steps.{opens_in}
+use Rattle.gate_laws.specs.Runs.{Run, events_of, stands_at}
+
+-- ---- the gate
+
+-- its gate is what its events make of one at its beginning
+abbrev pub GateIsOfEvents : Type 0
+GateIsOfEvents =
+    (r : Run) → (stands_at r).gate ≡ gate_after_in (setup_in r.file r.wall) (events_of r)
+
+-- the engine of each face is what an engine becomes to which come the datagrams of the face, the
+-- blocks that begin there, and the face's moments
+abbrev pub EnginesAreOfTheirFaces : Type 0
+EnginesAreOfTheirFaces =
+    (r : Run) (at : Face)
+    → at_face ((stands_at r).gate).engines at
+    ≡ engine_after (at_face (setup_in r.file r.wall).parties at)
+    (comings_in (setup_in r.file r.wall) at (events_of r))
+
+-- with an event of the run a session's red part is handed up at a face if and only if it becomes
+-- whole there with it: place by place the first octet that came
+abbrev pub HandsUpWholeInRuns : Type 0
+HandsUpWholeInRuns =
+    (r : Run) (later earlier : List EventIn) (event : EventIn)
+    → events_of r ≡ later ++ event ∷ earlier → (at : Face) (n : ℕ) (body : List ℕ)
+    → IsIn (record { session = n; body = body })
+    (ups_on at (ups_in (setup_in r.file r.wall) earlier event))
+    ↔ BecomesWhole
+    (pieces_of (at_face (setup_in r.file r.wall).parties at) n
+    (comings_in (setup_in r.file r.wall) at earlier))
+    (pieces_of (at_face (setup_in r.file r.wall).parties at) n
+    (comings_in (setup_in r.file r.wall) at (event ∷ earlier))) body
+
+-- no session's red part is handed up twice at a face
+abbrev pub HandsUpOnceInRuns : Type 0
+HandsUpOnceInRuns =
+    (r : Run) (at : Face) → EachOnce (face_ups_in (setup_in r.file r.wall) at (events_of r))
+
+-- ---- own sessions
+
+-- each session that is open at a face is one of the gateway's own
+abbrev pub OpenAreOwn : Type 0
+OpenAreOwn =
+    (r : Run) (face : Face) (n : ℕ)
+    → opens_in (stands_at r).gate face n ≡ true
+    → is_some (find_own face n (stands_at r).own) ≡ true

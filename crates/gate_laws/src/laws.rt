@@ -1,0 +1,104 @@
+//! What holds of each run. Each law is the contract of a function that does nothing but cite those of
+//! a gateway and of an outbox.
+
+ghost use Rattle.gate_laws.specs.Sessions.{EnginesAreOfTheirFaces, GateIsOfEvents, HandsUpOnceInRuns};
+ghost use Rattle.gate_laws.specs.Sessions.{HandsUpWholeInRuns, OpenAreOwn};
+ghost use Rattle.gate_laws.specs.Ends.{EndsAreNoted};
+ghost use Rattle.gate_laws.specs.Faces.{GoesInContactInRuns, GoesOnceInOrder, KeepsPaceInRuns};
+ghost use Rattle.gate_laws.specs.Faces.{TimeIsHeld, TimeIsOfHalf, TimeRises};
+ghost use Rattle.gate_laws.specs.Ticks.{TicksOnce};
+
+/// The gate of a run is what its ticks and its datagrams make of a gate at its beginning.
+pub fn gate_is_of_events()
+    ensures { GateIsOfEvents }
+{}
+
+/// The engine of each face is what an engine becomes to which come, at the face's moments, the
+/// datagrams of the face and the blocks that begin there.
+pub fn engines_are_of_their_faces()
+    ensures { EnginesAreOfTheirFaces }
+{
+    gateway_core::laws::faces_are_engines_in();
+}
+
+/// With an event of a run the red part of a session is handed up at a face if and only if it becomes
+/// whole there with the event. Place by place it is the first octet that came.
+pub fn hands_up_whole_in_runs()
+    ensures { HandsUpWholeInRuns }
+{
+    gateway_core::laws::hands_up_red_parts_in();
+}
+
+/// No session's red part is handed up twice at a face in a run.
+pub fn hands_up_once_in_runs()
+    ensures { HandsUpOnceInRuns }
+{
+    gateway_core::laws::hands_up_each_once_in();
+}
+
+/// Each session that is open at a face is one of those that the run keeps as its own.
+pub fn open_are_own()
+    ensures { OpenAreOwn }
+{
+    gateway_core::laws::opens_by_beginning();
+}
+
+/// With an event after which a session isn't open that was open before it there is a note that the
+/// session was sent, failed, or was cancelled.
+pub fn ends_are_noted()
+    ensures { EndsAreNoted }
+{}
+
+// ---- a face
+
+/// What went out at a face in a run, sent or lost, and after it what still waits, is what was put there
+/// and not dropped: each goes out once, in order.
+pub fn goes_once_in_order()
+    ensures { GoesOnceInOrder }
+{
+    outbox::laws::goes_out_in_order();
+}
+
+/// A datagram goes out at a face only in a half at whose reading the face's link is open, by the run's
+/// file.
+pub fn goes_in_contact_in_runs()
+    ensures { GoesInContactInRuns }
+{
+    gate_half::laws::goes_in_contact();
+}
+
+/// In halves whose readings lie in one contact that has a rate, no more octets go out than the rate
+/// carries in the time and 10 milliseconds more, but for those of the longest datagram.
+pub fn keeps_pace_in_runs()
+    ensures { KeepsPaceInRuns }
+{
+    outbox::laws::keeps_pace();
+}
+
+/// A face's moment in a half is the one at which the half's events come to its engine.
+pub fn time_is_of_half()
+    ensures { TimeIsOfHalf }
+{}
+
+/// From one half to the next a face's moment never falls, and grows by no more than the monotonic
+/// clock does.
+pub fn time_rises()
+    ensures { TimeRises }
+{
+    outbox::laws::time_goes_on();
+}
+
+/// It stays where datagrams waited at the end of the half before, or the link was closed since.
+pub fn time_is_held()
+    ensures { TimeIsHeld }
+{
+    outbox::laws::time_stays();
+}
+
+/// Where a face's moment is that of the half before, the half's tick sends nothing at the face, and
+/// notes nothing about it.
+pub fn ticks_once()
+    ensures { TicksOnce }
+{
+    gateway_core::laws::faces_are_engines_in();
+}

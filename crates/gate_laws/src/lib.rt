@@ -1,0 +1,9 @@
+//! Laws over whole runs of the gateway that an operator runs, as `gate_half` defines them, whatever
+//! comes to their halves.
+//!
+//! `specs/Runs` says what happens to the gate of a run: in each half time passes, and then the
+//! datagrams come that were polled, all at the moments of the half's reading. So what holds of a
+//! gateway's events holds of a run. There is no code here.
+#![tactic(auto)]
+
+pub mod laws;

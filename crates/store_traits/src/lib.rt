@@ -1,0 +1,19 @@
+//! The file in which something is kept over a stop, as the code above sees it: a disk with a clock.
+//!
+//! A [`Store`] says what a read of its file gives, and what a crash may leave of it: at this moment, and
+//! at each moment since an earlier one. A write may be torn until a sync. A new file is made beside the
+//! old one, and takes its place by a call of its own.
+//!
+//! [`MemStore`] is a store in memory, which tells. [`FileStore`] is a file of the system, and tells
+//! nothing: of what a disk does no clause can speak.
+#![tactic(auto)]
+
+mod fault;
+mod files;
+mod memory;
+mod store;
+
+pub use fault::StoreFault;
+pub use files::{FileStore, OpenFault};
+pub use memory::{Call, MemStore};
+pub use store::Store;

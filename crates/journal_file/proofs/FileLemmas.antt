@@ -146,6 +146,10 @@ file-only file k (inr says) =
     ap (λ (w : List ℕ). starts_with nat_eq w opening) says.parts ∙ starts-there (says.text ++ says.rest) in
     read-right file right ∙ ap only_kept whole
 
+-- and it stands for nothing else
+pub reads-one : (file : List ℕ) (j k : KeptValue) → Reads file j → Reads file k → j ≡ k
+reads-one file j k one other = good-is j k (sym (file-only file j one) ∙ file-only file k other)
+
 -- ---- refused
 
 file-refused : (file : List ℕ) (p : ℕ) (s : Stop JournalCause) → IsOctets file → read_file file ≡ bad (p, s) → IsDamaged file p s

@@ -1,4 +1,6 @@
+pub mod SlotLemmas
 pub mod RecordLemmas
 pub mod FileLemmas
 pub mod SpellingLemmas
 pub mod WritingLemmas
+pub mod AnewLemmas

@@ -1,8 +1,8 @@
 -- What is written spells what it says, and opening a gate makes what stands behind it the next records.
-use Rattle.std.proofs.Common.{◌≡◌, ℕ, zero, suc, ◌<◌, ◌^◌, ◌==◌, Bool, true, false, nat_lt, List, [], ◌∷◌, ◌++◌, length, drop, Option, None, refl, sym, ap, ◌∙◌, arith, append_assoc, inr}
+use Rattle.std.proofs.Common.{◌≡◌, ℕ, zero, suc, ◌<◌, ◌^◌, ◌==◌, Bool, true, false, nat_lt, List, [], ◌∷◌, ◌++◌, length, drop, Option, None, refl, sym, ap, ◌∙◌, arith, append_assoc, subst, inr}
 use Rattle.std.proofs.Math.Seq.{drop-append_seam}
 use Rattle.std.proofs.lemmas.List.{append-nil, length-append}
-use Rattle.std.proofs.lemmas.Bool.{lt-ltb, eq-eqb}
+use Rattle.std.proofs.lemmas.Bool.{lt-ltb, eq-eqb, ne_eqb}
 use Rattle.std.proofs.lemmas.Slice.Eq.{bytes_eq-Decides}
 use Rattle.sdnv.specs.Shortest.{spelling}
 use Rattle.sdnv.proofs.ShortestLemmas.{spelling-spells}
@@ -230,19 +230,20 @@ unfolding records
 some-left zero kept k seen w s none = cc
 some-left (suc m) kept k seen w (u, v, gate, parts, one, after) none = omega (arith, ap length (sym parts ∙ none), length-append u v, ap length one)
 
-opened : (m : ℕ) (kept k : KeptValue) (seen front : List ℕ) (rs : List RecordValue) → MayFollow k rs
-    → Spells (records m kept) seen (front ++ 0 ∷ []) k → Follows kept seen (front ++ gated rs) (kept_after k rs)
+-- in the place of the closed gate other octets go on
+went-on : (m : ℕ) (kept k : KeptValue) (seen front tail : List ℕ) (j : KeptValue) → ((far : List ℕ) → Follows k far tail j)
+    → Spells (records m kept) seen (front ++ 0 ∷ []) k → Follows kept seen (front ++ tail) j
 unfolding records
-opened zero kept k seen front rs may s = absurd (cc)
-opened (suc m) kept k seen [] rs may (u, v, gate, parts, one, after) =
+went-on zero kept k seen front tail j on s = absurd (cc)
+went-on (suc m) kept k seen [] tail j on (u, v, gate, parts, one, after) =
     let zero_first : 0 ∷ [] ≡ gate ∷ v = parts ∙ ap (λ (w : List ℕ). w ++ v) one in
     let shut : gate ≡ 0 = cc in
     let ends : Spells (choice (0 == 1) (entry kept >>= (λ said. records m (kept_with kept said))) (give kept)) (seen ++ u) v k =
     rw shut at after in
     let same : k ≡ kept = ends.1 in
-    rw same (gated-spells kept rs seen (rw same at may))
-opened (suc m) kept k seen (x ∷ front) rs may (u, v, gate, parts, one, after) =
-    by (gate == 1) refl after (λ said ys far s. opened m (kept_with kept said) k far ys rs may s)
+    rw same at (on seen)
+went-on (suc m) kept k seen (x ∷ front) tail j on (u, v, gate, parts, one, after) =
+    by (gate == 1) refl after (λ said ys far s. went-on m (kept_with kept said) k far ys tail j on s)
   where
     whole : x ∷ (front ++ 0 ∷ []) ≡ gate ∷ v
     whole = parts ∙ ap (λ (w : List ℕ). w ++ v) one
@@ -253,11 +254,11 @@ opened (suc m) kept k seen (x ∷ front) rs may (u, v, gate, parts, one, after) 
     left : front ++ 0 ∷ [] ≡ v
     left = cc
 
-    by : (on : Bool) → (gate == 1) ≡ on
-        → Spells (choice on (entry kept >>= (λ said. records m (kept_with kept said))) (give kept)) (seen ++ u) v k
+    by : (t : Bool) → (gate == 1) ≡ t
+        → Spells (choice t (entry kept >>= (λ said. records m (kept_with kept said))) (give kept)) (seen ++ u) v k
         → ((said : RecordValue) (ys far : List ℕ) → Spells (records m (kept_with kept said)) far (ys ++ 0 ∷ []) k
-        → Follows (kept_with kept said) far (ys ++ gated rs) (kept_after k rs))
-        → Follows kept seen ((x ∷ front) ++ gated rs) (kept_after k rs)
+        → Follows (kept_with kept said) far (ys ++ tail) j)
+        → Follows kept seen ((x ∷ front) ++ tail) j
     by false is s next = absurd (omega (arith, ap length (left ∙ s.0), length-append front (0 ∷ [])))
     by true is (a, b, said, seam, here, rest) next =
         let cut = snoc-cut front a b 0 (left ∙ seam) (some-left m (kept_with kept said) k ((seen ++ u) ++ a) b rest) in
@@ -265,14 +266,19 @@ opened (suc m) kept k seen (x ∷ front) rs may (u, v, gate, parts, one, after) 
           most = suc others.most;
           spells = (
             u,
-            a ++ (cut.0 ++ gated rs),
+            a ++ (cut.0 ++ tail),
             gate,
-            ap (λ (w : List ℕ). x ∷ (w ++ gated rs)) cut.1 ∙ ap (λ (w : List ℕ). x ∷ w) (append_assoc a cut.0 (gated rs))
-                ∙ ap (λ (y : ℕ). y ∷ (a ++ (cut.0 ++ gated rs))) first ∙ ap (λ (w : List ℕ). w ++ (a ++ (cut.0 ++ gated rs))) (sym one),
+            ap (λ (w : List ℕ). x ∷ (w ++ tail)) cut.1 ∙ ap (λ (w : List ℕ). x ∷ w) (append_assoc a cut.0 tail)
+                ∙ ap (λ (y : ℕ). y ∷ (a ++ (cut.0 ++ tail))) first ∙ ap (λ (w : List ℕ). w ++ (a ++ (cut.0 ++ tail))) (sym one),
             one,
-            rw is (a, cut.0 ++ gated rs, said, refl, here, others.spells),
+            rw is (a, cut.0 ++ tail, said, refl, here, others.spells),
           );
         }
+
+-- a gate with any octet but that of an open one is closed
+shut-follows : (kept : KeptValue) (gate : ℕ) (far : List ℕ) → (gate == 1) ≡ false → Follows kept far (gate ∷ []) kept
+unfolding records
+shut-follows kept gate far is = record { most = 1; spells = (gate ∷ [], [], gate, refl, refl, rw is (refl, refl)) }
 
 -- ---- the laws
 
@@ -290,13 +296,26 @@ records-closed rs may =
     let there = gated-spells nothing_kept rs opening may in
     record { text = gated rs; most = there.most; parts = refl; spells = there.spells }
 
-pub gate-opened : (front : List ℕ) (kept : KeptValue) (rs : List RecordValue)
-    → Closes (front ++ 0 ∷ []) kept → MayFollow kept rs → Closes (front ++ gated rs) (kept_after kept rs)
-gate-opened front kept rs closes may =
+tail-follows : (front : List ℕ) (kept : KeptValue) (tail : List ℕ) (j : KeptValue) → ((far : List ℕ) → Follows kept far tail j)
+    → Closes (front ++ 0 ∷ []) kept → Closes (front ++ tail) j
+tail-follows front kept tail j on closes =
     let cut = snoc-cut front opening closes.text 0 closes.parts (some-left closes.most nothing_kept kept opening closes.text closes.spells) in
-    let there = opened closes.most nothing_kept kept opening cut.0 rs may (rw cut.2 at closes.spells) in record {
-      text = cut.0 ++ gated rs;
+    let there = went-on closes.most nothing_kept kept opening cut.0 tail j on (rw cut.2 at closes.spells) in record {
+      text = cut.0 ++ tail;
       most = there.most;
-      parts = ap (λ (w : List ℕ). w ++ gated rs) cut.1 ∙ append_assoc opening cut.0 (gated rs);
+      parts = ap (λ (w : List ℕ). w ++ tail) cut.1 ∙ append_assoc opening cut.0 tail;
       spells = there.spells;
     }
+
+pub gate-opened : (front : List ℕ) (kept : KeptValue) (rs : List RecordValue)
+    → Closes (front ++ 0 ∷ []) kept → MayFollow kept rs → Closes (front ++ gated rs) (kept_after kept rs)
+gate-opened front kept rs closes may = tail-follows front kept (gated rs) (kept_after kept rs) (λ far. gated-spells kept rs far may) closes
+
+pub gate-shut : (front : List ℕ) (kept : KeptValue) (gate : ℕ)
+    → Closes (front ++ 0 ∷ []) kept → (gate ≡ 1 → ⊥) → Closes (front ++ gate ∷ []) kept
+gate-shut front kept gate closes other = tail-follows front kept (gate ∷ []) kept (λ far. shut-follows kept gate far (ne_eqb gate 1 other)) closes
+
+pub shut-reads : (front torn : List ℕ) (kept : KeptValue) (gate : ℕ)
+    → Closes (front ++ 0 ∷ []) kept → (gate ≡ 1 → ⊥) → Reads (front ++ gate ∷ torn) kept
+shut-reads front torn kept gate closes other =
+    subst (λ (w : List ℕ). Reads w kept) (append_assoc front (gate ∷ []) torn) (closes-reads (front ++ gate ∷ []) torn kept (gate-shut front kept gate closes other))

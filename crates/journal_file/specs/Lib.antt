@@ -1,10 +1,12 @@
--- What a reader must believe: what is kept, what each record does to it, the table, whole files, and
--- the octets that are written.
+-- What a reader must believe: what is kept, what each record does to it, the table, whole files, the
+-- octets that are written, and a file that is made anew.
 pub mod Values
 pub mod Keeping
 pub mod Table
 pub mod File
 pub mod Spelling
+pub mod Anew
 -- Names of causes, and what only ties code to these.
 pub mod Cause
 pub mod Ties
+pub mod Rising

@@ -1,5 +1,5 @@
 -- Values of the code as those of the definitions, and its faults as refusals.
-use Rattle.std.specs.Prelude.{ℕ, List, ◌∷◌, Option, Some, None}
+use Rattle.std.specs.Prelude.{ℕ, List, ◌∷◌, ◌++◌, Option, Some, None}
 use Rattle.wire_fields.specs.Refusal.{Stop, truncated, because}
 use Rattle.wire_fields.specs.declared.miss.Miss.{Miss}
 use Rattle.wire_fields.specs.declared.miss.Miss.TheVariants as misses
@@ -7,10 +7,14 @@ use Rattle.journal_file.specs.declared.fault.JournalCause.{JournalCause}
 use Rattle.journal_file.specs.declared.fault.JournalCause.TheVariants as causes
 use Rattle.journal_file.specs.declared.fault.JournalFault.{JournalFault}
 use Rattle.journal_file.specs.declared.fault.JournalFault.TheVariants as faults
+use Rattle.gate_cases.specs.declared.face.Face.TheVariants.{Old, New}
 use Rattle.journal_file.specs.declared.kept.Kept.{Kept}
+use Rattle.journal_file.specs.declared.kept.Pending.{Pending}
+use Rattle.journal_file.specs.declared.kept.Mark.{Mark}
 use Rattle.journal_file.specs.declared.record.Record.{Record}
 use Rattle.journal_file.specs.declared.record.Record.TheVariants as records
 use Rattle.journal_file.specs.Values.{KeptValue, RecordValue, a_begun, a_done, a_mark, a_clear, a_reserved}
+use Rattle.journal_file.specs.File.{opening}
 use Rattle.journal_file.specs.Spelling.{record_octets}
 
 -- the end of the file is a reason of its own
@@ -45,5 +49,22 @@ record_of (records.Clear face session) = a_clear face session
 record_of (records.Reserved face number) = a_reserved face number
 
 -- an open gate, and the record behind it
+abbrev pub entry_octets : RecordValue → List ℕ
+entry_octets said = 1 ∷ record_octets said
+
 abbrev pub entry_of : Record → List ℕ
-entry_of said = 1 ∷ record_octets (record_of said)
+entry_of said = entry_octets (record_of said)
+
+-- ---- the parts of a file that is made anew
+
+abbrev pub head_octets : KeptValue → List ℕ
+head_octets kept =
+    opening
+    ++ (entry_octets (a_reserved Old kept.old_reserved)
+    ++ entry_octets (a_reserved New kept.new_reserved))
+
+abbrev pub begun_entry : Pending → List ℕ
+begun_entry p = entry_octets (a_begun p)
+
+abbrev pub mark_entry : Mark → List ℕ
+mark_entry m = entry_octets (a_mark m)

@@ -1,6 +1,6 @@
 //! Single fields at a place of a journal: the value and the place after it, or the refusal.
 
-ghost use Rattle.std.specs.Prelude.{◌≡◌, ◌+◌, ◌≤◌, length, IfOk};
+ghost use Rattle.std.specs.Prelude.{◌≡◌, ◌+◌, ◌<◌, ◌≤◌, length, IfOk};
 ghost use Rattle.wire_fields.specs.Refusal.{because};
 ghost use Rattle.wire_fields.specs.Reading.{read};
 ghost use Rattle.wire_fields.specs.Words.{any_octet, any_octets};
@@ -9,8 +9,8 @@ ghost use Rattle.journal_file.specs.Table.{face_of, how_of, face, how, is_shorte
 ghost use Rattle.journal_file.specs.Ties.{why, refusal};
 
 use crate::fault::{JournalCause, JournalFault};
-use crate::kept::{Pending, is_pending};
 use crate::record::How;
+use crate::slots::Book;
 use gate_cases::Face;
 use wire_fields::{number_at, octet_at, octets_at};
 
@@ -114,6 +114,7 @@ pub(crate) fn number(text: &[u8], at: usize) -> Result<(u64, usize), JournalFaul
 pub(crate) fn new_id(text: &[u8], at: usize, greatest: u64) -> Result<(u64, usize), JournalFault>
     requires { at ≤ length text.now }
     ensures within { IfOk result (λ x. IsOn at text.now x.1) }
+    ensures above { IfOk result (λ x. greatest < x.0) }
     ensures exact { Gives (λ n. n) refusal result (read (new_id greatest) text.now at) }
 {
     match number_at(text, at) {
@@ -132,21 +133,17 @@ pub(crate) fn new_id(text: &[u8], at: usize, greatest: u64) -> Result<(u64, usiz
 
 /// An id that is pending.
 #[tactic(auto, unfolding(crate::specs::Table::number_where, crate::specs::Table::sized_number))]
-pub(crate) fn pending_id(
-    text: &[u8],
-    at: usize,
-    pending: &[Pending],
-) -> Result<(u64, usize), JournalFault>
+pub(crate) fn pending_id(text: &[u8], at: usize, book: &Book) -> Result<(u64, usize), JournalFault>
     requires { at ≤ length text.now }
     ensures within { IfOk result (λ x. IsOn at text.now x.1) }
-    ensures exact { Gives (λ n. n) refusal result (read (pending_id pending.now) text.now at) }
+    ensures exact { Gives (λ n. n) refusal result (read (pending_id book.now.pending) text.now at) }
 {
     match number_at(text, at) {
         Ok((value, after)) => {
             if !is_shortest(value, &text[at..after]) {
                 return Err(JournalCause::Number.at(at));
             }
-            if !is_pending(pending, value) {
+            if !book.is_pending(value) {
                 return Err(JournalCause::Id.at(at));
             }
             Ok((value, after))

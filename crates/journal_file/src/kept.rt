@@ -3,7 +3,7 @@
 ghost use Rattle.std.specs.Prelude.{◌≡◌, ◌++◌, ◌∷◌, ◌==◌, IfOk, OnOk, OnErr, length};
 ghost use Rattle.std.specs.List.{position_or_len};
 ghost use Rattle.journal_file.specs.Values.{nothing_kept, a_begun, a_reserved};
-ghost use Rattle.journal_file.specs.Keeping.{octet_of, same_face, has_id, is_pending, is_of, is_about, marks_of, bounded, marks_with, without_first, greater, kept_with};
+ghost use Rattle.journal_file.specs.Keeping.{octet_of, same_face, has_id, is_of, is_about, marks_of, bounded, marks_with, without_first, greater, kept_with};
 ghost use Rattle.journal_file.specs.Ties.{kept_of, record_of};
 
 use crate::record::Record;
@@ -150,13 +150,6 @@ fn place_of(pending: &[Pending], id: u64) -> usize
         }
     }
     pending.len()
-}
-
-/// Whether an id is pending.
-pub(crate) fn is_pending(pending: &[Pending], id: u64) -> bool
-    ensures { result ≡ is_pending id pending.now }
-{
-    place_of(pending, id) < pending.len()
 }
 
 /// The block of an id is pending no longer.

@@ -8,9 +8,10 @@
 //!
 //! [`read_kept`] reads a file, or says at which place and for which cause it is damaged.
 //!
-//! [`write_gated`] and [`write_behind_gate`] append the octets of records. [`closed_gate_ends`] and
-//! [`open_gate_goes_on`] state what gates do: behind a closed one anything may stand, and opening it
-//! makes the records behind it the next ones.
+//! [`write_gated`] and [`write_behind_gate`] append the octets of records. [`closed_gate_ends`],
+//! [`any_closed_gate_ends`] and [`open_gate_goes_on`] state what gates do: behind a closed one anything
+//! may stand, and opening it makes the records behind it the next ones. [`write_file`] makes a file anew
+//! of what is kept, and [`new_file_says_the_same`] states that it stands for that.
 //!
 //! No program stands on this crate yet. How records are committed, with which writes and syncs in
 //! which order, is not known here.
@@ -22,11 +23,17 @@ mod kept;
 mod laws;
 mod reading;
 mod record;
+mod slots;
+mod whole;
 mod writing;
 
 pub use fault::{JournalCause, JournalFault};
 pub use kept::{Kept, MARKS_MAX, Mark, Pending};
-pub use laws::{closed_gate_ends, open_gate_goes_on, records_are_read};
+pub use laws::{
+    any_closed_gate_ends, closed_gate_ends, new_file_says_the_same, open_gate_goes_on,
+    records_are_read,
+};
 pub use reading::read_kept;
 pub use record::{How, Record};
+pub use whole::write_file;
 pub use writing::{write_behind_gate, write_gated, write_record};

@@ -9,11 +9,13 @@ ghost use Rattle.journal_file.specs.Values.{KeptValue, nothing_kept};
 ghost use Rattle.journal_file.specs.Table.{begun_fields, done_fields, mark_fields, clear_fields, reserved_fields, fields_of, entry, records};
 ghost use Rattle.journal_file.specs.File.{Reads, IsDamaged, read_file, opening};
 ghost use Rattle.journal_file.specs.Ties.{refusal, kept_of, record_of};
+ghost use Rattle.journal_file.specs.Rising.{IsAbove};
 
 use crate::fault::{JournalCause, JournalFault};
 use crate::fields::{check, face, how, new_id, number, octet, octets, pending_id, record_kind};
-use crate::kept::{Kept, Mark, Pending};
+use crate::kept::{Kept, Mark};
 use crate::record::Record;
+use crate::slots::Book;
 use std::alloc::Global;
 
 /// The first octets of each journal.
@@ -62,15 +64,16 @@ fn read_records(alloc: Global, text: &[u8], at: usize) -> Result<(Kept, usize), 
     requires behind { 0 < at }
     ensures exact { Gives kept_of refusal result (read (records (length text.now) nothing_kept) text.now at) }
 {
-    let mut kept = Kept::new(alloc);
+    let mut book = Book::new(alloc);
     let mut after = at;
     'records: while after < text.len() {
         let (gate, next) = octet(text, after, JournalCause::Kind)?;
         if gate != OPEN {
+            let kept = book.close(alloc)?;
             return Ok((kept, next));
         }
-        let (record, next) = read_record(text, next, &kept)?;
-        kept.take(alloc, &record)?;
+        let (record, next) = read_record(text, next, &book)?;
+        book.take(alloc, &record)?;
         after = next;
     }
     Err(JournalCause::Truncated.at(after))
@@ -81,14 +84,15 @@ fn read_records(alloc: Global, text: &[u8], at: usize) -> Result<(Kept, usize), 
 fn read_record<'a>(
     text: &'a [u8],
     at: usize,
-    kept: &Kept,
+    book: &Book,
 ) -> Result<(Record<'a>, usize), JournalFault>
     requires { at ≤ length text.now }
     ensures within { IfOk result (λ x. IsOn at text.now x.1) }
-    ensures exact { Gives record_of refusal result (read (entry (kept_of kept.now)) text.now at) }
+    ensures above { IfOk result (λ x. IsAbove book.now.greatest (record_of x.0)) }
+    ensures exact { Gives record_of refusal result (read (entry book.now) text.now at) }
 {
     let (kind, after) = record_kind(text, at)?;
-    let (record, after) = read_fields(text, after, kind, kept)?;
+    let (record, after) = read_fields(text, after, kind, book)?;
     let (_, end) = check(text, after, &text[at..after])?;
     Ok((record, end))
 }
@@ -99,15 +103,16 @@ fn read_fields<'a>(
     text: &'a [u8],
     at: usize,
     kind: u8,
-    kept: &Kept,
+    book: &Book,
 ) -> Result<(Record<'a>, usize), JournalFault>
     requires { at ≤ length text.now }
     ensures within { IfOk result (λ x. IsOn at text.now x.1) }
-    ensures exact { Gives record_of refusal result (read (fields_of kind (kept_of kept.now)) text.now at) }
+    ensures above { IfOk result (λ x. IsAbove book.now.greatest (record_of x.0)) }
+    ensures exact { Gives record_of refusal result (read (fields_of kind book.now) text.now at) }
 {
     match kind {
-        1 => read_begun(text, at, kept.greatest),
-        2 => read_done(text, at, kept.pending.as_slice()),
+        1 => read_begun(text, at, book.greatest()),
+        2 => read_done(text, at, book),
         3 => read_mark(text, at),
         4 => read_clear(text, at),
         _ => read_reserved(text, at),
@@ -122,6 +127,7 @@ fn read_begun<'a>(
 ) -> Result<(Record<'a>, usize), JournalFault>
     requires { at ≤ length text.now }
     ensures within { IfOk result (λ x. IsOn at text.now x.1) }
+    ensures above { IfOk result (λ x. IsAbove greatest (record_of x.0)) }
     ensures exact { Gives record_of refusal result (read (begun_fields greatest) text.now at) }
 {
     let (id, at) = new_id(text, at, greatest)?;
@@ -135,13 +141,14 @@ fn read_begun<'a>(
 fn read_done<'a>(
     text: &'a [u8],
     at: usize,
-    pending: &[Pending],
+    book: &Book,
 ) -> Result<(Record<'a>, usize), JournalFault>
     requires { at ≤ length text.now }
     ensures within { IfOk result (λ x. IsOn at text.now x.1) }
-    ensures exact { Gives record_of refusal result (read (done_fields pending.now) text.now at) }
+    ensures above { IfOk result (λ x. (n : ℕ) → IsAbove n (record_of x.0)) }
+    ensures exact { Gives record_of refusal result (read (done_fields book.now.pending) text.now at) }
 {
-    let (id, at) = pending_id(text, at, pending)?;
+    let (id, at) = pending_id(text, at, book)?;
     let (how, at) = how(text, at)?;
     Ok((Record::Done { id, how }, at))
 }
@@ -150,6 +157,7 @@ fn read_done<'a>(
 fn read_mark<'a>(text: &'a [u8], at: usize) -> Result<(Record<'a>, usize), JournalFault>
     requires { at ≤ length text.now }
     ensures within { IfOk result (λ x. IsOn at text.now x.1) }
+    ensures above { IfOk result (λ x. (n : ℕ) → IsAbove n (record_of x.0)) }
     ensures exact { Gives record_of refusal result (read mark_fields text.now at) }
 {
     let (face, at) = face(text, at)?;
@@ -169,6 +177,7 @@ fn read_mark<'a>(text: &'a [u8], at: usize) -> Result<(Record<'a>, usize), Journ
 fn read_clear<'a>(text: &'a [u8], at: usize) -> Result<(Record<'a>, usize), JournalFault>
     requires { at ≤ length text.now }
     ensures within { IfOk result (λ x. IsOn at text.now x.1) }
+    ensures above { IfOk result (λ x. (n : ℕ) → IsAbove n (record_of x.0)) }
     ensures exact { Gives record_of refusal result (read clear_fields text.now at) }
 {
     let (face, at) = face(text, at)?;
@@ -180,6 +189,7 @@ fn read_clear<'a>(text: &'a [u8], at: usize) -> Result<(Record<'a>, usize), Jour
 fn read_reserved<'a>(text: &'a [u8], at: usize) -> Result<(Record<'a>, usize), JournalFault>
     requires { at ≤ length text.now }
     ensures within { IfOk result (λ x. IsOn at text.now x.1) }
+    ensures above { IfOk result (λ x. (n : ℕ) → IsAbove n (record_of x.0)) }
     ensures exact { Gives record_of refusal result (read reserved_fields text.now at) }
 {
     let (face, at) = face(text, at)?;

@@ -15,7 +15,7 @@ use crate::record::{How, Record};
 use std::alloc::{AllocError, Global};
 
 /// What a gate holds that is closed.
-const CLOSED: u8 = 0;
+pub(crate) const CLOSED: u8 = 0;
 
 /// Appends a record with its check.
 pub fn write_record(alloc: Global, said: &Record, out: &mut Vec<u8>) -> Result<(), AllocError>

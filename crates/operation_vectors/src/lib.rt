@@ -1,5 +1,5 @@
 //! The project's tables of tests over the operation of the gateway: its configuration, moments as
-//! texts, what a face sends, and when, the lines of the log, and the metrics.
+//! texts, what a face sends, and when, the lines of the log, the metrics, and the journal's file.
 //!
 //! What is wanted comes from outside, never from what the program printed; docs/vectors.md says for
 //! each table where its values come from. Nothing is offered to other crates.
@@ -7,6 +7,8 @@
 
 #[cfg(test)]
 mod checks;
+#[cfg(test)]
+mod journals;
 #[cfg(test)]
 mod lines;
 #[cfg(test)]

@@ -4,7 +4,6 @@ use Rattle.wire_fields.specs.Reading.{read}
 use Rattle.wire_fields.specs.Gives.{IsOn}
 use Rattle.journal_file.specs.Values.{nothing_kept}
 use Rattle.journal_file.specs.Table.{records}
-use Rattle.journal_file.specs.Ties.{kept_of}
 use Rattle.journal_file.proofs.RecordLemmas.{SoFar}
 use Rattle.journal_file.proofs.reading.read_records.Given as goal
 
@@ -14,5 +13,5 @@ decreases-records l = length l.text - l.after
 abbrev pub invariant-records : goal.invariant-records
 invariant-records l = record {
   place : IsOn l.at l.text l.after;
-  so_far : SoFar l.text l.after (kept_of l.kept) (read (records (length l.text) nothing_kept) l.text l.at);
+  so_far : SoFar l.text l.after l.book (read (records (length l.text) nothing_kept) l.text l.at);
 }

@@ -1,0 +1,180 @@
+//! Journals: what a file is read as, or where and why it is damaged, and a file that is made anew. The
+//! octets are those of an independent model, and its own check of CRC-32C.
+
+use gate_cases::Face;
+use journal_file::{JournalFault, Kept, read_kept, write_file};
+use std::alloc::Global;
+use std::test::Fail;
+
+/// Both numbers are reserved, and a bundle of version 7 is begun at the new face.
+const ONE_BEGUN: &str =
+    "66696d6a726e6c31010500a00198234a74010501a0013d62d80a01010101299f890700018202\
+8202018202820101820100821a000f42450019ea5b425a46850101000043616263ff56f4406a00";
+
+/// Files that say what is kept, and what that is: the pending blocks, the marks, the numbers that are
+/// reserved and the greatest id.
+const KEPT: &[(&str, &str)] = &[
+    ("", "reserved 0 0 greatest 0"),
+    ("66696d6a726e6c3100", "reserved 0 0 greatest 0"),
+    ("66696d6a726e6c310001", "reserved 0 0 greatest 0"),
+    (
+        "66696d6a726e6c31010500a00198234a740101010101ab2d07a7b501030007bdd2502ee8d1a700",
+        "begun 1 new 1 mark old 7 1010000 reserved 4097 0 greatest 1",
+    ),
+    (
+        "66696d6a726e6c310101010101ab2d07a7b501020101cec2ea0300",
+        "reserved 0 0 greatest 1",
+    ),
+];
+
+/// Files that are damaged, the place, and the cause.
+const DAMAGED: &[(&str, usize, &str)] = &[
+    ("68656c6c6f", 0, "Start"),
+    ("66696d6a726e6c31", 8, "Truncated"),
+    ("66696d6a726e6c3101", 9, "Truncated"),
+    ("66696d6a726e6c3101007d53510000", 9, "Kind"),
+    ("66696d6a726e6c310106", 9, "Kind"),
+    ("66696d6a726e6c310105008001e7a8a97600", 11, "Number"),
+    ("66696d6a726e6c31010502018ed526f300", 10, "Face"),
+];
+
+/// The same, of records that end what isn't pending, begin an id again, or end in no way.
+const MISPLACED: &[(&str, usize, &str)] = &[
+    (
+        "66696d6a726e6c310101010101ab2d07a7b501020201fa25429a00",
+        20,
+        "Id",
+    ),
+    (
+        "66696d6a726e6c310101010101ab2d07a7b501010100003063730100",
+        20,
+        "Id",
+    ),
+    ("66696d6a726e6c3101010001008680790800", 10, "Id"),
+    (
+        "66696d6a726e6c31010101010023c1eb76010201003ca9690000",
+        20,
+        "How",
+    ),
+    (
+        "66696d6a726e6c31010101010023c1eb7601020104fb33fe1f00",
+        20,
+        "How",
+    ),
+];
+
+/// Octets of the file with one block that are changed, to what, and the place where it is damaged then.
+const CHANGED: &[(usize, u8, usize, &str)] = &[
+    (0, 0x67, 0, "Start"),
+    (9, 0x06, 9, "Kind"),
+    (12, 0x02, 13, "Crc"),
+    (40, 0x00, 72, "Crc"),
+    (75, 0x00, 72, "Crc"),
+    (76, 0x01, 77, "Truncated"),
+];
+
+/// What reading a file gives, as a text.
+fn shown(alloc: Global, file: &[u8]) -> Result<String, Fail> {
+    match read_kept(alloc, file) {
+        Ok(kept) => shown_kept(alloc, &kept),
+        Err(JournalFault::Damaged { at, cause }) => {
+            let word = cause.word();
+            Ok(format!(in alloc; "{at} {word}")?)
+        }
+        Err(JournalFault::Memory) => Err("no memory".into()),
+    }
+}
+
+/// What is kept, as a text.
+fn shown_kept(alloc: Global, kept: &Kept) -> Result<String, Fail> {
+    let mut text = String::new(alloc);
+    for begun in kept.pending.as_slice() {
+        let (id, face, size) = (begun.id, named(begun.face), begun.block.len());
+        write!(text, "begun {id} {face} {size} ")?;
+    }
+    for mark in kept.marks.as_slice() {
+        let (face, session, when) = (named(mark.face), mark.session, mark.when);
+        write!(text, "mark {face} {session} {when} ")?;
+    }
+    let (old, new, greatest) = (kept.old_reserved, kept.new_reserved, kept.greatest);
+    write!(text, "reserved {old} {new} greatest {greatest}")?;
+    Ok(text)
+}
+
+fn named(face: Face) -> &'static str {
+    match face {
+        Face::Old => "old",
+        Face::New => "new",
+    }
+}
+
+#[test]
+fn a_file_says_what_is_kept(rt: HostRuntime) -> Result<(), Fail> {
+    for (text, wanted) in KEPT {
+        let file = hex::decode(rt.alloc(), text)?;
+        let got = shown(rt.alloc(), file.as_slice())?;
+        assert_eq!(rt; got.as_str(), *wanted, "{text}");
+    }
+    Ok(())
+}
+
+#[test]
+fn a_damaged_file_is_refused(rt: HostRuntime) -> Result<(), Fail> {
+    for (text, at, cause) in DAMAGED {
+        let file = hex::decode(rt.alloc(), text)?;
+        let got = shown(rt.alloc(), file.as_slice())?;
+        let wanted = format!(in rt.alloc(); "{at} {cause}")?;
+        assert_eq!(rt; got.as_str(), wanted.as_str(), "{text}");
+    }
+    Ok(())
+}
+
+#[test]
+fn a_misplaced_record_is_refused(rt: HostRuntime) -> Result<(), Fail> {
+    for (text, at, cause) in MISPLACED {
+        let file = hex::decode(rt.alloc(), text)?;
+        let got = shown(rt.alloc(), file.as_slice())?;
+        let wanted = format!(in rt.alloc(); "{at} {cause}")?;
+        assert_eq!(rt; got.as_str(), wanted.as_str(), "{text}");
+    }
+    Ok(())
+}
+
+#[test]
+fn a_changed_octet_is_found(rt: HostRuntime) -> Result<(), Fail> {
+    for (place, octet, at, cause) in CHANGED {
+        let mut file = hex::decode(rt.alloc(), ONE_BEGUN)?;
+        if let Some(changed) = file.get_mut(*place) {
+            *changed = *octet;
+        }
+        let got = shown(rt.alloc(), file.as_slice())?;
+        let wanted = format!(in rt.alloc(); "{at} {cause}")?;
+        assert_eq!(rt; got.as_str(), wanted.as_str(), "{place}");
+    }
+    Ok(())
+}
+
+#[test]
+fn a_file_is_made_anew(rt: HostRuntime) -> Result<(), Fail> {
+    let file = hex::decode(rt.alloc(), ONE_BEGUN)?;
+    let kept = read_kept(rt.alloc(), file.as_slice())
+        .ok()
+        .ok_or("not read")?;
+    let mut made = Vec::new(rt.alloc());
+    write_file(rt.alloc(), &kept, &mut made)?;
+    assert_eq!(rt; made.as_slice(), file.as_slice());
+    Ok(())
+}
+
+#[test]
+fn what_follows_a_closed_gate_is_not_read(rt: HostRuntime) -> Result<(), Fail> {
+    let mut file = hex::decode(rt.alloc(), ONE_BEGUN)?;
+    let done = hex::decode(rt.alloc(), "020101cec2ea03")?;
+    file.extend_from_slice(done.as_slice())?;
+    let got = shown(rt.alloc(), file.as_slice())?;
+    assert_eq!(rt;
+        got.as_str(),
+        "begun 1 new 41 reserved 4097 4097 greatest 1"
+    );
+    Ok(())
+}

@@ -1,0 +1,4 @@
+pub mod StepLemmas
+pub mod OpenLemmas
+pub mod NewLemmas
+pub mod RestLemmas

@@ -1,15 +1,127 @@
-//! The command `gate check FILE`: the file is opened, and how its check ended is said.
+//! The commands `gate FILE` and `gate check FILE`: the file is opened, and how the run, or the check,
+//! ended is said.
 
-use crate::end::end;
-use edge_traits::{Reading, Status, Writing};
+ghost use Rattle.std.specs.Prelude.{IfOk};
+ghost use Rattle.gate_half.specs.Setup.{IsRunnable};
+
+use crate::end::{end, unusable};
+use crate::sockets::{links_in, text_in};
+use edge_traits::{Pause, ReadRefused, Reading, Status, Writing, read_all};
 use gate_check::{Checked, check};
-use gate_config::Refusal;
+use gate_config::{ConfigFault, GateFile, MOST_OCTETS, Refusal, read};
+use gate_edges::{Edges, FileBoard, SystemClocks};
+use gate_run::laws::what_is_read_is_runnable;
+use gate_run::{GateStatus, gate};
 use gateway_run::{Ended, Word};
-use std::alloc::AllocError;
+use std::alloc::{AllocError, Global};
 use std::fs;
 use std::io::{self, Read};
 use std::process::ExitCode;
 use std::rt::Files;
+
+/// What stands after a path's name in that of the file beside it.
+const BESIDE: &str = ".tmp";
+
+/// Runs the gateway that a file configures, until a line can't be written or memory runs out.
+pub fn run_file(rt: &HostRuntime, words: &[Word], name: &str) -> ExitCode {
+    match file_at(rt, words, name) {
+        Ok(file) => run(rt, words, name, &file),
+        Err(code) => code,
+    }
+}
+
+/// What a file means; or how the call ends where it can't be read, or is refused, which is said.
+fn file_at<R: Files + Eprint + AllocGlobal>(
+    rt: &R,
+    words: &[Word],
+    name: &str,
+) -> Result<GateFile, ExitCode>
+    ensures { IfOk result IsRunnable }
+{
+    let mut file = match fs::open(rt, name) {
+        Ok(file) => Watched {
+            reader: file,
+            failed: None,
+        },
+        Err(error) => return Err(unreadable(rt, name, Some(error))),
+    };
+    let octets = match read_all(rt.alloc(), &mut Reading::new(&mut file), MOST_OCTETS) {
+        Ok(octets) => octets,
+        Err(ReadRefused::Fault) => return Err(unreadable(rt, name, file.failed)),
+        Err(ReadRefused::NoMemory) => return Err(ended(rt, words, Status::Memory, false)),
+    };
+    what_is_read_is_runnable();
+    match read(rt.alloc(), &octets) {
+        Ok(file) => Ok(file),
+        Err(ConfigFault::Refused(refusal)) => Err(refused(rt, words, name, &refusal)),
+        Err(ConfigFault::Memory) => Err(ended(rt, words, Status::Memory, false)),
+    }
+}
+
+/// Runs the gateway of a file over its sockets.
+fn run(rt: &HostRuntime, words: &[Word], name: &str, file: &GateFile) -> ExitCode
+    requires { IsRunnable file.now }
+{
+    if file.gateway.journal.is_some() {
+        return no_journal(rt, name);
+    }
+    let pause = Pause::new(rt);
+    let addresses = [
+        &file.old.bind,
+        &file.old.peer,
+        &file.new.bind,
+        &file.new.peer,
+    ];
+    let (old, new) = match links_in(rt, addresses, &pause) {
+        Ok(links) => links,
+        Err(address) => return unusable(rt, address),
+    };
+    let path = match &file.gateway.metrics {
+        Some(path) => text_in(path),
+        None => "",
+    };
+    let Ok(beside) = beside(rt.alloc(), path) else {
+        return ended(rt, words, Status::Memory, false);
+    };
+    let board = board_at(rt, path, beside.as_str());
+    let sink = Writing::new(io::writer(rt));
+    let mut outside = Edges::new(SystemClocks::new(rt), old.link, new.link, sink, board);
+    let status = match gate(rt.alloc(), file, u64::MAX, &mut outside) {
+        GateStatus::Done => Status::Done,
+        GateStatus::WriteFault => Status::WriteFault,
+        GateStatus::Memory => Status::Memory,
+    };
+    ended(rt, words, status, outside.sink().is_reader_gone())
+}
+
+/// Where the metrics are put: at a path, with another beside it. No path is empty, so there is no board at
+/// that one.
+fn board_at<'a>(
+    rt: &'a HostRuntime,
+    path: &'a str,
+    beside: &'a str,
+) -> Option<FileBoard<'a, HostRuntime>> {
+    if path.is_empty() {
+        return None;
+    }
+    Some(FileBoard::new(rt, path, beside))
+}
+
+/// The path of the file beside another.
+fn beside(alloc: Global, path: &str) -> Result<String, AllocError> {
+    let mut beside = String::new(alloc);
+    beside.push_str(path)?;
+    beside.push_str(BESIDE)?;
+    Ok(beside)
+}
+
+/// Ends a call with a file that names a journal, since none is kept.
+fn no_journal<R: Eprint>(rt: &R, name: &str) -> ExitCode {
+    let _ = eprintln!(rt;
+        "fimdahol: {name}: gateway.journal: no journal is kept yet, so none may be named"
+    );
+    ExitCode::from(Status::Refused.code())
+}
 
 /// Writes what a file means as the gateway's configuration, or says why that can't be.
 pub fn check_file<R: Files + Print + Eprint + AllocGlobal>(

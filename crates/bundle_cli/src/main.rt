@@ -3,7 +3,8 @@
 //! why it ended so, a line on standard error does.
 //!
 //! Two words it answers itself, where each is the only one: `--help` (or `-h`) and `--version`.
-//! `gate check FILE` it answers by `gate_check::check`, over the file that it opens.
+//! `gate FILE` it answers by `gate_run::gate`, over the sockets that the file names, and `gate check FILE` by
+//! `gate_check::check`.
 //! It writes nothing where an argument isn't UTF-8 (status 2) or where memory runs out before
 //! the call (status 7).
 #![tactic(auto)]
@@ -30,7 +31,7 @@ mod words;
 use advising::{announce, are_lines, hint_of_run, reads_of};
 use edge_traits::{Pause, Reading, Status, SystemClock, Writing};
 use end::{end, end_of_print, unusable};
-use gate::check_file;
+use gate::{check_file, run_file};
 use gateway_run::run_told;
 use help::{VERSION, print_help};
 use remembering::{Ending, Remembering};
@@ -55,10 +56,13 @@ fn main(rt: HostRuntime) -> ExitCode {
         [word] if word.octets() == b"--version".as_slice() => {
             return end_of_print(rt.print(VERSION));
         }
-        // It reads the file that it names, and not standard input.
+        // These read the file that they name, and not standard input.
         [gate, check, file]
             if gate.octets() == b"gate".as_slice() && check.octets() == b"check".as_slice() => {
             return check_file(&rt, &words, file.text());
+        }
+        [gate, file] if gate.octets() == b"gate".as_slice() => {
+            return run_file(&rt, &words, file.text());
         }
         // Its addresses are looked at first, whatever its other words are.
         [word, _, old_bind, old_peer, new_bind, new_peer, _]

@@ -1,6 +1,7 @@
-//! The sockets of `serve`.
+//! The sockets of `serve`, and of `gate`.
 
 use edge_traits::{Pause, UdpLink};
+use endpoint::Octets;
 use gateway_run::Word;
 use std::io;
 use std::net::{Net, SocketAddr, UdpSocket};
@@ -10,7 +11,7 @@ use std::time::Clock as Timer;
 /// `127.0.0.1:1113`, `[::1]:1113` or `localhost:1113`.
 #[derive(Drop)]
 pub struct Unusable<'w> {
-    /// Which of the four it is.
+    /// Which of the four it is, by its name where it was given.
     pub name: &'static str,
     /// The address.
     pub address: &'w str,
@@ -47,22 +48,57 @@ pub struct Bound<'a, T: Drop> {
     pub ends: Ends,
 }
 
-/// The links of `serve`, to the old node and to the new one: binds both sockets, and gives each its
-/// peer's address. The addresses are those of the old link's own end and of its peer, and then of the
-/// new link's.
+/// The links of `serve`, by its words: the addresses of the old link's own end and of its peer, and
+/// then of the new link's.
 pub fn links_over<'a, 'w, R: Net, T: Timer + Drop>(
     net: &R,
     addresses: [&'w Word; 4],
     pause: &'a Pause<T>,
 ) -> Result<(Bound<'a, T>, Bound<'a, T>), Unusable<'w>> {
     let [old_bind, old_peer, new_bind, new_peer] = addresses.map(Word::text);
-    let old = link_over(net, [("OLD_BIND", old_bind), ("OLD_PEER", old_peer)], pause)?;
-    let new = link_over(net, [("NEW_BIND", new_bind), ("NEW_PEER", new_peer)], pause)?;
+    let old = [("OLD_BIND", old_bind), ("OLD_PEER", old_peer)];
+    let new = [("NEW_BIND", new_bind), ("NEW_PEER", new_peer)];
+    links_between(net, old, new, pause)
+}
+
+/// The links of `gate`, by the values of its file, in the same order.
+pub fn links_in<'a, 'w, R: Net, T: Timer + Drop>(
+    net: &R,
+    addresses: [&'w Octets; 4],
+    pause: &'a Pause<T>,
+) -> Result<(Bound<'a, T>, Bound<'a, T>), Unusable<'w>> {
+    let [old_bind, old_peer, new_bind, new_peer] = addresses.map(text_in);
+    let old = [("old.bind", old_bind), ("old.peer", old_peer)];
+    let new = [("new.bind", new_bind), ("new.peer", new_peer)];
+    links_between(net, old, new, pause)
+}
+
+/// A value of a file as a text. It is UTF-8, since the file is.
+pub fn text_in(octets: &Octets) -> &str {
+    match std::str::from_utf8(octets.as_slice()) {
+        Ok(text) => text,
+        Err(_) => "",
+    }
+}
+
+/// The links to the old node and to the new one: binds both sockets, and gives each its peer's
+/// address. Of each link the addresses are that of its own end and that of its peer, each with its
+/// name where it was given.
+fn links_between<'a, 'w, R: Net, T: Timer + Drop>(
+    net: &R,
+    old_ends: [(&'static str, &'w str); 2],
+    new_ends: [(&'static str, &'w str); 2],
+    pause: &'a Pause<T>,
+) -> Result<(Bound<'a, T>, Bound<'a, T>), Unusable<'w>> {
+    let [_, (old_name, old_peer)] = old_ends;
+    let [_, (new_name, new_peer)] = new_ends;
+    let old = link_over(net, old_ends, pause)?;
+    let new = link_over(net, new_ends, pause)?;
     if old.ends.peer == new.ends.own {
-        return Err(own("OLD_PEER", old_peer));
+        return Err(own(old_name, old_peer));
     }
     if new.ends.peer == old.ends.own {
-        return Err(own("NEW_PEER", new_peer));
+        return Err(own(new_name, new_peer));
     }
     Ok((old, new))
 }

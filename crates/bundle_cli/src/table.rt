@@ -280,15 +280,21 @@ at g.n of the new
     CommandText {
         word: "gate",
         usage: "\
+fimdahol gate FILE                runs the gateway that FILE configures
 fimdahol gate check FILE          shows what a gateway's configuration means
 ",
         writes: "\
+gate FILE is the gateway for operators: between the two links that FILE names, with its engine
+numbers, timers, contacts and rates, until it is stopped. It writes a JSON object on a line for each
+thing that an operator must know, as that it started, that a bundle passed, or that a contact opened;
+and its metrics where FILE says so.
+
 gate check reads FILE, which is TOML, and writes what it means as a file that says all of it, with its
 defaults. Where FILE is refused, nothing is written, and standard error says where and what is wanted:
 FILE: WHERE: WANTED
 ",
         limits: "",
-        wants: "gate wants the word check and a file's name: fimdahol gate check FILE",
+        wants: "gate wants a file's name, or the word check and one: fimdahol gate FILE",
         passes: "passes a limit",
     },
 ];

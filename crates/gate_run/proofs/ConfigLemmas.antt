@@ -1,8 +1,8 @@
 -- A file that is read has all that a gateway wants of it.
 
-use Rattle.std.proofs.Common.{◌≡◌, ◌≢◌, ℕ, suc, ◌+◌, ◌^◌, ◌<◌, ◌≤◌, max, Bool, true, false, not, ◌&&◌, ◌==◌, nat_lt, nat_le, List, [], ◌∷◌, length, map, Option, None, Some, IfSome, Result, Ok, Err, refl, sym, ◌∙◌, ap, arith, ℤ, pos, negsuc, if◌then◌else◌, inl, inr}
-use Rattle.std.specs.Prelude.{option_and_then, option_map, unwrap_or}
-use Rattle.std.proofs.lemmas.Bool.{eqb-false, ltb-false, le-leb, lt-ltb, and_parts, leb-true, ltb-true}
+use Rattle.std.proofs.Common.{◌≡◌, ◌≢◌, ℕ, suc, ◌+◌, ◌^◌, ◌<◌, ◌≤◌, max, Bool, true, false, not, ◌==◌, nat_lt, List, [], ◌∷◌, length, Option, None, Some, IfSome, Result, Ok, Err, refl, arith, ℤ, pos, negsuc, if◌then◌else◌}
+use Rattle.std.specs.Prelude.{option_and_then, unwrap_or}
+use Rattle.std.proofs.lemmas.Bool.{eqb-false, ltb-false, le-leb, and_parts, leb-true, ltb-true}
 use Rattle.endpoint.specs.declared.name.Endpoint.{Endpoint}
 use Rattle.endpoint.specs.declared.name.Endpoint.TheVariants as names
 use Rattle.endpoint.specs.declared.fault.EndpointFault.{EndpointFault}
@@ -15,7 +15,7 @@ use Rattle.toml_datetime.specs.declared.datetime.Offset.{Offset}
 use Rattle.toml_datetime.specs.declared.datetime.Datetime.{Datetime}
 use Rattle.toml_datetime.specs.Valid.{is_valid}
 use Rattle.moment_text.specs.Moments.{moment_of, moment_of_parts, in_years, in_utc, seconds_ms}
-use Rattle.toml.specs.Data.{Data, Items, Members, no_items, item, string, integer, float, boolean, datetime, array, table, as_str, as_array}
+use Rattle.toml.specs.Data.{Data, Items, no_items, item, string, integer, float, boolean, datetime, array, table, as_str, as_array}
 use Rattle.contact_plan.specs.Fault.{plan_fault, first_misplaced, may_follow}
 use Rattle.gate_config.specs.declared.keys.Key.{Key}
 use Rattle.gate_config.specs.declared.keys.Key.TheVariants as keys
@@ -27,13 +27,10 @@ use Rattle.gate_config.specs.declared.fault.Within.TheVariants as places
 use Rattle.gate_config.specs.declared.fault.Wanted.TheVariants as wants
 use Rattle.gate_config.specs.declared.fault.Refusal.{Refusal}
 use Rattle.gate_config.specs.declared.fault.Refusal.TheVariants as refusals
-use Rattle.gate_config.specs.declared.file.FaceConfig.{FaceConfig}
-use Rattle.gate_config.specs.declared.file.GateFile.{GateFile}
 use Rattle.gate_config.specs.Keys.{kind_of, default_of, face_keys, gateway_keys, file_keys}
 use Rattle.gate_config.specs.Refusals.{first_of}
-use Rattle.gate_config.specs.Values.{at, fits, is_of, whole_of, is_whole, is_within, number_at, text_at, moment_at, moment_in, contacts_at, is_contacts, item_count, all_tables, is_endpoint, is_named}
-use Rattle.gate_config.specs.Meaning.{first_misfit, table_refusal, refuse_if, order_refusal, contact_refusal, contacts_refusal, number_in, cap_in, face_refusal, refusal_of, contact_of, contacts_of, face_of, gateway_of, file_of, endpoint_or_null, section_of, same_text}
-use Rattle.gate_config.specs.Reading.{Means}
+use Rattle.gate_config.specs.Values.{at, fits, is_of, whole_of, is_whole, number_at, text_at, moment_at, moment_in, contacts_at, is_contacts, item_count, is_endpoint, is_named}
+use Rattle.gate_config.specs.Meaning.{first_misfit, table_refusal, refuse_if, contact_refusal, contacts_refusal, number_in, cap_in, face_refusal, refusal_of, contacts_of, face_of, gateway_of, file_of, endpoint_or_null, section_of, same_text}
 use Rattle.gateway_core.specs.Config.{IsGateConfig}
 use Rattle.gate_face.specs.Schedules.{HasPlan, windows_of}
 use Rattle.gate_half.specs.Setup.{IsFace, IsRunnable}

@@ -1,7 +1,6 @@
 -- A half, stage by stage, and as the definition has it.
 
-use Rattle.std.proofs.Common.{◌≡◌, ℕ, Bool, List, ◌++◌, length, Option, None, Some, Result, Ok, Err, OnOk, refl, sym, ◌∙◌, ap, append_assoc}
-use Rattle.edge_traits.specs.Content.{Gains, GainsFront}
+use Rattle.std.proofs.Common.{◌≡◌, Bool, List, ◌++◌, length, Option, None, Some, Result, Err, OnOk, sym, ◌∙◌, ap, append_assoc}
 use Rattle.edge_traits.proofs.ContentLemmas.{GainsFront-none}
 use Rattle.gate_cases.specs.declared.face.Face.{Face}
 use Rattle.gate_cases.specs.declared.face.Face.TheVariants.{Old, New}

@@ -1,10 +1,9 @@
 -- What is made, stage after stage.
 
-use Rattle.std.proofs.Common.{◌≡◌, ℕ, zero, suc, ◌-◌, ◌<◌, Bool, true, false, List, [], ◌∷◌, ◌++◌, map, Option, None, Some, Result, Ok, Err, IsErrAnd, refl, sym, ◌∙◌, ap, append_assoc, arith, if◌then◌else◌}
-use Rattle.std.specs.List.{flat_map}
+use Rattle.std.proofs.Common.{◌≡◌, ℕ, zero, suc, ◌-◌, ◌<◌, Bool, true, false, List, [], ◌∷◌, ◌++◌, Option, None, Some, Result, Ok, Err, IsErrAnd, refl, sym, ◌∙◌, ap, append_assoc, arith, if◌then◌else◌}
 use Rattle.std.proofs.lemmas.Grind.{flat_map-append}
 use Rattle.edge_traits.specs.Content.{Gains, GainsFront}
-use Rattle.edge_traits.proofs.ContentLemmas.{Gains-none, GainsFront-none, Gains-more}
+use Rattle.edge_traits.proofs.ContentLemmas.{Gains-none, Gains-more}
 use Rattle.gate_edges.specs.Ahead.{Ahead}
 use Rattle.gate_edges.specs.Made.{Made}
 use Rattle.gate_half.specs.Standing.{Standing}

@@ -1,13 +1,12 @@
 -- A run of turns, as the definition has it.
 
-use Rattle.std.proofs.Common.{◌≡◌, ℕ, zero, suc, ◌-◌, ◌<◌, Bool, List, [], ◌∷◌, ◌++◌, Option, Result, Ok, Err, refl, sym, ◌∙◌, ap, append_assoc, arith}
-use Rattle.edge_traits.specs.Content.{Gains, GainsFront}
+use Rattle.std.proofs.Common.{◌≡◌, ℕ, zero, suc, ◌<◌, Bool, List, ◌∷◌, ◌++◌, Option, Result, Ok, Err, refl, sym, ◌∙◌, ap, append_assoc, arith}
+use Rattle.edge_traits.specs.Content.{GainsFront}
 use Rattle.edge_traits.proofs.ContentLemmas.{GainsFront-none}
 use Rattle.gate_cases.specs.declared.face.Face.TheVariants.{Old, New}
 use Rattle.gate_config.specs.declared.file.GateFile.{GateFile}
 use Rattle.gate_edges.specs.Ahead.{Ahead, reading_next}
 use Rattle.gate_half.specs.Standing.{Standing, starts_at}
-use Rattle.gate_half.specs.Acts.{Act}
 use Rattle.gate_half.specs.Half.{Came, half}
 use Rattle.gate_half.specs.Run.{halves, run}
 use Rattle.gate_run.specs.Comes.{comes}

@@ -3,13 +3,13 @@
 use Rattle.std.proofs.Common.{◌≡◌, ℕ, zero, suc, Bool, true, false, List, [], ◌∷◌, ◌++◌, length, drop, Option, None, Some, refl, sym, ◌∙◌, ap, append_assoc, if◌then◌else◌}
 use Rattle.std.specs.Option.{is_some}
 use Rattle.edge_traits.specs.Content.{Gains}
-use Rattle.edge_traits.specs.Faults.{fails_next, after_next}
+use Rattle.edge_traits.specs.Faults.{after_next}
 use Rattle.edge_traits.proofs.ContentLemmas.{Gains-none}
 use Rattle.gate_cases.specs.declared.face.Face.{Face}
 use Rattle.gate_cases.specs.declared.face.Face.TheVariants.{Old, New}
-use Rattle.gate_edges.specs.Ahead.{Ahead, LinkAhead, link_of, with_link, link_past_send, past_send, send_fails}
+use Rattle.gate_edges.specs.Ahead.{Ahead, link_of, with_link, past_send, send_fails}
 use Rattle.gate_edges.specs.Made.{Made}
-use Rattle.gate_half.specs.Standing.{Standing, doing_at, face_of}
+use Rattle.gate_half.specs.Standing.{Standing, doing_at}
 use Rattle.gate_half.specs.Acts.{Act, Acted, after_acts, stands}
 use Rattle.gate_half.specs.Parts.{goes, sends_within, tried, where_some}
 use Rattle.gate_face.specs.Halves.{taking}
@@ -17,7 +17,6 @@ use Rattle.gate_run.specs.Course.{Point, past_sends}
 use Rattle.gate_run.specs.Outcome.{made_by_all}
 use Rattle.gate_run.specs.Stages.{IsAt, Leads, Reached, and_on, stays, next_at, past_going, sends_one, sends_up_to}
 use Rattle.gate_run.proofs.MadeLemmas.{if-true, if-false, made-more}
-use Rattle.gate_run.proofs.PollLemmas.{with-own}
 
 -- ---- in the loop
 

@@ -1,10 +1,9 @@
 -- What is written of a half, and shown.
 
-use Rattle.std.proofs.Common.{◌≡◌, ℕ, Bool, true, false, List, [], ◌∷◌, ◌++◌, map, Option, None, Some, Result, Ok, Err, refl, sym, ◌∙◌, ap}
+use Rattle.std.proofs.Common.{◌≡◌, ℕ, List, [], ◌∷◌, ◌++◌, map, Option, Result, Ok, Err, refl, sym, ◌∙◌, ap}
 use Rattle.std.specs.List.{flat_map}
 use Rattle.std.proofs.lemmas.List.{map-append}
-use Rattle.edge_traits.specs.Content.{Gains, GainsFront}
-use Rattle.edge_traits.specs.Faults.{Calls, NoneFailed, LastFailed}
+use Rattle.edge_traits.specs.Faults.{Calls, NoneFailed}
 use Rattle.edge_traits.proofs.FaultsLemmas.{NoneFailed-same, NoneFailed-more, LastFailed-after}
 use Rattle.gate_edges.specs.Ahead.{Ahead}
 use Rattle.gate_edges.specs.Made.{Made, written, wrote}
@@ -13,8 +12,8 @@ use Rattle.gate_log.specs.Lines.{line_of}
 use Rattle.gate_half.specs.Standing.{Standing, wall_of}
 use Rattle.gate_half.specs.Parts.{line_at}
 use Rattle.gate_run.specs.Course.{Point}
-use Rattle.gate_run.specs.Outcome.{made_by, made_by_all}
-use Rattle.gate_run.specs.Stages.{IsAt, Leads, Goes, WroteText, StopsWriting, writes_over}
+use Rattle.gate_run.specs.Outcome.{made_by_all}
+use Rattle.gate_run.specs.Stages.{IsAt, Goes, WroteText, StopsWriting, writes_over}
 use Rattle.gate_run.specs.declared.stop.Stop.{Stop}
 use Rattle.gate_run.specs.declared.stop.Stop.TheVariants.{Fault, NoMemory}
 

@@ -1,6 +1,6 @@
 -- The turns of a run, one after the other.
 
-use Rattle.std.proofs.Common.{◌≡◌, ℕ, zero, suc, Bool, List, [], ◌∷◌, ◌++◌, Option, None, Some, Result, Ok, Err, refl, sym, ◌∙◌, ap, append_assoc}
+use Rattle.std.proofs.Common.{◌≡◌, ℕ, zero, suc, Bool, List, [], ◌++◌, Option, refl, sym, ◌∙◌, ap}
 use Rattle.edge_traits.specs.Content.{Gains, GainsFront}
 use Rattle.edge_traits.proofs.ContentLemmas.{Gains-none}
 use Rattle.gate_edges.specs.Ahead.{Ahead}

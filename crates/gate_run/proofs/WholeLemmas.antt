@@ -1,6 +1,6 @@
 -- A whole run, from its first reading on.
 
-use Rattle.std.proofs.Common.{◌≡◌, ℕ, zero, suc, Bool, List, [], ◌∷◌, Option, None, Some, Result, Err, IfSome, refl, sym, ◌∙◌, ap}
+use Rattle.std.proofs.Common.{◌≡◌, ℕ, zero, suc, Bool, List, Option, None, Some, Err, IfSome, refl, sym, ◌∙◌, ap}
 use Rattle.edge_traits.specs.Content.{Gains, GainsFront}
 use Rattle.edge_traits.specs.Faults.{Calls}
 use Rattle.edge_traits.proofs.ContentLemmas.{Gains-none}

@@ -10,11 +10,13 @@
 
 mod driven;
 pub mod laws;
+mod run;
 mod running;
 mod sending;
 mod status;
 mod stop;
 mod telling;
 
+pub use run::gate;
 pub use running::run_from;
 pub use status::GateStatus;

@@ -1,4 +1,3 @@
-use Rattle.std.proofs.Common.{rules, refl}
 use Rattle.gate_run.proofs.WholeLemmas.{run-done, run-stopped, stopped-writes}
 use Rattle.gate_run.proofs.running.run_from.Goals as goal
 

@@ -1,5 +1,4 @@
 use Rattle.std.proofs.Common.{rules, refl}
-use Rattle.gate_run.specs.Course.{Point}
 use Rattle.gate_run.specs.Stages.{ends_over, writes_over, shows_over, tells_over}
 use Rattle.gate_run.proofs.MadeLemmas.{err-is, goes-err, goes-on, stops-first}
 use Rattle.gate_run.proofs.TellLemmas.{stops-unwritten, stops-after}

@@ -1,4 +1,4 @@
-use Rattle.std.proofs.Common.{rules, ◌≡◌, true, false, arith, sym, ◌∙◌}
+use Rattle.std.proofs.Common.{rules, ◌≡◌, true, false, sym, ◌∙◌}
 use Rattle.gate_edges.specs.Ahead.{polled_at}
 use Rattle.gate_run.specs.Stages.{is_given}
 use Rattle.gate_run.proofs.MadeLemmas.{one-less}

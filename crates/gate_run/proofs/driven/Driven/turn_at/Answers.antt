@@ -1,4 +1,3 @@
-use Rattle.std.proofs.Common.{rules}
 use Rattle.gate_cases.specs.declared.face.Face.TheVariants.{Old, New}
 use Rattle.gate_run.specs.Stages.{half_over, turn_over}
 use Rattle.gate_run.proofs.MadeLemmas.{err-is, goes-err, goes-on, stops-first}

@@ -1,4 +1,3 @@
-use Rattle.std.proofs.Common.{◌≡◌}
 use Rattle.edge_traits.specs.Faults.{NoneFailed}
 use Rattle.gate_run.specs.Course.{Point}
 use Rattle.gate_run.specs.Stages.{IsAt, turns_over}

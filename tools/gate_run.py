@@ -1,0 +1,242 @@
+#!/usr/bin/env python3
+"""Plays an old node and a new node over loopback UDP against a running `gate`, and checks all that comes out.
+
+usage: tools/gate_run.py [PROGRAM] [--bundles N] [--seconds S] [--loss PERCENT] [--repeats PERCENT] [--delays PERCENT]
+                         [--largest OCTETS] [--seed N] [--rate OCTETS]
+
+The program is the one that this repository builds, where none is named. It is started here with a configuration of its
+own, and stopped when all has come. So many bundles go from each node, of all sizes and kinds. Datagrams of both ways on
+both links are lost, repeated and delayed by the seed. With a rate the new face sends no faster than so many octets a
+second, and it is told how many came.
+Status 0 where all of this holds, and 1 else:
+
+- each line is a JSON object with its keys in alphabetical order, whose moment never falls;
+- of each block that a node sent there is one line, which is the first case of gateway_model.py that holds;
+- the sessions that it names bring exactly the pieces of that bundle's passage to the other node;
+- each of these sessions has a line that it was sent, and nothing failed or was cancelled;
+- the metrics count the blocks, the sessions and the datagrams that the lines and the nodes tell of;
+- at a rate the octets that come in any second are no more than it allows.
+"""
+import collections
+import json
+import os
+import random
+import sys
+import tempfile
+import time
+
+sys.dont_write_bytecode = True
+sys.path.insert(0, os.path.dirname(os.path.abspath(__file__)))
+from gateway_model import NEW, OLD, OTHER, SERIALS, SERVED, VERSION, case_of, system_clock
+from live_nodes import GATE, Node, Program, Queues, Served, Trouble, options_of, program_of, POLICY
+from made_bundles import Made
+
+OPTIONS = {"bundles": 60, "seconds": 120, "loss": 3, "repeats": 3, "delays": 5, "largest": 100_000, "seed": 1, "rate": 0}
+CUT = SERVED[1]
+MOST_OPEN = 40              # sessions at a face of the gateway, of 64
+SLACK = 0.01                # seconds of a rate that may be owed at any moment, and a second's edges
+EVENTS = {"BadBundle": "bad_bundle", "Untranslated": "untranslated", "Expired": "expired", "HopLimit": "hop_limit",
+          "Storage": "storage", "Passed": "passed"}
+TOLD = {"contact_opened", "start"}
+TROUBLE = {"failed", "cancelled", "evicted", "refused", "bad_bounds", "history_full", "metrics_failed", "outbox_full",
+           "poll_failed", "send_failed", "stranger", "bad_segment", "unreported"}
+
+
+class Wrong(Exception):
+    """Something that isn't as it has to be."""
+
+
+def must(holds, what):
+    if not holds:
+        raise Wrong(what)
+
+
+class Timed(Node):
+    """A node that remembers when how many octets came."""
+
+    def arrive(self, datagram):
+        self.octets = getattr(self, "octets", [])
+        self.octets.append((time.monotonic(), len(datagram)))
+        super().arrive(datagram)
+
+
+class Gated(Served):
+    """A program that runs a gateway between an old node and a new node."""
+
+    def __init__(self, path, folder, rate, troubles):
+        self.queues = Queues(False)
+        self.old = Timed((1, 2), "127.0.0.1", self.queues, POLICY, *troubles[:2])
+        self.new = Timed((4, 3), "127.0.0.1", self.queues, POLICY, *troubles[2:])
+        self.nodes, self.metrics = [self.old, self.new], os.path.join(folder, "gate.prom")
+        file = os.path.join(folder, "gate.toml")
+        with open(file, "w", encoding="utf-8") as text:
+            text.write(f'[gateway]\nendpoint = "{GATE}"\nmetrics = "{self.metrics}"\n')
+            for name, node in zip(("old", "new"), self.nodes):
+                text.write(f'[{name}]\nbind = "{node.gate_address}"\npeer = "{node.address}"\ntimeout_ms = 700\n'
+                           "limit = 100\ncap_ms = 5000\n")
+            if rate:
+                text.write(f"rate = {rate}\n")
+        self.program = Program(path, ["gate", file])
+        self.wait_for_sockets()
+
+
+class Ledger:
+    """Follows the program's lines, and knows what has to come of each block."""
+
+    def __init__(self):
+        self.cases = {OLD: {}, NEW: {}}
+        self.told, self.pieces, self.sent = collections.Counter(), {OLD: {}, NEW: {}}, {OLD: set(), NEW: set()}
+        self.at, self.judged, self.reports = "", {OLD: set(), NEW: set()}, 0
+
+    def line(self, text):
+        line = json.loads(text)
+        must(list(line) == sorted(line) and text.endswith(b"}\n") and b'": ' not in text, f"the line {text}")
+        must(line["at"] >= self.at, f"{line['at']} after {self.at}")
+        self.at, event = line["at"], line["event"]
+        self.told[event] += 1
+        must(event not in TROUBLE, f"the line {text}")
+        if event in EVENTS.values():
+            self.case(line)
+        elif event == "reported":
+            self.sent_later(line["face"], line["report"], None)
+            self.reports += 1
+        elif event == "sent":
+            must(line["session"] in self.pieces[line["face"]], f"{line} is of no session of the gateway's own")
+            self.sent[line["face"]].add(line["session"])
+        else:
+            must(event in TOLD or event == "closed", f"the line {text}")
+
+    def case(self, line):
+        face, session = line["face"], line["session"]
+        must(session in self.cases[face] and session not in self.judged[face], f"{line} is of no block, or of one twice")
+        self.judged[face].add(session)
+        case = self.cases[face][session]
+        must(line["event"] == EVENTS[case.note[0]], f"{line} where the case is {case.note}")
+        if case.note[0] == "BadBundle":
+            must((line["place"], line["cause"]) == (case.note[1], str(case.note[2])), f"{line}, {case.note}")
+        if case.note[0] == "Passed":
+            must(line["pieces"] == len(case.out), f"{line} where there are {len(case.out)} pieces")
+            for number, octets in enumerate(case.out, line["first"]):
+                self.sent_later(OTHER[face], number, octets)
+
+    def sent_later(self, face, session, octets):
+        must(session not in self.pieces[face], f"{face} {session} begins twice")
+        self.pieces[face][session] = octets
+
+    def open_at(self, face):
+        return len(self.cases[face]) - len(self.judged[face])
+
+
+class Trial:
+    """A run of the program between two nodes."""
+
+    def __init__(self, path, options, folder):
+        draw = random.Random(int(options["seed"]))
+        troubles = [Trouble(draw.randrange(1 << 30), *(options[key] / 100 for key in ("loss", "repeats", "delays")))
+                    for _ in range(4)]
+        self.options, self.ledger, began = options, Ledger(), system_clock()
+        self.items = {face: self.planned(draw, face, began) for face in (OLD, NEW)}
+        self.gated = Gated(path, folder, int(options["rate"]), troubles)
+        self.nodes = dict(zip((OLD, NEW), self.gated.nodes))
+
+    def planned(self, draw, face, began):
+        blocks = Made(draw, VERSION[face], int(self.options["largest"]), began, CUT).items(int(self.options["bundles"]))
+        return collections.deque((block, case_of(block, VERSION[face], began, 64, SERIALS, CUT)) for block in blocks)
+
+    def run(self):
+        until = time.monotonic() + self.options["seconds"]
+        while not self.is_done():
+            must(time.monotonic() < until and not self.gated.program.has_ended(), f"not all is done: {self.left()}")
+            for face, items in self.items.items():
+                if items and self.has_room(face, items[0][1]):
+                    block, case = items.popleft()
+                    self.ledger.cases[face][self.nodes[face].submit(block)] = case
+            self.gated.pump()
+            while self.gated.program.lines:
+                self.ledger.line(self.gated.program.lines.popleft())
+
+    def has_room(self, face, case):
+        """Whether the gateway has sessions for one more block, whatever it still does with the others."""
+        ledger, used = self.ledger, {}
+        for place in (OLD, NEW):
+            coming = [other for session, other in ledger.cases[OTHER[place]].items()
+                      if session not in ledger.judged[OTHER[place]]]
+            used[place] = (len(ledger.pieces[place]) - len(ledger.sent[place]) + sum(len(other.out) for other in coming)
+                           + ledger.open_at(place))
+        return (used[OTHER[face]] + len(case.out) <= MOST_OPEN and used[face] < MOST_OPEN
+                and len(self.nodes[face].engine.senders) < MOST_OPEN)
+
+    def is_done(self):
+        ledger = self.ledger
+        return (not any(self.items.values()) and all(node.is_quiet() for node in self.nodes.values())
+                and not any(ledger.open_at(face) or len(ledger.sent[face]) < len(ledger.pieces[face])
+                            for face in (OLD, NEW)))
+
+    def left(self):
+        return {face: (len(self.items[face]), self.ledger.open_at(face),
+                       len(self.ledger.pieces[face]) - len(self.ledger.sent[face])) for face in (OLD, NEW)}
+
+    def judge(self):
+        for face, node in self.nodes.items():
+            for session, octets in self.ledger.pieces[face].items():
+                must(session in node.came, f"session {session} of {face} didn't come")
+                must(octets is None or node.came[session] == octets, f"session {session} of {face} came otherwise")
+        rate = int(self.options["rate"])
+        if rate:
+            self.judge_rate(rate, self.nodes[NEW].octets)
+
+    def judge_rate(self, rate, came):
+        """In no second more octets come than the rate allows, beside a datagram and what waits in a socket."""
+        first, within = 0, 0
+        for at, octets in came:
+            within += octets
+            while came[first][0] < at - 1:
+                within -= came[first][1]
+                first += 1
+            must(within <= rate * (1 + SLACK) + 10_000, f"{within} octets came in a second")
+
+    def judge_metrics(self):
+        """The metrics are written every ten seconds, so the last of them are waited for."""
+        time.sleep(11)
+        found = {}
+        with open(self.gated.metrics, encoding="utf-8") as text:
+            for line in text:
+                if not line.startswith("#"):
+                    name, value = line.rsplit(" ", 1)
+                    found[name] = float(value)
+        for face in (OLD, NEW):
+            name = {OLD: "old", NEW: "new"}[face]
+            passed = sum(1 for case in self.ledger.cases[face].values() if case.note[0] == "Passed")
+            must(found[f'fimdahol_blocks_total{{face="{name}",case="passed"}}'] == passed, f"{name}: {passed} passed")
+            begun = len(self.ledger.pieces[face])
+            must(found[f'fimdahol_sessions_begun_total{{face="{name}"}}'] == begun, f"{name}: {begun} sessions begun")
+            must(found[f'fimdahol_sessions_ended_total{{face="{name}",how="sent"}}'] == begun, f"{name}: {begun} sent")
+            must(found[f'fimdahol_sending_sessions{{face="{name}"}}'] == 0, f"{name} still sends")
+
+
+def main(words):
+    path, words = program_of(words)
+    options = options_of(words, OPTIONS)
+    if options is None:
+        print(__doc__.split("\n\n")[1], file=sys.stderr)
+        return 2
+    with tempfile.TemporaryDirectory() as folder:
+        trial = Trial(path, options, folder)
+        try:
+            trial.run()
+            trial.judge()
+            trial.judge_metrics()
+        except Wrong as wrong:
+            print(f"gate_run: {wrong}", flush=True)
+            return 1
+        finally:
+            trial.gated.program.child.kill()
+            trial.gated.program.end()
+    told = ", ".join(f"{count} {event}" for event, count in sorted(trial.ledger.told.items()))
+    sent = sum(node.sent for node in trial.nodes.values())
+    print(f"all right: {told}; {sent} datagrams of the nodes, {trial.gated.dropped()} dropped at the gateway's sockets")
+    return 0
+
+
+if __name__ == "__main__":
+    sys.exit(main(sys.argv[1:]))

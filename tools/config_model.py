@@ -49,6 +49,7 @@ def face_lines(face, table):
         if key in table:
             yield f"{key} = {table[key]}"
     yield f"outbox = {table.get('outbox', OUTBOX)}"
+    yield f"accept = {text_of(table.get('accept', 'address'))}"
     for contact in table.get("contact", []):
         yield ""
         yield f"[[{face}.contact]]"

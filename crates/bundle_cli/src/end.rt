@@ -65,6 +65,12 @@ fn say_reason<R: Eprint>(rt: &R, words: &[Word], status: Status, reader_gone: bo
     };
 }
 
+/// Ends a call whose sockets the system can't watch: nothing is run.
+pub fn unwatched<R: Eprint>(rt: &R, error: io::Error) -> ExitCode {
+    let _ = eprintln!(rt; "fimdahol: the sockets can't be watched: {error}");
+    ExitCode::from(UNUSABLE)
+}
+
 /// Ends a call that printed a text of the program's own.
 pub fn end_of_print(printed: io::Result<()>) -> ExitCode {
     match printed {

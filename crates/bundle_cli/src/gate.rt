@@ -4,14 +4,15 @@
 ghost use Rattle.std.specs.Prelude.{IfOk};
 ghost use Rattle.gate_half.specs.Setup.{IsRunnable};
 
-use crate::end::{end, unusable};
-use crate::sockets::{links_in, text_in};
-use edge_traits::{Pause, ReadRefused, Reading, Status, Writing, read_all};
+use crate::end::{end, unusable, unwatched};
+use crate::sockets::{sides_in, text_in};
+use edge_traits::{ReadRefused, Reading, Status, Writing, read_all};
 use gate_check::{Checked, check};
 use gate_config::{ConfigFault, GateFile, MOST_OCTETS, Refusal, read};
-use gate_edges::{Edges, FileBoard, SystemClocks};
+use gate_edges::{FileBoard, SystemClocks};
 use gate_run::laws::what_is_read_is_runnable;
 use gate_run::{GateStatus, gate};
+use gate_sockets::{SocketOutside, Sockets};
 use gateway_run::{Ended, Word};
 use std::alloc::{AllocError, Global};
 use std::fs;
@@ -65,16 +66,13 @@ fn run(rt: &HostRuntime, words: &[Word], name: &str, file: &GateFile) -> ExitCod
     if file.gateway.journal.is_some() {
         return no_journal(rt, name);
     }
-    let pause = Pause::new(rt);
-    let addresses = [
-        &file.old.bind,
-        &file.old.peer,
-        &file.new.bind,
-        &file.new.peer,
-    ];
-    let (old, new) = match links_in(rt, addresses, &pause) {
-        Ok(links) => links,
+    let (old, new) = match sides_in(rt, file) {
+        Ok(sides) => sides,
         Err(address) => return unusable(rt, address),
+    };
+    let sockets = match Sockets::new(rt.alloc(), rt, old, new, rt) {
+        Ok(sockets) => sockets,
+        Err(error) => return unwatched(rt, error),
     };
     let path = match &file.gateway.metrics {
         Some(path) => text_in(path),
@@ -85,7 +83,7 @@ fn run(rt: &HostRuntime, words: &[Word], name: &str, file: &GateFile) -> ExitCod
     };
     let board = board_at(rt, path, beside.as_str());
     let sink = Writing::new(io::writer(rt));
-    let mut outside = Edges::new(SystemClocks::new(rt), old.link, new.link, sink, board);
+    let mut outside = SocketOutside::new(SystemClocks::new(rt), sockets, sink, board);
     let status = match gate(rt.alloc(), file, u64::MAX, &mut outside) {
         GateStatus::Done => Status::Done,
         GateStatus::WriteFault => Status::WriteFault,

@@ -2,6 +2,8 @@
 
 use edge_traits::{Pause, UdpLink};
 use endpoint::Octets;
+use gate_config::{Accept, FaceConfig, GateFile};
+use gate_sockets::Side;
 use gateway_run::Word;
 use std::io;
 use std::net::{Net, SocketAddr, UdpSocket};
@@ -61,16 +63,41 @@ pub fn links_over<'a, 'w, R: Net, T: Timer + Drop>(
     links_between(net, old, new, pause)
 }
 
-/// The links of `gate`, by the values of its file, in the same order.
-pub fn links_in<'a, 'w, R: Net, T: Timer + Drop>(
+/// The sockets of `gate`, by its file: that of the old face and that of the new one.
+pub fn sides_in<'f, R: Net>(net: &R, file: &'f GateFile) -> Result<(Side, Side), Unusable<'f>> {
+    let (old, old_ends) = side_of(net, ["old.bind", "old.peer"], &file.old)?;
+    let (new, new_ends) = side_of(net, ["new.bind", "new.peer"], &file.new)?;
+    are_apart(
+        [&old_ends, &new_ends],
+        [
+            ("old.peer", text_in(&file.old.peer)),
+            ("new.peer", text_in(&file.new.peer)),
+        ],
+    )?;
+    Ok((old, new))
+}
+
+/// The socket of a face, whose keys have these names. From any port it hears only where it has no peer of
+/// its own; so then it is bound again, without one.
+fn side_of<'f, R: Net>(
     net: &R,
-    addresses: [&'w Octets; 4],
-    pause: &'a Pause<T>,
-) -> Result<(Bound<'a, T>, Bound<'a, T>), Unusable<'w>> {
-    let [old_bind, old_peer, new_bind, new_peer] = addresses.map(text_in);
-    let old = [("old.bind", old_bind), ("old.peer", old_peer)];
-    let new = [("new.bind", new_bind), ("new.peer", new_peer)];
-    links_between(net, old, new, pause)
+    names: [&'static str; 2],
+    config: &'f FaceConfig,
+) -> Result<(Side, Ends), Unusable<'f>> {
+    let [bind_name, peer_name] = names;
+    let (bind, peer) = (text_in(&config.bind), text_in(&config.peer));
+    let (socket, ends) = socket_with_peer(net, [(bind_name, bind), (peer_name, peer)])?;
+    let socket = match config.accept {
+        Accept::Port => socket,
+        Accept::Address => {
+            drop(socket);
+            socket_at(net, bind_name, bind)?
+        }
+    };
+    match Side::new(socket, ends.peer, config.accept) {
+        Ok(side) => Ok((side, ends)),
+        Err(error) => Err(refused_by_system(bind_name, bind, error)),
+    }
 }
 
 /// A value of a file as a text. It is UTF-8, since the file is.
@@ -94,13 +121,26 @@ fn links_between<'a, 'w, R: Net, T: Timer + Drop>(
     let [_, (new_name, new_peer)] = new_ends;
     let old = link_over(net, old_ends, pause)?;
     let new = link_over(net, new_ends, pause)?;
-    if old.ends.peer == new.ends.own {
+    are_apart(
+        [&old.ends, &new.ends],
+        [(old_name, old_peer), (new_name, new_peer)],
+    )?;
+    Ok((old, new))
+}
+
+/// Refuses a peer of one link that is the gateway's own end of the other.
+fn are_apart<'w>(
+    ends: [&Ends; 2],
+    peers: [(&'static str, &'w str); 2],
+) -> Result<(), Unusable<'w>> {
+    let [(old_name, old_peer), (new_name, new_peer)] = peers;
+    if ends[0].peer == ends[1].own {
         return Err(own(old_name, old_peer));
     }
-    if new.ends.peer == old.ends.own {
+    if ends[1].peer == ends[0].own {
         return Err(own(new_name, new_peer));
     }
-    Ok((old, new))
+    Ok(())
 }
 
 /// A link over a socket that is bound to an address, to a peer at another.
@@ -109,6 +149,19 @@ fn link_over<'a, 'w, R: Net, T: Timer + Drop>(
     addresses: [(&'static str, &'w str); 2],
     pause: &'a Pause<T>,
 ) -> Result<Bound<'a, T>, Unusable<'w>> {
+    let (socket, ends) = socket_with_peer(net, addresses)?;
+    let [_, (peer_name, peer)] = addresses;
+    match UdpLink::new(socket, peer, pause) {
+        Ok(link) => Ok(Bound { link, ends }),
+        Err(error) => Err(refused_by_system(peer_name, peer, error)),
+    }
+}
+
+/// A socket that is bound to an address, and has its peer at another.
+fn socket_with_peer<'w, R: Net>(
+    net: &R,
+    addresses: [(&'static str, &'w str); 2],
+) -> Result<(UdpSocket, Ends), Unusable<'w>> {
     let [(bind_name, bind), (peer_name, peer)] = addresses;
     let socket = socket_at(net, bind_name, bind)?;
     has_port(peer_name, peer)?;
@@ -119,10 +172,7 @@ fn link_over<'a, 'w, R: Net, T: Timer + Drop>(
     if ends.own == ends.peer {
         return Err(own(peer_name, peer));
     }
-    match UdpLink::new(socket, peer, pause) {
-        Ok(link) => Ok(Bound { link, ends }),
-        Err(error) => Err(refused_by_system(peer_name, peer, error)),
-    }
+    Ok((socket, ends))
 }
 
 /// A socket at this address.

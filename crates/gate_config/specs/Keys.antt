@@ -28,6 +28,7 @@ name_of keys.CapMs = codes "cap_ms"
 name_of keys.FirstSession = codes "first_session"
 name_of keys.Rate = codes "rate"
 name_of keys.Outbox = codes "outbox"
+name_of keys.Accept = codes "accept"
 name_of keys.Contact = codes "contact"
 name_of keys.From = codes "from"
 name_of keys.To = codes "to"
@@ -52,6 +53,7 @@ kind_of keys.CapMs = kinds.Whole 1 3_600_000
 kind_of keys.FirstSession = kinds.Whole 1 4_294_967_295
 kind_of keys.Rate = kinds.Whole 1 10_000_000_000
 kind_of keys.Outbox = kinds.Whole 65_507 4_294_967_295
+kind_of keys.Accept = kinds.Accept
 kind_of keys.Contact = kinds.Contacts
 kind_of keys.From = kinds.Moment
 kind_of keys.To = kinds.Moment
@@ -80,7 +82,8 @@ gateway_keys = keys.Endpoint ∷ keys.Cut ∷ keys.Journal ∷ keys.Metrics ∷ 
 abbrev pub face_keys : List Key
 face_keys =
     keys.Bind ∷ keys.Peer ∷ keys.Engine ∷ keys.PeerEngine ∷ keys.Segment ∷ keys.TimeoutMs
-    ∷ keys.Limit ∷ keys.CapMs ∷ keys.FirstSession ∷ keys.Rate ∷ keys.Outbox ∷ keys.Contact ∷ []
+    ∷ keys.Limit ∷ keys.CapMs ∷ keys.FirstSession ∷ keys.Rate ∷ keys.Outbox ∷ keys.Accept
+    ∷ keys.Contact ∷ []
 
 abbrev pub contact_keys : List Key
 contact_keys = keys.From ∷ keys.To ∷ keys.Rate ∷ []

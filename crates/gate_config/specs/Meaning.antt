@@ -2,7 +2,7 @@
 
 use Rattle.std.specs.Prelude.{ℕ, ◌+◌, max, Bool, false, not, ◌==◌, nat_lt, if◌then◌else◌}
 use Rattle.std.specs.Prelude.{List, [], ◌∷◌, Option, Some, None, option_map, option_and_then}
-use Rattle.std.specs.Prelude.{unwrap_or, Result, Ok, Err}
+use Rattle.std.specs.Prelude.{unwrap_or, Result, Ok, Err, codes}
 use Rattle.std.specs.List.{list_any}
 use Rattle.std.specs.Str.{bytes_eq}
 use Rattle.endpoint.specs.declared.name.Endpoint.{Endpoint}
@@ -22,6 +22,8 @@ use Rattle.gate_config.specs.declared.fault.Refusal.TheVariants as refusals
 use Rattle.gate_config.specs.declared.file.GateFile.{GateFile}
 use Rattle.gate_config.specs.declared.file.GatewayConfig.{GatewayConfig}
 use Rattle.gate_config.specs.declared.file.FaceConfig.{FaceConfig}
+use Rattle.gate_config.specs.declared.file.Accept.{Accept}
+use Rattle.gate_config.specs.declared.file.Accept.TheVariants as accepts
 use Rattle.gate_config.specs.declared.file.Contact.{Contact}
 use Rattle.gate_config.specs.Keys.{name_of, kind_of, default_of, key_of}
 use Rattle.gate_config.specs.Keys.{file_keys, gateway_keys, face_keys, contact_keys}
@@ -132,6 +134,11 @@ unfoldable pub contacts_of : Items → List Contact
 contacts_of no_items = []
 contacts_of (item value more) = contact_of value ∷ contacts_of more
 
+-- from where datagrams are taken; left out, from any port of the peer's address
+abbrev pub accept_of : Option (List ℕ) → Accept
+accept_of None = accepts.Address
+accept_of (Some text) = if bytes_eq text (codes "port") then accepts.Port else accepts.Address
+
 abbrev pub face_of : Section → Option Data → FaceConfig
 face_of face place = record {
   bind = unwrap_or (text_at keys.Bind place) [];
@@ -145,6 +152,7 @@ face_of face place = record {
   first_session = number_at keys.FirstSession place;
   rate = number_at keys.Rate place;
   outbox = number_in face keys.Outbox place;
+  accept = accept_of (text_at keys.Accept place);
   contacts = contacts_of (contacts_at place);
 }
 

@@ -13,6 +13,8 @@ use Rattle.gate_config.specs.declared.keys.Section.TheVariants as sections
 use Rattle.gate_config.specs.declared.file.GateFile.{GateFile}
 use Rattle.gate_config.specs.declared.file.GatewayConfig.{GatewayConfig}
 use Rattle.gate_config.specs.declared.file.FaceConfig.{FaceConfig}
+use Rattle.gate_config.specs.declared.file.Accept.{Accept}
+use Rattle.gate_config.specs.declared.file.Accept.TheVariants as accepts
 use Rattle.gate_config.specs.declared.file.Contact.{Contact}
 use Rattle.gate_config.specs.Keys.{name_of, key_of}
 
@@ -60,17 +62,21 @@ unfoldable pub contacts_shown : Section → List Contact → List ℕ
 contacts_shown face [] = []
 contacts_shown face (contact ∷ more) = contact_shown face contact ++ contacts_shown face more
 
--- the numbers of a face that stand before the ones that may be left out, and after
+-- what of a face stands before the numbers that may be left out, and from them on
 unfoldable pub timers_shown : FaceConfig → List ℕ
 timers_shown config =
     number_line keys.Engine config.engine ++ (number_line keys.PeerEngine config.peer_engine
     ++ (number_line keys.Segment config.segment ++ (number_line keys.TimeoutMs config.timeout_ms
     ++ (number_line keys.Limit config.limit ++ number_line keys.CapMs config.cap_ms))))
 
+abbrev pub accept_word : Accept → List ℕ
+accept_word accepts.Address = codes "address"
+accept_word accepts.Port = codes "port"
+
 unfoldable pub rates_shown : FaceConfig → List ℕ
 rates_shown config =
     number_if keys.FirstSession config.first_session ++ (number_if keys.Rate config.rate
-    ++ number_line keys.Outbox config.outbox)
+    ++ (number_line keys.Outbox config.outbox ++ text_line keys.Accept (accept_word config.accept)))
 
 unfoldable pub face_shown : Section → FaceConfig → List ℕ
 face_shown face config =

@@ -1,9 +1,10 @@
 -- What stands at a key of a table, and whether it is of the key's kind.
 
-use Rattle.std.specs.Prelude.{ℕ, ◌+◌, Bool, true, false, not, ◌&&◌, ◌==◌, nat_le, pos}
+use Rattle.std.specs.Prelude.{ℕ, ◌+◌, Bool, true, false, not, ◌&&◌, ◌||◌, ◌==◌, nat_le, pos, codes}
 use Rattle.std.specs.Prelude.{List, length, Option, Some, None, option_and_then, unwrap_or, is_some}
 use Rattle.std.specs.Prelude.{Result, Ok, Err}
 use Rattle.std.specs.List.{list_any}
+use Rattle.std.specs.Str.{bytes_eq}
 use Rattle.endpoint.specs.declared.name.Endpoint.{Endpoint}
 use Rattle.endpoint.specs.declared.name.Endpoint.TheVariants as names
 use Rattle.endpoint.specs.declared.fault.EndpointFault.{EndpointFault}
@@ -56,6 +57,11 @@ abbrev pub is_endpoint : Option (List ℕ) → Bool
 is_endpoint None = false
 is_endpoint (Some text) = is_named (read_text text)
 
+-- one of the two words that say from where datagrams are taken
+abbrev pub is_accept : Option (List ℕ) → Bool
+is_accept None = false
+is_accept (Some text) = bytes_eq text (codes "address") || bytes_eq text (codes "port")
+
 abbrev pub is_table : Data → Bool
 is_table (table rows) = true
 is_table _ = false
@@ -79,6 +85,7 @@ is_of kinds.Endpoint value = is_endpoint (as_str value)
 is_of kinds.Address value = is_text 64 (as_str value)
 is_of kinds.Path value = is_text 4096 (as_str value)
 is_of (kinds.Whole low high) value = is_whole low high (whole_of value)
+is_of kinds.Accept value = is_accept (as_str value)
 is_of kinds.Contacts value = is_contacts (as_array value)
 is_of kinds.Moment value = is_some (moment_in value)
 
@@ -89,6 +96,7 @@ may_lack kinds.Endpoint = false
 may_lack kinds.Address = false
 may_lack kinds.Path = true
 may_lack (kinds.Whole low high) = true
+may_lack kinds.Accept = true
 may_lack kinds.Contacts = true
 may_lack kinds.Moment = false
 

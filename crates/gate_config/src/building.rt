@@ -7,7 +7,7 @@ ghost use Rattle.gate_config.specs.Lent.{seen};
 ghost use Rattle.gate_config.specs.Values as values;
 ghost use Rattle.gate_config.specs.Meaning as spec;
 
-use crate::file::{Contact, Contacts, FaceConfig, GateFile, GatewayConfig};
+use crate::file::{Accept, Contact, Contacts, FaceConfig, GateFile, GatewayConfig};
 use crate::judging::{cap_in, number_in, section_of};
 use crate::keys::{Key, Section};
 use crate::values::{contacts_at, moment_at, number_at, text_at};
@@ -78,8 +78,18 @@ fn face_of(alloc: Global, face: Section, place: Option<&Value>) -> Result<FaceCo
         first_session: number_at(Key::FirstSession, place),
         rate: number_at(Key::Rate, place),
         outbox: number_in(face, Key::Outbox, place),
+        accept: accept_of(text_at(Key::Accept, place)),
         contacts: contacts_of(alloc, contacts_at(place))?,
     })
+}
+
+fn accept_of(text: Option<&str>) -> Accept
+    ensures { result ≡ spec.accept_of (option_map (λ t. t.now) text.entry) }
+{
+    match text {
+        Some("port") => Accept::Port,
+        _ => Accept::Address,
+    }
 }
 
 fn contacts_of(alloc: Global, values: &[Value]) -> Result<Contacts, AllocError>

@@ -32,6 +32,8 @@ pub enum Wanted {
     Address,
     /// A path of 1 to 4,096 octets.
     Path,
+    /// The word `address` or the word `port`.
+    Accept,
     /// A whole number in a range.
     Whole {
         /// The least that is taken.

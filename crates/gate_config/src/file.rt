@@ -53,8 +53,34 @@ pub struct FaceConfig {
     pub rate: Option<u64>,
     /// The most octets of datagrams that wait: 65,507 to 2^32 - 1.
     pub outbox: u64,
+    /// From where its datagrams are taken.
+    pub accept: Accept,
     /// When the link is open. Without a contact it is open always.
     pub contacts: Contacts,
+}
+
+/// From where a face's datagrams are taken.
+#[derive(Clone, Copy, Debug, PartialEq, Eq)]
+pub enum Accept {
+    /// From any port of the peer's address: many nodes send from a port that the system chose.
+    Address,
+    /// From the peer's address and port alone.
+    Port,
+}
+
+impl Accept {
+    ghost use Rattle.std.specs.Prelude.{◌≡◌};
+    ghost use Rattle.gate_config.specs.Shown.{accept_word};
+
+    /// The word that says it in a file.
+    pub fn word(self) -> &'static str
+        ensures { result.now ≡ accept_word self }
+    {
+        match self {
+            Accept::Address => "address",
+            Accept::Port => "port",
+        }
+    }
 }
 
 /// A time in which a face's link is open.

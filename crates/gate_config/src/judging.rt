@@ -111,6 +111,7 @@ fn wanted_of(kind: Kind) -> Wanted
         Kind::Address => Wanted::Address,
         Kind::Path => Wanted::Path,
         Kind::Whole { low, high } => Wanted::Whole { low, high },
+        Kind::Accept => Wanted::Accept,
         Kind::Contacts => Wanted::Tables,
         Kind::Moment => Wanted::Moment,
     }

@@ -53,6 +53,8 @@ pub enum Key {
     Rate,
     /// The octets of datagrams that may wait at a face.
     Outbox,
+    /// From where a face's datagrams are taken.
+    Accept,
     /// The contacts of a face.
     Contact,
     /// The first moment of a contact.
@@ -72,6 +74,8 @@ pub enum Kind {
     Address,
     /// A text of 1 to 4,096 octets, none of them zero.
     Path,
+    /// The word `address` or the word `port`.
+    Accept,
     /// A whole number.
     Whole {
         /// The least that is taken.
@@ -92,7 +96,7 @@ pub(crate) const FILE_KEYS: [Key; 3] = [Key::Gateway, Key::Old, Key::New];
 pub(crate) const GATEWAY_KEYS: [Key; 4] = [Key::Endpoint, Key::Cut, Key::Journal, Key::Metrics];
 
 /// The keys of a face's table, in the order in which they are looked at.
-pub(crate) const FACE_KEYS: [Key; 12] = [
+pub(crate) const FACE_KEYS: [Key; 13] = [
     Key::Bind,
     Key::Peer,
     Key::Engine,
@@ -104,6 +108,7 @@ pub(crate) const FACE_KEYS: [Key; 12] = [
     Key::FirstSession,
     Key::Rate,
     Key::Outbox,
+    Key::Accept,
     Key::Contact,
 ];
 
@@ -150,6 +155,7 @@ impl Key {
             Key::FirstSession => "first_session",
             Key::Rate => "rate",
             Key::Outbox => "outbox",
+            Key::Accept => "accept",
             Key::Contact => "contact",
             Key::From => "from",
             Key::To => "to",
@@ -165,6 +171,7 @@ impl Key {
             Key::Endpoint => return Kind::Endpoint,
             Key::Journal | Key::Metrics => return Kind::Path,
             Key::Bind | Key::Peer => return Kind::Address,
+            Key::Accept => return Kind::Accept,
             Key::Contact => return Kind::Contacts,
             Key::From | Key::To => return Kind::Moment,
             Key::Cut => (1, 4_000_000),

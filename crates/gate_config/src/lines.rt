@@ -157,6 +157,7 @@ impl Wanted {
             Wanted::Endpoint => "an endpoint other than dtn:none is wanted",
             Wanted::Address => "an address of 1 to 64 octets is wanted",
             Wanted::Path => "a path of 1 to 4096 octets is wanted",
+            Wanted::Accept => "address or port is wanted",
             Wanted::Whole { .. } => "",
             Wanted::Tables => "1 to 4096 tables are wanted",
             Wanted::Moment => {

@@ -102,7 +102,8 @@ fn push_rates(text: &mut Vec<u8>, config: &FaceConfig) -> Result<(), AllocError>
 {
     push_count_if(text, Key::FirstSession, config.first_session)?;
     push_count_if(text, Key::Rate, config.rate)?;
-    push_count(text, Key::Outbox, config.outbox)
+    push_count(text, Key::Outbox, config.outbox)?;
+    push_text(text, Key::Accept, config.accept.word().as_bytes())
 }
 
 fn push_contacts(text: &mut Vec<u8>, face: Section, contacts: &[Contact]) -> Result<(), AllocError>

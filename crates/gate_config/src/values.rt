@@ -78,7 +78,10 @@ pub(crate) fn fits(kind: Kind, value: Option<&Value>) -> bool
 fn may_lack(kind: Kind) -> bool
     ensures { result ≡ spec.may_lack kind }
 {
-    matches!(kind, Kind::Path | Kind::Whole { .. } | Kind::Contacts)
+    matches!(
+        kind,
+        Kind::Path | Kind::Accept | Kind::Whole { .. } | Kind::Contacts
+    )
 }
 
 #[tactic(auto, unfolding(crate::specs::Values::is_of))]
@@ -90,9 +93,19 @@ fn is_of(kind: Kind, value: &Value) -> bool
         Kind::Endpoint => is_endpoint(value.as_str()),
         Kind::Address => is_text(64, value.as_str()),
         Kind::Path => is_text(4096, value.as_str()),
+        Kind::Accept => is_accept(value.as_str()),
         Kind::Whole { low, high } => is_whole(low, high, whole_of(value)),
         Kind::Contacts => is_contacts(value.as_array()),
         Kind::Moment => moment_in(value).is_some(),
+    }
+}
+
+fn is_accept(text: Option<&str>) -> bool
+    ensures { result ≡ spec.is_accept (option_map (λ t. t.now) text.entry) }
+{
+    match text {
+        Some(text) => text == "address" || text == "port",
+        None => false,
     }
 }
 

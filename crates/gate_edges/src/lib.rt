@@ -8,7 +8,6 @@
 
 mod board;
 mod clocks;
-mod edges;
 mod failing;
 mod mem_acts;
 mod mem_face;
@@ -17,7 +16,6 @@ mod outside;
 
 pub use board::{Board, FileBoard, MemBoard};
 pub use clocks::{Clocks, MemClocks, SystemClocks};
-pub use edges::Edges;
 pub use mem_acts::MemAct;
 pub use mem_face::MemFace;
 pub use mem_outside::MemOutside;

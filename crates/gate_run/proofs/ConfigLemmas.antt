@@ -246,7 +246,7 @@ runnable-face face place defaults is =
     (refuse_if (number_in face keys.Engine place == number_in face keys.PeerEngine place)
     (refusals.Wrong (places.Table face) keys.PeerEngine wants.OtherNumber)) is in
     let fit = table-fits (places.Table face) face_keys place parts.first in
-    let (bind, (peer, (engine, (peer_engine, (segment, (timeout, (limit, (cap, (first, (rate, (outbox, (contact, end)))))))))))) = fit in
+    let (bind, (peer, (engine, (peer_engine, (segment, (timeout, (limit, (cap, (first, (rate, (outbox, (accept, (contact, end))))))))))))) = fit in
     let sizes = or-default 512 8192 (default_of face keys.Segment) (number_at keys.Segment place)
     (whole-fits 512 8192 (at keys.Segment place) segment) (rw defaults.segment (omega arith)) (rw defaults.segment (omega arith)) in
     let times = or-default 1 3_600_000 (default_of face keys.TimeoutMs) (number_at keys.TimeoutMs place)

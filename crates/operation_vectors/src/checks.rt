@@ -26,7 +26,7 @@ fn what_a_file_means_is_written(rt: HostRuntime) -> Result<(), Fail> {
     let (mut file, mut sink) = outside(alloc, LEAST, (false, false))?;
     assert!(rt; matches!(check(alloc, &mut file, &mut sink), Checked::Done));
     assert!(rt; sink.octets().starts_with(FRONT.as_bytes()));
-    assert_eq!(rt; sink.octets().len(), 315);
+    assert_eq!(rt; sink.octets().len(), 353);
     Ok(())
 }
 

@@ -1,7 +1,9 @@
 #!/usr/bin/env python3
-"""Sends random, spoiled and replayed datagrams to both sockets of a running `serve`, while sessions are open there.
+"""Sends random, spoiled and replayed datagrams to both sockets of a running gateway, while sessions are open there.
 
-usage: tools/attack_run.py [PROGRAM] [--datagrams N] [--seed N] [--turns N] [--ipv6]
+usage: tools/attack_run.py [PROGRAM] [--datagrams N] [--seed N] [--turns N] [--ipv6] [--gate]
+
+The gateway is `serve`, and with --gate it is `gate`, which has no turns to count and is stopped in the end.
 
 The program is the one that this repository builds, where none is named. tools/gateway_model.py is one too: on it this
 was tried before the program had the command, and with faults planted there. The program is started here and ends by
@@ -18,9 +20,11 @@ open session, or for one that is yet to come, is left out. Status 0 where all of
 - each open session is completed afterwards, and a further bundle of each node gets through.
 """
 import collections
+import json
 import os
 import random
 import sys
+import tempfile
 import time
 
 sys.dont_write_bytecode = True
@@ -34,7 +38,11 @@ from ltp_model import (PIECES, RECEIVER_CANCEL, RECEIVER_CANCEL_ACK, REPORT, REP
                        SENDER_CANCEL_ACK, Policy, read_segment, written)
 from made_bundles import Made
 
-OPTIONS = {"datagrams": 50_000, "seed": 1, "turns": 0, "ipv6": False}
+OPTIONS = {"datagrams": 50_000, "seed": 1, "turns": 0, "ipv6": False, "gate": False}
+FACES = {"old": OLD, "new": NEW}
+WORDS = {"bad_bundle": "BadBundle", "hop_limit": "HopLimit", "bad_bounds": "BadBounds", "history_full": "HistoryFull",
+         "bad_segment": "BadSegment"}           # of events, as notes; others begin with a capital
+BLOCKS = ("passed", "bad_bundle", "untranslated", "expired", "hop_limit", "storage")
 PATIENT = Policy(1024, 3_600_000, 100, 3_600_000)     # of the nodes: nothing is sent again while datagrams are false
 ROUND = 1000              # datagrams, after which memory is looked at
 STRANGE = 30              # sessions that are opened by false pieces at a time
@@ -90,9 +98,10 @@ class AttackedServed(Served):
 class Attack:
     """A run of the program, its open sessions, and datagrams against it."""
 
-    def __init__(self, path, options, turns):
+    def __init__(self, path, options, turns, file):
         self.draw, self.lines = random.Random(int(options["seed"])), collections.Counter()
-        self.served = AttackedServed(path, turns, options["ipv6"])
+        self.served = AttackedServed(path, turns, options["ipv6"], file=file, keys="first_session = 1\n")
+        self.is_gate = file is not None
         self.nodes = dict(zip((OLD, NEW), self.served.nodes))
         self.made = {face: Made(self.draw, VERSION[face], CUT, system_clock(), CUT) for face in self.nodes}
         self.strange = {face: FIRST_STRANGE for face in self.nodes}
@@ -131,18 +140,34 @@ class Attack:
     def read_lines(self):
         lines = self.served.program.lines
         while lines:
-            words = lines.popleft().decode().split()
+            line = lines.popleft().decode()
+            if self.is_gate:
+                self.read_event(json.loads(line))
+                continue
+            words = line.split()
             self.lines[" ".join(words[:1] if words[0] == "up" else words[1:3])] += 1
             if words[0] == "up":
                 self.judge_up(words[1], int(words[2]), bytes.fromhex(words[3]))
             elif words[2] in ENDINGS + ("Sent",) * self.is_attacked and int(words[3]) < FIRST_STRANGE:
                 self.wrong.append(f"{' '.join(words)}, of a session that nobody ended")
 
+    def read_event(self, line):
+        """A line of `gate`: of a block it says that it was handed up, and not what it was."""
+        event = line["event"]
+        if "face" not in line:
+            return
+        face, word = FACES[line["face"]], WORDS.get(event, event.capitalize())
+        self.lines[f"{face} {word}"] += 1
+        if event in BLOCKS:
+            self.judge_up(face, line["session"], None)
+        elif word in ENDINGS + ("Sent",) * self.is_attacked and line["session"] < FIRST_STRANGE:
+            self.wrong.append(f"{line}, of a session that nobody ended")
+
     def judge_up(self, face, session, body):
         if (face, session) in self.ups:
             self.wrong.append(f"{face} {session} is handed up again")
         self.ups.add((face, session))
-        if session in self.nodes[face].blocks and body != self.nodes[face].blocks[session]:
+        if body is not None and session in self.nodes[face].blocks and body != self.nodes[face].blocks[session]:
             self.wrong.append(f"{face} {session} isn't handed up as it was sent")
 
     # ---- false datagrams ----
@@ -289,8 +314,13 @@ def main(words):
     if options is None:
         sys.stderr.write(__doc__.split("\n\n")[1] + "\n")
         return 2
-    rate = idle_turns_a_second(path, options["ipv6"])
-    run = Attack(path, options, int(options["turns"] or 2 * options["datagrams"] + 60 * rate + 5000))
+    with tempfile.TemporaryDirectory() as folder:
+        return attacked(path, options, os.path.join(folder, "gate.toml") if options["gate"] else None)
+
+
+def attacked(path, options, file):
+    rate = 0 if file else idle_turns_a_second(path, options["ipv6"])
+    run = Attack(path, options, int(options["turns"] or 2 * options["datagrams"] + 60 * rate + 5000), file)
     wrong = run.wrong
     run.open_sessions()
     began = time.monotonic()
@@ -304,7 +334,10 @@ def main(words):
             for face, node in run.nodes.items()))
     if grown(memory) > GROWTH:
         wrong.append(f"memory grew by {grown(memory)} kB")
-    status = run.served.use_up(600)
+    if file:
+        run.served.program.child.kill()
+        run.served.program.end()
+    status = 0 if file else run.served.use_up(600)
     run.read_lines()
     if status != 0:
         wrong.append(f"the program ends with {status}")

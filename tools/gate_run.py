@@ -2,25 +2,28 @@
 """Plays an old node and a new node over loopback UDP against a running `gate`, and checks all that comes out.
 
 usage: tools/gate_run.py [PROGRAM] [--bundles N] [--seconds S] [--loss PERCENT] [--repeats PERCENT] [--delays PERCENT]
-                         [--largest OCTETS] [--seed N] [--rate OCTETS]
+                         [--largest OCTETS] [--seed N] [--rate OCTETS] [--contacts SECONDS]
 
 The program is the one that this repository builds, where none is named. It is started here with a configuration of its
 own, and stopped when all has come. So many bundles go from each node, of all sizes and kinds. Datagrams of both ways on
 both links are lost, repeated and delayed by the seed. With a rate the new face sends no faster than so many octets a
-second, and it is told how many came.
+second. With contacts the new face's link is open for so many seconds, closed for as many, and so on.
 Status 0 where all of this holds, and 1 else:
 
 - each line is a JSON object with its keys in alphabetical order, whose moment never falls;
 - of each block that a node sent there is one line, which is the first case of gateway_model.py that holds;
 - the sessions that it names bring exactly the pieces of that bundle's passage to the other node;
 - each of these sessions has a line that it was sent, and nothing failed or was cancelled;
-- the metrics count the blocks, the sessions and the datagrams that the lines and the nodes tell of;
-- at a rate the octets that come in any second are no more than it allows.
+- the metrics are a text of their format, and count the blocks and the sessions that the lines tell of;
+- at a rate the octets that come in any second, as the system stamps them, are no more than it allows;
+- with contacts each datagram comes within one, or at most 50 ms after it, and each that opened or closed has its line.
 """
 import collections
 import json
 import os
 import random
+import socket
+import struct
 import sys
 import tempfile
 import time
@@ -28,16 +31,21 @@ import time
 sys.dont_write_bytecode = True
 sys.path.insert(0, os.path.dirname(os.path.abspath(__file__)))
 from gateway_model import NEW, OLD, OTHER, SERIALS, SERVED, VERSION, case_of, system_clock
-from live_nodes import GATE, Node, Program, Queues, Served, Trouble, options_of, program_of, POLICY
+from live_nodes import POLICY, Node, Program, Queues, Served, Trouble, gate_words, options_of, program_of
 from made_bundles import Made
+from metrics_format import samples_of
 
-OPTIONS = {"bundles": 60, "seconds": 120, "loss": 3, "repeats": 3, "delays": 5, "largest": 100_000, "seed": 1, "rate": 0}
+OPTIONS = {"bundles": 60, "seconds": 120, "loss": 3, "repeats": 3, "delays": 5, "largest": 100_000, "seed": 1, "rate": 0,
+           "contacts": 0}
 CUT = SERVED[1]
+NAMES = {"old": OLD, "new": NEW}        # of the faces, in lines and metrics
 MOST_OPEN = 40              # sessions at a face of the gateway, of 64
 SLACK = 0.01                # seconds of a rate that may be owed at any moment, and a second's edges
+LATE = 0.05                 # seconds after a contact: a half reads the clock once, and then sends
+STAMPS = 35                 # SO_TIMESTAMPNS
 EVENTS = {"BadBundle": "bad_bundle", "Untranslated": "untranslated", "Expired": "expired", "HopLimit": "hop_limit",
           "Storage": "storage", "Passed": "passed"}
-TOLD = {"contact_opened", "start"}
+TOLD = {"contact_opened", "contact_closed", "start"}
 TROUBLE = {"failed", "cancelled", "evicted", "refused", "bad_bounds", "history_full", "metrics_failed", "outbox_full",
            "poll_failed", "send_failed", "stranger", "bad_segment", "unreported"}
 
@@ -51,32 +59,59 @@ def must(holds, what):
         raise Wrong(what)
 
 
-class Timed(Node):
-    """A node that remembers when how many octets came."""
+class StampedSocket:
+    """A node's socket, which remembers when each datagram came, by the system's clock, and how many octets it had."""
 
-    def arrive(self, datagram):
-        self.octets = getattr(self, "octets", [])
-        self.octets.append((time.monotonic(), len(datagram)))
-        super().arrive(datagram)
+    def __init__(self, within):
+        self.within, self.came = within, []
+        within.setsockopt(socket.SOL_SOCKET, STAMPS, 1)
+
+    def __getattr__(self, name):
+        return getattr(self.within, name)
+
+    def recv(self, most):
+        datagram, told, _, _ = self.within.recvmsg(most, 64)
+        seconds, nanoseconds = struct.unpack("qq", next(data for _, kind, data in told if kind == STAMPS))
+        self.came.append((seconds + nanoseconds / 1e9, len(datagram)))
+        return datagram
+
+
+class Contacts:
+    """Times at which a link is open, in turn with times at which it is closed, from two seconds ahead on."""
+
+    def __init__(self, length, total):
+        self.length, first = length, int(time.time()) + 2
+        count = int(total / length / 2) + 2
+        self.times = [(first + 2 * at * length, first + (2 * at + 1) * length) for at in range(count)]
+
+    def tables(self, face):
+        """The tables of a configuration."""
+        def text(seconds):
+            return time.strftime("%Y-%m-%dT%H:%M:%S", time.gmtime(seconds)) + f".{int(seconds % 1 * 1000):03}Z"
+        return "".join(f"[[{face}.contact]]\nfrom = {text(since)}\nto = {text(to)}\n" for since, to in self.times)
+
+    def holds(self, moment):
+        return any(since <= moment <= to + LATE for since, to in self.times)
+
+    def over(self):
+        """How many have begun, and how many have ended."""
+        now = time.time()
+        return sum(since < now for since, _ in self.times), sum(to < now for _, to in self.times)
 
 
 class Gated(Served):
     """A program that runs a gateway between an old node and a new node."""
 
-    def __init__(self, path, folder, rate, troubles):
+    def __init__(self, path, folder, rate, contacts, troubles):
         self.queues = Queues(False)
-        self.old = Timed((1, 2), "127.0.0.1", self.queues, POLICY, *troubles[:2])
-        self.new = Timed((4, 3), "127.0.0.1", self.queues, POLICY, *troubles[2:])
+        self.old = Node((1, 2), "127.0.0.1", self.queues, POLICY, *troubles[:2])
+        self.new = Node((4, 3), "127.0.0.1", self.queues, POLICY, *troubles[2:])
+        self.new.socket = StampedSocket(self.new.socket)
         self.nodes, self.metrics = [self.old, self.new], os.path.join(folder, "gate.prom")
-        file = os.path.join(folder, "gate.toml")
-        with open(file, "w", encoding="utf-8") as text:
-            text.write(f'[gateway]\nendpoint = "{GATE}"\nmetrics = "{self.metrics}"\n')
-            for name, node in zip(("old", "new"), self.nodes):
-                text.write(f'[{name}]\nbind = "{node.gate_address}"\npeer = "{node.address}"\ntimeout_ms = 700\n'
-                           "limit = 100\ncap_ms = 5000\n")
-            if rate:
-                text.write(f"rate = {rate}\n")
-        self.program = Program(path, ["gate", file])
+        timers = "timeout_ms = 700\nlimit = 100\ncap_ms = 5000\n"
+        more = (f"rate = {rate}\n" if rate else "") + (contacts.tables("new") if contacts else "")
+        self.program = Program(path, gate_words(os.path.join(folder, "gate.toml"), self.nodes,
+                                                f'metrics = "{self.metrics}"\n', (timers, timers + more)))
         self.wait_for_sockets()
 
 
@@ -96,18 +131,19 @@ class Ledger:
         self.told[event] += 1
         must(event not in TROUBLE, f"the line {text}")
         if event in EVENTS.values():
-            self.case(line)
+            self.case(NAMES[line["face"]], line)
         elif event == "reported":
-            self.sent_later(line["face"], line["report"], None)
+            self.sent_later(NAMES[line["face"]], line["report"], None)
             self.reports += 1
         elif event == "sent":
-            must(line["session"] in self.pieces[line["face"]], f"{line} is of no session of the gateway's own")
-            self.sent[line["face"]].add(line["session"])
+            face = NAMES[line["face"]]
+            must(line["session"] in self.pieces[face], f"{line} is of no session of the gateway's own")
+            self.sent[face].add(line["session"])
         else:
             must(event in TOLD or event == "closed", f"the line {text}")
 
-    def case(self, line):
-        face, session = line["face"], line["session"]
+    def case(self, face, line):
+        session = line["session"]
         must(session in self.cases[face] and session not in self.judged[face], f"{line} is of no block, or of one twice")
         self.judged[face].add(session)
         case = self.cases[face][session]
@@ -136,7 +172,8 @@ class Trial:
                     for _ in range(4)]
         self.options, self.ledger, began = options, Ledger(), system_clock()
         self.items = {face: self.planned(draw, face, began) for face in (OLD, NEW)}
-        self.gated = Gated(path, folder, int(options["rate"]), troubles)
+        self.contacts = Contacts(options["contacts"], options["seconds"]) if options["contacts"] else None
+        self.gated = Gated(path, folder, int(options["rate"]), self.contacts, troubles)
         self.nodes = dict(zip((OLD, NEW), self.gated.nodes))
 
     def planned(self, draw, face, began):
@@ -181,9 +218,19 @@ class Trial:
             for session, octets in self.ledger.pieces[face].items():
                 must(session in node.came, f"session {session} of {face} didn't come")
                 must(octets is None or node.came[session] == octets, f"session {session} of {face} came otherwise")
-        rate = int(self.options["rate"])
+        came, rate = self.nodes[NEW].socket.came, int(self.options["rate"])
         if rate:
-            self.judge_rate(rate, self.nodes[NEW].octets)
+            self.judge_rate(rate, came)
+        if self.contacts:
+            self.judge_contacts(came)
+
+    def judge_contacts(self, came):
+        for at, octets in came:
+            must(self.contacts.holds(at), f"{octets} octets came at {at}, while the link was closed: {self.contacts.times}")
+        opened, closed = self.contacts.over()
+        told = self.ledger.told["contact_opened"], self.ledger.told["contact_closed"]
+        # Before the first contact the link is closed, which has a line too.
+        must(abs(told[0] - opened) <= 1 and abs(told[1] - closed - 1) <= 1, f"{told}: {opened} opened, {closed} closed")
 
     def judge_rate(self, rate, came):
         """In no second more octets come than the rate allows, beside a datagram and what waits in a socket."""
@@ -198,14 +245,9 @@ class Trial:
     def judge_metrics(self):
         """The metrics are written every ten seconds, so the last of them are waited for."""
         time.sleep(11)
-        found = {}
         with open(self.gated.metrics, encoding="utf-8") as text:
-            for line in text:
-                if not line.startswith("#"):
-                    name, value = line.rsplit(" ", 1)
-                    found[name] = float(value)
-        for face in (OLD, NEW):
-            name = {OLD: "old", NEW: "new"}[face]
+            found = samples_of(text.read())
+        for name, face in NAMES.items():
             passed = sum(1 for case in self.ledger.cases[face].values() if case.note[0] == "Passed")
             must(found[f'fimdahol_blocks_total{{face="{name}",case="passed"}}'] == passed, f"{name}: {passed} passed")
             begun = len(self.ledger.pieces[face])

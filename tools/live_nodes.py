@@ -257,9 +257,21 @@ class Program:
             return next((int(line.split()[1]) for line in file if line.startswith(name + ":")), 0)
 
     def processor_seconds(self):
-        """Seconds of the processor that the running program has used."""
-        with open(f"/proc/{self.child.pid}/schedstat", encoding="ascii") as file:
-            return int(file.read().split()[0]) / 1e9
+        """Seconds of the processor that the running program has used, with all its threads."""
+        folder, used = f"/proc/{self.child.pid}/task", 0
+        for thread in os.listdir(folder):
+            with open(f"{folder}/{thread}/schedstat", encoding="ascii") as file:
+                used += int(file.read().split()[0])
+        return used / 1e9
+
+
+def gate_words(file, nodes, gateway="", keys=("", "")):
+    """Writes the configuration of a gateway between two nodes, with more keys; answers the words that run it."""
+    with open(file, "w", encoding="utf-8") as text:
+        text.write(f'[gateway]\nendpoint = "{GATE}"\n{gateway}')
+        for name, node, more in zip(("old", "new"), nodes, keys):
+            text.write(f'[{name}]\nbind = "{node.gate_address}"\npeer = "{node.address}"\n{more}')
+    return ["gate", file]
 
 
 class Served:
@@ -267,14 +279,16 @@ class Served:
 
     node = Node
 
-    def __init__(self, path, turns, is_six=False, policy=POLICY, troubles=None, keep=True):
+    def __init__(self, path, turns, is_six=False, policy=POLICY, troubles=None, keep=True, file=None, keys=""):
+        """It is `gate` where a file is named, with more keys for each face."""
         host, self.queues = "::1" if is_six else "127.0.0.1", Queues(is_six)
         troubles = troubles or [Trouble() for _ in range(4)]
         self.old = self.node((1, 2), host, self.queues, policy, *troubles[:2])
         self.new = self.node((4, 3), host, self.queues, policy, *troubles[2:])
         self.nodes = [self.old, self.new]
         words = [word for node in self.nodes for word in (node.gate_address, node.address)]
-        self.program = Program(path, ["serve", GATE, *words, str(turns)], keep)
+        words = gate_words(file, self.nodes, keys=(keys, keys)) if file else ["serve", GATE, *words, str(turns)]
+        self.program = Program(path, words, keep)
         self.wait_for_sockets()
 
     def wait_for_sockets(self):
@@ -341,11 +355,11 @@ def program_of(words):
 
 
 def options_of(words, known):
-    """The options of a call, each with its number; `--ipv6` has none."""
+    """The options of a call, each with its number; those that are False in what is known have none."""
     options, left = dict(known), list(words)
     while left:
         word = left.pop(0).removeprefix("--")
-        if word not in known or word != "ipv6" and not left:
+        if word not in known or known[word] is not False and not left:
             return None
-        options[word] = True if word == "ipv6" else float(left.pop(0))
+        options[word] = True if known[word] is False else float(left.pop(0))
     return options

@@ -1,0 +1,7 @@
+use Rattle.std.proofs.Common.{◌≡◌}
+use Rattle.block_types.specs.Relabelled.{retyped7}
+use Rattle.block_types.proofs.RetypeLemmas7.{become}
+use Rattle.block_types.proofs.wire7.retype_all.Given as goal
+
+abbrev pub invariant-loop-block : goal.invariant-loop-block
+invariant-loop-block l = l.blocks ≡ become (retyped7 l.types) l.block-index l.initial.blocks

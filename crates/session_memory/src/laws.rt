@@ -1,0 +1,24 @@
+//! What the words of the contracts mean. Each law is the contract of a function that does nothing.
+
+ghost use Rattle.session_memory.specs.Laws.{HaveNumbers, AddsRun, KeptForATime, ForgetsByTheSecondTurn};
+
+/// Numbers that are added are among them, and no others.
+pub fn numbers_have()
+    ensures { HaveNumbers }
+{}
+
+/// A number adds one run at most, and the number after one of them none.
+pub fn adds_one_run()
+    ensures { AddsRun }
+{}
+
+/// A number is remembered for the time after it was closed or touched, unless runs are forgotten before
+/// their time.
+pub fn kept_for_a_time()
+    ensures { KeptForATime }
+{}
+
+/// A number is forgotten by the second turn, where it is neither marked nor touched.
+pub fn forgets_by_the_second_turn()
+    ensures { ForgetsByTheSecondTurn }
+{}

@@ -1,10 +1,13 @@
 //! What the words of the contracts mean. Each law is the contract of a function that does nothing.
 
+ghost use Rattle.std.specs.Prelude.{◌≡◌, ◌-◌, ◌^◌};
+ghost use Rattle.session_memory.specs.declared.numbers.TheConstants.{LAST};
 ghost use Rattle.session_memory.specs.Laws.{HaveNumbers, AddsRun, KeptForATime, ForgetsByTheSecondTurn};
 
-/// Numbers that are added are among them, and no others.
+/// Numbers that are added are among them, and no others; the last is 2^64 - 1.
 pub fn numbers_have()
-    ensures { HaveNumbers }
+    ensures have { HaveNumbers }
+    ensures last { LAST ≡ 2 ^ 64 - 1 }
 {}
 
 /// A number adds one run at most, and the number after one of them none.

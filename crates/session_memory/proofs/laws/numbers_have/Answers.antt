@@ -1,5 +1,5 @@
 use Rattle.session_memory.proofs.NumberLemmas.{numbers_have}
 use Rattle.session_memory.proofs.laws.numbers_have.Goals as goal
 
-pub returns : goal.returns
-returns c = numbers_have
+pub returns-clause-have : goal.returns-clause-have
+returns-clause-have c = numbers_have

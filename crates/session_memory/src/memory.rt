@@ -156,8 +156,8 @@ impl SessionMemory {
         now.saturating_sub(self.since) >= self.keep_ms
     }
 
-    /// Whether there is no place for another number.
-    fn is_full(&self, receiving: u64) -> bool
+    /// Whether there is no place for another number, where so many sessions are received.
+    pub fn is_full(&self, receiving: u64) -> bool
         requires { receiving < 2 ^ 63 }
         ensures { result ≡ is_full self.now receiving }
     {

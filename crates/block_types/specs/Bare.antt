@@ -1,7 +1,7 @@
 -- A record without what a version 7 bundle has no field for.
 
-use Rattle.std.specs.Prelude.{Bool, true, false, [], ◌∷◌}
-use Rattle.std.specs.List.{filter}
+use Rattle.std.specs.Prelude.{ℕ, Bool, true, false, List, [], ◌∷◌, Option, Some, None}
+use Rattle.std.specs.List.{filter, filter_map}
 use Rattle.bundle_meaning.specs.declared.blocks.Ext.{Ext}
 use Rattle.bundle_meaning.specs.declared.blocks.Ext.TheVariants.{Six, Seven}
 use Rattle.bundle_meaning.specs.declared.shared.Content.{Content}
@@ -30,3 +30,14 @@ bare_of full = record {
   extra7 = full.extra7;
   exts = filter is_seven full.exts;
 }
+
+-- ---- what is left out
+
+-- the type of a version 6 block
+abbrev pub kind_left : Ext → Option ℕ
+kind_left (Six block) = Some block.kind
+kind_left (Seven block) = None
+
+-- the types of the version 6 blocks, in order
+abbrev pub kinds_left : List Ext → List ℕ
+kinds_left exts = filter_map kind_left exts

@@ -7,13 +7,15 @@
 //! ([`there_and_back_relabelled`]).
 //!
 //! [`bare`] leaves out of a record what a version 7 bundle could only say in a residue or a wrap, for a
-//! network that is to see no private block ([`bare_view_is_plain`]).
+//! network that is to see no private block ([`bare_view_is_plain`]); [`left_out`] says what that is.
 //!
-//! All of it is done in place: no octets of a body are copied, and no memory is taken.
+//! All of it is done in place: no octets of a body are copied, and no memory is taken but for the types
+//! that [`left_out`] gives.
 #![tactic(auto)]
 
 mod laws;
 mod leaving;
+mod losing;
 mod types;
 mod wire6;
 mod wire7;
@@ -23,6 +25,7 @@ pub use laws::{
     there_and_back_relabelled, types_swap, wraps_say_wire_types,
 };
 pub use leaving::bare;
+pub use losing::{LeftOut, left_out};
 pub use types::BlockTypes;
 pub use wire6::relabel6;
 pub use wire7::relabel7;

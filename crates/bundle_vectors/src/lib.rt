@@ -21,6 +21,8 @@ mod old_bundles;
 #[cfg(test)]
 mod old_streams;
 #[cfg(test)]
+mod peers;
+#[cfg(test)]
 mod pieces;
 #[cfg(test)]
 mod records;

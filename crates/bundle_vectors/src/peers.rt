@@ -1,12 +1,14 @@
 //! Bundles among other implementations: blocks of several bundles, block types of a wire, bare records,
 //! ages, sessions that are remembered for a time, and pieces that are gathered.
 
-ghost use Rattle.std.specs.Prelude.{◌≤◌};
+ghost use Rattle.std.specs.Prelude.{◌≤◌, IfOk};
+ghost use Rattle.translate.specs.Sound.{IsSound};
 ghost use Rattle.piece_gathering.specs.declared.piece.TheConstants.{BLOCK_MAX};
 
 use crate::rows::octets;
-use block_types::{BlockTypes, bare, relabel6, relabel7};
+use block_types::{BlockTypes, bare, left_out, relabel6, relabel7};
 use bundle_age::raised;
+use bundle_meaning::Full;
 use bundle_rows::{End, count};
 use bundle6::{decode6, encode6};
 use bundle7::{decode7, encode7};
@@ -176,16 +178,32 @@ fn block_types_that_are_refused(rt: HostRuntime) {
     }
 }
 
-#[test]
-fn bare_records(rt: HostRuntime) -> Result<(), Fail> {
-    let alloc = rt.alloc();
-    let text = "0682100d02010101000000008768053c001300020001010803616263";
+/// The record of a version 6 bundle.
+fn record_of(alloc: Global, text: &str) -> Result<Full, Fail>
+    ensures { IfOk result IsSound }
+{
     let Ok((bundle, _)) = decode6(alloc, &octets(alloc, text)?) else {
         return Err(Fail::new("a row is no version 6 bundle"));
     };
     let Ok(full) = from6(alloc, &bundle) else {
         return Err(Fail::new("a row isn't read"));
     };
+    Ok(full)
+}
+
+#[test]
+fn bare_records(rt: HostRuntime) -> Result<(), Fail> {
+    let alloc = rt.alloc();
+    let plain = left_out(alloc, &record_of(alloc, B6)?)?;
+    assert_eq!(rt; plain.kinds.as_slice(), octets(alloc, "")?.as_slice());
+    assert!(rt; !plain.residue);
+    let full = record_of(
+        alloc,
+        "0682100d02010101000000008768053c001300020001010803616263",
+    )?;
+    let left = left_out(alloc, &full)?;
+    assert_eq!(rt; left.kinds.as_slice(), octets(alloc, "13")?.as_slice());
+    assert!(rt; left.residue);
     let Ok(view) = view7(alloc, &bare(full)) else {
         return Err(Fail::new("a row has no view"));
     };

@@ -1,4 +1,6 @@
 -- What the calls of a store do to its file, and what a crash may leave of it.
 pub mod Disk
--- How the store in memory meets these.
+pub mod Torn
+-- How the stores in memory meet these.
 pub mod Past
+pub mod Moments

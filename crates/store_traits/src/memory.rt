@@ -1,7 +1,7 @@
 //! A store in memory. Each call is done at once, so a crash leaves what is there. It keeps each content
 //! that its file had.
 
-ghost use Rattle.std.specs.Prelude.{◌≡◌, ◌⊎◌, [], ◌∷◌, ◌++◌, ◌≤◌, Some, length, drop, IfOk, OnOk, OnErr};
+ghost use Rattle.std.specs.Prelude.{◌≡◌, ◌⊎◌, [], ◌∷◌, ◌++◌, ◌≤◌, Some, length, drop, IfOk, IfErr, OnOk, OnErr};
 ghost use Rattle.std.proofs.Common.{inl};
 ghost use Rattle.edge_traits.specs.Faults.{count_after, one_more};
 ghost use Rattle.store_traits.specs.Disk.{written};
@@ -78,7 +78,7 @@ impl MemStore {
 }
 
 /// Notes a call, which fails where it is to, or where it can't be noted.
-fn begin(
+pub(crate) fn begin(
     calls: &mut Vec<Call>,
     fails: Option<usize>,
     faults: &mut u64,
@@ -94,11 +94,22 @@ fn begin(
 }
 
 /// The outside failed.
-fn fail(faults: &mut u64) -> Failed
+pub(crate) fn fail(faults: &mut u64) -> Failed
     ensures { faults.new ≡ one_more faults.old }
 {
     *faults = faults.saturating_add(1);
     Failed
+}
+
+/// A copy of a file's octets. It takes memory where there are some.
+pub(crate) fn copy(alloc: Global, octets: &[u8]) -> Result<Vec<u8>, StoreFault>
+    ensures ok { IfOk result (λ copy. copy.items ≡ octets.now) }
+    ensures err { IfErr result (λ e. (e ≡ StoreFault.Memory) × (octets.now ≡ [] → ⊥)) }
+{
+    if octets.is_empty() {
+        return Ok(Vec::new(alloc));
+    }
+    Ok(octets.to_vec(alloc)?)
 }
 
 /// Other octets take the place of those that are there, which are kept.
@@ -119,7 +130,12 @@ fn replace(
 }
 
 /// A file's octets with others written over them.
-fn written(alloc: Global, file: &[u8], at: usize, octets: &[u8]) -> Result<Vec<u8>, AllocError>
+pub(crate) fn written(
+    alloc: Global,
+    file: &[u8],
+    at: usize,
+    octets: &[u8],
+) -> Result<Vec<u8>, AllocError>
     requires { at ≤ length file.now }
     ensures { IfOk result (λ next. next.items ≡ written at octets.now file.now) }
 {
@@ -170,7 +186,7 @@ impl Store for MemStore {
 
     fn read(&mut self, alloc: Global) -> Result<Vec<u8>, StoreFault> {
         begin(&mut self.calls, self.fails, &mut self.faults, Call::Read)?;
-        Ok(self.octets.to_vec(alloc)?)
+        copy(alloc, self.octets.as_slice())
     }
 
     fn write_at(&mut self, at: usize, octets: &[u8]) -> Result<(), Failed> {

@@ -1,6 +1,6 @@
 //! A file with what a crash may leave of it.
 
-ghost use Rattle.std.specs.Prelude.{◌≡◌, ℕ, ◌+◌, ◌≤◌, ◌⊎◌, [], ◌++◌, List, Option, Some, length, option_map, IfOk, IfSome, OnOk};
+ghost use Rattle.std.specs.Prelude.{◌≡◌, ℕ, ◌+◌, ◌≤◌, ◌⊎◌, [], ◌++◌, List, Option, Some, Err, length, option_map, IfOk, IfSome, OnOk};
 ghost use Rattle.edge_traits.specs.Faults.{count_after};
 ghost use Rattle.store_traits.specs.Disk.{written, Torn, Follows, NoneNew, Only, Elapses, faults_after};
 
@@ -34,6 +34,8 @@ pub trait Store {
     /// All octets of the file.
     fn read(&mut self, alloc: Global) -> Result<Vec<u8>, StoreFault>
         ensures octets { IfOk result (λ octets. IfSome (seen self.old) (λ s. octets.items ≡ s)) }
+        // Memory is wanted only where there are some.
+        ensures memory { result ≡ Err StoreFault.Memory → IfSome (seen self.old) (λ s. s ≡ [] → ⊥) }
         ensures seen { seen self.new ≡ seen self.old }
         ensures crash { NoneNew (may_leave self.old) (may_leave self.new) }
         ensures time { Elapses (moment self.old) (moment self.new) (left_since self.old) (left_since self.new) (may_leave self.new) }

@@ -1,5 +1,5 @@
 -- A file that is made anew of what is kept stands for the same.
-use Rattle.std.proofs.Common.{◌≡◌, inl, inr, ℕ, ◌^◌, ◌<◌, ◌≤◌, Bool, true, false, nat_lt, if◌then◌else◌, List, [], ◌∷◌, ◌++◌, length, map, refl, sym, ap, ◌∙◌, append_assoc, arith}
+use Rattle.std.proofs.Common.{◌≡◌, ℕ, Bool, true, false, nat_lt, if◌then◌else◌, List, [], ◌∷◌, ◌++◌, map, refl, sym, ap, ◌∙◌, append_assoc, arith}
 use Rattle.std.proofs.lemmas.Bool.{ltb-false}
 use Rattle.std.proofs.lemmas.List.{append-nil}
 use Rattle.std.proofs.lemmas.List.Concat.{flat_map-append}
@@ -10,7 +10,7 @@ use Rattle.journal_file.specs.declared.kept.Mark.{Mark}
 use Rattle.journal_file.specs.Values.{KeptValue, RecordValue, a_begun, a_mark, a_reserved, nothing_kept}
 use Rattle.journal_file.specs.Keeping.{greater, kept_with, kept_after, with_pending, with_marks}
 use Rattle.journal_file.specs.File.{opening}
-use Rattle.journal_file.specs.Spelling.{record_octets, gated, MayFollow, Closes}
+use Rattle.journal_file.specs.Spelling.{gated, MayFollow, Closes}
 use Rattle.journal_file.specs.Anew.{anew, file_of, last_id, but_greatest, AreBegun, AreMarked, IsSound}
 use Rattle.journal_file.specs.Ties.{entry_octets, begun_entry, mark_entry, head_octets}
 use Rattle.journal_file.proofs.SpellingLemmas.{records-closed}
@@ -23,7 +23,7 @@ marked_all marks = map (λ m. a_mark m) marks
 
 -- ---- what is kept after the records of such a file
 
-after-append : (kept : KeptValue) (rs qs : List RecordValue) → kept_after kept (rs ++ qs) ≡ kept_after (kept_after kept rs) qs
+pub after-append : (kept : KeptValue) (rs qs : List RecordValue) → kept_after kept (rs ++ qs) ≡ kept_after (kept_after kept rs) qs
 after-append kept [] qs = refl
 after-append kept (r ∷ rs) qs = after-append (kept_with kept r) rs qs
 
@@ -77,7 +77,7 @@ anew-after kept are =
 
 -- ---- the records may follow one another
 
-may-append : (kept : KeptValue) (rs qs : List RecordValue) → MayFollow kept rs → MayFollow (kept_after kept rs) qs → MayFollow kept (rs ++ qs)
+pub may-append : (kept : KeptValue) (rs qs : List RecordValue) → MayFollow kept rs → MayFollow (kept_after kept rs) qs → MayFollow kept (rs ++ qs)
 may-append kept [] qs may after = after
 may-append kept (r ∷ rs) qs (may, rest) after = (may, may-append (kept_with kept r) rs qs rest after)
 

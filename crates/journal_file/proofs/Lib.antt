@@ -4,3 +4,7 @@ pub mod FileLemmas
 pub mod SpellingLemmas
 pub mod WritingLemmas
 pub mod AnewLemmas
+pub mod DropLemmas
+pub mod MarkLemmas
+pub mod SoundLemmas
+pub mod WantsLemmas

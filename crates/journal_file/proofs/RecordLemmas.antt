@@ -1,5 +1,6 @@
 -- The steps of the loop over records: what is left to read gives what all of it gives.
-use Rattle.std.proofs.Common.{◌≡◌, ℕ, zero, suc, ◌+◌, ◌<◌, ◌≤◌, ◌==◌, false, List, length, Option, Result, Ok, Err, refl, sym, ap, ◌∙◌, arith}
+use Rattle.std.proofs.Common.{◌≡◌, ℕ, zero, suc, ◌+◌, ◌<◌, ◌≤◌, ◌==◌, Bool, true, false, not, List, length, Option, Result, Ok, Err, refl, sym, ap, ◌∙◌, arith}
+use Rattle.std.proofs.lemmas.Bool.{eqb-true}
 use Rattle.std.proofs.lemmas.List.{drop_all}
 use Rattle.wire_fields.specs.Format.{give, ◌>>=◌}
 use Rattle.wire_fields.specs.Refusal.{Stop, truncated}
@@ -10,7 +11,7 @@ use Rattle.wire_fields.specs.Gives.{Fails}
 use Rattle.wire_fields.proofs.GroupLemmas.{fails-on}
 use Rattle.journal_file.specs.declared.fault.JournalCause.{JournalCause}
 use Rattle.journal_file.specs.declared.fault.JournalCause.TheVariants as causes
-use Rattle.journal_file.specs.Values.{KeptValue, RecordValue}
+use Rattle.journal_file.specs.Values.{KeptValue, RecordValue, nothing_kept}
 use Rattle.journal_file.specs.Keeping.{kept_with}
 use Rattle.journal_file.specs.Table.{entry, records}
 
@@ -20,6 +21,24 @@ pub record SoFar (text : List ℕ) (after : ℕ) (kept : KeptValue) (all : Resul
   pub most : ℕ
   pub enough : length text < after + most
   pub rest : read (records most kept) text after ≡ all
+
+-- ---- a gate
+
+by-not : (t : Bool) → true ≡ not t → t ≡ false
+by-not true is = absurd (cc)
+by-not false is = refl
+
+by-not-not : (t : Bool) → false ≡ not t → t ≡ true
+by-not-not true is = refl
+by-not-not false is = absurd (cc)
+
+pub is-shut : (gate : ℕ) → true ≡ not (gate == 1) → (gate == 1) ≡ false
+is-shut gate is = by-not (gate == 1) is
+
+pub is-open : (gate : ℕ) → false ≡ not (gate == 1) → gate ≡ 1
+is-open gate is = eqb-true gate 1 (by-not-not (gate == 1) is)
+
+-- ---- what the loop keeps
 
 abbrev found : {A E : Type 0} → A → ℕ → Result (A × ℕ) E
 found a k = Ok (a, k)
@@ -74,6 +93,14 @@ module _ (text : List ℕ) where
       sym rest ∙ inside n kept after ∙ ap (λ r. go_on r (behind n kept)) (octet-none after past)
 
   -- ---- the same of what the loop keeps
+
+  pub so_far-start : (at : ℕ) (kept : KeptValue) → 0 < at → kept ≡ nothing_kept
+      → SoFar text at kept (read (records (length text) nothing_kept) text at)
+  so_far-start at kept behind is = record {
+    most = length text;
+    enough = omega (arith, behind);
+    rest = ap (λ (k : KeptValue). read (records (length text) k) text at) is;
+  }
 
   pub so_far-next : (kept : KeptValue) (said : RecordValue) (after at to : ℕ) (all : Result (KeptValue × ℕ) (ℕ × Stop JournalCause))
       → after ≤ length text → after < to

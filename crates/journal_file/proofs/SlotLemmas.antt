@@ -1,5 +1,5 @@
 -- Slots in the order of their ids: what stands before and after a place, and which block is found there.
-use Rattle.std.proofs.Common.{◌≡◌, inl, inr, ℕ, zero, suc, ◌+◌, ◌-◌, ◌<◌, ◌≤◌, ◌==◌, Bool, true, false, nat_lt, ◌&&◌, List, [], ◌∷◌, ◌++◌, length, get_or, set, take, drop, remove, Option, Some, None, is_some, Bor, refl, sym, ap, ◌∙◌, arith, if◌then◌else◌}
+use Rattle.std.proofs.Common.{◌≡◌, inl, inr, ℕ, zero, suc, ◌+◌, ◌-◌, ◌<◌, ◌≤◌, ◌==◌, Bool, true, false, nat_lt, ◌&&◌, List, [], ◌∷◌, ◌++◌, length, get_or, set, take, drop, remove, Option, Some, None, is_some, Bor, refl, sym, ap, ◌∙◌, arith}
 use Rattle.std.proofs.lemmas.Bool.{ne_eqb, eq-eqb, lt-ltb, le-ltb, eqb-true, eqb-false, cases_lt}
 use Rattle.std.proofs.lemmas.List.{length-append, append-nil, take_all, set_split}
 use Rattle.std.proofs.lemmas.List.Concat.{flat_map-append}
@@ -8,7 +8,7 @@ use Rattle.std.specs.List.{position_or_len}
 use Rattle.gate_cases.specs.declared.face.Face.{Face}
 use Rattle.journal_file.specs.declared.kept.Pending.{Pending}
 use Rattle.journal_file.specs.declared.slots.Slot.{Slot}
-use Rattle.journal_file.specs.Keeping.{has_id, is_pending, without_first}
+use Rattle.journal_file.specs.Keeping.{has_id}
 use Rattle.journal_file.specs.Rising.{held_of, held_in, held, AllBelow, AllAbove, AllFrom, AreRising, Found, NotFound, holds_block}
 
 -- ---- bounds of ids

@@ -1,10 +1,11 @@
 -- Values of the code as those of the definitions, and its faults as refusals.
-use Rattle.std.specs.Prelude.{ℕ, List, ◌∷◌, ◌++◌, Option, Some, None}
+use Rattle.std.specs.Prelude.{ℕ, Bool, true, false, List, ◌∷◌, ◌++◌, Option, Some, None}
 use Rattle.wire_fields.specs.Refusal.{Stop, truncated, because}
 use Rattle.wire_fields.specs.declared.miss.Miss.{Miss}
 use Rattle.wire_fields.specs.declared.miss.Miss.TheVariants as misses
 use Rattle.journal_file.specs.declared.fault.JournalCause.{JournalCause}
 use Rattle.journal_file.specs.declared.fault.JournalCause.TheVariants as causes
+use Rattle.journal_file.specs.declared.fault.Damage.{Damage}
 use Rattle.journal_file.specs.declared.fault.JournalFault.{JournalFault}
 use Rattle.journal_file.specs.declared.fault.JournalFault.TheVariants as faults
 use Rattle.gate_cases.specs.declared.face.Face.TheVariants.{Old, New}
@@ -27,10 +28,17 @@ abbrev pub refusal : JournalFault → Option (ℕ × Stop JournalCause)
 refusal (faults.Damaged at cause) = Some (at, why cause)
 refusal faults.Memory = None
 
+-- the refusal of a field
+abbrev pub refused : Damage → Option (ℕ × Stop JournalCause)
+refused damage = Some (damage.at, why damage.cause)
+
+abbrev pub fault_of : Damage → JournalFault
+fault_of damage = faults.Damaged damage.at damage.cause
+
 -- a field that isn't there at a place, with its cause
-abbrev pub missed : ℕ → Miss → JournalCause → JournalFault
-missed at misses.Truncated cause = faults.Damaged at causes.Truncated
-missed at misses.Absent cause = faults.Damaged at cause
+abbrev pub missed : ℕ → Miss → JournalCause → Damage
+missed at misses.Truncated cause = record { at = at; cause = causes.Truncated }
+missed at misses.Absent cause = record { at = at; cause = cause }
 
 abbrev pub kept_of : Kept → KeptValue
 kept_of kept = record {
@@ -47,6 +55,14 @@ record_of (records.Done id how) = a_done id how
 record_of (records.Marked mark) = a_mark mark
 record_of (records.Clear face session) = a_clear face session
 record_of (records.Reserved face number) = a_reserved face number
+
+-- memory is taken for a block that is begun, and for a mark
+abbrev pub takes_memory : RecordValue → Bool
+takes_memory (a_begun p) = true
+takes_memory (a_done id how) = false
+takes_memory (a_mark mark) = true
+takes_memory (a_clear face session) = false
+takes_memory (a_reserved face number) = false
 
 -- an open gate, and the record behind it
 abbrev pub entry_octets : RecordValue → List ℕ

@@ -1,9 +1,9 @@
 //! Why a journal isn't read.
 
 ghost use Rattle.std.specs.Prelude.{◌≡◌};
-ghost use Rattle.journal_file.specs.declared.fault.JournalFault.TheVariants.{Damaged, Memory};
+ghost use Rattle.journal_file.specs.declared.fault.JournalFault.TheVariants.{Memory};
 ghost use Rattle.journal_file.specs.Cause.{word_of};
-ghost use Rattle.journal_file.specs.Ties.{missed};
+ghost use Rattle.journal_file.specs.Ties.{missed, fault_of};
 
 use std::alloc::{AllocError, AllocFailed};
 use thiserror::Error;
@@ -56,14 +56,14 @@ impl JournalCause {
     }
 
     /// The refusal of a field that begins at this place.
-    pub(crate) fn at(self, at: usize) -> JournalFault
-        ensures { result ≡ Damaged at self }
+    pub(crate) fn at(self, at: usize) -> Damage
+        ensures { result ≡ record { at = at; cause = self } }
     {
-        JournalFault::Damaged { at, cause: self }
+        Damage { at, cause: self }
     }
 
     /// The refusal of a field that isn't there: `Truncated` where the file ends inside it.
-    pub(crate) fn missed(self, at: usize, miss: Miss) -> JournalFault
+    pub(crate) fn missed(self, at: usize, miss: Miss) -> Damage
         ensures { result ≡ missed at miss self }
     {
         match miss {
@@ -71,6 +71,14 @@ impl JournalCause {
             Miss::Absent => self.at(at),
         }
     }
+}
+
+/// Where a file isn't as it should be. Fields are judged without memory, so it is all that a reader of
+/// one answers.
+#[derive(Clone, Copy, Debug, PartialEq, Eq)]
+pub(crate) struct Damage {
+    pub(crate) at: usize,
+    pub(crate) cause: JournalCause,
 }
 
 /// Why nothing was read.
@@ -82,6 +90,17 @@ pub enum JournalFault {
     /// Memory ran out.
     #[error("Memory")]
     Memory,
+}
+
+impl From<Damage> for JournalFault {
+    ghost from_gives = { λ damage e. e ≡ fault_of damage };
+
+    fn from(damage: Damage) -> JournalFault {
+        JournalFault::Damaged {
+            at: damage.at,
+            cause: damage.cause,
+        }
+    }
 }
 
 impl From<AllocError> for JournalFault {

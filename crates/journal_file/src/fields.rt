@@ -6,25 +6,21 @@ ghost use Rattle.wire_fields.specs.Reading.{read};
 ghost use Rattle.wire_fields.specs.Words.{any_octet, any_octets};
 ghost use Rattle.wire_fields.specs.Gives.{Gives, IsOn};
 ghost use Rattle.journal_file.specs.Table.{face_of, how_of, face, how, is_shortest, number, new_id, pending_id, record_kind, check_of, check};
-ghost use Rattle.journal_file.specs.Ties.{why, refusal};
+ghost use Rattle.journal_file.specs.Ties.{why, refused};
 
-use crate::fault::{JournalCause, JournalFault};
+use crate::fault::{Damage, JournalCause};
 use crate::record::How;
 use crate::slots::Book;
 use gate_cases::Face;
 use wire_fields::{number_at, octet_at, octets_at};
 
 /// An octet. It is there, or the file ends; the cause is only named.
-pub(crate) fn octet(
-    text: &[u8],
-    at: usize,
-    cause: JournalCause,
-) -> Result<(u8, usize), JournalFault>
+pub(crate) fn octet(text: &[u8], at: usize, cause: JournalCause) -> Result<(u8, usize), Damage>
     requires place { at ≤ length text.now }
     requires cause { why cause ≡ because cause }
     ensures within { IfOk result (λ x. IsOn at text.now x.1) }
     ensures one { IfOk result (λ x. x.1 ≡ at + 1) }
-    ensures exact { Gives (λ n. n) refusal result (read (any_octet cause) text.now at) }
+    ensures exact { Gives (λ n. n) refused result (read (any_octet cause) text.now at) }
 {
     match octet_at(text, at) {
         Ok(found) => Ok(found),
@@ -38,11 +34,11 @@ pub(crate) fn octets(
     at: usize,
     count: u64,
     cause: JournalCause,
-) -> Result<(&[u8], usize), JournalFault>
+) -> Result<(&[u8], usize), Damage>
     requires place { at ≤ length text.now }
     requires cause { why cause ≡ because cause }
     ensures within { IfOk result (λ x. IsOn at text.now x.1) }
-    ensures exact { Gives (λ lent. lent.now) refusal result (read (any_octets count cause) text.now at) }
+    ensures exact { Gives (λ lent. lent.now) refused result (read (any_octets count cause) text.now at) }
 {
     match octets_at(text, at, count) {
         Ok(found) => Ok(found),
@@ -52,10 +48,10 @@ pub(crate) fn octets(
 
 /// A face.
 #[tactic(auto, unfolding(crate::specs::Table::face))]
-pub(crate) fn face(text: &[u8], at: usize) -> Result<(Face, usize), JournalFault>
+pub(crate) fn face(text: &[u8], at: usize) -> Result<(Face, usize), Damage>
     requires { at ≤ length text.now }
     ensures within { IfOk result (λ x. IsOn at text.now x.1) }
-    ensures exact { Gives (λ f. f) refusal result (read face text.now at) }
+    ensures exact { Gives (λ f. f) refused result (read face text.now at) }
 {
     let (octet, after) = octet(text, at, JournalCause::Face)?;
     if octet >= 2 {
@@ -66,10 +62,10 @@ pub(crate) fn face(text: &[u8], at: usize) -> Result<(Face, usize), JournalFault
 
 /// How a session ended.
 #[tactic(auto, unfolding(crate::specs::Table::how))]
-pub(crate) fn how(text: &[u8], at: usize) -> Result<(How, usize), JournalFault>
+pub(crate) fn how(text: &[u8], at: usize) -> Result<(How, usize), Damage>
     requires { at ≤ length text.now }
     ensures within { IfOk result (λ x. IsOn at text.now x.1) }
-    ensures exact { Gives (λ h. h) refusal result (read how text.now at) }
+    ensures exact { Gives (λ h. h) refused result (read how text.now at) }
 {
     let (octet, after) = octet(text, at, JournalCause::How)?;
     if octet == 0 || octet >= 4 {
@@ -79,10 +75,10 @@ pub(crate) fn how(text: &[u8], at: usize) -> Result<(How, usize), JournalFault>
 }
 
 /// A record's kind.
-pub(crate) fn record_kind(text: &[u8], at: usize) -> Result<(u8, usize), JournalFault>
+pub(crate) fn record_kind(text: &[u8], at: usize) -> Result<(u8, usize), Damage>
     requires { at ≤ length text.now }
     ensures within { IfOk result (λ x. IsOn at text.now x.1) }
-    ensures exact { Gives (λ n. n) refusal result (read record_kind text.now at) }
+    ensures exact { Gives (λ n. n) refused result (read record_kind text.now at) }
 {
     let (octet, after) = octet(text, at, JournalCause::Kind)?;
     if octet == 0 || octet >= 6 {
@@ -93,10 +89,10 @@ pub(crate) fn record_kind(text: &[u8], at: usize) -> Result<(u8, usize), Journal
 
 /// A number.
 #[tactic(auto, unfolding(crate::specs::Table::number_where, crate::specs::Table::sized_number))]
-pub(crate) fn number(text: &[u8], at: usize) -> Result<(u64, usize), JournalFault>
+pub(crate) fn number(text: &[u8], at: usize) -> Result<(u64, usize), Damage>
     requires { at ≤ length text.now }
     ensures within { IfOk result (λ x. IsOn at text.now x.1) }
-    ensures exact { Gives (λ n. n) refusal result (read number text.now at) }
+    ensures exact { Gives (λ n. n) refused result (read number text.now at) }
 {
     match number_at(text, at) {
         Ok((value, after)) => {
@@ -111,11 +107,11 @@ pub(crate) fn number(text: &[u8], at: usize) -> Result<(u64, usize), JournalFaul
 
 /// An id above all earlier ones.
 #[tactic(auto, unfolding(crate::specs::Table::number_where, crate::specs::Table::sized_number))]
-pub(crate) fn new_id(text: &[u8], at: usize, greatest: u64) -> Result<(u64, usize), JournalFault>
+pub(crate) fn new_id(text: &[u8], at: usize, greatest: u64) -> Result<(u64, usize), Damage>
     requires { at ≤ length text.now }
     ensures within { IfOk result (λ x. IsOn at text.now x.1) }
     ensures above { IfOk result (λ x. greatest < x.0) }
-    ensures exact { Gives (λ n. n) refusal result (read (new_id greatest) text.now at) }
+    ensures exact { Gives (λ n. n) refused result (read (new_id greatest) text.now at) }
 {
     match number_at(text, at) {
         Ok((value, after)) => {
@@ -133,10 +129,10 @@ pub(crate) fn new_id(text: &[u8], at: usize, greatest: u64) -> Result<(u64, usiz
 
 /// An id that is pending.
 #[tactic(auto, unfolding(crate::specs::Table::number_where, crate::specs::Table::sized_number))]
-pub(crate) fn pending_id(text: &[u8], at: usize, book: &Book) -> Result<(u64, usize), JournalFault>
+pub(crate) fn pending_id(text: &[u8], at: usize, book: &Book) -> Result<(u64, usize), Damage>
     requires { at ≤ length text.now }
     ensures within { IfOk result (λ x. IsOn at text.now x.1) }
-    ensures exact { Gives (λ n. n) refusal result (read (pending_id book.now.pending) text.now at) }
+    ensures exact { Gives (λ n. n) refused result (read (pending_id book.now.pending) text.now at) }
 {
     match number_at(text, at) {
         Ok((value, after)) => {
@@ -158,10 +154,10 @@ pub(crate) fn check<'a>(
     text: &'a [u8],
     at: usize,
     block: &[u8],
-) -> Result<(&'a [u8], usize), JournalFault>
+) -> Result<(&'a [u8], usize), Damage>
     requires { at ≤ length text.now }
     ensures within { IfOk result (λ x. IsOn at text.now x.1) }
-    ensures exact { Gives (λ lent. lent.now) refusal result (read (check block.now) text.now at) }
+    ensures exact { Gives (λ lent. lent.now) refused result (read (check block.now) text.now at) }
 {
     let (four, after) = octets(text, at, 4, JournalCause::Crc)?;
     if four != check_of(block).as_slice() {

@@ -1,10 +1,10 @@
 //! What is kept, and what a record does to it.
 
-ghost use Rattle.std.specs.Prelude.{◌≡◌, ◌++◌, ◌∷◌, ◌==◌, IfOk, OnOk, OnErr, length};
+ghost use Rattle.std.specs.Prelude.{◌≡◌, ◌++◌, ◌∷◌, ◌==◌, true, IfOk, OnOk, OnErr, length};
 ghost use Rattle.std.specs.List.{position_or_len};
 ghost use Rattle.journal_file.specs.Values.{nothing_kept, a_begun, a_reserved};
 ghost use Rattle.journal_file.specs.Keeping.{octet_of, same_face, has_id, is_of, is_about, marks_of, bounded, marks_with, without_first, greater, kept_with};
-ghost use Rattle.journal_file.specs.Ties.{kept_of, record_of};
+ghost use Rattle.journal_file.specs.Ties.{kept_of, record_of, takes_memory};
 
 use crate::record::Record;
 use endpoint::Octets;
@@ -69,6 +69,8 @@ impl Kept {
     #[tactic(auto, unfolding(crate::specs::Keeping::kept_with))]
     pub fn take(&mut self, alloc: Global, said: &Record) -> Result<(), AllocError>
         ensures ok { OnOk result (kept_of self.new ≡ kept_with (kept_of self.old) (record_of said.now)) }
+        // Memory is wanted only for a block that is begun, and for a mark.
+        ensures memory { OnErr result (takes_memory (record_of said.now) ≡ true) }
     {
         match said {
             Record::Begun { id, face, block } => {

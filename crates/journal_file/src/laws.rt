@@ -6,6 +6,7 @@ ghost use Rattle.journal_file.specs.Keeping.{kept_after};
 ghost use Rattle.journal_file.specs.File.{opening, Reads};
 ghost use Rattle.journal_file.specs.Spelling.{Closes, MayFollow, gated};
 ghost use Rattle.journal_file.specs.Anew.{file_of, but_greatest, IsSound};
+ghost use Rattle.journal_file.specs.Legal.{IsLegal};
 
 /// What stands behind a closed gate counts for nothing, torn octets too.
 pub fn closed_gate_ends()
@@ -35,4 +36,25 @@ pub fn new_file_says_the_same()
 pub fn records_are_read()
     ensures { (rs : List RecordValue) → MayFollow nothing_kept rs
         → Closes (opening ++ gated rs) (kept_after nothing_kept rs) }
+{}
+
+/// What a file says is kept may be written anew.
+pub fn what_is_read_is_sound()
+    ensures { (file : List ℕ) (kept : KeptValue) → Reads file kept → IsSound kept }
+{}
+
+/// What a file says is kept is legal.
+pub fn what_is_read_is_legal()
+    ensures { (file : List ℕ) (kept : KeptValue) → Reads file kept → IsLegal kept }
+{}
+
+/// What is legal stays so, whatever records may follow.
+pub fn records_leave_what_is_legal()
+    ensures { (kept : KeptValue) (rs : List RecordValue) → IsLegal kept → MayFollow kept rs
+        → IsLegal (kept_after kept rs) }
+{}
+
+/// What is legal may be written anew.
+pub fn what_is_legal_is_sound()
+    ensures { (kept : KeptValue) → IsLegal kept → IsSound kept }
 {}

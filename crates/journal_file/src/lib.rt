@@ -11,7 +11,8 @@
 //! [`write_gated`] and [`write_behind_gate`] append the octets of records. [`closed_gate_ends`],
 //! [`any_closed_gate_ends`] and [`open_gate_goes_on`] state what gates do: behind a closed one anything
 //! may stand, and opening it makes the records behind it the next ones. [`write_file`] makes a file anew
-//! of what is kept, and [`new_file_says_the_same`] states that it stands for that.
+//! of what is kept, and [`new_file_says_the_same`] states that it stands for that;
+//! [`what_is_read_is_sound`] that whatever a file stands for may be written so.
 //!
 //! No program stands on this crate yet. How records are committed, with which writes and syncs in
 //! which order, is not known here.
@@ -31,7 +32,8 @@ pub use fault::{JournalCause, JournalFault};
 pub use kept::{Kept, MARKS_MAX, Mark, Pending};
 pub use laws::{
     any_closed_gate_ends, closed_gate_ends, new_file_says_the_same, open_gate_goes_on,
-    records_are_read,
+    records_are_read, records_leave_what_is_legal, what_is_legal_is_sound, what_is_read_is_legal,
+    what_is_read_is_sound,
 };
 pub use reading::read_kept;
 pub use record::{How, Record};

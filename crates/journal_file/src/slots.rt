@@ -1,10 +1,11 @@
 //! What is kept while a file is read: a slot for each block that was begun, found by its id without a
 //! walk through the others, and emptied where the block ended. Blocks are lent, and copied at the end.
 
-ghost use Rattle.std.specs.Prelude.{◌≡◌, ◌+◌, ◌<◌, ◌≤◌, ◌++◌, ◌∷◌, [], ℕ, IfOk, IfSome, IfNone, OnOk, OnErr, length, take, drop};
+ghost use Rattle.std.specs.Prelude.{◌≡◌, ◌+◌, ◌<◌, ◌≤◌, ◌++◌, ◌∷◌, [], ℕ, true, IfOk, IfSome, IfNone, OnOk, OnErr, length, take, drop};
 ghost use Rattle.journal_file.specs.Values.{nothing_kept};
 ghost use Rattle.journal_file.specs.Keeping.{has_id, is_pending, kept_with, without_first};
-ghost use Rattle.journal_file.specs.Ties.{kept_of, record_of};
+ghost use Rattle.journal_file.specs.Ties.{kept_of, record_of, takes_memory};
+ghost use Rattle.journal_file.specs.Wants.{KeepsSome};
 ghost use Rattle.journal_file.specs.Rising.{AllBelow, AllFrom, AreRising, IsAbove, Found, NotFound, held, held_in, holds_block};
 
 use crate::kept::{Kept, Pending};
@@ -78,6 +79,7 @@ impl<'a> Book<'a> {
     pub(crate) fn take(&mut self, alloc: Global, said: &Record<'a>) -> Result<(), AllocError>
         requires { IsAbove self.old.greatest (record_of said.now) }
         ensures ok { OnOk result (self.new ≡ kept_with self.old (record_of said.now)) }
+        ensures memory { OnErr result (takes_memory (record_of said.now) ≡ true) }
     {
         match said {
             Record::Begun { id, face, block } => {
@@ -95,7 +97,8 @@ impl<'a> Book<'a> {
 
     /// What is kept, with copies of the blocks.
     pub(crate) fn close(self, alloc: Global) -> Result<Kept, AllocError>
-        ensures { IfOk result (λ kept. kept_of kept ≡ self.entry) }
+        ensures kept { IfOk result (λ kept. kept_of kept ≡ self.entry) }
+        ensures memory { OnErr result (KeepsSome self.entry) }
     {
         let Book {
             slots,
@@ -211,7 +214,8 @@ fn add<'a>(
 
 /// Copies of the blocks in the slots that aren't empty.
 fn copies(alloc: Global, slots: &[Slot]) -> Result<Vec<Pending>, AllocError>
-    ensures { IfOk result (λ pending. pending.items ≡ held slots.now) }
+    ensures held { IfOk result (λ pending. pending.items ≡ held slots.now) }
+    ensures memory { OnErr result (0 < length (held slots.now)) }
 {
     let mut pending = Vec::new(alloc);
     'copying: for slot in slots {
@@ -222,7 +226,8 @@ fn copies(alloc: Global, slots: &[Slot]) -> Result<Vec<Pending>, AllocError>
 
 /// Adds a copy of the block in a slot, if there is one.
 fn copy(alloc: Global, slot: Slot, pending: &mut Vec<Pending>) -> Result<(), AllocError>
-    ensures { OnOk result (pending.new.items ≡ pending.old.items ++ held (slot.entry ∷ [])) }
+    ensures held { OnOk result (pending.new.items ≡ pending.old.items ++ held (slot.entry ∷ [])) }
+    ensures memory { OnErr result (0 < length (held (slot.entry ∷ []))) }
 {
     match slot.block {
         Some(block) => pending.push(Pending {

@@ -1,5 +1,5 @@
-use Rattle.std.proofs.Common.{◌+◌, ◌∙◌, ap, sym, arith}
-use Rattle.journal_file.specs.Rising.{AllBelow, AreRising, held}
+use Rattle.std.proofs.Common.{◌+◌, ◌∙◌, ap, arith}
+use Rattle.journal_file.specs.Rising.{held}
 use Rattle.journal_file.proofs.SlotLemmas.{below-weaker, held-append, push-below, push-rising}
 use Rattle.journal_file.proofs.slots.add.Goals as goal
 

@@ -1,4 +1,3 @@
-use Rattle.std.proofs.Common.{◌+◌}
 use Rattle.journal_file.proofs.slots.Book.take.Goals as goal
 
 pub invariant_of-self-in-Done : goal.invariant_of-self-in-Done

@@ -2,3 +2,4 @@ pub mod StepLemmas
 pub mod OpenLemmas
 pub mod NewLemmas
 pub mod RestLemmas
+pub mod RecoverLemmas

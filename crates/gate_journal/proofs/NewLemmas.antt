@@ -1,7 +1,7 @@
 -- A new file in the place of the old one, where a store tells.
-use Rattle.std.proofs.Common.{◌≡◌, ◌⊎◌, inl, inr, ⊎_elim, ℕ, ◌≤◌, List, [], ◌++◌, Option, Some, None, Result, Ok, Err, OnOk, IfSome, refl, sym, ap, ◌∙◌, subst}
+use Rattle.std.proofs.Common.{◌≡◌, ◌⊎◌, inl, inr, ⊎_elim, ℕ, List, [], ◌++◌, Option, Some, None, Result, Ok, Err, OnOk, IfSome, ap, ◌∙◌, subst}
 use Rattle.store_traits.specs.Disk.{NoneNew, Only, Elapses, LeavesOnly}
-use Rattle.gate_journal.proofs.StepLemmas.{started, goes_on, weaker}
+use Rattle.gate_journal.proofs.StepLemmas.{goes_on, weaker}
 
 module _ {S : Type 0} (moment : S → ℕ) (left_since : S → ℕ → List ℕ → Type 0) where
   -- a call more of those that leave nothing new

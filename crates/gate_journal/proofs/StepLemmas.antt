@@ -1,8 +1,8 @@
 -- How a run of calls on a store goes on, and what a torn write leaves of a file.
-use Rattle.std.proofs.Common.{◌≡◌, ◌⊎◌, inl, inr, ⊎_elim, ℕ, ◌+◌, ◌≤◌, max, List, [], ◌∷◌, ◌++◌, length, get_or, take, drop, Option, Some, None, option_map, IfSome, refl, sym, ap, ◌∙◌, subst, append_assoc, arith}
+use Rattle.std.proofs.Common.{◌≡◌, inl, inr, ⊎_elim, ℕ, ◌+◌, List, [], ◌∷◌, ◌++◌, length, get_or, take, drop, refl, sym, ap, ◌∙◌, append_assoc, arith}
 use Rattle.std.proofs.lemmas.List.{length-append, append-nil, take_all, drop_all, take_at, drop_at, drop_more, take-append-drop}
-use Rattle.store_traits.specs.Disk.{written, Torn, Follows, NoneNew, Only, Elapses, LeavesOnly}
-use Rattle.gate_journal.specs.Steps.{TornOnly, IsShutAt, opened, MayStand}
+use Rattle.store_traits.specs.Disk.{written, Torn, Elapses, LeavesOnly}
+use Rattle.gate_journal.specs.Steps.{TornOnly}
 
 module _ {S : Type 0} (moment : S → ℕ) (left_since : S → ℕ → List ℕ → Type 0) where
   -- before the first call

@@ -1,5 +1,5 @@
 -- Why a journal wasn't read.
-use Rattle.std.specs.Prelude.{ℕ, Option, Some, None, Result, Ok, Err}
+use Rattle.std.specs.Prelude.{◌≡◌, ℕ, List, [], Option, Some, None, Result, Ok, Err}
 use Rattle.edge_traits.specs.Faults.{one_more}
 use Rattle.store_traits.specs.declared.fault.StoreFault.{StoreFault}
 use Rattle.store_traits.specs.declared.fault.StoreFault.TheVariants as store_faults
@@ -23,6 +23,10 @@ faults_then before (Ok x) = before
 faults_then before (Err faults.Failed) = one_more before
 faults_then before (Err faults.Memory) = before
 faults_then before (Err (faults.Damaged at cause)) = before
+
+-- a file has octets, so it takes memory to read it
+abbrev pub HasOctets : List ℕ → Type 0
+HasOctets file = file ≡ [] → ⊥
 
 -- ---- faults of what is below
 

@@ -1,5 +1,4 @@
-use Rattle.std.proofs.Common.{◌∷◌, []}
-use Rattle.gate_journal.proofs.OpenLemmas.{room-first, room-second, seen-open, first-part, both-parts}
+use Rattle.gate_journal.proofs.OpenLemmas.{room-first, room-second, first-part, both-parts}
 use Rattle.gate_journal.proofs.steps.open.Goals as goal
 
 pub put-requires : goal.put-requires

@@ -1,6 +1,5 @@
 -- What the new file says.
-use Rattle.std.proofs.Common.{◌≡◌, ◌⊎◌, ◌+◌, ◌-◌, ◌++◌, ℕ, List, length, Some, IfSome, sym, ap, ◌∙◌, subst, arith}
-use Rattle.store_traits.specs.Disk.{LeavesOnly}
+use Rattle.std.proofs.Common.{◌≡◌, ◌-◌, ◌++◌, ℕ, List, length, ap, ◌∙◌, arith}
 use Rattle.journal_file.specs.Anew.{file_of}
 use Rattle.journal_file.specs.Ties.{kept_of}
 use Rattle.gate_journal.proofs.RestLemmas.{new-any, new-rests, new-long}

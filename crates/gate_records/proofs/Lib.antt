@@ -1,0 +1,10 @@
+pub mod PendingLemmas
+pub mod NamedLemmas
+pub mod LeaveLemmas
+pub mod StepLemmas
+pub mod PieceLemmas
+pub mod MarkLemmas
+pub mod StartLemmas
+pub mod HalfLemmas
+pub mod StayLemmas
+pub mod OnceLemmas

@@ -1,0 +1,174 @@
+-- The sessions that have ids, after a note and after a piece more.
+use Rattle.std.proofs.Common.{◌≡◌, ℕ, ◌<◌, ◌==◌, ◌||◌, Bool, true, false, if◌then◌else◌, List, [], ◌∷◌, ◌++◌, Option, None, Some, refl, sym, ap, ◌∙◌, arith}
+use Rattle.std.proofs.lemmas.Bool.{ne_eqb, eqb-true, eqb-false, eq-eqb}
+use Rattle.std.specs.List.{list_any}
+use Rattle.gate_cases.specs.declared.face.Face.{Face}
+use Rattle.journal_file.specs.declared.kept.Pending.{Pending}
+use Rattle.journal_file.specs.Keeping.{is_pending, without_first}
+use Rattle.journal_file.specs.Keeping as kept
+use Rattle.journal_file.specs.Legal.{AreUpTo}
+use Rattle.gate_records.specs.declared.named.Named.{Named}
+use Rattle.gate_records.specs.Named.{is_of, find_id, without_named, has_id}
+use Rattle.gate_records.specs.Laws.{ArePending, HaveOwnIds}
+use Rattle.gate_records.proofs.PendingLemmas.{pending-up-to, pending-other, pending-push}
+
+abbrev either : Bool → Bool → Bool
+either a b = a || b
+
+-- ---- none has an id
+
+any-without : (id : ℕ) (face : Face) (session : ℕ) (ns : List Named) → list_any (has_id id) ns ≡ false → list_any (has_id id) (without_named face session ns) ≡ false
+unfolding without_named
+any-without id face session [] none = refl
+any-without id face session (n ∷ ns) none = by (is_of face session n) (n.id == id) refl none (λ others. any-without id face session ns others)
+  where
+    by : (t u : Bool) → (n.id == id) ≡ u → either u (list_any (has_id id) ns) ≡ false
+        → (list_any (has_id id) ns ≡ false → list_any (has_id id) (without_named face session ns) ≡ false)
+        → list_any (has_id id) (if t then ns else n ∷ without_named face session ns) ≡ false
+    by t true is none rest = absurd (cc)
+    by true false is none rest = none
+    by false false is none rest = rw is (rest none)
+
+own-without : (face : Face) (session : ℕ) (ns : List Named) → HaveOwnIds ns → HaveOwnIds (without_named face session ns)
+unfolding without_named
+own-without face session [] own = tt
+own-without face session (n ∷ ns) (none, own) = by (is_of face session n) (own-without face session ns own)
+  where
+    by : (t : Bool) → HaveOwnIds (without_named face session ns) → HaveOwnIds (if t then ns else n ∷ without_named face session ns)
+    by true rest = own
+    by false rest = (any-without n.id face session ns none, rest)
+
+pending-without : (ps : List Pending) (face : Face) (session : ℕ) (ns : List Named) → ArePending ps ns → ArePending ps (without_named face session ns)
+unfolding without_named
+pending-without ps face session [] are = tt
+pending-without ps face session (n ∷ ns) (first, are) = by (is_of face session n) (pending-without ps face session ns are)
+  where
+    by : (t : Bool) → ArePending ps (without_named face session ns) → ArePending ps (if t then ns else n ∷ without_named face session ns)
+    by true rest = are
+    by false rest = (first, rest)
+
+-- ---- the session of an id ends
+
+abbrev no_id : Option ℕ
+no_id = None
+
+abbrev an_id : ℕ → Option ℕ
+an_id id = Some id
+
+pub found-pending : (ps : List Pending) (face : Face) (session id : ℕ) (ns : List Named) → ArePending ps ns → find_id face session ns ≡ Some id → is_pending id ps ≡ true
+unfolding find_id
+found-pending ps face session id [] are is = absurd (cc)
+found-pending ps face session id (n ∷ ns) (first, are) is = by (is_of face session n) is (λ more. found-pending ps face session id ns are more)
+  where
+    by : (t : Bool) → (if t then Some n.id else find_id face session ns) ≡ Some id → (find_id face session ns ≡ Some id → is_pending id ps ≡ true) → is_pending id ps ≡ true
+    by true same rest = let there : n.id ≡ id = cc in rw there at first
+    by false found rest = rest found
+
+-- those with other ids are pending still
+others-pending : (ps : List Pending) (id : ℕ) (ns : List Named) → list_any (has_id id) ns ≡ false → ArePending ps ns → ArePending (without_first (kept.has_id id) ps) ns
+others-pending ps id [] none are = tt
+others-pending ps id (n ∷ ns) none (first, are) = by (n.id == id) refl none (λ others. others-pending ps id ns others are)
+  where
+    by : (u : Bool) → (n.id == id) ≡ u → either u (list_any (has_id id) ns) ≡ false
+        → (list_any (has_id id) ns ≡ false → ArePending (without_first (kept.has_id id) ps) ns) → ArePending (without_first (kept.has_id id) ps) (n ∷ ns)
+    by true is none rest = absurd (cc)
+    by false is none rest = (pending-other n.id id ps (ne_eqb id n.id (λ e. eqb-false n.id id is (sym e))) first, rest none)
+
+found-among : (face : Face) (session id : ℕ) (ns : List Named) → find_id face session ns ≡ Some id → list_any (has_id id) ns ≡ true
+unfolding find_id
+found-among face session id [] is = absurd (cc)
+found-among face session id (n ∷ ns) is = by (is_of face session n) is (λ more. found-among face session id ns more)
+  where
+    right : (a : Bool) → either a true ≡ true
+    right true = refl
+    right false = refl
+
+    by : (t : Bool) → (if t then Some n.id else find_id face session ns) ≡ Some id → (find_id face session ns ≡ Some id → list_any (has_id id) ns ≡ true) → list_any (has_id id) (n ∷ ns) ≡ true
+    by true same rest = let there : n.id ≡ id = cc in rw (eq-eqb n.id id there) refl
+    by false found rest = rw (rest found) (right (n.id == id))
+
+pub ended-pending : (ps : List Pending) (face : Face) (session id : ℕ) (ns : List Named) → ArePending ps ns → HaveOwnIds ns → find_id face session ns ≡ Some id
+    → ArePending (without_first (kept.has_id id) ps) (without_named face session ns)
+unfolding find_id without_named
+ended-pending ps face session id [] are own is = absurd (cc)
+ended-pending ps face session id (n ∷ ns) (first, are) (none, own) is = by (is_of face session n) is (λ more. ended-pending ps face session id ns are own more)
+  where
+    apart : find_id face session ns ≡ Some id → (t : Bool) → (id == n.id) ≡ t → (id == n.id) ≡ false
+    apart found false other = other
+    apart found true same =
+        let there : id ≡ n.id = eqb-true id n.id same in
+        let among = found-among face session id ns found in
+        let no : list_any (has_id id) ns ≡ false = rw there none in
+        absurd (cc)
+
+    by : (t : Bool) → (if t then Some n.id else find_id face session ns) ≡ Some id
+        → (find_id face session ns ≡ Some id → ArePending (without_first (kept.has_id id) ps) (without_named face session ns))
+        → ArePending (without_first (kept.has_id id) ps) (if t then ns else n ∷ without_named face session ns)
+    by true same rest = let there : n.id ≡ id = cc in others-pending ps id ns (rw there at none) are
+    by false found rest = (pending-other n.id id ps (apart found (id == n.id) refl) first, rest found)
+
+-- where no session has the number none leaves
+pub none-found : (face : Face) (session : ℕ) (ns : List Named) → find_id face session ns ≡ None → without_named face session ns ≡ ns
+unfolding find_id without_named
+none-found face session [] is = refl
+none-found face session (n ∷ ns) is = by (is_of face session n) is (λ none. none-found face session ns none)
+  where
+    by : (t : Bool) → (if t then an_id n.id else find_id face session ns) ≡ no_id → (find_id face session ns ≡ no_id → without_named face session ns ≡ ns)
+        → (if t then ns else n ∷ without_named face session ns) ≡ n ∷ ns
+    by true is rest = absurd (cc)
+    by false is rest = ap (λ (l : List Named). n ∷ l) (rest is)
+
+pub own-left : (face : Face) (session : ℕ) (ns : List Named) → HaveOwnIds ns → HaveOwnIds (without_named face session ns)
+own-left face session ns own = own-without face session ns own
+
+-- ---- a piece more
+
+pub all-pushed : (p : Pending) (ps : List Pending) (ns : List Named) → ArePending ps ns → ArePending (ps ++ p ∷ []) ns
+all-pushed p ps [] are = tt
+all-pushed p ps (n ∷ ns) (first, are) = (pending-push n.id p ps first, all-pushed p ps ns are)
+
+pub pending-push-named : (ps : List Pending) (n : Named) (ns : List Named) → ArePending ps ns → is_pending n.id ps ≡ true → ArePending ps (ns ++ n ∷ [])
+pending-push-named ps n [] are last = (last, tt)
+pending-push-named ps n (m ∷ ns) (first, are) last = (first, pending-push-named ps n ns are last)
+
+any-push-other : (id : ℕ) (n : Named) (ns : List Named) → (n.id == id) ≡ false → list_any (has_id id) ns ≡ false → list_any (has_id id) (ns ++ n ∷ []) ≡ false
+any-push-other id n [] other none = rw other refl
+any-push-other id n (m ∷ ns) other none = by (m.id == id) none (λ others. any-push-other id n ns other others)
+  where
+    by : (u : Bool) → either u (list_any (has_id id) ns) ≡ false → (list_any (has_id id) ns ≡ false → list_any (has_id id) (ns ++ n ∷ []) ≡ false)
+        → either u (list_any (has_id id) (ns ++ n ∷ [])) ≡ false
+    by true none rest = absurd (cc)
+    by false none rest = rest none
+
+-- its id is above all others
+pub own-push : (g : ℕ) (ps : List Pending) (n : Named) (ns : List Named) → AreUpTo g ps → g < n.id → ArePending ps ns → HaveOwnIds ns → HaveOwnIds (ns ++ n ∷ [])
+own-push g ps n [] up above are own = (refl, tt)
+own-push g ps n (m ∷ ns) up above (first, are) (none, own) = (
+  any-push-other m.id n ns (ne_eqb n.id m.id (λ e. omega (arith, e, above, pending-up-to g m.id ps up first))) none,
+  own-push g ps n ns up above are own,
+)
+
+-- its id is of none of them
+any-back : (id : ℕ) (n : Named) → (n.id == id) ≡ (id == n.id)
+any-back id n = by (n.id == id) refl
+  where
+    by : (t : Bool) → (n.id == id) ≡ t → t ≡ (id == n.id)
+    by true is = sym (eq-eqb id n.id (sym (eqb-true n.id id is)))
+    by false is = sym (ne_eqb id n.id (λ e. eqb-false n.id id is (sym e)))
+
+pub own-push-other : (n : Named) (ns : List Named) → list_any (has_id n.id) ns ≡ false → HaveOwnIds ns → HaveOwnIds (ns ++ n ∷ [])
+own-push-other n [] none own = (refl, tt)
+own-push-other n (m ∷ ns) none (first, own) = by (m.id == n.id) refl none (λ others. own-push-other n ns others own)
+  where
+    by : (u : Bool) → (m.id == n.id) ≡ u → either u (list_any (has_id n.id) ns) ≡ false
+        → (list_any (has_id n.id) ns ≡ false → HaveOwnIds (ns ++ n ∷ [])) → HaveOwnIds (m ∷ (ns ++ n ∷ []))
+    by true is none rest = absurd (cc)
+    by false is none rest = (any-push-other m.id n ns (any-back m.id n ∙ is) first, rest none)
+
+pub any-push-last : (n : Named) (ns : List Named) → list_any (has_id n.id) (ns ++ n ∷ []) ≡ true
+any-push-last n [] = rw (eq-eqb n.id n.id refl) refl
+any-push-last n (m ∷ ns) = rw (any-push-last n ns) (either-right (m.id == n.id))
+  where
+    either-right : (a : Bool) → either a true ≡ true
+    either-right true = refl
+    either-right false = refl

@@ -1,0 +1,250 @@
+-- What holds of the records of each step and of each half, in other words than their definitions'.
+
+use Rattle.std.specs.Prelude.{◌≡◌, ℕ, ◌+◌, ◌^◌, ◌<◌, ◌≤◌, ◌⊎◌, ◌&&◌, Bool, true, false, ◌==◌, List, [], ◌∷◌, ◌++◌, length, Option, None, Some, IfSome, if◌then◌else◌}
+use Rattle.std.specs.List.{list_any}
+use Rattle.gate_cases.specs.declared.face.Face.{Face}
+use Rattle.gateway_core.specs.declared.effects.Routed.{Routed}
+use Rattle.gateway_core.specs.declared.begun.Begun.{Begun}
+use Rattle.journal_file.specs.declared.kept.Pending.{Pending}
+use Rattle.journal_file.specs.declared.kept.Mark.{Mark}
+use Rattle.journal_file.specs.Values.{KeptValue, RecordValue, a_begun, a_done, a_mark, a_clear, a_reserved}
+use Rattle.journal_file.specs.Keeping.{is_pending, is_about, is_of, marks_of, same_face, MARKS_MAX, kept_after}
+use Rattle.journal_file.specs.Spelling.{MayFollow}
+use Rattle.journal_file.specs.Legal.{IsLegal}
+use Rattle.journal_file.specs.Anew.{IsSound}
+use Rattle.gate_records.specs.declared.named.Named.{Named}
+use Rattle.gate_records.specs.Named.{has_id, named_with}
+use Rattle.gate_records.specs.Happened.{Happened, reports_on, is_over}
+use Rattle.gate_records.specs.Keeping.{KeepingValue, NUMBERS, first_of, recovered, starts_keeping, waits, resuming}
+use Rattle.gate_records.specs.Records.{pending_with, is_marked, marks_after, step_records, after_step, after_reserving}
+use Rattle.gate_records.specs.Halves.{Recorded, starts_half, recording, half_records}
+
+-- ---- what is known is right
+
+-- each session's id is that of a pending block
+abbrev pub ArePending : List Pending → List Named → Type 0
+ArePending pending [] = Unit {0}
+ArePending pending (n ∷ named) =
+    (is_pending n.id pending ≡ true) × ArePending pending named
+
+-- no two sessions have an id
+abbrev pub HaveOwnIds : List Named → Type 0
+HaveOwnIds [] = Unit {0}
+HaveOwnIds (n ∷ named) = (list_any (has_id n.id) named ≡ false) × HaveOwnIds named
+
+pub record IsKeeping (k : KeepingValue) : Type 0 where
+  pub legal : IsLegal k.kept
+  pub pending : ArePending (k.kept).pending k.named
+  pub own_ids : HaveOwnIds k.named
+
+-- ---- a step that fits: what it names has a spelling
+
+abbrev pub AreShort : List Begun → Type 0
+AreShort [] = Unit {0}
+AreShort (begun ∷ more) = (length begun.block < 2 ^ 64) × AreShort more
+
+abbrev pub ReportSmall : List Routed → Type 0
+ReportSmall [] = Unit {0}
+ReportSmall (routed ∷ more) =
+    IfSome (reports_on routed.datagram) (λ session. session < 2 ^ 64) × ReportSmall more
+
+pub record Fits (h : Happened) (k : KeepingValue) : Type 0 where
+  pub wall : h.wall < 2 ^ 64
+  pub ids : (k.kept).greatest + length h.begun < 2 ^ 64
+  pub blocks : AreShort h.begun
+  pub sessions : ReportSmall h.out
+
+-- ---- the records of a step may be committed, and what is known is right after them
+
+-- Each id is begun once, and ids rise: a record that begins a block has one above all before. Each is
+-- done at most once: a record that ends one has the id of a pending block, which is pending no more.
+abbrev pub StepMayFollow : Type 0
+StepMayFollow =
+    (h : Happened) (k : KeepingValue) → IsKeeping k → Fits h k
+    → MayFollow k.kept (step_records h k) × IsKeeping (after_step h k)
+
+-- ---- ids
+
+abbrev pub ends_of : RecordValue → Option ℕ
+ends_of (a_begun p) = None
+ends_of (a_done id how) = Some id
+ends_of (a_mark mark) = None
+ends_of (a_clear face session) = None
+ends_of (a_reserved face number) = None
+
+abbrev pub is_end : ℕ → Option ℕ → Bool
+is_end id None = false
+is_end id (Some ended) = ended == id
+
+-- the ids that records begin rise from above this one
+unfoldable pub BeginRising : ℕ → List RecordValue → Type 0
+BeginRising id [] = Unit {0}
+BeginRising id (a_begun p ∷ more) = (id < p.id) × BeginRising p.id more
+BeginRising id (a_done ended how ∷ more) = BeginRising id more
+BeginRising id (a_mark mark ∷ more) = BeginRising id more
+BeginRising id (a_clear face session ∷ more) = BeginRising id more
+BeginRising id (a_reserved face number ∷ more) = BeginRising id more
+
+-- no two records end an id
+unfoldable pub EndOnce : List RecordValue → Type 0
+EndOnce [] = Unit {0}
+EndOnce (a_begun p ∷ more) = EndOnce more
+EndOnce (a_done id how ∷ more) =
+    (list_any (λ said. is_end id (ends_of said)) more ≡ false) × EndOnce more
+EndOnce (a_mark mark ∷ more) = EndOnce more
+EndOnce (a_clear face session ∷ more) = EndOnce more
+EndOnce (a_reserved face number ∷ more) = EndOnce more
+
+-- Of all records of a run, one half after the other: each id is begun at most once, and ids rise; each is
+-- done at most once.
+abbrev pub IdsAreUsedOnce : Type 0
+IdsAreUsedOnce =
+    (kept : KeptValue) (records : List RecordValue) → IsLegal kept → MayFollow kept records
+    → BeginRising kept.greatest records × EndOnce records
+
+-- ---- those of a half
+
+abbrev pub FitAll : List Happened → Recorded → Type 0
+FitAll [] r = Unit {0}
+FitAll (h ∷ steps) r = Fits h r.keeping × FitAll steps (recording h r)
+
+-- applied to what the journal said before the half, they give what is kept after it
+abbrev pub HalfIsKept : Type 0
+HalfIsKept =
+    (steps : List Happened) (old_next new_next : ℕ) (k : KeepingValue)
+    → kept_after k.kept (half_records steps old_next new_next k).records
+    ≡ ((half_records steps old_next new_next k).keeping).kept
+
+abbrev pub HalfMayFollow : Type 0
+HalfMayFollow =
+    (steps : List Happened) (old_next new_next : ℕ) (k : KeepingValue)
+    → IsKeeping k → FitAll steps (starts_half k)
+    → MayFollow k.kept (half_records steps old_next new_next k).records
+    × IsKeeping (half_records steps old_next new_next k).keeping
+
+-- ---- pieces
+
+-- a session that was begun has its block among those that are pending, under its id
+pub record IsKeptPiece (begun : Begun) (k : KeepingValue) : Type 0 where
+  pub id : ℕ
+  pub earlier : List Pending
+  pub later : List Pending
+  pub pending : (k.kept).pending ≡ earlier ++ pending_with id begun ∷ later
+  pub before : List Named
+  pub after : List Named
+  pub named : k.named ≡ before ++ named_with begun.face begun.session id ∷ after
+
+-- after a step each piece that it began is pending; a report of the gateway isn't kept
+abbrev pub PiecesArePending : Type 0
+PiecesArePending =
+    (h : Happened) (k : KeepingValue) (before : List Begun) (begun : Begun) (after : List Begun)
+    → h.begun ≡ before ++ begun ∷ after → begun.is_report ≡ false
+    → IsKeptPiece begun (after_step h k)
+
+-- ---- ends
+
+-- a block that was pending and isn't after a step has its `done` among the step's records
+abbrev pub LeavesByItsEnd : Type 0
+LeavesByItsEnd =
+    (h : Happened) (k : KeepingValue) (id : ℕ)
+    → is_pending id (k.kept).pending ≡ true
+    → is_pending id ((after_step h k).kept).pending ≡ false
+    → list_any (λ said. is_end id (ends_of said)) (step_records h k) ≡ true
+
+-- ---- reports
+
+-- When a report goes out about a session of the peer that isn't handed up, the session is marked from
+-- then on: the marks after the datagrams so far have one about it.
+abbrev pub ReportIsMarked : Type 0
+ReportIsMarked =
+    (h : Happened) (marks : List Mark) (before : List Routed) (routed : Routed) (session : ℕ)
+    → reports_on routed.datagram ≡ Some session → h.is_handed_up routed.face session ≡ false
+    → is_marked routed.face session (marks_after h (before ++ routed ∷ []) marks) ≡ true
+
+-- a record that clears a session is of one that is over
+abbrev pub ClearsIfOver : Happened → RecordValue → Type 0
+ClearsIfOver h (a_begun p) = Unit {0}
+ClearsIfOver h (a_done id how) = Unit {0}
+ClearsIfOver h (a_mark mark) = Unit {0}
+ClearsIfOver h (a_clear face session) = is_over h face session ≡ true
+ClearsIfOver h (a_reserved face number) = Unit {0}
+
+abbrev pub AllClearIfOver : Happened → List RecordValue → Type 0
+AllClearIfOver h [] = Unit {0}
+AllClearIfOver h (said ∷ more) = ClearsIfOver h said × AllClearIfOver h more
+
+abbrev pub OnlyOverIsCleared : Type 0
+OnlyOverIsCleared =
+    (h : Happened) (k : KeepingValue) → AllClearIfOver h (step_records h k)
+
+-- the marks that stand after the one about a session
+unfoldable pub after_mark : Face → ℕ → List Mark → List Mark
+after_mark face session [] = []
+after_mark face session (mark ∷ marks) =
+    if is_about face session mark then marks else after_mark face session marks
+
+-- how many of a face do
+abbrev pub later_marks : Face → ℕ → List Mark → ℕ
+later_marks face session marks = marks_of face (after_mark face session marks)
+
+-- how many marks of a face records make
+abbrev pub makes_mark : Face → RecordValue → ℕ
+makes_mark face (a_begun p) = 0
+makes_mark face (a_done id how) = 0
+makes_mark face (a_mark mark) = if is_of face mark then 1 else 0
+makes_mark face (a_clear f session) = 0
+makes_mark face (a_reserved f number) = 0
+
+unfoldable pub made_marks : Face → List RecordValue → ℕ
+made_marks face [] = 0
+made_marks face (said ∷ more) = makes_mark face said + made_marks face more
+
+abbrev pub clears_mark : Face → ℕ → RecordValue → Bool
+clears_mark face session (a_begun p) = false
+clears_mark face session (a_done id how) = false
+clears_mark face session (a_mark mark) = false
+clears_mark face session (a_clear f number) = same_face f face && number == session
+clears_mark face session (a_reserved f number) = false
+
+-- A session that is marked stays so, whatever records follow, until one clears it, or 1,024 later marks
+-- of its face stand after its own.
+abbrev pub MarkStays : Type 0
+MarkStays =
+    (kept : KeptValue) (records : List RecordValue) (face : Face) (session : ℕ)
+    → is_marked face session kept.marks ≡ true
+    → is_marked face session (kept_after kept records).marks ≡ false
+    → (list_any (clears_mark face session) records ≡ true)
+    ⊎ (MARKS_MAX ≤ later_marks face session kept.marks + made_marks face records)
+
+-- ---- numbers
+
+-- after a half no number that an engine has given is above what is reserved
+abbrev pub NumbersAreReserved : Type 0
+NumbersAreReserved =
+    (old_next new_next : ℕ) (k : KeepingValue) → old_next ≤ NUMBERS → new_next ≤ NUMBERS
+    → (old_next ≤ ((after_reserving old_next new_next k).kept).old_reserved)
+    × (new_next ≤ ((after_reserving old_next new_next k).kept).new_reserved)
+
+-- ---- a start
+
+-- what is recovered is legal, so the file may be made anew of it; it has the same pending blocks, and
+-- the numbers of this run are above those of earlier ones
+pub record Recovers (wall old_first new_first : ℕ) (kept : KeptValue) : Type 0 where
+  pub legal : IsLegal (recovered wall old_first new_first kept)
+  pub sound : IsSound (recovered wall old_first new_first kept)
+  pub pending : (recovered wall old_first new_first kept).pending ≡ kept.pending
+  pub old : kept.old_reserved ≤ first_of old_first kept.old_reserved
+  pub new : kept.new_reserved ≤ first_of new_first kept.new_reserved
+  pub keeping : IsKeeping (starts_keeping (recovered wall old_first new_first kept))
+
+abbrev pub RecoversWhatIsLegal : Type 0
+RecoversWhatIsLegal =
+    (wall old_first new_first : ℕ) (kept : KeptValue) → IsLegal kept
+    → Recovers wall old_first new_first kept
+
+-- one that waits is begun in a session, and waits no more
+abbrev pub ResumesOnce : Type 0
+ResumesOnce =
+    (p : Pending) (session : ℕ) (k : KeepingValue) → IsKeeping k
+    → is_pending p.id (k.kept).pending ≡ true → waits k.named p ≡ true
+    → IsKeeping (resuming p session k) × (waits (resuming p session k).named p ≡ false)

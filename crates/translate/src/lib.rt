@@ -2,7 +2,8 @@
 //!
 //! [`to_new`] and [`to_old`] make a bundle of the other version, and [`norm6`] and [`norm7`] the normal
 //! form of one. Each is a view of what was read: [`from6`] and [`from7`] read the record that a bundle
-//! stands for, and [`view6`] and [`view7`] are the bundles that stand for a record.
+//! stands for, and [`view6`] and [`view7`] are the bundles that stand for a record. Why a bundle doesn't
+//! read is told without its record by [`refusal6`] and [`refusal7`].
 //!
 //! What the other version can't say is carried in blocks of the gateway's own, so that a bundle that went
 //! there and back is its normal form ([`there_and_back`]), and says the same ([`says_the_same`]). A legal
@@ -30,8 +31,8 @@ pub use laws::{
     says_the_same, there_and_back, view_is_normal, view6_is_legal, view6_reads, view7_is_legal,
     view7_reads,
 };
-pub use reading6::from6;
-pub use reading7::from7;
+pub use reading6::{from6, refusal6};
+pub use reading7::{from7, refusal7};
 pub use refused::{Refused, ViewRefused};
 pub use translation::{norm6, norm7, to_new, to_old};
 pub use writing6::{fits6, view6};

@@ -72,8 +72,8 @@ pub fn from6(alloc: Global, bundle: &Bundle6) -> Result<Full, Refused>
     }
 }
 
-/// The first cause that refuses a bundle. Want of memory hides none.
-pub(crate) fn refusal6(alloc: Global, bundle: &Bundle6) -> Option<Refused>
+/// The first cause for which a bundle doesn't read as a record. Want of memory hides none.
+pub fn refusal6(alloc: Global, bundle: &Bundle6) -> Option<Refused>
     ensures exact { result ≡ first_that_holds (refusals6 bundle.now) }
     ensures octets { result ≡ None → HoldsOctets6 bundle.now }
 {

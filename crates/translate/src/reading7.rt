@@ -42,8 +42,8 @@ pub fn from7(alloc: Global, bundle: &Bundle7) -> Result<Full, Refused>
     }
 }
 
-/// The first cause that refuses a bundle. No memory is taken.
-pub(crate) fn refusal7(bundle: &Bundle7) -> Option<Refused>
+/// The first cause for which a bundle doesn't read as a record. No memory is taken.
+pub fn refusal7(bundle: &Bundle7) -> Option<Refused>
     ensures exact { result ≡ first_that_holds (refusals7 bundle.now) }
     ensures octets { result ≡ None → HoldsOctets7 bundle.now }
 {

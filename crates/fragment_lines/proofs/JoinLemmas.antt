@@ -1,5 +1,6 @@
 -- What `join` writes of a bundle.
-use Rattle.std.proofs.Common.{◌≡◌, ℕ, false, List, ◌++◌, codes, Option, Some, None, Result, Ok, Err, IfOk, OnOk, sym, ◌∙◌, ap, subst}
+use Rattle.std.proofs.Common.{◌≡◌, ℕ, false, List, ◌++◌, length, codes, Option, Some, None, Result, Ok, Err, IfOk, OnOk, sym, ◌∙◌, ap, subst}
+use Rattle.endpoint.specs.declared.extent.Fragment.{Fragment}
 use Rattle.bundle6.specs.declared.bundle.Bundle6.{Bundle6}
 use Rattle.bundle7.specs.declared.bundle.Bundle7.{Bundle7}
 use Rattle.bundle_meaning.specs.declared.full.Full.{Full}
@@ -11,15 +12,15 @@ use Rattle.fragments.specs.declared.fault.JoinRefused.{JoinRefused}
 use Rattle.fragments.specs.declared.join.Join.{Join}
 use Rattle.fragments.specs.declared.joining.Joined.{Joined}
 use Rattle.fragments.specs.declared.joining.Joined.TheVariants as answers
-use Rattle.fragments.specs.Joining.{Joining}
-use Rattle.fragments.specs.Again.{answer, after}
+use Rattle.fragments.specs.Joining.{Joining, accepted_as, open_total}
+use Rattle.fragments.specs.Again.{answer, answer_at, after, after_at}
 use Rattle.fragment_lines.specs.declared.joining.Answer.{Answer}
 use Rattle.fragment_lines.specs.declared.joining.Answer.TheVariants.{Word, Whole}
 use Rattle.fragment_lines.specs.declared.turned_down.TurnedDown.{TurnedDown}
 use Rattle.fragment_lines.specs.declared.turned_down.TurnedDown.TheVariants.{Untranslated}
 use Rattle.fragment_lines.specs.Said.{Said, says}
 use Rattle.fragment_lines.specs.Lines.{spelled_old, spelled_new, unless_refused, Writes}
-use Rattle.fragment_lines.specs.Joins.{join6, join7, said_whole, said_joined, taken_as}
+use Rattle.fragment_lines.specs.Joins.{join6, join7, said_whole, said_joined, taken_as, no_fragment_line}
 use Rattle.fragment_lines.specs.Writable.{Reads, Tells, said_answer}
 use Rattle.fragment_lines.proofs.ReadLemmas.{said-read, said-unread}
 
@@ -93,3 +94,41 @@ took-read (Err e) first value full joins new (none, is) kept = tt
 -- a bundle that doesn't read has no record
 pub unread-none : {P : Type 0} (first : Option Refused) (cause : Refused) → first ≡ Some cause → first ≡ None → P
 unread-none first cause is none = absurd (cc)
+
+-- ---- a bundle that is no fragment
+
+-- whatever came before, a record that is no fragment has the line that says so, and the joins are left
+none-taken : (spelled : Full → Option (List ℕ)) (joins : List Join) (full : Full) → full.shared.fragment ≡ None
+    → taken_as spelled joins full ≡ says no_fragment_line joins
+none-taken spelled joins full none =
+    ap (λ (a : Result Fragment JoinRefused). said_joined spelled (answer_at joins full a) (after_at joins full a))
+    (ap (λ (p : Option Fragment). accepted_as p (length joins) (open_total full.shared joins)) none)
+
+-- so it is written of the bundle
+said-none : (spelled : Full → Option (List ℕ)) (first : Option Refused) (joins : List Join) (full : Full) (before now : List ℕ)
+    (written : Result (List ℕ) TurnedDown) → full.shared.fragment ≡ None
+    → Writes (unless_refused first (says no_fragment_line joins)) before now joins written
+    → Writes (unless_refused first (taken_as spelled joins full)) before now joins written
+said-none spelled first joins full before now written none writes =
+    subst (λ (s : Said (List Join)). Writes (unless_refused first s) before now joins written)
+    (sym (none-taken spelled joins full none)) writes
+
+pub join-none6 : {E : Type 0} (joins : List Join) (b : Bundle6) (first : Option Refused) (before now : List ℕ)
+    (result : Result (Result (List ℕ) TurnedDown) E) → b.primary.fragment ≡ None → first ≡ first_that_holds (refusals6 b)
+    → IfOk result (λ written. (state : List Join) → Writes (unless_refused first (says no_fragment_line state)) before now state written)
+    → IfOk result (Writes (join6 joins b) before now joins)
+unfolding join6
+join-none6 joins b first before now (Ok written) none is writes =
+    said-none spelled_old (first_that_holds (refusals6 b)) joins (full6_of b) before now written none
+    (subst (λ (f : Option Refused). Writes (unless_refused f (says no_fragment_line joins)) before now joins written) is (writes joins))
+join-none6 joins b first before now (Err e) none is writes = tt
+
+pub join-none7 : {E : Type 0} (joins : List Join) (b : Bundle7) (first : Option Refused) (before now : List ℕ)
+    (result : Result (Result (List ℕ) TurnedDown) E) → b.primary.fragment ≡ None → first ≡ first_that_holds (refusals7 b)
+    → IfOk result (λ written. (state : List Join) → Writes (unless_refused first (says no_fragment_line state)) before now state written)
+    → IfOk result (Writes (join7 joins b) before now joins)
+unfolding join7
+join-none7 joins b first before now (Ok written) none is writes =
+    said-none spelled_new (first_that_holds (refusals7 b)) joins (full7_of b) before now written none
+    (subst (λ (f : Option Refused). Writes (unless_refused f (says no_fragment_line joins)) before now joins written) is (writes joins))
+join-none7 joins b first before now (Err e) none is writes = tt

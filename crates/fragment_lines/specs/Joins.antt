@@ -1,6 +1,7 @@
 -- What `join` says of a bundle, beside the fragments that came before it (RFC 5050, section 5.9;
 -- RFC 9171, section 5.9).
-use Rattle.std.specs.Prelude.{ℕ, List, ◌++◌, codes, Option, Some, None, Result, Ok, Err}
+use Rattle.std.specs.Prelude.{String, ℕ, ◌+◌, ◌<◌, List, ◌++◌, length, codes, Option, Some, None, Result, Ok, Err}
+use Rattle.std.specs.String.{string_len, string_capacity}
 use Rattle.bundle6.specs.declared.bundle.Bundle6.{Bundle6}
 use Rattle.bundle7.specs.declared.bundle.Bundle7.{Bundle7}
 use Rattle.bundle_meaning.specs.declared.full.Full.{Full}
@@ -9,6 +10,7 @@ use Rattle.translate.specs.Refusals.{first_that_holds, word_of}
 use Rattle.translate.specs.Reading6.{refusals6, full6_of}
 use Rattle.translate.specs.Reading7.{refusals7, full7_of}
 use Rattle.fragments.specs.declared.fault.JoinRefused.{JoinRefused}
+use Rattle.fragments.specs.declared.fault.JoinRefused.TheVariants.{NotFragment}
 use Rattle.fragments.specs.declared.join.Join.{Join}
 use Rattle.fragments.specs.declared.joining.Joined.{Joined}
 use Rattle.fragments.specs.declared.joining.Joined.TheVariants as answers
@@ -28,6 +30,14 @@ said_joined spelled (Ok answers.Waiting) now = says (codes "Waiting\n") now
 said_joined spelled (Ok answers.Repeat) now = says (codes "Repeat\n") now
 said_joined spelled (Ok (answers.Whole whole)) now = said_whole (spelled whole) now
 said_joined spelled (Err refused) now = says (join_word refused ++ codes "\n") now
+
+-- the line of a bundle that is no fragment, whatever came before it
+abbrev pub no_fragment_line : List ℕ
+no_fragment_line = join_word NotFragment ++ codes "\n"
+
+-- a text has no room for that line
+abbrev pub LacksRoom : {A : Type 0} → String A → Type 0
+LacksRoom text = string_capacity text < string_len text + length no_fragment_line
 
 -- a record is taken beside these joins, and the joiner's answer is said
 abbrev pub taken_as : (Full → Option (List ℕ)) → List Join → Full → Said (List Join)

@@ -12,8 +12,8 @@ ghost use Rattle.fragments.specs.declared.join.Join.{Join};
 ghost use Rattle.fragments.specs.Cutting.{octets_of};
 ghost use Rattle.fragments.specs.Again.{answer, after};
 ghost use Rattle.fragment_lines.specs.Said.{says};
-ghost use Rattle.fragment_lines.specs.Lines.{spelled_old, spelled_new, Writes};
-ghost use Rattle.fragment_lines.specs.Joins.{join6, join7, said_whole};
+ghost use Rattle.fragment_lines.specs.Lines.{spelled_old, spelled_new, unless_refused, Writes};
+ghost use Rattle.fragment_lines.specs.Joins.{join6, join7, said_whole, no_fragment_line, LacksRoom};
 ghost use Rattle.fragment_lines.specs.Writable.{IsSayable, Tells, said_answer};
 
 use crate::lines::write_word;
@@ -28,7 +28,7 @@ use endpoint::Octets;
 use fragments::{JoinRefused, Joined, Joiner};
 use std::alloc::{AllocError, Global};
 use std::marker::Model;
-use translate::Refused;
+use translate::{Refused, refusal6, refusal7};
 
 /// What is said of the joiner's answer: a word, or the whole.
 #[derive(Drop)]
@@ -72,6 +72,8 @@ impl BundleJoiner {
     /// Takes a version 6 bundle, and writes the line of what it came to; a whole is a version 6 bundle,
     /// whose octets are left to be told. Or it says why the bundle is turned down; then nothing is
     /// written. After want of memory the joiner may only be dropped.
+    ///
+    /// The record of a bundle that is no fragment isn't made.
     pub fn join6(
         &mut self,
         text: &mut String,
@@ -90,12 +92,14 @@ impl BundleJoiner {
         ensures taken { OnOk result (first_that_holds (refusals6 bundle) ≡ None
             → self.new.joins ≡ after self.old.joins (full6_of bundle)) }
 
-        // Memory is wanted only where the bundle reads as a record.
+        // Memory is wanted only where the bundle reads as a record, and of one that is no fragment only for
+        // its line.
         ensures memory { OnErr result (first_that_holds (refusals6 bundle) ≡ None) }
+        ensures unasked { bundle.primary.fragment ≡ None → OnErr result (LacksRoom text.old) }
     {
-        match read6(self.alloc, bundle)? {
-            Ok(full) => write_joined6(self.alloc, text, self.add(full)?),
-            Err(cause) => Ok(Err(TurnedDown::Untranslated(cause))),
+        match bundle.primary.fragment {
+            Some(_) => self.take6(text, bundle),
+            None => write_no_fragment(text, refusal6(self.alloc, &bundle)),
         }
     }
 
@@ -118,7 +122,53 @@ impl BundleJoiner {
         ensures taken { OnOk result (first_that_holds (refusals7 bundle) ≡ None
             → self.new.joins ≡ after self.old.joins (full7_of bundle)) }
 
-        // Memory is wanted only where the bundle reads as a record.
+        // Memory is wanted only where the bundle reads as a record, and of one that is no fragment only for
+        // its line.
+        ensures memory { OnErr result (first_that_holds (refusals7 bundle) ≡ None) }
+        ensures unasked { bundle.primary.fragment ≡ None → OnErr result (LacksRoom text.old) }
+    {
+        match bundle.primary.fragment {
+            Some(_) => self.take7(text, bundle),
+            None => write_no_fragment(text, refusal7(&bundle)),
+        }
+    }
+
+    /// Takes a version 6 bundle, whose record is made.
+    fn take6(
+        &mut self,
+        text: &mut String,
+        bundle: Bundle6,
+    ) -> Result<Result<Telling, TurnedDown>, AllocError>
+        requires whole { self.old.spent ≡ false }
+        requires legal { IsLegal bundle }
+        ensures said { IfOk result (Writes (join6 self.old.joins bundle)
+            (string_bytes text.old) (string_bytes text.new) self.new.joins) }
+        ensures whole { OnOk result (self.new.spent ≡ false) }
+        ensures stays { (first_that_holds (refusals6 bundle) ≡ None → ⊥) → self.new ≡ self.old }
+        ensures taken { OnOk result (first_that_holds (refusals6 bundle) ≡ None
+            → self.new.joins ≡ after self.old.joins (full6_of bundle)) }
+        ensures memory { OnErr result (first_that_holds (refusals6 bundle) ≡ None) }
+    {
+        match read6(self.alloc, bundle)? {
+            Ok(full) => write_joined6(self.alloc, text, self.add(full)?),
+            Err(cause) => Ok(Err(TurnedDown::Untranslated(cause))),
+        }
+    }
+
+    /// Takes a version 7 bundle, whose record is made.
+    fn take7(
+        &mut self,
+        text: &mut String,
+        bundle: Bundle7,
+    ) -> Result<Result<Telling, TurnedDown>, AllocError>
+        requires whole { self.old.spent ≡ false }
+        requires legal { IsLegal7 bundle }
+        ensures said { IfOk result (Writes (join7 self.old.joins bundle)
+            (string_bytes text.old) (string_bytes text.new) self.new.joins) }
+        ensures whole { OnOk result (self.new.spent ≡ false) }
+        ensures stays { (first_that_holds (refusals7 bundle) ≡ None → ⊥) → self.new ≡ self.old }
+        ensures taken { OnOk result (first_that_holds (refusals7 bundle) ≡ None
+            → self.new.joins ≡ after self.old.joins (full7_of bundle)) }
         ensures memory { OnErr result (first_that_holds (refusals7 bundle) ≡ None) }
     {
         match read7(self.alloc, bundle)? {
@@ -212,6 +262,24 @@ fn write_whole(
             Ok(Ok(Telling::line(octets)))
         }
         None => Ok(Err(TurnedDown::Untranslated(Refused::TooManyBlocks))),
+    }
+}
+
+/// The line of a bundle that is no fragment, or it doesn't read as a record for this cause.
+fn write_no_fragment(
+    text: &mut String,
+    refused: Option<Refused>,
+) -> Result<Result<Telling, TurnedDown>, AllocError>
+    ensures said { IfOk result (λ said. (now : List Join)
+        → Writes (unless_refused refused (says no_fragment_line now)) (string_bytes text.old) (string_bytes text.new) now said) }
+    ensures memory { OnErr result ((refused ≡ None) × LacksRoom text.old) }
+{
+    match refused {
+        Some(cause) => Ok(Err(TurnedDown::Untranslated(cause))),
+        None => {
+            text.push_str("NotFragment\n")?;
+            Ok(Ok(Telling::nothing()))
+        }
     }
 }
 

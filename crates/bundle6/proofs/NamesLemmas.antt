@@ -10,6 +10,7 @@ use Rattle.std.proofs.lemmas.Bool.{cases_lt, ltb-true, lt-ltb, leb-true}
 use Rattle.std.proofs.lemmas.List.{get_or-take, take-take, take_min, length-take, length-take-le, drop_all}
 use Rattle.std.proofs.lemmas.List.Sums.{fails_before_first, passes_at_first, position_or_len_is}
 use Rattle.std.proofs.lemmas.Fmt.{length-decimal-le}
+use Rattle.memchr.specs.Find.{IsFirstByte, is_byte}
 use Rattle.endpoint.specs.declared.name.Endpoint.{Endpoint}
 use Rattle.endpoint.specs.declared.name.Endpoint.TheVariants.{Null, Ipn, Dtn}
 use Rattle.endpoint.specs.Endpoints.{IsEndpoint, is_ssp, ssp_of, scheme_of}
@@ -21,7 +22,47 @@ use Rattle.bundle6.specs.declared.names.Offsets.{Offsets}
 
 -- ---- the first NUL
 
+-- the first place of a NUL is its position
+pub nul-first : (text : List ℕ) (r : Option ℕ) → IsFirstByte (is_byte 0) text r → r ≡ position is_nul text
+nul-first text (Some at) (first, passes) =
+    let place : position_or_len is_nul text ≡ at =
+    position_or_len_is is_nul text at 0 (omega (arith, first.high)) (λ k early. never k early (is_nul (get_or text k 0)) refl) (λ _. passes) in
+    rw (place, lt-ltb at (length text) first.high) refl
+  where
+    never : (k : ℕ) → k < at → (b : Bool) → is_nul (get_or text k 0) ≡ b → is_nul (get_or text k 0) ≡ false
+    never k early true is = absurd (first.before k (omega arith) early is)
+    never k early false is = is
+nul-first text None nowhere = by (ltb (position_or_len is_nul text) (length text)) refl
+  where
+    by : (b : Bool) → ltb (position_or_len is_nul text) (length text) ≡ b → None ≡ position is_nul text
+    by true low =
+        let inside : position_or_len is_nul text < length text = ltb-true _ _ low in
+        absurd (nowhere (position_or_len is_nul text) (omega arith) inside (passes_at_first is_nul text 0 inside))
+    by false past = rw past refl
+
 -- a NUL near the front is the first of all
+pub nul-near : (text : List ℕ) (m end : ℕ) → m ≤ length text → position is_nul (take m text) ≡ Some end
+    → Some end ≡ position is_nul text
+nul-near text m end inside is = by (ltb (position_or_len is_nul (take m text)) (length (take m text))) refl
+  where
+    near : List ℕ
+    near = take m text
+
+    by : (b : Bool) → ltb (position_or_len is_nul near) (length near) ≡ b → Some end ≡ position is_nul text
+    by true low =
+        let found : position is_nul near ≡ Some (position_or_len is_nul near) = rw low refl in
+        let same : position_or_len is_nul near ≡ end = cc in
+        let long : length near ≡ m = length-take-le m text inside in
+        let before : end < m = omega (arith, ltb-true _ _ low) in
+        let place : position_or_len is_nul text ≡ end =
+        position_or_len_is is_nul text end 0 (omega arith)
+        (λ k early. rw (← (get_or-take m text k 0 (omega arith))) (fails_before_first is_nul near k 0 (omega arith)))
+        (λ _. rw (← (get_or-take m text end 0 before), ← same) (passes_at_first is_nul near 0 (ltb-true _ _ low))) in
+        let whole : ltb (position_or_len is_nul text) (length text) ≡ true = lt-ltb _ _ (omega arith) in
+        rw (whole, place) refl
+    by false past = let none : position is_nul near ≡ None = rw past refl in cc
+
+-- the text before it is the text up to the first
 pub up_to_nul-near : (text : List ℕ) (m end : ℕ) → m ≤ length text → position is_nul (take m text) ≡ Some end
     → up_to_nul text ≡ Some (take end (take m text))
 unfolding up_to_nul

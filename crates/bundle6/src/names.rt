@@ -2,7 +2,8 @@
 
 ghost use Rattle.std.specs.Prelude.{◌≡◌, ◌≤◌, ℕ, List, length, option_map, IfOk};
 ghost use Rattle.endpoint.specs.Places.{endpoint_at};
-ghost use Rattle.std.specs.List.{position};
+ghost use Rattle.std.specs.List.{position, list_all};
+ghost use Rattle.endpoint.specs.Endpoints.{is_ssp, is_visible};
 ghost use Rattle.wire_fields.specs.Reading.{read};
 ghost use Rattle.wire_fields.specs.Gives.{Gives, IsOn};
 ghost use Rattle.bundle6.specs.Cause.{refusal, refused_at, fault_named};
@@ -13,6 +14,7 @@ ghost use Rattle.bundle6.specs.Table.{offsets, four_names, dictionary};
 use crate::fault::{Cause6, Fail6, Refused6};
 use crate::fields::{number, octets};
 use endpoint::{Endpoint, Name, Place, lend_named};
+use memchr::memchr;
 use std::alloc::{AllocError, Global};
 
 /// A name: two offsets into the dictionary, or where that is empty the numbers of node and service.
@@ -113,8 +115,31 @@ pub(crate) fn four_names_at(text: &[u8], at: usize) -> Result<(Pairs, usize), Re
     Ok((pairs, at))
 }
 
-/// The place of the first NUL.
+/// How many octets most texts have at most.
+const SHORT: usize = 16;
+
+/// The place of the first NUL. Of a text that isn't short the octets are looked at many at a time.
+#[inline(always)]
 fn nul_in(text: &[u8]) -> Option<usize>
+    ensures { result ≡ position is_nul text.now }
+{
+    match near_nul(&text[..text.len().min(SHORT)]) {
+        Some(end) => Some(end),
+        None => far_nul(text),
+    }
+}
+
+/// The same, many octets at a time.
+#[inline(never)]
+fn far_nul(text: &[u8]) -> Option<usize>
+    ensures { result ≡ position is_nul text.now }
+{
+    memchr(0, text)
+}
+
+/// The same, octet by octet.
+#[inline(always)]
+fn near_nul(text: &[u8]) -> Option<usize>
     ensures { result ≡ position is_nul text.now }
 {
     text.iter().position(|octet| *octet == 0)
@@ -134,6 +159,35 @@ pub(crate) fn text_in(dictionary: &[u8], offset: u64) -> Option<&[u8]>
         Some(end) => Some(&near[..end]),
         None => None,
     }
+}
+
+/// Whether a dtn name may have this scheme-specific part, as [`endpoint::is_ssp`] has it. A bundle may
+/// refer to a long one again and again, so its octets are looked at many at a time.
+#[tactic(auto, unfolding(endpoint::specs::Endpoints::is_ssp))]
+pub(crate) fn is_ssp(ssp: &[u8]) -> bool
+    ensures { result ≡ is_ssp ssp.now }
+{
+    !ssp.is_empty() && ssp.len() <= LONGEST_TEXT && are_visible(ssp) && ssp != b"none".as_slice()
+}
+
+/// Whether each octet is one from `!` to `~`. It doesn't end with the first that is none, so that many
+/// are looked at in one step of the processor.
+fn are_visible(octets: &[u8]) -> bool
+    ensures { result ≡ list_all is_visible octets.now }
+{
+    let mut all = true;
+    'looking: for octet in octets {
+        all = is_visible(*octet) & all;
+    }
+    all
+}
+
+/// Whether an octet is one from `!` to `~`.
+#[inline(always)]
+fn is_visible(octet: u8) -> bool
+    ensures { result ≡ is_visible octet }
+{
+    (33 <= octet) & (octet <= 126)
 }
 
 /// The place in the dictionary of the endpoint that two numbers name, if they name one. It takes no

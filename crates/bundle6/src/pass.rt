@@ -14,9 +14,9 @@ use crate::block::{PAYLOAD, Seen, count_at, flags_at, kind_at, size_at};
 use crate::fault::{Cause6, Refused6};
 use crate::fields::{number, octets};
 use crate::flags::{LAST, REFS, has_bit};
-use crate::names::{Offsets, Pairs, four_names_at, text_in};
+use crate::names::{Offsets, Pairs, four_names_at, is_ssp, text_in};
 use crate::primary::{end_at, fragment_at, version_at};
-use endpoint::{Fragment, ipn_named, is_ssp};
+use endpoint::{Fragment, ipn_named};
 
 /// Where the dictionary lies.
 #[derive(Clone, Copy)]

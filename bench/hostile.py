@@ -141,21 +141,22 @@ ROWS = (
     ("60 MB of payload, version 7", ["cut", "1000"], lambda: new(bytes(LONG)), DONE, LONG // 1000, 124),
     ("60 MB of payload, version 6", ["join"], lambda: old(bytes(LONG)), DONE, 1, 124),
     ("60 MB of payload, version 7", ["join"], lambda: new(bytes(LONG)), DONE, 1, 124),
-    ("64 wholes of 4 MiB, by single octets", ["join"], lambda: single_octets(64, 15_000), DONE, 960_000, 120),
+    ("64 wholes of 4 MiB, by single octets", ["join"], lambda: single_octets(64, 15_000), DONE, 960_000, 40),
     ("33 million references to a long name", ["check"], filled, DONE, 1, 4),
-    ("a name of 40 MB that never ends", ["check"], endless, REFUSED, 1, 124),
-    ("1,000 pieces that bring an octet each", ["receive"], overlapping, DONE, 0, 6),
-    ("single octets at every second place", ["receive"], every_second, DONE, 0, 130),
+    ("a name of 40 MB that never ends", ["check"], endless, REFUSED, 1, 84),
+    ("1,000 pieces that bring an octet each", ["receive"], overlapping, DONE, 0, 40),
+    ("single octets at every second place", ["receive"], every_second, DONE, 0, 90),
     ("64 sessions of one octet, far away", ["receive"], far_ends, DONE, 0, 4),
-    ("65,536 closed numbers", ["node", "2", "1"], closed_runs, DONE, 2 * RUNS + 1, 16),
-    ("64 blocks that go on", ["node", "2", "1"], many_blocks, DONE, 0, 80),
-    ("a world up to its limit", ["world"], full_world, LIMIT, None, 620),
+    ("65,536 closed numbers", ["node", "2", "1"], closed_runs, DONE, 2 * RUNS + 1, 6),
+    ("64 blocks that go on", ["node", "2", "1"], many_blocks, DONE, 0, 64),
+    ("a world up to its limit", ["world"], full_world, LIMIT, None, 880),
 )
 
 # Of `serve`: a bundle, and the most memory in MB.
 BLOCKS = (
     ("a block of 300,000 references to one name", lambda: named(299_700, 0, b"abc"), 12),
-    ("33 pieces, a marked block of 20,000 references", lambda: named(20_000, REPLICATED, bytes(1 << 21)), 12),
+    ("33 pieces, a marked block of 20,000 references", lambda: named(20_000, REPLICATED, bytes(1 << 21)), 16),
+    ("the same payload, no other block", lambda: old(bytes(1 << 21)), 16),
 )
 
 
@@ -206,7 +207,7 @@ def said(words, name, size, wanted, most, found):
     """Prints a row, and answers whether it is wrong."""
     status, lines, peak, seconds = found
     says = [f"status {status}"] * (status != wanted[0])
-    says += [f"{wanted[1]:,} lines wanted"] * (wanted[1] is not None and lines != wanted[1])
+    says += [f"{wanted[1]} lines wanted"] * (wanted[1] is not None and lines != wanted[1])
     says += ["too much memory"] * (peak > most)
     print(f"{' '.join(words):<10}{name:<48}{size / 1e6:>8.2f}{lines:>11,}{seconds:>9.2f}{peak:>9.1f}{most:>6}"
           + "".join(f"  wrong: {it}" for it in says), flush=True)

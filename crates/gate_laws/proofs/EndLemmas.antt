@@ -301,7 +301,7 @@ ends-turn at n does each (x ∷ xs) g =
     let rest = ends-turn at n does each xs (does x g).gate in ends-then at n g (does x g) (in_turn does xs) (each x g) rest
 
 -- a session that begins ends no other
-begins-none : (n : ℕ) (e : Engine) (change : Change Sending) → ((kept : Option Sending) → is_kept_open kept ≡ true → is_kept_open (after change kept) ≡ true)
+pub begins-none : (n : ℕ) (e : Engine) (change : Change Sending) → ((kept : Option Sending) → is_kept_open kept ≡ true → is_kept_open (after change kept) ≡ true)
     → is_open n e.senders ≡ true → is_open n (settled e.next change e.senders) ≡ true
 begins-none n e change keeps_open was = by_number (e.next == n) refl where
   by_number : (here : Bool) → (e.next == n) ≡ here → is_open n (settled e.next change e.senders) ≡ true
@@ -311,7 +311,7 @@ begins-none n e change keeps_open was = by_number (e.next == n) refl where
       (ap is_kept_open (find-settled e.next change e.senders) ∙ keeps_open (find e.next e.senders) (ap (λ k. is_open k e.senders) at ∙ was))
   by_number false is = ap is_kept_open (find-settled_other n e.next change e.senders (λ same. absurd (grind (arith, nat_tests)))) ∙ was
 
-begun-open : (policy : PolicyValue) (n : ℕ) (block : List ℕ) (red now : ℕ) (kept : Option Sending) → is_kept_open kept ≡ true → is_kept_open (after (begin policy n block red now).next kept) ≡ true
+pub begun-open : (policy : PolicyValue) (n : ℕ) (block : List ℕ) (red now : ℕ) (kept : Option Sending) → is_kept_open kept ≡ true → is_kept_open (after (begin policy n block red now).next kept) ≡ true
 begun-open policy n block red now kept was =
     subst (λ (change : Change Sending). is_kept_open (after change kept) ≡ true) (sym (begin-next policy n block red now)) (go _)
   where
@@ -364,7 +364,7 @@ ends-decided s at face n m session j g =
     (ends-then at n sent.gate (noted_at face note sent.gate) (answers_in s face m session j.report)
     (ends-noted at face n note sent.gate) (ends-answered s at face n m session j.report sent.gate))
 
-ends-event : (s : GateSetup) (at : Face) (n : ℕ) (g : Gate) (event : EventIn) → EndsAt at n g (gate_in s g event)
+pub ends-event : (s : GateSetup) (at : Face) (n : ℕ) (g : Gate) (event : EventIn) → EndsAt at n g (gate_in s g event)
 unfolding arrives_in ticks_in
 ends-event s at n g (a_datagram_in face read m) =
     let heard : EngineStep = hears_at s face g read (m.at face) in

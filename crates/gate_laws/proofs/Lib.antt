@@ -5,3 +5,7 @@ pub mod FaceLemmas
 pub mod AheadLemmas
 pub mod TickLemmas
 pub mod EndLemmas
+pub mod OnceLemmas
+pub mod BeginLemmas
+pub mod OctetLemmas
+pub mod ExactLemmas

@@ -129,7 +129,7 @@ own-without at n face session (first ∷ own) apart is =
     by_tests later false takes true here = find-first at n first (without_own face session own) here
     by_tests later false takes false other = find-rest at n first (without_own face session own) (later (find-past at n first own other is))
 
-one-session : (opened : OpenAt) (at : Face) (n : ℕ) (face : Face) (session : ℕ) (o : Own) → opened at n ≡ true → opened face session ≡ false
+pub one-session : (opened : OpenAt) (at : Face) (n : ℕ) (face : Face) (session : ℕ) (o : Own) → opened at n ≡ true → opened face session ≡ false
     → is_of face session o ≡ true → is_of at n o ≡ true → ⊥
 one-session opened at n face session o so not_so this that =
     let one = same-face o.face face (o.session == session) this in
@@ -181,7 +181,7 @@ own-step s at n begun told own so (inr begins) = own-end at n (own_left s (untol
 
 -- ---- one that begins becomes one
 
-same-here : (a b : Face) (x y : ℕ) → a ≡ b → x ≡ y → if_same a b (x == y) false ≡ true
+pub same-here : (a b : Face) (x y : ℕ) → a ≡ b → x ≡ y → if_same a b (x == y) false ≡ true
 same-here faces.Old faces.Old x y face number = eq-eqb x y number
 same-here faces.Old faces.New x y face number = absurd (cc)
 same-here faces.New faces.Old x y face number = absurd (cc)

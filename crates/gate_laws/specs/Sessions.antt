@@ -1,7 +1,10 @@
 -- The sessions of a run: which are the gateway's own, and what is handed up in them.
 
-use Rattle.std.specs.Prelude.{◌≡◌, ℕ, ◌↔◌, true, List, ◌∷◌, ◌++◌}
+use Rattle.std.specs.Prelude.{◌≡◌, ℕ, ◌↔◌, true, false, List, [], ◌∷◌, ◌++◌}
+use Rattle.std.specs.List.{AllByRecursion}
 use Rattle.std.specs.Option.{is_some}
+use Rattle.endpoint.specs.Endpoints.{IsEndpoint}
+use Rattle.wire_fields.specs.Reading.{IsOctets}
 use Rattle.ltp_engine.specs.RedParts.{EachOnce, engine_after, pieces_of}
 use Rattle.ltp_session.specs.RedPart.{BecomesWhole}
 use Rattle.ltp_laws.specs.View.{IsIn}
@@ -9,7 +12,8 @@ use Rattle.gate_cases.specs.declared.face.Face.{Face}
 use Rattle.gateway_core.specs.Gate.{EventIn, at_face, gate_after_in}
 use Rattle.gateway_core.specs.Comings.{comings_in}
 use Rattle.gateway_core.specs.RedParts.{face_ups_in, ups_in, ups_on}
-use Rattle.gate_events.specs.Own.{find_own}
+use Rattle.gate_events.specs.Own.{find_own, without_own}
+use Rattle.gate_half.specs.Half.{Came}
 use Rattle.gate_half.specs.Setup.{setup_in}
 use Rattle.gate_half.specs.Steps.{opens_in}
 use Rattle.gate_laws.specs.Runs.{Run, events_of, stands_at}
@@ -57,3 +61,23 @@ OpenAreOwn =
     (r : Run) (face : Face) (n : ℕ)
     → opens_in (stands_at r).gate face n ≡ true
     → is_some (find_own face n (stands_at r).own) ≡ true
+
+-- what comes to some halves is of octets, as each datagram is
+abbrev pub ComeAsOctets : List Came → Type 0
+ComeAsOctets [] = Unit {0}
+ComeAsOctets (came ∷ more) = AllByRecursion IsOctets came.datagrams × ComeAsOctets more
+
+-- and each of its own is open: where the gateway has a legal name, the report on a bundle fits in a
+-- session, so that what begins is open
+abbrev pub OwnAreOpen : Type 0
+OwnAreOpen =
+    (r : Run) → IsEndpoint ((r.file).gateway).endpoint → ComeAsOctets r.comes
+    → (face : Face) (n : ℕ)
+    → is_some (find_own face n (stands_at r).own) ≡ opens_in (stands_at r).gate face n
+
+-- each of them stands there once
+abbrev pub OwnAreOnce : Type 0
+OwnAreOnce =
+    (r : Run) → IsEndpoint ((r.file).gateway).endpoint → ComeAsOctets r.comes
+    → (face : Face) (n : ℕ)
+    → is_some (find_own face n (without_own face n (stands_at r).own)) ≡ false

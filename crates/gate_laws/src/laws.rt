@@ -2,7 +2,7 @@
 //! a gateway and of an outbox.
 
 ghost use Rattle.gate_laws.specs.Sessions.{EnginesAreOfTheirFaces, GateIsOfEvents, HandsUpOnceInRuns};
-ghost use Rattle.gate_laws.specs.Sessions.{HandsUpWholeInRuns, OpenAreOwn};
+ghost use Rattle.gate_laws.specs.Sessions.{HandsUpWholeInRuns, OpenAreOwn, OwnAreOnce, OwnAreOpen};
 ghost use Rattle.gate_laws.specs.Ends.{EndsAreNoted};
 ghost use Rattle.gate_laws.specs.Faces.{GoesInContactInRuns, GoesOnceInOrder, KeepsPaceInRuns};
 ghost use Rattle.gate_laws.specs.Faces.{TimeIsHeld, TimeIsOfHalf, TimeRises};
@@ -41,6 +41,16 @@ pub fn open_are_own()
     ensures { OpenAreOwn }
 {
     gateway_core::laws::opens_by_beginning();
+}
+
+/// Each of those that the run keeps as its own is open, and it stands there once.
+pub fn own_are_open()
+    ensures open { OwnAreOpen }
+    ensures once { OwnAreOnce }
+{
+    gateway_core::laws::opens_by_beginning();
+    gateway_core::laws::faces_are_engines_in();
+    ltp_engine::laws::hands_up_red_parts();
 }
 
 /// With an event after which a session isn't open that was open before it there is a note that the

@@ -53,7 +53,7 @@ box_of f = (f.outbox, f.time)
 abbrev pub box_at : Face → Standing → Box
 box_at at s = box_of (at_face s.faces at)
 
-abbrev put_all : List (List ℕ) → Box → Box
+abbrev pub put_all : List (List ℕ) → Box → Box
 put_all ds b = (box.run b.0 (map puts ds), b.1)
 
 put-append : (xs ys : List (List ℕ)) (b : OutboxValue) (time : Option FaceMoment) → put_all ys (put_all xs (b, time)) ≡ put_all (xs ++ ys) (b, time)
@@ -180,13 +180,13 @@ pub record IsSent (at : Face) (b : Box) (after : Acted) : Type 0 where
   pub box_is : box_at at after.standing ≡ (box.run b.0 (many_sends count), b.1)
   pub tried_is : tried_at at after.acts ≡ datagrams_of (box.tried b.0 (many_sends count))
 
-box-goes : (at : Face) (fails : Bool) (datagram : List ℕ) (s : Standing) → box_at at (parts.goes at fails datagram (doing_at at taking s)) ≡ (after_sending (box_at at s).0, (box_at at s).1)
+pub box-goes : (at : Face) (fails : Bool) (datagram : List ℕ) (s : Standing) → box_at at (parts.goes at fails datagram (doing_at at taking s)) ≡ (after_sending (box_at at s).0, (box_at at s).1)
 box-goes faces.Old true datagram s = refl
 box-goes faces.Old false datagram s = refl
 box-goes faces.New true datagram s = refl
 box-goes faces.New false datagram s = refl
 
-gone : (at : Face) (fails : Bool) (datagram : List ℕ) (acts : List Act) → tried_at at (parts.tried at fails datagram ∷ acts) ≡ datagram ∷ tried_at at acts
+pub gone : (at : Face) (fails : Bool) (datagram : List ℕ) (acts : List Act) → tried_at at (parts.tried at fails datagram ∷ acts) ≡ datagram ∷ tried_at at acts
 gone faces.Old true datagram acts = refl
 gone faces.Old false datagram acts = refl
 gone faces.New true datagram acts = refl
@@ -217,9 +217,9 @@ sent-within (suc n) at failing s =
 
 -- ---- what does nothing at a face
 
-record IsApart (at : Face) (b : Box) (after : Acted) : Type 0 where
-  box_is : box_at at after.standing ≡ b
-  tried_is : tried_at at after.acts ≡ []
+pub record IsApart (at : Face) (b : Box) (after : Acted) : Type 0 where
+  pub box_is : box_at at after.standing ≡ b
+  pub tried_is : tried_at at after.acts ≡ []
 
 box-other : (at : Face) (fails : Bool) (datagram : List ℕ) (s : Standing) → box_at at (parts.goes (other_of at) fails datagram (doing_at (other_of at) taking s)) ≡ box_at at s
 box-other faces.Old true datagram s = refl
@@ -239,7 +239,7 @@ apart-next at fails None does s later = record { box_is = refl; tried_is = refl 
 apart-next at fails (Some datagram) does s later =
     let rest = later datagram in record { box_is = rest.box_is; tried_is = gone-other at fails datagram (does datagram).acts ∙ rest.tried_is }
 
-apart-within : (n : ℕ) (at : Face) (failing : List Bool) (s : Standing) → IsApart at (box_at at s) (parts.sends_within n (other_of at) failing s)
+pub apart-within : (n : ℕ) (at : Face) (failing : List Bool) (s : Standing) → IsApart at (box_at at s) (parts.sends_within n (other_of at) failing s)
 unfolding sends_within
 apart-within zero at failing s = record { box_is = refl; tried_is = refl }
 apart-within (suc n) at failing s =
@@ -261,7 +261,7 @@ apart-if : (at : Face) (due fails : Bool) (s : Standing) → IsApart at (box_at 
 apart-if at false fails s = record { box_is = refl; tried_is = refl }
 apart-if at true fails s = record { box_is = refl; tried_is = none-now at fails s }
 
-apart-shows : (at : Face) (board fails : Bool) (s : Standing) → IsApart at (box_at at s) (parts.shows board fails s)
+pub apart-shows : (at : Face) (board fails : Bool) (s : Standing) → IsApart at (box_at at s) (parts.shows board fails s)
 apart-shows at true fails s = apart-if at (parts.is_due s.shown (wall_of s)) fails s
 apart-shows at false fails s = record { box_is = refl; tried_is = refl }
 
@@ -273,7 +273,7 @@ faces-ends s =
     faces-of faces.New (lost_event (face_of faces.New b)) c ∙ (faces-of faces.New (full_event (face_of faces.New b)) b
     ∙ (faces-of faces.Old (lost_event (face_of faces.Old s)) a ∙ faces-of faces.Old (full_event (face_of faces.Old s)) s))
 
-apart-writes : (at : Face) (s : Standing) → IsApart at (box_at at s) (parts.writes (parts.ends_sending s))
+pub apart-writes : (at : Face) (s : Standing) → IsApart at (box_at at s) (parts.writes (parts.ends_sending s))
 apart-writes at s = record {
   box_is = ap (λ fs. box_of (at_face fs at)) (faces-ends s);
   tried_is = none-lines at (wall_of (parts.ends_sending s)) (parts.ends_sending s).said;
@@ -284,7 +284,7 @@ apart-writes at s = record {
 pub tried-append : (at : Face) (xs ys : List Act) → tried_at at (xs ++ ys) ≡ tried_at at xs ++ tried_at at ys
 tried-append at xs ys = flat_map-append (tried_by at) xs ys
 
-apart-then : (at : Face) (b : Box) (x y : Acted) → IsApart at b x → IsApart at (box_at at x.standing) y → IsApart at b (after_acts x.acts y)
+pub apart-then : (at : Face) (b : Box) (x y : Acted) → IsApart at b x → IsApart at (box_at at x.standing) y → IsApart at b (after_acts x.acts y)
 apart-then at b x y first later = record {
   box_is = later.box_is ∙ first.box_is;
   tried_is = tried-append at x.acts y.acts ∙ (ap (λ ds. ds ++ tried_at at y.acts) first.tried_is ∙ later.tried_is);

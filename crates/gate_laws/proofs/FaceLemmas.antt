@@ -84,7 +84,7 @@ order-halves law board at face (came ∷ more) s =
     ∙ order-join (tried_at at now.acts) (tried_at at later.acts) (waiting_at at later.standing) (waiting_at at s) (waiting_at at now.standing)
     (accepted_in at face came s) (accepted_over at board (other_of face) more now.standing) (order-half law board at face came s) rest
 
-none-waits : (r : Run) (at : Face) → waiting_at at (begins_at r) ≡ []
+pub none-waits : (r : Run) (at : Face) → waiting_at at (begins_at r) ≡ []
 none-waits r faces.Old = refl
 none-waits r faces.New = refl
 
@@ -101,7 +101,7 @@ schedule-run (reads now ∷ calls) b = schedule-run calls (box.after_call b (rea
 schedule-run (puts datagram ∷ calls) b = schedule-run calls (box.after_call b (puts datagram))
 schedule-run (sends ∷ calls) b = schedule-run calls (box.after_call b sends)
 
-schedule-half : (board : Bool) (at face : Face) (came : Came) (s : Standing)
+pub schedule-half : (board : Bool) (at face : Face) (came : Came) (s : Standing)
     → ((face_of at (half board face came s).standing).outbox).schedule ≡ ((face_of at s).outbox).schedule
 schedule-half board at face came s =
     let it = half-is board at face came s in

@@ -9,3 +9,4 @@ pub mod OnceLemmas
 pub mod BeginLemmas
 pub mod OctetLemmas
 pub mod ExactLemmas
+pub mod WaitLemmas

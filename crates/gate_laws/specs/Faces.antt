@@ -1,10 +1,11 @@
 -- What a face sends in a run, and how its time goes.
 
 use Rattle.std.specs.Prelude.{◌≡◌, ℕ, ◌+◌, ◌-◌, ◌*◌, ◌/◌, ◌≤◌, Bool, List, [], ◌∷◌, ◌++◌, ◌⊎◌, map}
-use Rattle.std.specs.Prelude.{Some, IsSomeAnd}
+use Rattle.std.specs.Prelude.{None, Some, IsSomeAnd}
 use Rattle.gate_cases.specs.declared.face.Face.{Face}
 use Rattle.gate_cases.specs.declared.face.Face.TheVariants.{Old}
 use Rattle.gate_cases.specs.Faces.{other_of}
+use Rattle.gate_config.specs.declared.file.FaceConfig.{FaceConfig}
 use Rattle.gateway_core.specs.declared.effects.Routed.{Routed}
 use Rattle.gateway_core.specs.Comings.{if_same}
 use Rattle.gateway_core.specs.Effects.{gate_effects_of}
@@ -62,6 +63,30 @@ GoesOnceInOrder =
     (r : Run) (at : Face)
     → tried_at at (acts_of r) ++ waiting_at at (stands_at r)
     ≡ accepted_over at r.board Old r.comes (begins_at r)
+
+-- ---- without contacts and pace
+
+-- what a run's file says of a face
+abbrev pub config_of : Run → Face → FaceConfig
+config_of r at = at_face ((r.file).old, (r.file).new) at
+
+-- after each of some halves nothing waits at a face; and what the half's events send there goes out in
+-- it, in order, where it has no more octets than may wait
+unfoldable pub AreAtOnce :
+    (limit : ℕ) → Face → (board : Bool) → Face → List Came → Standing → Type 0
+AreAtOnce limit at board face [] s = Unit {0}
+AreAtOnce limit at board face (came ∷ more) s =
+    (waiting_at at (half board face came s).standing ≡ [])
+    × (octets_in (sends_with s.setup at s.gate (events_in face came s)) ≤ limit
+    → tried_at at (half board face came s).acts
+    ≡ sends_with s.setup at s.gate (events_in face came s))
+    × AreAtOnce limit at board (other_of face) more (half board face came s).standing
+
+-- so it is in each half of a run, at a face of which the file has no contacts and no rate
+abbrev pub GoesAtOnceInRuns : Type 0
+GoesAtOnceInRuns =
+    (r : Run) (at : Face) → (config_of r at).contacts ≡ [] → (config_of r at).rate ≡ None
+    → AreAtOnce (config_of r at).outbox at r.board Old r.comes (begins_at r)
 
 -- ---- contact
 

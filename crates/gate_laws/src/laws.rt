@@ -4,7 +4,8 @@
 ghost use Rattle.gate_laws.specs.Sessions.{EnginesAreOfTheirFaces, GateIsOfEvents, HandsUpOnceInRuns};
 ghost use Rattle.gate_laws.specs.Sessions.{HandsUpWholeInRuns, OpenAreOwn, OwnAreOnce, OwnAreOpen};
 ghost use Rattle.gate_laws.specs.Ends.{EndsAreNoted};
-ghost use Rattle.gate_laws.specs.Faces.{GoesInContactInRuns, GoesOnceInOrder, KeepsPaceInRuns};
+ghost use Rattle.gate_laws.specs.Faces.{GoesAtOnceInRuns, GoesInContactInRuns, GoesOnceInOrder};
+ghost use Rattle.gate_laws.specs.Faces.{KeepsPaceInRuns};
 ghost use Rattle.gate_laws.specs.Faces.{TimeIsHeld, TimeIsOfHalf, TimeRises};
 ghost use Rattle.gate_laws.specs.Ticks.{TicksOnce};
 
@@ -68,6 +69,12 @@ pub fn goes_once_in_order()
 {
     outbox::laws::goes_out_in_order();
 }
+
+/// Where the file has no contacts and no rate for a face, nothing waits there after a half, and what the
+/// half's events send goes out in it.
+pub fn goes_at_once_in_runs()
+    ensures { GoesAtOnceInRuns }
+{}
 
 /// A datagram goes out at a face only in a half at whose reading the face's link is open, by the run's
 /// file.

@@ -10,3 +10,5 @@ pub mod BeginLemmas
 pub mod OctetLemmas
 pub mod ExactLemmas
 pub mod WaitLemmas
+pub mod MomentLemmas
+pub mod ServeLemmas

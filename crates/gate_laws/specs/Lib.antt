@@ -4,3 +4,4 @@ pub mod Sessions
 pub mod Faces
 pub mod Ticks
 pub mod Ends
+pub mod Serves

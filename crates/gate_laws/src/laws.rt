@@ -8,6 +8,7 @@ ghost use Rattle.gate_laws.specs.Faces.{GoesAtOnceInRuns, GoesInContactInRuns, G
 ghost use Rattle.gate_laws.specs.Faces.{KeepsPaceInRuns};
 ghost use Rattle.gate_laws.specs.Faces.{TimeIsHeld, TimeIsOfHalf, TimeRises};
 ghost use Rattle.gate_laws.specs.Ticks.{TicksOnce};
+ghost use Rattle.gate_laws.specs.Serves.{ServesAlike};
 
 /// The gate of a run is what its ticks and its datagrams make of a gate at its beginning.
 pub fn gate_is_of_events()
@@ -119,3 +120,11 @@ pub fn ticks_once()
 {
     gateway_core::laws::faces_are_engines_in();
 }
+
+// ---- as `serve`
+
+/// A run that is set up as `serve` is sends at each face what `serve` sends, where its clocks are one,
+/// one datagram comes to a half at most, nothing is dropped, and its faces have no contacts and no rate.
+pub fn serves_alike()
+    ensures { ServesAlike }
+{}

@@ -1,0 +1,16 @@
+pub mod LineLemmas
+pub mod ValueLemmas
+pub mod MomentLemmas
+pub mod TableLemmas
+pub mod FaceLemmas
+pub mod DocumentLemmas
+pub mod Showable
+pub mod ShownLemmas
+pub mod JudgeLemmas
+pub mod MeaningLemmas
+pub mod TextLemmas
+pub mod Utf8Lemmas
+pub mod CleanLemmas
+pub mod StringLemmas
+pub mod PartLemmas
+pub mod AgainLemmas

@@ -8,3 +8,7 @@ pub mod StartLemmas
 pub mod HalfLemmas
 pub mod StayLemmas
 pub mod OnceLemmas
+pub mod RecordedLemmas
+pub mod CancelLemmas
+pub mod OverLemmas
+pub mod PlaceLemmas

@@ -1,12 +1,12 @@
 -- Each id is begun once, and done at most once.
-use Rattle.std.proofs.Common.{◌≡◌, ℕ, ◌+◌, ◌<◌, ◌≤◌, ◌==◌, ◌||◌, Bool, true, false, if◌then◌else◌, List, [], ◌∷◌, ◌++◌, length, refl, sym, ap, ◌∙◌, arith}
-use Rattle.std.proofs.lemmas.Bool.{eqb-true, ne_eqb, eq-eqb}
+use Rattle.std.proofs.Common.{◌≡◌, ℕ, ◌≤◌, ◌==◌, ◌||◌, Bool, true, false, if◌then◌else◌, List, [], ◌∷◌, ◌++◌, refl, sym, ap, ◌∙◌, arith}
+use Rattle.std.proofs.lemmas.Bool.{eqb-true, ne_eqb}
 use Rattle.std.specs.List.{list_any}
 use Rattle.gate_cases.specs.declared.face.Face.TheVariants.{Old, New}
 use Rattle.journal_file.specs.declared.kept.Pending.{Pending}
 use Rattle.journal_file.specs.Values.{KeptValue, RecordValue, a_begun, a_done, a_mark, a_clear, a_reserved}
-use Rattle.journal_file.specs.Keeping.{has_id, is_pending, without_first, kept_with, kept_after}
-use Rattle.journal_file.specs.Spelling.{MayCome, MayFollow}
+use Rattle.journal_file.specs.Keeping.{has_id, is_pending, without_first, kept_with}
+use Rattle.journal_file.specs.Spelling.{MayFollow}
 use Rattle.journal_file.specs.Anew.{AreBegun}
 use Rattle.journal_file.specs.Legal.{IsLegal}
 use Rattle.journal_file.proofs.DropLemmas.{drop_first, drop_first-is}

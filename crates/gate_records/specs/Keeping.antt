@@ -1,6 +1,6 @@
 -- What a gateway knows of its journal while it runs.
 
-use Rattle.std.specs.Prelude.{ℕ, ◌+◌, ◌^◌, min, Bool, not, ◌&&◌, nat_le, List, [], ◌∷◌, ◌++◌}
+use Rattle.std.specs.Prelude.{ℕ, ◌+◌, ◌^◌, min, Bool, not, ◌&&◌, nat_le, List, [], ◌∷◌, ◌++◌, length}
 use Rattle.std.specs.List.{filter, list_any}
 use Rattle.gate_cases.specs.declared.face.Face.{Face}
 use Rattle.journal_file.specs.declared.kept.Pending.{Pending}
@@ -15,6 +15,11 @@ pub record KeepingValue : Type 0 where
   pub kept : KeptValue
   -- the own sessions whose block is pending, each with the id of that
   pub named : List Named
+
+-- how many octets the pending blocks have
+unfoldable pub octets_of : List Pending → ℕ
+octets_of [] = 0
+octets_of (p ∷ pending) = length p.block + octets_of pending
 
 -- ---- numbers that are reserved
 

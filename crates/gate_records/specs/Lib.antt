@@ -7,3 +7,5 @@ pub mod Keeping
 pub mod Records
 pub mod Halves
 pub mod Laws
+-- What ties the code to it.
+pub mod Ties

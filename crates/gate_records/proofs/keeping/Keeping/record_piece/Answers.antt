@@ -1,0 +1,6 @@
+use Rattle.std.proofs.Common.{sym}
+use Rattle.gate_records.proofs.RecordedLemmas.{report-begun}
+use Rattle.gate_records.proofs.keeping.Keeping.record_piece.Goals as goal
+
+pub returns-then-begun : goal.returns-then-begun
+returns-then-begun c = sym (report-begun c.args.begun.now c.args.self.now c.if-begun.true)

@@ -1,0 +1,10 @@
+use Rattle.std.proofs.Common.{ap, sym, ◌∙◌, map}
+use Rattle.gate_records.specs.Ties.{happened_by, clear_of}
+use Rattle.gate_records.proofs.OverLemmas.{quiet-clears}
+use Rattle.gate_records.proofs.marks.over_marks.Goals as goal
+
+pub returns : goal.returns
+returns g c =
+    ap (map clear_of) c.new.ensures.items
+    ∙ sym (quiet-clears (happened_by c.args.step.now (g.G.GateSessions.opened c.args.gate.now) (g.G.GateSessions.handed_up c.args.gate.now)) c.args.marks.now
+    (sym c.may_be_over.ensures ∙ c.if-may_be_over.false))

@@ -12,3 +12,4 @@ pub mod RecordedLemmas
 pub mod CancelLemmas
 pub mod OverLemmas
 pub mod PlaceLemmas
+pub mod FitLemmas

@@ -46,6 +46,7 @@ impl Model for Keeping {
 
 impl Keeping {
     ghost use Rattle.gate_records.specs.Halves.{starts_half, recording, ends_half};
+    ghost use Rattle.gate_records.specs.Laws.{Fits};
     ghost use Rattle.gate_records.specs.Ties.{happened_by};
 
     /// What is known before the first half, where this is kept from an earlier run
@@ -68,7 +69,7 @@ impl Keeping {
 
     /// A step of the gate was done, and `gate` says which sessions are kept after it: its records are
     /// appended, and done to what is kept. It fails for want
-    /// of memory, or where a block is begun and no id below 2^64 is left.
+    /// of memory, or where sessions began and there are not as many ids below 2^64 left.
     ///
     /// A step that began and ended nothing, and sends no report, takes no memory and walks through its
     /// own datagrams and notes alone.
@@ -80,7 +81,12 @@ impl Keeping {
     ) -> Result<(), AllocError>
         ensures ok { OnOk result (self.new ≡ recording
             (happened_by step.now (G.opened gate.now) (G.handed_up gate.now)) self.old) }
+        // So its records may follow those before.
+        ensures fits { OnOk result (Fits
+            (happened_by step.now (G.opened gate.now) (G.handed_up gate.now)) (self.old).keeping) }
     {
+        self.want_ids(step.begun.len())?;
+        let _ = step.wall();
         self.record_ends(step.notes(), gate)?;
         self.record_pieces(alloc, step.begun)?;
         self.record_reports(alloc, step, gate, step.out())?;

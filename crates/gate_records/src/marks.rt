@@ -1,6 +1,6 @@
 //! Marks: which are due, and which are cleared.
 
-ghost use Rattle.std.specs.Prelude.{◌≡◌, ◌∷◌, ◌++◌, [], IfOk, OnOk, map};
+ghost use Rattle.std.specs.Prelude.{◌≡◌, ◌^◌, ◌<◌, ◌∷◌, ◌++◌, [], IfOk, IfSome, OnOk, map};
 ghost use Rattle.journal_file.specs.Keeping.{is_about};
 ghost use Rattle.gate_records.specs.Records.{is_marked, due_mark, clear_records};
 ghost use Rattle.gate_records.specs.Happened.{Happened, reports_on};
@@ -20,8 +20,9 @@ pub(crate) fn due_mark<G: GateSessions>(
     routed: &Routed,
     marks: &[Mark],
 ) -> Option<Mark>
-    ensures { (h : Happened) → h.wall ≡ wall → h.is_handed_up ≡ G.handed_up gate.now
+    ensures due { (h : Happened) → h.wall ≡ wall → h.is_handed_up ≡ G.handed_up gate.now
         → result ≡ due_mark h (routed.now).face (reports_on (routed.now).datagram) marks.now }
+    ensures small { IfSome (reports_on (routed.now).datagram) (λ session. session < 2 ^ 64) }
 {
     let session = reports_on(routed.datagram.as_slice())?;
     if gate.is_handed_up(routed.face, session) || is_marked(marks, routed.face, session) {

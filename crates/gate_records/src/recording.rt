@@ -1,9 +1,11 @@
 //! The records of a step, one kind after the other. Each is appended, and done to what is kept.
 
-ghost use Rattle.std.specs.Prelude.{◌≡◌, ◌+◌, ◌∷◌, ◌++◌, [], false, length, OnOk};
+ghost use Rattle.std.specs.Prelude.{◌≡◌, ◌+◌, ◌^◌, ◌<◌, ◌≤◌, ◌∷◌, ◌++◌, [], false, length, IfSome, OnOk, OnErr};
 ghost use Rattle.journal_file.specs.Values.{a_begun, a_done};
 ghost use Rattle.journal_file.specs.Ties.{record_of};
+ghost use Rattle.gate_records.specs.Happened.{reports_on};
 ghost use Rattle.gate_records.specs.Keeping.{octets_of};
+ghost use Rattle.gate_records.specs.Laws.{AreShort, ReportSmall};
 ghost use Rattle.gate_records.specs.Named.{named_with};
 ghost use Rattle.gate_records.specs.Records.{reserving};
 ghost use Rattle.gate_records.specs.Ties.{happened_by, changed_by, recorded_with, kept_in, named_in, said_by, is_of_block, end_recorded, ends_recorded, pieces_recorded, report_recorded, reports_recorded, clears_recorded, overs_recorded};
@@ -21,6 +23,17 @@ use journal_file::{How, Mark, Pending, Record};
 use std::alloc::{AllocError, Global};
 
 impl Keeping {
+    /// Whether there are ids for so many blocks more.
+    pub(crate) fn want_ids(&self, count: usize) -> Result<(), AllocError>
+        ensures ok { OnOk result ((kept_in self.now).greatest + count < 2 ^ 64) }
+        ensures wanted { OnErr result (2 ^ 64 ≤ (kept_in self.now).greatest + count) }
+    {
+        match self.kept.greatest.checked_add(count as u64) {
+            Some(_) => Ok(()),
+            None => Err(AllocError),
+        }
+    }
+
     // ---- own sessions that ended
 
     /// `done` for each own session that ended and has an id.
@@ -67,7 +80,8 @@ impl Keeping {
 
     /// `begun` for each piece that is begun, under the next id.
     pub(crate) fn record_pieces(&mut self, alloc: Global, begun: &[Begun]) -> Result<(), AllocError>
-        ensures { OnOk result (self.new ≡ pieces_recorded begun.now self.old) }
+        ensures ok { OnOk result (self.new ≡ pieces_recorded begun.now self.old) }
+        ensures short { OnOk result (AreShort begun.now) }
     {
         'begun: for one in begun {
             self.record_piece(alloc, one)?;
@@ -77,24 +91,27 @@ impl Keeping {
 
     /// A report of the gateway has no record.
     fn record_piece(&mut self, alloc: Global, begun: &Begun) -> Result<(), AllocError>
-        ensures { OnOk result (self.new ≡ pieces_recorded (begun.now ∷ []) self.old) }
+        ensures ok { OnOk result (self.new ≡ pieces_recorded (begun.now ∷ []) self.old) }
+        ensures short { length (begun.now).block < 2 ^ 64 }
     {
+        let octets = begun.block.len();
         if begun.is_report {
             return Ok(());
         }
-        self.begin(alloc, begun)
+        self.begin(alloc, begun, octets)
     }
 
-    /// A piece is begun under the next id.
-    fn begin(&mut self, alloc: Global, begun: &Begun) -> Result<(), AllocError>
-        requires { (begun.now).is_report ≡ false }
+    /// A piece, whose block has so many octets, is begun under the next id.
+    fn begin(&mut self, alloc: Global, begun: &Begun, octets: usize) -> Result<(), AllocError>
+        requires piece { (begun.now).is_report ≡ false }
+        requires octets { octets ≡ length (begun.now).block }
         ensures { OnOk result (self.new ≡ pieces_recorded (begun.now ∷ []) self.old) }
     {
         let id = next_id(self.kept.greatest)?;
-        let octets = with_octets(self.octets, begun.block.len())?;
+        let all = with_octets(self.octets, octets)?;
         let pending = pending_of(alloc, id, begun)?;
         let recorded = pending_of(alloc, id, begun)?;
-        self.put(pending, recorded, begun.session, octets)
+        self.put(pending, recorded, begun.session, all)
     }
 
     /// A block is pending that a session carries, and has its record. So many octets have all pending
@@ -133,8 +150,9 @@ impl Keeping {
         gate: &G,
         out: &[Routed],
     ) -> Result<(), AllocError>
-        ensures { OnOk result (self.new ≡ reports_recorded
+        ensures ok { OnOk result (self.new ≡ reports_recorded
             (happened_by step.now (G.opened gate.now) (G.handed_up gate.now)) out.now self.old) }
+        ensures small { OnOk result (ReportSmall out.now) }
     {
         'out: for routed in out {
             self.record_report(alloc, step, gate, routed)?;
@@ -150,8 +168,9 @@ impl Keeping {
         gate: &G,
         routed: &Routed,
     ) -> Result<(), AllocError>
-        ensures { OnOk result (self.new ≡ report_recorded
+        ensures ok { OnOk result (self.new ≡ report_recorded
             (happened_by step.now (G.opened gate.now) (G.handed_up gate.now)) routed.now self.old) }
+        ensures small { IfSome (reports_on (routed.now).datagram) (λ session. session < 2 ^ 64) }
     {
         match due_mark(gate, step.wall, routed, self.kept.marks.as_slice()) {
             Some(mark) => self.append(alloc, StepRecord::Marked(mark)),

@@ -1,7 +1,7 @@
 //! What a step of the gate did.
 
-ghost use Rattle.std.specs.Prelude.{◌≡◌, ℕ, Bool, ◌||◌, not, IfOk, IfSome, option_map, length};
-ghost use Rattle.std.specs.List.{filter, list_any};
+ghost use Rattle.std.specs.Prelude.{◌≡◌, ℕ, ◌^◌, ◌<◌, Bool, IfSome};
+ghost use Rattle.std.specs.List.{list_any};
 ghost use Rattle.gate_cases.specs.declared.face.Face.{Face};
 ghost use Rattle.gateway_core.specs.declared.effects.FaceNote.{FaceNote};
 ghost use Rattle.gate_events.specs.Events.{is_in};
@@ -49,6 +49,13 @@ pub struct GateStep<'a> {
 impl GateStep<'_> {
     ghost use Rattle.gate_records.specs.Happened.{is_over, cancelled};
     ghost use Rattle.gate_records.specs.Ties.{happened_by, may_be_over};
+
+    /// What the wall clock shows.
+    pub(crate) fn wall(&self) -> u64
+        ensures { result ≡ (self.now).wall }
+    {
+        self.wall
+    }
 
     /// What it sends.
     pub(crate) fn out(&self) -> &[Routed]
@@ -239,7 +246,8 @@ fn engine_ends(note: Note) -> Option<(u64, How)>
 
 /// The session of the peer that a datagram reports on, if it is a report.
 pub(crate) fn reports_on(datagram: &[u8]) -> Option<u64>
-    ensures { result ≡ reports_on datagram.now }
+    ensures session { result ≡ reports_on datagram.now }
+    ensures small { IfSome result (λ session. session < 2 ^ 64) }
 {
     match decode(datagram) {
         Ok(segment) => match segment.content {

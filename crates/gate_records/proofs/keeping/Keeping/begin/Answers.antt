@@ -8,6 +8,6 @@ use Rattle.gate_records.proofs.keeping.Keeping.begin.Goals as goal
 pub returns : goal.returns
 returns c =
     on_ok_weaker c.put.result
-    (λ is. is ∙ begins-piece c.args.begun.now c.args.self.now c.in_ok-id.id c.in_ok-pending.pending c.requires
+    (λ is. is ∙ begins-piece c.args.begun.now c.args.self.now c.in_ok-id.id c.in_ok-pending.pending c.requires.piece
     (c.in_ok-id.ensures.id ∙ ap (λ (r : Recorded). (kept_in r).greatest + 1) c.self.view_is) c.in_ok-pending.ensures)
     c.put.ensures

@@ -13,3 +13,4 @@ pub mod CancelLemmas
 pub mod OverLemmas
 pub mod PlaceLemmas
 pub mod FitLemmas
+pub mod WaitLemmas

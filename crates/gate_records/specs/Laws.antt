@@ -15,7 +15,7 @@ use Rattle.journal_file.specs.Anew.{IsSound}
 use Rattle.gate_records.specs.declared.named.Named.{Named}
 use Rattle.gate_records.specs.Named.{has_id, named_with}
 use Rattle.gate_records.specs.Happened.{Happened, reports_on, is_over}
-use Rattle.gate_records.specs.Keeping.{KeepingValue, NUMBERS, first_of, recovered, starts_keeping, waits, resuming}
+use Rattle.gate_records.specs.Keeping.{KeepingValue, NUMBERS, first_of, recovered, starts_keeping, waits, waiting_at, resuming}
 use Rattle.gate_records.specs.Records.{pending_with, is_marked, marks_after, step_records, after_step, after_reserving}
 use Rattle.gate_records.specs.Halves.{Recorded, starts_half, recording, half_records}
 
@@ -241,6 +241,14 @@ abbrev pub RecoversWhatIsLegal : Type 0
 RecoversWhatIsLegal =
     (wall old_first new_first : ℕ) (kept : KeptValue) → IsLegal kept
     → Recovers wall old_first new_first kept
+
+-- the first that waits at a face is pending, is of that face, and no session has its id
+abbrev pub WaitingIsPending : Type 0
+WaitingIsPending =
+    (face : Face) (k : KeepingValue) (p : Pending) (more : List Pending)
+    → waiting_at face k ≡ p ∷ more
+    → (is_pending p.id (k.kept).pending ≡ true) × (same_face p.face face ≡ true)
+    × (waits k.named p ≡ true)
 
 -- one that waits is begun in a session, and waits no more
 abbrev pub ResumesOnce : Type 0

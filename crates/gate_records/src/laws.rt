@@ -1,7 +1,7 @@
 //! What holds of the records of each step, and of those of each half. Each law is the contract of a
 //! function that does nothing.
 
-ghost use Rattle.gate_records.specs.Laws.{StepMayFollow, IdsAreUsedOnce, HalfIsKept, HalfMayFollow, PiecesArePending, LeavesByItsEnd, ReportIsMarked, OnlyOverIsCleared, MarkStays, NumbersAreReserved, RecoversWhatIsLegal, ResumesOnce};
+ghost use Rattle.gate_records.specs.Laws.{StepMayFollow, IdsAreUsedOnce, HalfIsKept, HalfMayFollow, PiecesArePending, LeavesByItsEnd, ReportIsMarked, OnlyOverIsCleared, MarkStays, NumbersAreReserved, RecoversWhatIsLegal, WaitingIsPending, ResumesOnce};
 
 /// The records of a step may follow what the journal says: each id is begun once, ids rise, and each is
 /// done at most once.
@@ -58,6 +58,11 @@ pub fn numbers_are_reserved()
 /// What is recovered from a legal journal is legal, and its file may be made anew.
 pub fn recovers_what_is_legal()
     ensures { RecoversWhatIsLegal }
+{}
+
+/// The first block that waits at a face is pending, is of that face, and no session has its id.
+pub fn waiting_is_pending()
+    ensures { WaitingIsPending }
 {}
 
 /// A block that waits is begun once.

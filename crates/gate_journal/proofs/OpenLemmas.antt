@@ -1,21 +1,12 @@
 -- The two writes by which records are committed, where a store tells its file.
-use Rattle.std.proofs.Common.{◌≡◌, inl, inr, ℕ, ◌+◌, ◌≤◌, List, [], ◌∷◌, ◌++◌, length, get_or, take, drop, Option, Some, None, option_map, IfSome, sym, ap, ◌∙◌, subst, arith}
-use Rattle.std.proofs.lemmas.List.{length-append}
+use Rattle.std.proofs.Common.{◌≡◌, inl, inr, ℕ, ◌+◌, List, [], ◌∷◌, ◌++◌, length, get_or, take, drop, Option, Some, None, option_map, IfSome, sym, ap, ◌∙◌, subst}
 use Rattle.store_traits.specs.Disk.{written, Torn, Only, LeavesOnly}
 use Rattle.gate_journal.specs.Steps.{TornOnly, IsShutAt, opened, MayStand}
 use Rattle.gate_journal.proofs.StepLemmas.{then_on, weaker, torn-behind, written-behind, torn-gate, written-gate, front-taken}
 
 module _ (gate : ℕ) (w : List ℕ) where
-  pub room-first : (o : Option (List ℕ)) → IfSome o (IsShutAt gate) → IfSome o (λ s. gate + 1 ≤ length s)
-  room-first None shut = tt
-  room-first (Some s) shut = omega (arith, ap length shut.parts, length-append shut.front (0 ∷ []), shut.place)
-
   staged : (s : List ℕ) (shut : IsShutAt gate s) → written (gate + 1) w s ≡ shut.front ++ 0 ∷ w
   staged s shut = ap (λ (f : List ℕ). written (gate + 1) w f) shut.parts ∙ written-behind shut.front gate shut.place w
-
-  pub room-second : (o m : Option (List ℕ)) → m ≡ option_map (written (gate + 1) w) o → IfSome o (IsShutAt gate) → IfSome m (λ s. gate ≤ length s)
-  room-second None m is shut = rw is tt
-  room-second (Some s) m is shut = rw (is, staged s shut, length-append shut.front (0 ∷ w)) (omega (arith, shut.place))
 
   open-end : (s : List ℕ) → IsShutAt gate s → written gate (1 ∷ []) (written (gate + 1) w s) ≡ opened gate w s
   open-end s shut =
@@ -23,9 +14,9 @@ module _ (gate : ℕ) (w : List ℕ) where
       ∙ ap (λ (f : List ℕ). f ++ 1 ∷ w) (sym (ap (λ (f : List ℕ). take gate f) shut.parts ∙ front-taken shut.front gate shut.place))
 
   pub seen-open : (o m n : Option (List ℕ)) → m ≡ option_map (written (gate + 1) w) o → n ≡ option_map (written gate (1 ∷ [])) m
-      → IfSome o (IsShutAt gate) → n ≡ option_map (opened gate w) o
-  seen-open None m n is then shut = then ∙ ap (λ (x : Option (List ℕ)). option_map (written gate (1 ∷ [])) x) is
-  seen-open (Some s) m n is then shut =
+      → IfSome o (λ s. IsShutAt gate s → n ≡ Some (opened gate w s))
+  seen-open None m n is then = tt
+  seen-open (Some s) m n is then = λ shut.
       then ∙ ap (λ (x : Option (List ℕ)). option_map (written gate (1 ∷ [])) x) is ∙ ap (λ (f : List ℕ). Some f) (open-end s shut)
 
   -- the first write leaves the file and anything behind it
@@ -47,18 +38,17 @@ module _ (gate : ℕ) (w : List ℕ) where
       )
 
   module _ {S : Type 0} (moment : S → ℕ) (left_since : S → ℕ → List ℕ → Type 0) (old mid new : S) (may_old may_mid : List ℕ → Type 0) where
-    pub first-part : (o : Option (List ℕ)) → IfSome o (IsShutAt gate) → IfSome o (λ s. Only s may_old)
-        → LeavesOnly moment left_since old mid (TornOnly (gate + 1) (length w) may_old)
-        → IfSome o (λ s. LeavesOnly moment left_since old mid (MayStand gate w s))
-    first-part None shut only step = tt
-    first-part (Some s) shut only step = weaker moment left_since old mid (TornOnly (gate + 1) (length w) may_old) (MayStand gate w s) (first-stands s may_old shut only) step
+    pub first-part : (o : Option (List ℕ)) → LeavesOnly moment left_since old mid (TornOnly (gate + 1) (length w) may_old)
+        → IfSome o (λ s. IsShutAt gate s → Only s may_old → LeavesOnly moment left_since old mid (MayStand gate w s))
+    first-part None step = tt
+    first-part (Some s) step = λ shut only.
+        weaker moment left_since old mid (TornOnly (gate + 1) (length w) may_old) (MayStand gate w s) (first-stands s may_old shut only) step
 
-    pub both-parts : (o m : Option (List ℕ)) → m ≡ option_map (written (gate + 1) w) o → IfSome o (IsShutAt gate)
-        → IfSome o (λ s. Only s may_old) → IfSome m (λ s. Only s may_mid)
+    pub both-parts : (o m : Option (List ℕ)) → m ≡ option_map (written (gate + 1) w) o → IfSome m (λ s. Only s may_mid)
         → LeavesOnly moment left_since old mid (TornOnly (gate + 1) (length w) may_old) → LeavesOnly moment left_since mid new (TornOnly gate 1 may_mid)
-        → IfSome o (λ s. LeavesOnly moment left_since old new (MayStand gate w s))
-    both-parts None m is shut only after one two = tt
-    both-parts (Some s) m is shut only after one two =
+        → IfSome o (λ s. IsShutAt gate s → Only s may_old → LeavesOnly moment left_since old new (MayStand gate w s))
+    both-parts None m is after one two = tt
+    both-parts (Some s) m is after one two = λ shut only.
         then_on moment left_since old mid new (MayStand gate w s)
         (weaker moment left_since old mid (TornOnly (gate + 1) (length w) may_old) (MayStand gate w s) (first-stands s may_old shut only) one)
         (weaker moment left_since mid new (TornOnly gate 1 may_mid) (MayStand gate w s) (second-stands s may_mid shut (rw is at after)) two)

@@ -14,10 +14,6 @@ pub record RestsWith (file : List ℕ) (may_leave : List ℕ → Type 0) (gate :
   pub closes : Closes file kept
   pub durable : Only file may_leave
 
--- the same, whatever is kept
-abbrev pub Rests : List ℕ → (List ℕ → Type 0) → ℕ → Type 0
-Rests file may_leave gate = (kept : KeptValue) × RestsWith file may_leave gate kept
-
 -- a file says that this is kept, or that
 abbrev pub BeforeOrAfter : KeptValue → KeptValue → List ℕ → Type 0
 BeforeOrAfter before after c = Reads c before ⊎ Reads c after

@@ -1,6 +1,6 @@
 //! Several calls on a store that are one step.
 
-ghost use Rattle.std.specs.Prelude.{◌≡◌, ◌⊎◌, ◌<◌, ◌≤◌, ◌^◌, Some, length, option_map, IfSome, OnOk};
+ghost use Rattle.std.specs.Prelude.{◌≡◌, ◌⊎◌, ◌<◌, ◌^◌, Some, length, option_map, IfSome, OnOk};
 ghost use Rattle.edge_traits.specs.Faults.{count_after};
 ghost use Rattle.store_traits.specs.Disk.{written, NoneNew, Only, LeavesOnly};
 ghost use Rattle.gate_journal.specs.Steps.{TornOnly, IsShutAt, opened, MayStand};
@@ -13,7 +13,6 @@ const OPEN: u8 = 1;
 
 /// Writes at a place, and syncs.
 fn put<S: Store>(store: &mut S, at: usize, octets: &[u8]) -> Result<(), Failed>
-    requires { IfSome (S.seen store.old) (λ s. at ≤ length s) }
     ensures seen { OnOk result (S.seen store.new ≡ option_map (written at octets.now) (S.seen store.old)) }
     ensures durable { OnOk result (IfSome (S.seen store.new) (λ s. Only s (S.may_leave store.new))) }
     ensures any_moment { LeavesOnly S.moment S.left_since store.old store.new (TornOnly at (length octets.now) (S.may_leave store.old)) }
@@ -26,11 +25,11 @@ fn put<S: Store>(store: &mut S, at: usize, octets: &[u8]) -> Result<(), Failed>
 /// Writes octets behind a closed gate, and then opens it.
 pub(crate) fn open<S: Store>(store: &mut S, gate: usize, octets: &[u8]) -> Result<(), Failed>
     requires small { gate < 2 ^ 62 }
-    requires shut { IfSome (S.seen store.old) (IsShutAt gate) }
-    requires durable { IfSome (S.seen store.old) (λ s. Only s (S.may_leave store.old)) }
-    ensures seen { OnOk result (S.seen store.new ≡ option_map (opened gate octets.now) (S.seen store.old)) }
+    // Where the file ends with a closed gate there, it is open after it, before the octets.
+    ensures seen { OnOk result (IfSome (S.seen store.old) (λ s. IsShutAt gate s → S.seen store.new ≡ Some (opened gate octets.now s))) }
     ensures durable { OnOk result (IfSome (S.seen store.new) (λ s. Only s (S.may_leave store.new))) }
-    ensures any_moment { IfSome (S.seen store.old) (λ s. LeavesOnly S.moment S.left_since store.old store.new (MayStand gate octets.now s)) }
+    ensures any_moment { IfSome (S.seen store.old) (λ s. IsShutAt gate s → Only s (S.may_leave store.old)
+        → LeavesOnly S.moment S.left_since store.old store.new (MayStand gate octets.now s)) }
     ensures count { S.faults store.new ≡ count_after (S.faults store.old) result }
 {
     put(store, gate + 1, octets)?;

@@ -4,6 +4,8 @@ pub mod FileLemmas
 pub mod SpellingLemmas
 pub mod WritingLemmas
 pub mod AnewLemmas
+pub mod LengthLemmas
+pub mod BelowLemmas
 pub mod DropLemmas
 pub mod MarkLemmas
 pub mod SoundLemmas

@@ -14,8 +14,7 @@
 //! of what is kept, and [`new_file_says_the_same`] states that it stands for that;
 //! [`what_is_read_is_sound`] that whatever a file stands for may be written so.
 //!
-//! No program stands on this crate yet. How records are committed, with which writes and syncs in
-//! which order, is not known here.
+//! How records are committed, with which writes and syncs in which order, is not known here.
 #![tactic(auto)]
 
 mod fault;
@@ -31,9 +30,10 @@ mod writing;
 pub use fault::{JournalCause, JournalFault};
 pub use kept::{Kept, MARKS_MAX, Mark, Pending};
 pub use laws::{
-    any_closed_gate_ends, closed_gate_ends, new_file_says_the_same, open_gate_goes_on,
-    records_are_read, records_leave_what_is_legal, what_is_legal_is_sound, what_is_read_is_legal,
-    what_is_read_is_sound,
+    any_closed_gate_ends, closed_gate_ends, entries_add_up, gate_is_last, gate_moves_by_entries,
+    new_file_is_below, new_file_says_the_same, open_gate_goes_on, records_are_read,
+    records_leave_what_is_legal, records_may_follow_below, what_is_legal_is_sound,
+    what_is_read_is_legal, what_is_read_is_sound,
 };
 pub use reading::read_kept;
 pub use record::{How, Record};

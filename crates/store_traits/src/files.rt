@@ -161,8 +161,10 @@ impl<'a, R: Files<File = File>> Store for FileStore<'a, R> {
         self.counted(result)
     }
 
+    /// Syncs the file. Its name is on the disk already, since [`FileStore::open`] and `install` sync the
+    /// folder.
     fn sync(&mut self) -> Result<(), Failed> {
-        let result = sync_both(self.files, self.folder, &self.file);
+        let result = self.file.sync_all();
         self.counted(result)
     }
 
@@ -198,7 +200,7 @@ impl<'a, R: Files<File = File>> Store for FileStore<'a, R> {
     fn install(&mut self) -> Result<(), Failed> {
         match self.draft.take() {
             Some(file) => {
-                let result = fs::rename(self.files, self.beside, self.path);
+                let result = rename(self.files, self.beside, self.path, self.folder);
                 self.file = file;
                 self.counted(result)
             }
@@ -207,8 +209,8 @@ impl<'a, R: Files<File = File>> Store for FileStore<'a, R> {
     }
 }
 
-/// Syncs a file and its folder.
-fn sync_both<R: Files<File = File>>(files: &R, folder: &str, file: &File) -> io::Result<()> {
-    file.sync_all()?;
+/// Gives a file another name in its folder, which is on the disk after it.
+fn rename<R: Files<File = File>>(files: &R, from: &str, to: &str, folder: &str) -> io::Result<()> {
+    fs::rename(files, from, to)?;
     sync_folder(files, folder)
 }

@@ -191,6 +191,9 @@ impl Store for MemStore {
 
     fn write_at(&mut self, at: usize, octets: &[u8]) -> Result<(), Failed> {
         begin(&mut self.calls, self.fails, &mut self.faults, Call::Write)?;
+        if at > self.octets.len() {
+            return Err(fail(&mut self.faults));
+        }
         match write(self.alloc, &mut self.octets, &mut self.past, at, octets) {
             Ok(()) => Ok(()),
             Err(AllocError) => Err(fail(&mut self.faults)),

@@ -42,9 +42,8 @@ pub trait Store {
         ensures count { faults self.new ≡ faults_after (faults self.old) result };
 
     /// Writes over what stands at a place, and past the end. Until a sync a crash may leave any octets
-    /// in the range.
+    /// in the range. A store that tells its octets fails at a place past their end.
     fn write_at(&mut self, at: usize, octets: &[u8]) -> Result<(), Failed>
-        requires { IfSome (seen self.old) (λ s. at ≤ length s) }
         ensures seen { OnOk result (seen self.new ≡ option_map (written at octets.now) (seen self.old)) }
         ensures crash { Follows (Torn at (length octets.now)) (may_leave self.old) (may_leave self.new) }
         ensures time { Elapses (moment self.old) (moment self.new) (left_since self.old) (left_since self.new) (may_leave self.new) }
@@ -83,7 +82,7 @@ pub trait Store {
         ensures time { Elapses (moment self.old) (moment self.new) (left_since self.old) (left_since self.new) (may_leave self.new) }
         ensures count { faults self.new ≡ count_after (faults self.old) result };
 
-    /// The new file takes the place of this one. Until a sync a crash may leave either.
+    /// The new file takes the place of this one, by its name. Until a sync a crash may leave either.
     fn install(&mut self) -> Result<(), Failed>
         ensures seen { OnOk result (IfSome (seen self.old) (λ s. seen self.new ≡ Some (draft self.old))) }
         ensures crash { (c : List ℕ) → may_leave self.new c → may_leave self.old c ⊎ draft_may_leave self.old c }

@@ -259,6 +259,9 @@ impl Store for TornStore {
 
     fn write_at(&mut self, at: usize, octets: &[u8]) -> Result<(), Failed> {
         let done = note(&mut self.calls, self.fails, &mut self.faults, Call::Write)?;
+        if at > self.octets.len() {
+            return Err(fail(&mut self.faults));
+        }
         match write(self.alloc, &mut self.octets, &mut self.log, at, octets) {
             Ok(()) => answer(done, &mut self.faults),
             Err(AllocError) => Err(fail(&mut self.faults)),

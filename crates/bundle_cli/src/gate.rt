@@ -10,6 +10,7 @@ use edge_traits::{ReadRefused, Reading, Status, Writing, read_all};
 use gate_check::{Checked, check};
 use gate_config::{ConfigFault, GateFile, MOST_OCTETS, Refusal, read};
 use gate_edges::{FileBoard, SystemClocks};
+use gate_journal::Journal;
 use gate_run::laws::what_is_read_is_runnable;
 use gate_run::{GateStatus, gate};
 use gate_sockets::{SocketOutside, Sockets};
@@ -19,6 +20,7 @@ use std::fs;
 use std::io::{self, Read};
 use std::process::ExitCode;
 use std::rt::Files;
+use store_traits::FileStore;
 
 /// What stands after a path's name in that of the file beside it.
 const BESIDE: &str = ".tmp";
@@ -83,7 +85,10 @@ fn run(rt: &HostRuntime, words: &[Word], name: &str, file: &GateFile) -> ExitCod
     };
     let board = board_at(rt, path, beside.as_str());
     let sink = Writing::new(io::writer(rt));
-    let mut outside = SocketOutside::new(SystemClocks::new(rt), sockets, sink, board);
+    // No journal is kept yet.
+    let journal: Option<Journal<FileStore<HostRuntime>>> = None;
+    let clocks = SystemClocks::new(rt);
+    let mut outside = SocketOutside::new(rt.alloc(), clocks, sockets, sink, board, journal);
     let status = match gate(rt.alloc(), file, u64::MAX, &mut outside) {
         GateStatus::Done => Status::Done,
         GateStatus::WriteFault => Status::WriteFault,

@@ -1,18 +1,21 @@
 //! What was made, kept in memory.
 
-ghost use Rattle.std.specs.Prelude.{◌≡◌, [], ◌∷◌, ◌++◌, Some, IfSome};
+ghost use Rattle.std.specs.Prelude.{◌≡◌, [], ◌∷◌, ◌++◌, map, Some, IfSome};
 ghost use Rattle.std.specs.List.{flat_map};
 ghost use Rattle.edge_traits.specs.Content.{Gains};
 ghost use Rattle.gate_edges.specs.InMemory.{made_in};
-ghost use Rattle.gate_edges.specs.Made.{tried, written, shown};
+ghost use Rattle.gate_edges.specs.Made.{tried, written, shown, committed, installed};
+ghost use Rattle.journal_file.specs.Ties.{kept_of, record_of};
 
+use crate::mem_records::{MemRecord, copy_kept, copy_records};
 use endpoint::Octets;
 use gate_cases::Face;
+use journal_file::{Kept, Record};
 use std::alloc::{AllocError, Global};
 use std::marker::Model;
 
 /// What was made outside.
-#[derive(Debug, PartialEq, Eq, Drop)]
+#[derive(Debug, Drop)]
 pub enum MemAct {
     /// A datagram was sent at a face.
     Sent(Face, Octets),
@@ -22,6 +25,10 @@ pub enum MemAct {
     Wrote(Octets),
     /// A text was put in the place of the one before.
     Shown(Octets),
+    /// Records were committed to the journal.
+    Committed(Vec<MemRecord>),
+    /// The journal was made anew of what is kept.
+    Installed(Kept),
 }
 
 /// The acts so far, told as long as there was memory for all of them.
@@ -89,6 +96,26 @@ impl MemActs {
     {
         match Octets::from_slice(self.alloc, text) {
             Ok(octets) => self.keep(MemAct::Shown(octets)),
+            Err(AllocError) => self.lost = true,
+        }
+    }
+
+    /// Keeps that records were committed.
+    pub fn committed(&mut self, records: &[Record])
+        ensures { Gains self.old self.new (committed (map record_of records.now) ∷ []) }
+    {
+        match copy_records(self.alloc, records) {
+            Ok(copies) => self.keep(MemAct::Committed(copies)),
+            Err(AllocError) => self.lost = true,
+        }
+    }
+
+    /// Keeps that the journal was made anew.
+    pub fn installed(&mut self, kept: &Kept)
+        ensures { Gains self.old self.new (installed (kept_of kept.now) ∷ []) }
+    {
+        match copy_kept(self.alloc, kept) {
+            Ok(copy) => self.keep(MemAct::Installed(copy)),
             Err(AllocError) => self.lost = true,
         }
     }

@@ -96,6 +96,9 @@ fn told(alloc: Global, acts: &[MemAct]) -> Result<Vec<u8>, Fail> {
                 text.extend_from_slice(b"shown\n")?;
                 text.extend_from_slice(metrics.as_slice())?;
             }
+            MemAct::Committed(_) | MemAct::Installed(_) => {
+                return Err(Fail::new("a run without a journal keeps something"));
+            }
         }
     }
     Ok(text)
@@ -117,7 +120,7 @@ fn makes(alloc: Global, run: &Run, turns: u64, wanted: &[u8]) -> Result<bool, Fa
     let readings = readings(alloc, run.readings)?;
     let old = link(alloc, run.gives[0], run.failing[0])?;
     let new = link(alloc, run.gives[1], run.failing[1])?;
-    let mut outside = MemOutside::new(alloc, &readings, old, new, &[], run.showing)?;
+    let mut outside = MemOutside::new(alloc, &readings, old, new, &[], run.showing, &[])?;
     let status = gate(alloc, &file(alloc, run.file)?, turns, &mut outside);
     Ok(status == GateStatus::Done && told(alloc, outside.acts())?.as_slice() == wanted)
 }

@@ -2,15 +2,18 @@
 
 use Rattle.std.specs.Prelude.{ℕ, List, [], ◌++◌}
 use Rattle.gate_cases.specs.declared.face.Face.{Face}
+use Rattle.journal_file.specs.Values.{KeptValue, RecordValue}
 use Rattle.gate_half.specs.Standing.{Standing}
 
 -- a datagram was sent at a face, or lost: its send failed; a line was written; the metrics were put
--- in place. A journal adds two more: records that were committed, and a file of it installed.
+-- in place; records were committed to the journal; its file was made anew of what is kept
 pub data Act : Type 0 where
   sent : Face → List ℕ → Act
   lost : Face → List ℕ → Act
   said : List ℕ → Act
   shown : List ℕ → Act
+  committed : List RecordValue → Act
+  installed : KeptValue → Act
 
 -- how a run stands after a part of a half, and what that made
 pub record Acted : Type 0 where

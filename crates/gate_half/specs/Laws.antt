@@ -6,42 +6,51 @@ use Rattle.gate_cases.specs.declared.face.Face.{Face}
 use Rattle.gateway_core.specs.Comings.{if_same}
 use Rattle.outbox.specs.Laws.{IsOpenAt}
 use Rattle.gate_half.specs.Standing.{Standing, face_of}
-use Rattle.gate_half.specs.Acts.{Act, sent, lost, said, shown}
+use Rattle.gate_half.specs.Acts.{Act, sent, lost, said, shown, committed, installed}
 use Rattle.gate_half.specs.Parts.{sends}
 use Rattle.gate_half.specs.Half.{Came, half}
 
 -- ---- the order of acts
 
--- which part of a half an act belongs to: what goes out, then the lines, then the metrics
-abbrev pub IsGoing : Act → Type 0
-IsGoing (sent face datagram) = Unit {0}
-IsGoing (lost face datagram) = Unit {0}
-IsGoing (said line) = ⊥
-IsGoing (shown text) = ⊥
-
+-- an act of the last part of a half: a line, the journal's file made anew, and the metrics
 abbrev pub IsTold : Act → Type 0
 IsTold (sent face datagram) = ⊥
 IsTold (lost face datagram) = ⊥
 IsTold (said line) = Unit {0}
 IsTold (shown text) = Unit {0}
+IsTold (committed records) = ⊥
+IsTold (installed kept) = Unit {0}
 
 abbrev pub AreTold : List Act → Type 0
 AreTold [] = Unit {0}
 AreTold (act ∷ acts) = IsTold act × AreTold acts
 
--- once something is told, nothing goes out any more
+-- nothing is committed, and once something is told, nothing goes out any more
 abbrev pub GoFirst : List Act → Type 0
 GoFirst [] = Unit {0}
 GoFirst (sent face datagram ∷ acts) = GoFirst acts
 GoFirst (lost face datagram ∷ acts) = GoFirst acts
 GoFirst (said line ∷ acts) = AreTold acts
 GoFirst (shown text ∷ acts) = AreTold acts
+GoFirst (committed records ∷ acts) = ⊥
+GoFirst (installed kept ∷ acts) = AreTold acts
 
--- in each half all that goes out goes before its first line is written
+-- where records are committed, that is the first
+abbrev pub CommitFirst : List Act → Type 0
+CommitFirst [] = Unit {0}
+CommitFirst (sent face datagram ∷ acts) = GoFirst acts
+CommitFirst (lost face datagram ∷ acts) = GoFirst acts
+CommitFirst (said line ∷ acts) = AreTold acts
+CommitFirst (shown text ∷ acts) = AreTold acts
+CommitFirst (committed records ∷ acts) = GoFirst acts
+CommitFirst (installed kept ∷ acts) = AreTold acts
+
+-- in each half its records are committed at once and before anything goes out, and all that goes out
+-- goes before its first line is written
 abbrev pub DatagramsGoFirst : Type 0
 DatagramsGoFirst =
     (board : Bool) (face : Face) (came : Came) (s : Standing)
-    → GoFirst (half board face came s).acts
+    → CommitFirst (half board face came s).acts
 
 -- ---- what goes out
 
@@ -51,6 +60,8 @@ tried_by at (sent face datagram) = if_same face at (datagram ∷ []) []
 tried_by at (lost face datagram) = if_same face at (datagram ∷ []) []
 tried_by at (said line) = []
 tried_by at (shown text) = []
+tried_by at (committed records) = []
+tried_by at (installed kept) = []
 
 abbrev pub tried_at : Face → List Act → List (List ℕ)
 tried_at at acts = flat_map (tried_by at) acts

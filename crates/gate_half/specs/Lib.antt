@@ -1,7 +1,9 @@
 -- What a reader must believe, in this order.
 pub mod Setup
+pub mod Journals
 pub mod Standing
 pub mod Steps
+pub mod Starts
 pub mod Acts
 pub mod Parts
 pub mod Half

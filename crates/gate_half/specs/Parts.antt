@@ -1,6 +1,6 @@
 -- The parts of a half, in their order.
 
-use Rattle.std.specs.Prelude.{ℕ, zero, suc, ◌+◌, Bool, true, false, nat_le, List, [], ◌∷◌, length, map}
+use Rattle.std.specs.Prelude.{ℕ, zero, suc, ◌+◌, ◌^◌, Bool, true, false, ◌&&◌, nat_le, nat_lt, List, [], ◌∷◌, length, map}
 use Rattle.std.specs.Prelude.{Option, None, Some, if◌then◌else◌}
 use Rattle.edge_traits.specs.Faults.{fails_next, after_next}
 use Rattle.ltp_segment.specs.Reading.{segment_of}
@@ -9,22 +9,33 @@ use Rattle.gate_cases.specs.declared.face.Face.TheVariants.{Old, New}
 use Rattle.gate_log.specs.declared.event.Event.{Event}
 use Rattle.gate_log.specs.declared.event.Event.TheVariants as events
 use Rattle.gate_log.specs.declared.event.LinkEvent.TheVariants as links
+use Rattle.gate_log.specs.declared.event.BundleEvent.TheVariants as blocks
 use Rattle.gate_log.specs.Lines.{line_of}
+use Rattle.gate_log.specs.Subjects.{subject_of}
 use Rattle.gate_metrics.specs.declared.counters.Counted.TheVariants as things
 use Rattle.gate_metrics.specs.declared.gauges.FaceGauges.{FaceGauges}
 use Rattle.gate_metrics.specs.declared.gauges.Gauges.{Gauges}
 use Rattle.gate_metrics.specs.Text.{metrics_text}
 use Rattle.gateway_core.specs.declared.moments.Moments.TheVariants as moments
 use Rattle.gateway_core.specs.Moments.{moments_value}
-use Rattle.gateway_core.specs.Gate.{a_datagram_in, a_tick_in, at_face}
+use Rattle.gateway_core.specs.Gate.{Gate, EventIn, a_block_in, a_datagram_in, a_tick_in, at_face}
+use Rattle.journal_file.specs.declared.kept.Pending.{Pending}
+use Rattle.journal_file.specs.Values.{KeptValue, RecordValue}
+use Rattle.gate_records.specs.Keeping.{resuming, waiting_at}
+use Rattle.gate_records.specs.Halves.{ends_half}
 use Rattle.outbox.specs.declared.reading.Reading.{Reading}
 use Rattle.outbox.specs.FaceTime.{moment_at}
 use Rattle.outbox.specs.Outbox.{next_of, octets_in}
 use Rattle.gate_face.specs.Contacts.{told_at}
 use Rattle.gate_face.specs.Halves.{after_clocks, full_event, link_at, losing, lost_event, taking}
 use Rattle.gate_half.specs.Standing.{Standing, counting, doing_at, face_of, saying, saying_of, wall_of}
-use Rattle.gate_half.specs.Steps.{happens}
-use Rattle.gate_half.specs.Acts.{Act, sent, lost, said, shown, Acted, stands, after_acts}
+use Rattle.gate_half.specs.Journals.{Journalled, anew_in, is_large, kept_in, past_commit, records_in}
+use Rattle.gate_half.specs.Steps.{happens, happens_with}
+use Rattle.gate_half.specs.Acts.{Act, sent, lost, said, shown, committed, installed, Acted, stands, after_acts}
+
+abbrev pub where_some : {X Y : Type 0} → Option X → (X → Y) → Y → Y
+where_some None does otherwise = otherwise
+where_some (Some x) does otherwise = does x
 
 -- ---- the clocks are read
 
@@ -37,12 +48,22 @@ reading_clocks now s = record s {
   said = [];
 }
 
--- the line `start`, in the first half: the numbers of the first sessions, and nothing is kept from an
--- earlier run
+-- how many marks and how many pieces the journal keeps; none without one
+abbrev pub marks_in : Option Journalled → ℕ
+marks_in None = 0
+marks_in (Some j) = length (((j.recorded).keeping).kept).marks
+
+abbrev pub pending_in : Option Journalled → ℕ
+pending_in None = 0
+pending_in (Some j) = length (((j.recorded).keeping).kept).pending
+
+-- the line `start`, in the first half: the numbers of the first sessions, and how much is kept of
+-- earlier runs
 abbrev pub starting : Standing → Standing
 starting s =
     if s.started then s
-    else saying (events.Start (s.setup).parties.0.first (s.setup).parties.1.first 0 0)
+    else saying (events.Start (s.setup).parties.0.first (s.setup).parties.1.first
+    (marks_in s.journal) (pending_in s.journal))
     (record s { started = true })
 
 -- what is told of the contacts of the old face, then of the new one, then `start`
@@ -50,6 +71,62 @@ unfoldable pub reads : Reading → Standing → Standing
 reads now s =
     starting (saying_of New (told_at (s.faces.1).outbox now)
     (saying_of Old (told_at (s.faces.0).outbox now) (reading_clocks now s)))
+
+-- ---- what waits of earlier runs is begun
+
+-- a session can begin at a face: fewer than 64 are being sent there, and a number is left
+abbrev pub can_begin_at : Face → Gate → Bool
+can_begin_at face g =
+    nat_lt (length (at_face g.engines face).senders) 64
+    && nat_lt (at_face g.engines face).next (2 ^ 32)
+
+-- the first block that waits at a face
+abbrev pub first_pending : List Pending → Option Pending
+first_pending [] = None
+first_pending (p ∷ more) = Some p
+
+abbrev pub first_waiting : Face → Option Journalled → Option Pending
+first_waiting face None = None
+first_waiting face (Some j) = first_pending (waiting_at face (j.recorded).keeping)
+
+-- the one that is begun next, where a session can begin
+abbrev pub next_resumed : Face → Standing → Option Pending
+next_resumed face s = if can_begin_at face s.gate then first_waiting face s.journal else None
+
+-- it has the next number, and is known by its id from before: that takes no record
+abbrev pub resuming_in : Pending → ℕ → Option Journalled → Option Journalled
+resuming_in p session None = None
+resuming_in p session (Some j) = Some (record {
+  recorded = record {
+    keeping = resuming p session (j.recorded).keeping;
+    records = (j.recorded).records;
+  };
+  place = j.place;
+})
+
+abbrev pub next_number : Face → Standing → ℕ
+next_number face s = (at_face (s.gate).engines face).next
+
+abbrev pub resumed_event : Pending → ℕ → Event
+resumed_event p session = events.Bundle p.face session (subject_of p.block) blocks.Resumed
+
+abbrev pub begin_of : Pending → Standing → EventIn
+begin_of p s = a_block_in p.face p.block (moments_value s.moments)
+
+unfoldable pub resumed : Pending → Standing → Standing
+resumed p s =
+    saying (resumed_event p (next_number p.face s))
+    (happens_with (begin_of p s) (resuming_in p (next_number p.face s) s.journal) s)
+
+-- at a face, one after the other, at most so many
+unfoldable pub resumes_within : ℕ → Face → Standing → Standing
+resumes_within zero face s = s
+resumes_within (suc n) face s =
+    where_some (next_resumed face s) (λ p. resumes_within n face (resumed p s)) s
+
+-- as many as can be sent at once: at the old face, and then at the new one
+abbrev pub resumes : Standing → Standing
+resumes s = resumes_within 64 New (resumes_within 64 Old s)
 
 -- ---- time passes, and datagrams come
 
@@ -72,6 +149,33 @@ fails_polling face s = saying (events.Link face links.PollFailed) s
 abbrev pub ends_polling : Face → (failed : Bool) → Standing → Standing
 ends_polling face failed s = if failed then fails_polling face s else s
 
+-- ---- the records of the half are committed
+
+-- the last of them reserve numbers ahead of those that the engines have given
+abbrev pub reserved_in : ℕ → ℕ → Option Journalled → Option Journalled
+reserved_in old_next new_next None = None
+reserved_in old_next new_next (Some j) =
+    Some (record { recorded = ends_half old_next new_next j.recorded; place = j.place })
+
+abbrev pub reserves : Standing → Standing
+reserves s = record s {
+  journal = reserved_in ((s.gate).engines).0.next ((s.gate).engines).1.next s.journal;
+}
+
+-- there are none where nothing is to be recorded
+abbrev pub commits_those : List RecordValue → List Act
+commits_those [] = []
+commits_those (first ∷ more) = committed (first ∷ more) ∷ []
+
+abbrev pub commits_reserved : Standing → Acted
+commits_reserved s = record {
+  standing = record s { journal = past_commit s.journal };
+  acts = commits_those (records_in s.journal);
+}
+
+abbrev pub commits : Standing → Acted
+commits s = commits_reserved (reserves s)
+
 -- ---- a face sends
 
 -- its send fails, or not
@@ -83,10 +187,6 @@ tried face false datagram = sent face datagram
 abbrev pub goes : Face → (fails : Bool) → List ℕ → Standing → Standing
 goes face true datagram s = counting face things.SendFailed (doing_at face losing s)
 goes face false datagram s = counting face (things.Sent (length datagram)) s
-
-abbrev pub where_some : {X Y : Type 0} → Option X → (X → Y) → Y → Y
-where_some None does otherwise = otherwise
-where_some (Some x) does otherwise = does x
 
 -- the datagrams that may go now, in order, at most so many; which of their sends fail is told for each,
 -- and past the end none does
@@ -120,6 +220,23 @@ line_at wall event = said (line_of wall event)
 abbrev pub writes : Standing → Acted
 writes s = record { standing = s; acts = map (line_at (wall_of s)) s.said }
 
+-- ---- the journal's file is made anew
+
+abbrev pub installs_those : Option KeptValue → List Act
+installs_those None = []
+installs_those (Some kept) = installed kept ∷ []
+
+-- of what is kept, where a journal is kept
+abbrev pub makes_anew : Standing → Acted
+makes_anew s = record {
+  standing = record s { journal = anew_in s.journal };
+  acts = installs_those (kept_in s.journal);
+}
+
+-- where its file is large
+abbrev pub installs : Standing → Acted
+installs s = if is_large s.journal then makes_anew s else stands s
+
 -- ---- the metrics
 
 abbrev pub face_gauges : Face → Standing → FaceGauges
@@ -131,10 +248,12 @@ face_gauges face s = record {
   link = link_at (face_of face s).outbox (wall_of s);
 }
 
--- no piece is pending without a journal
 abbrev pub gauges_in : Standing → Gauges
-gauges_in s =
-    record { old = face_gauges Old s; new = face_gauges New s; pending_pieces = 0 }
+gauges_in s = record {
+  old = face_gauges Old s;
+  new = face_gauges New s;
+  pending_pieces = pending_in s.journal;
+}
 
 -- they are written in the first half, and 10 seconds of the wall clock or more after the last time
 abbrev pub is_due : (last : Option ℕ) → ℕ → Bool

@@ -1,14 +1,18 @@
 -- How a gateway is set up by its file.
 
-use Rattle.std.specs.Prelude.{◌≢◌, ℕ, ◌+◌, ◌/◌, ◌%◌, ◌^◌, ◌<◌, ◌≤◌, Option, None, Some, IfSome}
+use Rattle.std.specs.Prelude.{◌≢◌, ℕ, ◌+◌, ◌/◌, ◌%◌, ◌^◌, ◌<◌, ◌≤◌, nat_le, Option, None, Some, IfSome, if◌then◌else◌}
 use Rattle.ltp_segment.specs.declared.session.TheConstants.{BLOCK_MAX}
 use Rattle.ltp_segment.specs.Policy.{PolicyValue}
 use Rattle.ltp_session.specs.Engine.{Party}
+use Rattle.gate_cases.specs.declared.face.Face.{Face}
+use Rattle.gate_cases.specs.declared.face.Face.TheVariants as faces
 use Rattle.gate_config.specs.declared.file.FaceConfig.{FaceConfig}
 use Rattle.gate_config.specs.declared.file.GateFile.{GateFile}
+use Rattle.journal_file.specs.Values.{KeptValue}
 use Rattle.gateway_core.specs.Config.{IsGateConfig}
 use Rattle.gateway_core.specs.Gate.{GateSetup}
 use Rattle.gate_face.specs.Schedules.{HasPlan}
+use Rattle.gate_records.specs.Keeping.{first_of}
 
 -- ---- who is at a face
 
@@ -26,23 +30,46 @@ abbrev pub first_session : Option ℕ → ℕ → ℕ
 first_session (Some number) wall = number
 first_session None wall = wall / 1000 % 2 ^ 31 + 1
 
-abbrev pub party_in : FaceConfig → ℕ → Party
-party_in c wall = record {
+-- where earlier runs reserved the numbers below this one, it is no less
+abbrev pub first_in : FaceConfig → Option ℕ → ℕ → ℕ
+first_in c None wall = first_session c.first_session wall
+first_in c (Some reserved) wall = first_of (first_session c.first_session wall) reserved
+
+abbrev pub party_in : FaceConfig → Option ℕ → ℕ → Party
+party_in c reserved wall = record {
   own = c.engine;
   peer = c.peer_engine;
-  first = first_session c.first_session wall;
+  first = first_in c reserved wall;
   policy = policy_in c;
   most = BLOCK_MAX;
 }
 
 -- ---- the gateway
 
-abbrev pub setup_in : GateFile → ℕ → GateSetup
-setup_in file wall = record {
-  parties = (party_in file.old wall, party_in file.new wall);
+-- the numbers that earlier runs reserved, where a journal is kept
+abbrev pub old_reserved : Option KeptValue → Option ℕ
+old_reserved None = None
+old_reserved (Some kept) = Some kept.old_reserved
+
+abbrev pub new_reserved : Option KeptValue → Option ℕ
+new_reserved None = None
+new_reserved (Some kept) = Some kept.new_reserved
+
+-- by its file, by what earlier runs kept, where a journal is kept, and by the first reading of the wall
+-- clock
+abbrev pub setup_in : GateFile → Option KeptValue → ℕ → GateSetup
+setup_in file kept wall = record {
+  parties = (party_in file.old (old_reserved kept) wall, party_in file.new (new_reserved kept) wall);
   gate = (file.gateway).endpoint;
   cut = (file.gateway).cut;
 }
+
+-- at which face earlier runs have used all session numbers, the old one first
+abbrev pub used_up : GateFile → Option KeptValue → ℕ → Option Face
+used_up file kept wall =
+    if nat_le (2 ^ 32) (first_in file.old (old_reserved kept) wall) then Some faces.Old
+    else if nat_le (2 ^ 32) (first_in file.new (new_reserved kept) wall) then Some faces.New
+    else None
 
 -- ---- a file by which a gateway can be set up
 

@@ -16,7 +16,9 @@ use Rattle.gateway_core.specs.Gate.{Gate, GateSetup, at_face, with_face, starts_
 use Rattle.gate_events.specs.declared.own.Own.{Own}
 use Rattle.gate_events.specs.Counts.{event_counted}
 use Rattle.gate_face.specs.Faces.{FaceStanding, starts_face}
+use Rattle.journal_file.specs.Values.{KeptValue}
 use Rattle.gate_half.specs.Setup.{setup_in}
+use Rattle.gate_half.specs.Journals.{Journalled, starts_journal}
 
 pub record Standing : Type 0 where
   -- how the gateway is set up, and the gate
@@ -31,21 +33,25 @@ pub record Standing : Type 0 where
   -- the events of this half, in order, and the counters
   pub said : List Event
   pub counters : Counters
+  -- where a journal is kept, what the run knows of it
+  pub journal : Option Journalled
   -- whether the line `start` was said
   pub started : Bool
   -- what the wall clock showed when the metrics were written last
   pub shown : Option ℕ
 
--- before the first half, at whose reading the wall clock shows this
-abbrev pub starts_at : GateFile → ℕ → Standing
-starts_at file wall = record {
-  setup = setup_in file wall;
-  gate = starts_gate (setup_in file wall);
+-- before anything happens, where the wall clock shows this at the first reading, and earlier runs kept
+-- this, if a journal is kept
+abbrev pub starts_empty : GateFile → Option KeptValue → ℕ → Standing
+starts_empty file kept wall = record {
+  setup = setup_in file kept wall;
+  gate = starts_gate (setup_in file kept wall);
   moments = moments.Same wall;
   faces = (starts_face file.old, starts_face file.new);
   own = [];
   said = [];
   counters = none_counted;
+  journal = starts_journal file wall kept;
   started = false;
   shown = None;
 }

@@ -1,12 +1,14 @@
 -- The steps of the gate in a half, all at the moments of its reading.
 
-use Rattle.std.specs.Prelude.{ℕ, Bool, true, false, List, [], ◌∷◌, map, Option, None, Some}
-use Rattle.ltp_session.specs.Sender.{Sending, SendingPhase, sender_open, sender_cancelling}
-use Rattle.ltp_session.specs.Table.{find}
+use Rattle.std.specs.Prelude.{ℕ, List, [], ◌∷◌, map, Option, None, Some}
+use Rattle.ltp_session.specs.Sender.{Sending}
+use Rattle.ltp_session.specs.Receiver.{Receiving}
+use Rattle.ltp_engine.specs.Sessions.{is_open, is_handed_up}
 use Rattle.gateway_core.specs.declared.effects.Routed.{Routed}
 use Rattle.gateway_core.specs.declared.effects.GateEffects.{GateEffects}
 use Rattle.gateway_core.specs.Gate.{Gate, GateSetup, EventIn, at_face, with_face, gate_in}
 use Rattle.gateway_core.specs.Begun.{begun_with}
+use Rattle.gateway_core.specs.Comings.{moments_of}
 use Rattle.gateway_core.specs.Effects.{gate_effects_of}
 use Rattle.gate_events.specs.declared.own.Own.{Own}
 use Rattle.gate_events.specs.Own.{OpenAt, own_with}
@@ -14,6 +16,9 @@ use Rattle.gate_events.specs.Events.{seen, events_of, own_after_step, untold}
 use Rattle.gate_events.specs.Counts.{begun_counted}
 use Rattle.gate_face.specs.Faces.{FaceStanding}
 use Rattle.gate_face.specs.Halves.{putting}
+use Rattle.gate_records.specs.Happened.{Happened}
+use Rattle.gate_records.specs.Halves.{recording}
+use Rattle.gate_half.specs.Journals.{Journalled}
 use Rattle.gate_half.specs.Standing.{Standing, saying_all}
 
 -- ---- what a step sends waits at its face, in order
@@ -31,21 +36,19 @@ abbrev pub own_begun : GateSetup → Gate → EventIn → List Own
 own_begun s g event =
     map (λ begun. own_with begun.face begun.session begun.block) (begun_with s g event)
 
--- a session is kept, and isn't cancelling
-abbrev pub is_open_phase : SendingPhase → Bool
-is_open_phase (sender_open checkpoint timer) = true
-is_open_phase (sender_cancelling reason timer) = false
-
-abbrev pub is_open : Option Sending → Bool
-is_open None = false
-is_open (Some sending) = is_open_phase sending.phase
-
--- of the sessions that are sent at each face
+-- those that are open, of the sessions that are sent at each face
 abbrev pub open_among : List (ℕ × Sending) × List (ℕ × Sending) → OpenAt
-open_among senders face session = is_open (find session (at_face senders face))
+open_among senders face session = is_open session (at_face senders face)
 
 abbrev pub opens_in : Gate → OpenAt
 opens_in g = open_among (g.engines.0.senders, g.engines.1.senders)
+
+-- those that were handed up, of the sessions of each face's peer that are kept
+abbrev pub up_among : List (ℕ × Receiving) × List (ℕ × Receiving) → OpenAt
+up_among receivers face session = is_handed_up session (at_face receivers face)
+
+abbrev pub ups_in : Gate → OpenAt
+ups_in g = up_among (g.engines.0.receivers, g.engines.1.receivers)
 
 -- ---- a step: what it did, which sessions it began, and which are open after it
 
@@ -60,10 +63,34 @@ telling opened effects begun s =
       counters = begun_counted begun s.counters;
     })
 
--- an event of the gate
-unfoldable pub happens : EventIn → Standing → Standing
-happens event s =
+-- an event of the gate, after which this is known of the journal
+unfoldable pub happens_with : EventIn → Option Journalled → Standing → Standing
+happens_with event journal s =
     telling (opens_in (gate_in s.setup s.gate event).gate)
     (gate_effects_of (gate_in s.setup s.gate event).effects)
     (own_begun s.setup s.gate event)
-    (record s { gate = (gate_in s.setup s.gate event).gate })
+    (record s { gate = (gate_in s.setup s.gate event).gate; journal = journal })
+
+-- ---- what is to be recorded of a step
+
+-- what it did, as far as the journal has to know it
+abbrev pub happened_in : EventIn → Standing → Happened
+happened_in event s = record {
+  wall = (moments_of event).wall;
+  own = s.own;
+  is_open = opens_in (gate_in s.setup s.gate event).gate;
+  is_handed_up = ups_in (gate_in s.setup s.gate event).gate;
+  ups = (gate_effects_of (gate_in s.setup s.gate event).effects).ups;
+  out = (gate_effects_of (gate_in s.setup s.gate event).effects).out;
+  notes = (gate_effects_of (gate_in s.setup s.gate event).effects).notes;
+  begun = begun_with s.setup s.gate event;
+}
+
+-- its records stand with those of the half
+abbrev pub recorded_with : Happened → Option Journalled → Option Journalled
+recorded_with h None = None
+recorded_with h (Some j) = Some (record { recorded = recording h j.recorded; place = j.place })
+
+-- an event of the gate
+abbrev pub happens : EventIn → Standing → Standing
+happens event s = happens_with event (recorded_with (happened_in event s) s.journal) s

@@ -1,6 +1,6 @@
 //! The parts of a half.
 
-ghost use Rattle.std.specs.Prelude.{◌≡◌, ◌++◌, ◌<◌, ◌^◌, Some, length, flat_map, OnOk};
+ghost use Rattle.std.specs.Prelude.{◌≡◌, ◌++◌, ◌<◌, ◌^◌, ℕ, ◌==◌, not, Some, length, map, flat_map, option_map, IfOk, IfSome, OnOk};
 ghost use Rattle.std.specs.String.{string_bytes};
 ghost use Rattle.gate_log.specs.declared.event.Event.TheVariants as events;
 ghost use Rattle.gate_log.specs.Lines.{line_of};
@@ -9,9 +9,14 @@ ghost use Rattle.outbox.specs.Outbox.{next_of};
 ghost use Rattle.gate_face.specs.Halves.{taking};
 ghost use Rattle.gate_half.specs.Standing.{Standing, doing_at, face_of, wall_of};
 ghost use Rattle.gate_half.specs.Parts as parts;
+ghost use Rattle.gate_half.specs.Journals.{anew_in, is_large, kept_in};
+ghost use Rattle.journal_file.specs.Length.{entries_length, gate_of};
+ghost use Rattle.gate_half.specs.Journals.{past_commit, records_in};
+ghost use Rattle.journal_file.specs.Ties.{kept_of, record_of};
 
 use endpoint::Octets;
 use gate_cases::Face;
+use journal_file::{Kept, Record};
 use outbox::Reading;
 use std::alloc::AllocError;
 
@@ -27,6 +32,11 @@ pub trait HalfParts {
         ensures { OnOk result ((s : Standing)
             → Shows self.old s → Shows self.new (parts.reads reading s)) };
 
+    /// Blocks of earlier runs that wait are begun, as long as sessions are free.
+    fn resume(&mut self) -> Result<(), AllocError>
+        ensures { OnOk result ((s : Standing)
+            → Shows self.old s → Shows self.new (parts.resumes s)) };
+
     /// Time passes.
     fn tick(&mut self) -> Result<(), AllocError>
         ensures { OnOk result ((s : Standing)
@@ -41,6 +51,41 @@ pub trait HalfParts {
     fn poll_failed(&mut self, face: Face) -> Result<(), AllocError>
         ensures { OnOk result ((s : Standing)
             → Shows self.old s → Shows self.new (parts.fails_polling face s)) };
+
+    /// The last records of the half: session numbers are reserved. Without a journal there are none.
+    fn reserve(&mut self) -> Result<(), AllocError>
+        ensures { OnOk result ((s : Standing)
+            → Shows self.old s → Shows self.new (parts.reserves s)) };
+
+    /// Whether there are records of the half that are to be committed. It takes no memory.
+    fn has_records(&self) -> bool
+        ensures { (s : Standing)
+            → Shows self.now s → result ≡ not (length (records_in s.journal) == 0) };
+
+    /// The records of the half that are to be committed, in their order.
+    fn records(&self) -> Result<Vec<Record<'_>>, AllocError>
+        ensures { IfOk result (λ records. (s : Standing)
+            → Shows self.now s → map record_of records.items ≡ records_in s.journal) };
+
+    /// They were committed, and the gate of the journal's file moved on by so many octets. It takes no
+    /// memory.
+    fn committed(&mut self, octets: usize)
+        ensures { (s : Standing) → Shows self.old s → octets ≡ entries_length (records_in s.journal)
+            → Shows self.new (record s { journal = past_commit s.journal }) };
+
+    /// Whether the journal's file is to be made anew in this half. It takes no memory.
+    fn is_large(&self) -> bool
+        ensures { (s : Standing) → Shows self.now s → result ≡ is_large s.journal };
+
+    /// What the journal keeps, where one is kept. It takes no memory.
+    fn kept(&self) -> Option<&Kept>
+        ensures { (s : Standing)
+            → Shows self.now s → option_map (λ kept. kept_of kept.now) result ≡ kept_in s.journal };
+
+    /// The journal's file was made anew of that, and its gate stands at this place. It takes no memory.
+    fn installed(&mut self, place: usize)
+        ensures { (s : Standing) → Shows self.old s → IfSome (kept_in s.journal) (λ kept. place ≡ gate_of kept)
+            → Shows self.new (record s { journal = anew_in s.journal }) };
 
     /// How many datagrams wait at a face.
     fn waiting(&self, face: Face) -> usize

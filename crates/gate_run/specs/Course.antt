@@ -1,17 +1,18 @@
 -- How a run goes on, half after half, where it is known what the outside will give.
 
-use Rattle.std.specs.Prelude.{ℕ, zero, suc, Bool, ◌&&◌, List, [], ◌∷◌, length, drop}
+use Rattle.std.specs.Prelude.{ℕ, zero, suc, Bool, ◌&&◌, List, [], ◌∷◌, length, drop, Option}
 use Rattle.std.specs.Prelude.{if◌then◌else◌}
 use Rattle.std.specs.Option.{is_some}
 use Rattle.gate_cases.specs.declared.face.Face.{Face}
 use Rattle.gate_cases.specs.declared.face.Face.TheVariants.{Old, New}
 use Rattle.gate_config.specs.declared.file.GateFile.{GateFile}
 use Rattle.gate_edges.specs.Ahead.{Ahead, LinkAhead, past_show, reading_next}
-use Rattle.gate_half.specs.Standing.{Standing, starts_at, wall_of}
+use Rattle.journal_file.specs.Values.{KeptValue}
+use Rattle.gate_half.specs.Standing.{Standing, wall_of}
 use Rattle.gate_half.specs.Acts.{Act, Acted}
-use Rattle.gate_half.specs.Parts.{sends, ends_sending, is_due}
+use Rattle.gate_half.specs.Parts.{commits, sends, ends_sending, is_due}
 use Rattle.gate_half.specs.Half.{Came, hears, half}
-use Rattle.gate_half.specs.Run.{run}
+use Rattle.gate_half.specs.Run.{recovers, run}
 use Rattle.gate_run.specs.Comes.{comes, past_polls}
 
 -- what the outside will give from a moment of a run on, and how the run stands
@@ -25,9 +26,13 @@ pub record Point : Type 0 where
 abbrev pub heard : Face → Point → Standing
 heard face p = hears face (comes face p.ahead) p.standing
 
+-- its records were committed
+abbrev pub recorded : Face → Point → Acted
+recorded face p = commits (heard face p)
+
 -- the old face sent, and then the new one
 abbrev pub old_sent : Face → Point → Acted
-old_sent face p = sends Old (comes face p.ahead).old_failing (heard face p)
+old_sent face p = sends Old (comes face p.ahead).old_failing (recorded face p).standing
 
 abbrev pub new_sent : Face → Point → Acted
 new_sent face p = sends New (comes face p.ahead).new_failing (old_sent face p).standing
@@ -86,11 +91,15 @@ come board (suc n) p =
 abbrev pub has_board : GateFile → Bool
 has_board file = is_some (file.gateway).metrics
 
--- a run begins with the first reading of the wall clock
-abbrev pub begins : GateFile → Ahead → Point
-begins file ahead = record { ahead = ahead; standing = starts_at file (reading_next ahead).wall }
+-- a run begins with the first reading of the wall clock, by its file and by what earlier runs kept, where
+-- a journal is kept
+abbrev pub begins : GateFile → Option KeptValue → Ahead → Point
+begins file kept ahead = record {
+  ahead = ahead;
+  standing = (recovers file kept (reading_next ahead).wall).standing;
+}
 
 -- the acts of so many turns
-abbrev pub run_over : GateFile → (turns : ℕ) → Ahead → List Act
-run_over file turns ahead =
-    run file (has_board file) (come (has_board file) turns (begins file ahead))
+abbrev pub run_over : GateFile → Option KeptValue → (turns : ℕ) → Ahead → List Act
+run_over file kept turns ahead =
+    run file kept (has_board file) (come (has_board file) turns (begins file kept ahead))

@@ -13,15 +13,15 @@ use Rattle.gate_edges.specs.Made.{Made, written}
 use Rattle.outbox.specs.Outbox.{next_of}
 use Rattle.gate_face.specs.Halves.{taking}
 use Rattle.gate_half.specs.Standing.{Standing, doing_at, face_of, wall_of}
-use Rattle.gate_half.specs.Acts.{Act}
-use Rattle.gate_half.specs.Parts.{arrives, fails_polling, goes, tried, where_some, ends_sending}
-use Rattle.gate_half.specs.Parts.{writes, shows, shows_now}
+use Rattle.gate_half.specs.Acts.{Act, Acted}
+use Rattle.gate_half.specs.Parts.{arrives, fails_polling, commits, goes, tried, where_some, ends_sending}
+use Rattle.gate_half.specs.Parts.{writes, makes_anew, installs, shows, shows_now}
 use Rattle.gate_half.specs.Half.{half}
 use Rattle.gate_run.specs.Comes.{comes, past_polls}
 use Rattle.gate_run.specs.Course.{Point, heard, past_half, past_shows, shows_in}
 use Rattle.gate_run.specs.Outcome.{made_by_all}
 use Rattle.gate_run.specs.declared.stop.Stop.{Stop}
-use Rattle.gate_run.specs.declared.stop.Stop.TheVariants.{Fault, NoMemory}
+use Rattle.gate_run.specs.declared.stop.Stop.TheVariants.{Fault, NoMemory, NoJournal}
 
 -- ---- where code stands, and what it made
 
@@ -70,6 +70,14 @@ abbrev pub StopsWriting : {X : Type 0} → Result X Stop → Calls → Calls →
 StopsWriting (Ok x) before now = NoneFailed before now
 StopsWriting (Err Fault) before now = LastFailed before now
 StopsWriting (Err NoMemory) before now = NoneFailed before now
+StopsWriting (Err NoJournal) before now = NoneFailed before now
+
+-- its calls on the journal: it stopped by a failed one, or none failed
+abbrev pub StopsStoring : {X : Type 0} → Result X Stop → Calls → Calls → Type 0
+StopsStoring (Ok x) before now = NoneFailed before now
+StopsStoring (Err Fault) before now = NoneFailed before now
+StopsStoring (Err NoMemory) before now = NoneFailed before now
+StopsStoring (Err NoJournal) before now = LastFailed before now
 
 -- ---- polls
 
@@ -98,6 +106,25 @@ polls_within (suc n) face p =
 -- the clocks were read already; what comes is taken
 abbrev pub hears_over : Face → Point → Point
 hears_over face p = record { ahead = past_polls face p.ahead; standing = heard face p }
+
+-- ---- a part that makes acts by itself
+
+abbrev pub over_part : (Standing → Acted) → Point → Reached
+over_part part p = record {
+  point = record { ahead = p.ahead; standing = (part p.standing).standing };
+  acts = (part p.standing).acts;
+}
+
+-- the half's records are committed
+abbrev pub commits_over : Point → Reached
+commits_over = over_part commits
+
+-- the journal's file is made anew; and where it is large
+abbrev pub makes_anew_over : Point → Reached
+makes_anew_over = over_part makes_anew
+
+abbrev pub installs_over : Point → Reached
+installs_over = over_part installs
 
 -- ---- sends
 
@@ -159,13 +186,15 @@ shows_over board p = record {
 -- ---- what is done after what came was taken
 
 abbrev pub tells_over : (board : Bool) → Point → Reached
-tells_over board p = and_on (writes_over (ends_over p)) (shows_over board)
+tells_over board p =
+    and_on (writes_over (ends_over p)) (λ q. and_on (installs_over q) (shows_over board))
 
 abbrev pub sends_both : Point → Reached
 sends_both p = and_on (sends_over Old p) (sends_over New)
 
 abbrev pub answers_over : (board : Bool) → Point → Reached
-answers_over board p = and_on (sends_both p) (tells_over board)
+answers_over board p =
+    and_on (commits_over p) (λ q. and_on (sends_both q) (tells_over board))
 
 -- ---- halves
 

@@ -1,10 +1,11 @@
 //! Why a run stopped.
 
 ghost use Rattle.std.specs.Prelude.{◌≡◌};
-ghost use Rattle.gate_run.specs.Outcome.{status_of};
+ghost use Rattle.gate_run.specs.Outcome.{of_store, status_of};
 
 use crate::status::GateStatus;
 use std::alloc::AllocError;
+use store_traits::StoreFault;
 
 /// Why a run stopped before its last turn was made.
 #[derive(Clone, Copy, Debug, PartialEq, Eq, Drop)]
@@ -13,6 +14,8 @@ pub enum Stop {
     Fault,
     /// Memory ran out.
     NoMemory,
+    /// A call on the journal failed.
+    NoJournal,
 }
 
 impl Stop {
@@ -23,6 +26,7 @@ impl Stop {
         match self {
             Stop::Fault => GateStatus::WriteFault,
             Stop::NoMemory => GateStatus::Memory,
+            Stop::NoJournal => GateStatus::Journal,
         }
     }
 }
@@ -34,5 +38,16 @@ impl From<AllocError> for Stop {
 
     fn from(_: AllocError) -> Stop {
         Stop::NoMemory
+    }
+}
+
+impl From<StoreFault> for Stop {
+    ghost from_gives = { λ fault stop. stop ≡ of_store fault };
+
+    fn from(fault: StoreFault) -> Stop {
+        match fault {
+            StoreFault::Failed => Stop::NoJournal,
+            StoreFault::Memory => Stop::NoMemory,
+        }
     }
 }

@@ -31,10 +31,13 @@ use Rattle.gate_face.specs.Faces.{FaceStanding}
 use Rattle.gate_face.specs.Contacts.{told_at}
 use Rattle.gate_face.specs.Halves.{putting, taking}
 use Rattle.gate_half.specs.Standing.{Standing, counting, doing_at, face_of, saying, saying_all, saying_of, wall_of}
-use Rattle.gate_half.specs.Steps.{happens, opens_in, own_begun, putting_all, telling}
+use Rattle.journal_file.specs.declared.kept.Pending.{Pending}
+use Rattle.journal_file.specs.Values.{KeptValue, RecordValue}
+use Rattle.gate_half.specs.Journals.{Journalled, is_large, kept_in, records_in}
+use Rattle.gate_half.specs.Steps.{happened_in, happens, happens_with, opens_in, own_begun, putting_all, recorded_with, telling}
 use Rattle.gate_half.specs.Acts.{Act, Acted, stands, after_acts}
 use Rattle.gate_half.specs.Parts as parts
-use Rattle.gate_half.specs.Parts.{arrives_all, reads, sends_within}
+use Rattle.gate_half.specs.Parts.{arrives_all, reads, resumed, resumes_within, sends_within}
 use Rattle.gate_half.specs.Half.{Came, half, hears}
 use Rattle.gate_half.specs.Laws.{GoesInContact, tried_at, tried_by}
 
@@ -74,17 +77,36 @@ link-telling at opened effects begun s =
     (record s { faces = putting_all effects.out s.faces; own = own_after_step (seen effects.ups opened) begun effects.notes s.own; counters = begun_counted begun s.counters }))
     ∙ link-puts at effects.out s.faces
 
-link-happens : (at : Face) (event : EventIn) (s : Standing) → link_of at (happens event s) ≡ link_of at s
-unfolding happens
-link-happens at event s =
+link-happens : (at : Face) (event : EventIn) (journal : Option Journalled) (s : Standing) → link_of at (happens_with event journal s) ≡ link_of at s
+unfolding happens_with
+link-happens at event journal s =
     link-telling at (opens_in (gate_in s.setup s.gate event).gate) (gate_effects_of (gate_in s.setup s.gate event).effects)
-    (own_begun s.setup s.gate event) (record s { gate = (gate_in s.setup s.gate event).gate })
+    (own_begun s.setup s.gate event) (record s { gate = (gate_in s.setup s.gate event).gate; journal = journal })
+
+link-occurs : (at : Face) (event : EventIn) (s : Standing) → link_of at (happens event s) ≡ link_of at s
+link-occurs at event s = link-happens at event (recorded_with (happened_in event s) s.journal) s
+
+link-resumed : (at : Face) (p : Pending) (s : Standing) → link_of at (parts.resumed p s) ≡ link_of at s
+unfolding resumed
+link-resumed at p s = link-happens at (parts.begin_of p s) (parts.resuming_in p (parts.next_number p.face s) s.journal) s
+
+link-next-resumed : (at : Face) (next : Option Pending) (does : Pending → Standing) (s : Standing)
+    → ((p : Pending) → link_of at (does p) ≡ link_of at s) → link_of at (parts.where_some next does s) ≡ link_of at s
+link-next-resumed at None does s later = refl
+link-next-resumed at (Some p) does s later = later p
+
+link-resumes : (at : Face) (n : ℕ) (face : Face) (s : Standing) → link_of at (resumes_within n face s) ≡ link_of at s
+unfolding resumes_within
+link-resumes at zero face s = refl
+link-resumes at (suc n) face s =
+    link-next-resumed at (parts.next_resumed face s) (λ p. resumes_within n face (parts.resumed p s)) s
+    (λ p. link-resumes at n face (parts.resumed p s) ∙ link-resumed at p s)
 
 link-arrives : (at face : Face) (datagrams : List (List ℕ)) (s : Standing) → link_of at (parts.arrives_all face datagrams s) ≡ link_of at s
 unfolding arrives_all
 link-arrives at face [] s = refl
 link-arrives at face (datagram ∷ more) s = link-arrives at face more (parts.arrives face datagram s)
-    ∙ link-happens at (a_datagram_in face (segment_of datagram) (moments_value s.moments)) (counting face (things.Received (length datagram)) s)
+    ∙ link-occurs at (a_datagram_in face (segment_of datagram) (moments_value s.moments)) (counting face (things.Received (length datagram)) s)
 
 link-polled : (at face : Face) (failed : Bool) (s : Standing) → link_of at (parts.ends_polling face failed s) ≡ link_of at s
 link-polled at face true s = refl
@@ -103,7 +125,7 @@ unfolding reads
 faces-read now s =
     let old = saying_of faces.Old (told_at (s.faces.0).outbox now) (parts.reading_clocks now s) in
     let new = saying_of faces.New (told_at (s.faces.1).outbox now) old in
-    faces-started new.started (events.Start (new.setup).parties.0.first (new.setup).parties.1.first 0 0) new
+    faces-started new.started (events.Start (new.setup).parties.0.first (new.setup).parties.1.first (parts.marks_in new.journal) (parts.pending_in new.journal)) new
     ∙ (faces-of faces.New (told_at (s.faces.1).outbox now) old ∙ faces-of faces.Old (told_at (s.faces.0).outbox now) (parts.reading_clocks now s))
 
 link-reads : (at : Face) (now : Reading) (s : Standing) → link_of at (parts.reads now s) ≡ (((face_of at s).outbox).schedule, Some now)
@@ -112,9 +134,13 @@ link-reads at now s = ap (λ fs. link_in (at_face fs at)) (faces-read now s) ∙
 
 link-hears : (at face : Face) (came : Came) (s : Standing) → link_of at (hears face came s) ≡ (((face_of at s).outbox).schedule, Some came.reading)
 link-hears at face came s =
-    link-polled at face came.poll_failed (parts.arrives_all face came.datagrams (parts.ticks (parts.reads came.reading s)))
-    ∙ (link-arrives at face came.datagrams (parts.ticks (parts.reads came.reading s))
-    ∙ (link-happens at (a_tick_in (moments_value (parts.reads came.reading s).moments)) (parts.reads came.reading s) ∙ link-reads at came.reading s))
+    let r = parts.reads came.reading s in
+    let old = resumes_within 64 faces.Old r in
+    let new = resumes_within 64 faces.New old in
+    link-polled at face came.poll_failed (parts.arrives_all face came.datagrams (parts.ticks new))
+    ∙ (link-arrives at face came.datagrams (parts.ticks new)
+    ∙ (link-occurs at (a_tick_in (moments_value new.moments)) new
+    ∙ (link-resumes at 64 faces.New old ∙ (link-resumes at 64 faces.Old r ∙ link-reads at came.reading s))))
 
 -- ---- a face sends
 
@@ -215,28 +241,55 @@ none-shows : (at : Face) (board fails : Bool) (s : Standing) → tried_at at (pa
 none-shows at true fails s = none-if at (parts.is_due s.shown (wall_of s)) fails s
 none-shows at false fails s = refl
 
+none-commits : (at : Face) (records : List RecordValue) → tried_at at (parts.commits_those records) ≡ []
+none-commits at [] = refl
+none-commits at (first ∷ more) = refl
+
+none-installed : (at : Face) (kept : Option KeptValue) → tried_at at (parts.installs_those kept) ≡ []
+none-installed at None = refl
+none-installed at (Some kept) = refl
+
+none-installs : (at : Face) (large : Bool) (s : Standing) → tried_at at (if large then parts.makes_anew s else stands s).acts ≡ []
+none-installs at true s = none-installed at (kept_in s.journal)
+none-installs at false s = refl
+
+-- what is told after all sends of a half
+none-told : (at : Face) (board : Bool) (came : Came) (s : Standing)
+    → tried_at at ((parts.writes s).acts ++ ((parts.installs (parts.writes s).standing).acts ++ (parts.shows board came.show_fails (parts.installs (parts.writes s).standing).standing).acts)) ≡ []
+none-told at board came s =
+    let v = (parts.writes s).standing in
+    let i = parts.installs v in
+    none-append at (parts.writes s).acts (i.acts ++ (parts.shows board came.show_fails i.standing).acts) (none-lines at (wall_of s) s.said)
+    (none-append at i.acts (parts.shows board came.show_fails i.standing).acts (none-installs at (is_large v.journal) v) (none-shows at board came.show_fails i.standing))
+
 pub goes-in-contact : GoesOutInContact → GoesInContact
 unfolding half
 goes-in-contact law board face came s faces.Old =
     let h = hears face came s in
-    let old = parts.sends faces.Old came.old_failing h in
+    let c = parts.commits h in
+    let old = parts.sends faces.Old came.old_failing c.standing in
     let new = parts.sends faces.New came.new_failing old.standing in
-    let w = parts.writes (parts.ends_sending new.standing) in
-    let shown = parts.shows board came.show_fails w.standing in
-    none-after faces.Old old.acts (new.acts ++ (w.acts ++ shown.acts)) (IsOpenAt ((face_of faces.Old s).outbox).schedule (came.reading).wall)
-    (open-sends law (length ((face_of faces.Old h).outbox).waiting) faces.Old came.old_failing h ((face_of faces.Old s).outbox).schedule came.reading (link-hears faces.Old face came s))
-    (none-append faces.Old new.acts (w.acts ++ shown.acts)
+    let u = parts.ends_sending new.standing in
+    let told = (parts.writes u).acts ++ ((parts.installs u).acts ++ (parts.shows board came.show_fails (parts.installs u).standing).acts) in
+    let is_open = IsOpenAt ((face_of faces.Old s).outbox).schedule (came.reading).wall in
+    none-before faces.Old c.acts (old.acts ++ (new.acts ++ told)) is_open (none-commits faces.Old (records_in (parts.reserves h).journal))
+    (none-after faces.Old old.acts (new.acts ++ told) is_open
+    (open-sends law (length ((face_of faces.Old c.standing).outbox).waiting) faces.Old came.old_failing c.standing ((face_of faces.Old s).outbox).schedule came.reading (link-hears faces.Old face came s))
+    (none-append faces.Old new.acts told
     (none-other (length ((face_of faces.New old.standing).outbox).waiting) faces.Old came.new_failing old.standing)
-    (none-append faces.Old w.acts shown.acts (none-lines faces.Old (wall_of w.standing) (w.standing).said) (none-shows faces.Old board came.show_fails w.standing)))
+    (none-told faces.Old board came u)))
 goes-in-contact law board face came s faces.New =
     let h = hears face came s in
-    let old = parts.sends faces.Old came.old_failing h in
+    let c = parts.commits h in
+    let old = parts.sends faces.Old came.old_failing c.standing in
     let new = parts.sends faces.New came.new_failing old.standing in
-    let w = parts.writes (parts.ends_sending new.standing) in
-    let shown = parts.shows board came.show_fails w.standing in
-    none-before faces.New old.acts (new.acts ++ (w.acts ++ shown.acts)) (IsOpenAt ((face_of faces.New s).outbox).schedule (came.reading).wall)
-    (none-other (length ((face_of faces.Old h).outbox).waiting) faces.New came.old_failing h)
-    (none-after faces.New new.acts (w.acts ++ shown.acts) (IsOpenAt ((face_of faces.New s).outbox).schedule (came.reading).wall)
+    let u = parts.ends_sending new.standing in
+    let told = (parts.writes u).acts ++ ((parts.installs u).acts ++ (parts.shows board came.show_fails (parts.installs u).standing).acts) in
+    let is_open = IsOpenAt ((face_of faces.New s).outbox).schedule (came.reading).wall in
+    none-before faces.New c.acts (old.acts ++ (new.acts ++ told)) is_open (none-commits faces.New (records_in (parts.reserves h).journal))
+    (none-before faces.New old.acts (new.acts ++ told) is_open
+    (none-other (length ((face_of faces.Old c.standing).outbox).waiting) faces.New came.old_failing c.standing)
+    (none-after faces.New new.acts told is_open
     (open-sends law (length ((face_of faces.New old.standing).outbox).waiting) faces.New came.new_failing old.standing ((face_of faces.New s).outbox).schedule came.reading
-    (link-sends (length ((face_of faces.Old h).outbox).waiting) faces.New faces.Old came.old_failing h ∙ link-hears faces.New face came s))
-    (none-append faces.New w.acts shown.acts (none-lines faces.New (wall_of w.standing) (w.standing).said) (none-shows faces.New board came.show_fails w.standing)))
+    (link-sends (length ((face_of faces.Old c.standing).outbox).waiting) faces.New faces.Old came.old_failing c.standing ∙ link-hears faces.New face came s))
+    (none-told faces.New board came u)))

@@ -8,10 +8,12 @@ use Rattle.gate_log.specs.declared.event.Event.{Event}
 use Rattle.outbox.specs.Outbox.{after_sending, first_of, may_send, next_of, others_of}
 use Rattle.gate_face.specs.Halves.{taking}
 use Rattle.gate_half.specs.Standing.{Standing, doing_at, face_of, wall_of}
-use Rattle.gate_half.specs.Acts.{Act, sent, lost, said, shown, Acted, stands, after_acts}
-use Rattle.gate_half.specs.Parts.{ends_sending, goes, is_due, line_at, sends, sends_within, shows, shows_if, shows_now, tried, where_some, writes}
+use Rattle.journal_file.specs.Values.{KeptValue, RecordValue}
+use Rattle.gate_half.specs.Journals.{is_large, kept_in, records_in}
+use Rattle.gate_half.specs.Acts.{Act, sent, lost, said, shown, committed, installed, Acted, stands, after_acts}
+use Rattle.gate_half.specs.Parts.{commits, commits_those, ends_sending, goes, installs, installs_those, is_due, line_at, makes_anew, reserves, sends, sends_within, shows, shows_if, shows_now, tried, where_some, writes}
 use Rattle.gate_half.specs.Half.{half, hears}
-use Rattle.gate_half.specs.Laws.{AreTold, DatagramsGoFirst, GoFirst, GoesInOrder, tried_at, waiting_at}
+use Rattle.gate_half.specs.Laws.{AreTold, CommitFirst, DatagramsGoFirst, GoFirst, GoesInOrder, tried_at, waiting_at}
 
 -- ---- what goes, goes first
 
@@ -21,6 +23,22 @@ told-first (sent face datagram ∷ acts) told = absurd told.0
 told-first (lost face datagram ∷ acts) told = absurd told.0
 told-first (said line ∷ acts) told = told.1
 told-first (shown text ∷ acts) told = told.1
+told-first (committed records ∷ acts) told = absurd told.0
+told-first (installed kept ∷ acts) told = told.1
+
+-- where nothing is committed
+first-commits : (acts : List Act) → GoFirst acts → CommitFirst acts
+first-commits [] first = tt
+first-commits (sent face datagram ∷ acts) first = first
+first-commits (lost face datagram ∷ acts) first = first
+first-commits (said line ∷ acts) first = first
+first-commits (shown text ∷ acts) first = first
+first-commits (committed records ∷ acts) first = absurd first
+first-commits (installed kept ∷ acts) first = first
+
+commit-first : (records : List RecordValue) (acts : List Act) → GoFirst acts → CommitFirst (commits_those records ++ acts)
+commit-first [] acts first = first-commits acts first
+commit-first (one ∷ more) acts first = first
 
 told-append : (acts more : List Act) → AreTold acts → AreTold more → AreTold (acts ++ more)
 told-append [] more told later = later
@@ -42,6 +60,14 @@ shows-told : (board fails : Bool) (s : Standing) → AreTold (shows board fails 
 shows-told true fails s = if-told (is_due s.shown (wall_of s)) fails s
 shows-told false fails s = tt
 
+installed-told : (kept : Option KeptValue) → AreTold (installs_those kept)
+installed-told None = tt
+installed-told (Some kept) = (tt, tt)
+
+installs-told : (large : Bool) (s : Standing) → AreTold (if large then makes_anew s else stands s).acts
+installs-told true s = installed-told (kept_in s.journal)
+installs-told false s = tt
+
 go-next : (face : Face) (fails : Bool) (next : Option (List ℕ)) (does : List ℕ → Acted) (s : Standing) (rest : List Act)
     → ((datagram : List ℕ) → GoFirst ((does datagram).acts ++ rest)) → GoFirst rest
     → GoFirst ((where_some next (λ datagram. after_acts (tried face fails datagram ∷ []) (does datagram)) (stands s)).acts ++ rest)
@@ -62,13 +88,18 @@ pub datagrams-go-first : DatagramsGoFirst
 unfolding half
 datagrams-go-first board face came s =
     let h = hears face came s in
-    let old = sends faces.Old came.old_failing h in
+    let c = commits h in
+    let old = sends faces.Old came.old_failing c.standing in
     let new = sends faces.New came.new_failing old.standing in
-    let w = writes (ends_sending new.standing) in
-    let told = told-append w.acts (shows board came.show_fails w.standing).acts (lines-told (wall_of w.standing) (w.standing).said) (shows-told board came.show_fails w.standing) in
-    go-within (length ((face_of faces.Old h).outbox).waiting) faces.Old came.old_failing h (new.acts ++ (w.acts ++ (shows board came.show_fails w.standing).acts))
-    (go-within (length ((face_of faces.New old.standing).outbox).waiting) faces.New came.new_failing old.standing (w.acts ++ (shows board came.show_fails w.standing).acts)
-    (told-first (w.acts ++ (shows board came.show_fails w.standing).acts) told))
+    let u = ends_sending new.standing in
+    let i = installs u in
+    let after = i.acts ++ (shows board came.show_fails i.standing).acts in
+    let told = told-append (writes u).acts after (lines-told (wall_of u) u.said)
+    (told-append i.acts (shows board came.show_fails i.standing).acts (installs-told (is_large u.journal) u) (shows-told board came.show_fails i.standing)) in
+    commit-first (records_in (reserves h).journal) (old.acts ++ (new.acts ++ ((writes u).acts ++ after)))
+    (go-within (length ((face_of faces.Old c.standing).outbox).waiting) faces.Old came.old_failing c.standing (new.acts ++ ((writes u).acts ++ after))
+    (go-within (length ((face_of faces.New old.standing).outbox).waiting) faces.New came.new_failing old.standing ((writes u).acts ++ after)
+    (told-first ((writes u).acts ++ after) told)))
 
 -- ---- what goes, goes in order
 

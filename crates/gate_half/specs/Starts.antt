@@ -1,6 +1,6 @@
 -- How a run begins, by its file, by what earlier runs kept, and by the first reading of the wall clock.
 
-use Rattle.std.specs.Prelude.{ℕ, List, [], ◌∷◌, Option, None, Some, Result, Ok, Err}
+use Rattle.std.specs.Prelude.{ℕ, List, [], ◌∷◌, Option, None, Some, Ok}
 use Rattle.ltp_segment.specs.declared.segment.PieceKind.TheVariants as kinds
 use Rattle.ltp_segment.specs.Values.{ContentValue, SegmentValue, a_piece, a_sender_cancel, a_receiver_cancel}
 use Rattle.ltp_segment.specs.Spelling.{segment_octets}
@@ -11,7 +11,7 @@ use Rattle.journal_file.specs.Values.{KeptValue}
 use Rattle.gateway_core.specs.Moments.{MomentsValue, same}
 use Rattle.gateway_core.specs.Gate.{Gate, GateSetup, EventIn, a_datagram_in, at_face, gate_in}
 use Rattle.gate_face.specs.Halves.{putting}
-use Rattle.gate_half.specs.Journals.{Journalled, recovered_in}
+use Rattle.gate_half.specs.Journals.{Journalled}
 use Rattle.gate_half.specs.Standing.{Standing, doing_at, starts_empty}
 
 -- ---- a session of the peer that is closed

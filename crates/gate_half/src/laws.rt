@@ -3,7 +3,8 @@
 
 ghost use Rattle.gate_half.specs.Laws.{DatagramsGoFirst, GoesInContact, GoesInOrder};
 
-/// In each half all that goes out goes before the first line is written.
+/// In each half its records are committed at once and before anything goes out, and all that goes out goes
+/// before the first line is written.
 pub fn datagrams_go_first()
     ensures { DatagramsGoFirst }
 {}

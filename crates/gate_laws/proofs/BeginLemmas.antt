@@ -161,9 +161,9 @@ length-settled n (keeps s) es = length-put n s es
 length-settled n ends es = omega (arith, length-without n es)
 
 -- there is room for so many sessions more
-record HasRoom (e : Engine) (k : ℕ) : Type 0 where
-  sessions : length e.senders + k ≤ 64
-  numbers : e.next + k ≤ 2 ^ 32
+pub record HasRoom (e : Engine) (k : ℕ) : Type 0 where
+  pub sessions : length e.senders + k ≤ 64
+  pub numbers : e.next + k ≤ 2 ^ 32
 
 room-left : (p : Party) (e : Engine) (block : List ℕ) (now k : ℕ) → HasRoom e (suc k) → HasRoom (begun_engine p e block now) k
 room-left p e block now k room = record {
@@ -390,11 +390,12 @@ pub record Begins (at : Face) (n : ℕ) (g : Gate) (count : ℕ) (h : Gate) : Ty
   pub most : count ≤ 1
   pub opens : 1 ≤ count → is_open_at at n h ≡ true
 
--- datagrams and moments come in a run: with a datagram each block that comes whole can be passed
+-- with a datagram each block that comes whole can be passed; one that is begun of an earlier run can be
+-- sent
 abbrev pub CanPass : GateSetup → Gate → EventIn → Type 0
 CanPass s g (a_datagram_in face read m) = AllByRecursion (IsPassable s face) (hears_at s face g read (m.at face)).effects.ups
 CanPass s g (a_tick_in m) = Unit {0}
-CanPass s g (a_block_in face block m) = ⊥
+CanPass s g (a_block_in face block m) = IsBlock block × HasRoom (at_face g.engines face) 1
 
 pub begins-event : (s : GateSetup) (at : Face) (n : ℕ) (g : Gate) (event : EventIn) → MostAre s → CanPass s g event
     → Begins at n g (count_begun at n (begun_with s g event)) (gate_in s g event).gate
@@ -427,4 +428,6 @@ begins-event s at n g (a_tick_in m) most can = by_face at where
     most = omega arith;
     opens = λ some. absurd (omega (arith, some));
   }
-begins-event s at n g (a_block_in face block m) most can = absurd can
+begins-event s at n g (a_block_in face block m) most can =
+    let gains = gains-sent s at face n (m.at face) false block g 0 most can.0 can.1 in
+    record { up = gains.up; low = gains.low; high = gains.high; most = gains.most; opens = gains.opens }

@@ -1,6 +1,6 @@
 -- What a half does to a face's outbox is a list of an outbox's calls.
 
-use Rattle.std.proofs.Common.{◌≡◌, ℕ, zero, suc, Bool, true, false, List, [], ◌∷◌, ◌++◌, length, map, Option, None, Some, if◌then◌else◌, refl, ap, ◌∙◌, sym}
+use Rattle.std.proofs.Common.{◌≡◌, ℕ, zero, suc, Bool, true, false, List, [], ◌∷◌, ◌++◌, length, map, Option, None, Some, if◌then◌else◌, refl, ap, ◌∙◌, sym, append_assoc}
 use Rattle.std.proofs.lemmas.Grind.{flat_map-append}
 use Rattle.std.proofs.lemmas.List.{append-nil}
 use Rattle.edge_traits.specs.Faults.{fails_next, after_next}
@@ -32,15 +32,19 @@ use Rattle.gate_face.specs.Contacts.{told_at}
 use Rattle.gate_face.specs.Faces.{FaceStanding}
 use Rattle.gate_face.specs.Halves.{full_event, lost_event, putting, taking}
 use Rattle.gate_half.specs.Standing.{Standing, counting, doing_at, face_of, saying, saying_all, saying_of, wall_of}
-use Rattle.gate_half.specs.Steps.{happens, opens_in, own_begun, putting_all, telling}
-use Rattle.gate_half.specs.Acts.{Act, Acted, after_acts, stands}
+use Rattle.journal_file.specs.declared.kept.Pending.{Pending}
+use Rattle.journal_file.specs.Values.{KeptValue, RecordValue}
+use Rattle.gate_half.specs.Journals.{Journalled, is_large, kept_in, records_in}
+use Rattle.gate_half.specs.Starts.{gate_past}
+use Rattle.gate_half.specs.Steps.{happened_in, happens, happens_with, opens_in, own_begun, putting_all, recorded_with, telling}
+use Rattle.gate_half.specs.Acts.{Act, Acted, after_acts, and_then, stands}
 use Rattle.gate_half.specs.Parts as parts
-use Rattle.gate_half.specs.Parts.{arrives_all, sends_within}
+use Rattle.gate_half.specs.Parts.{arrives_all, resumed, resumes_within, sends_within}
 use Rattle.gate_half.specs.Half.{Came, answers, half, hears}
 use Rattle.gate_half.specs.Laws.{tried_at, tried_by}
-use Rattle.gate_laws.specs.Runs.{arrival, events_in}
+use Rattle.gate_laws.specs.Runs.{arrival, events_in, resumed_in, resumed_within}
 use Rattle.gate_laws.specs.Faces.{calls_in, routed_to, sends_with}
-use Rattle.gate_laws.proofs.GateLemmas.{Core, core, core-arrives, core-happens, core-reads, stepped}
+use Rattle.gate_laws.proofs.GateLemmas.{Core, core, core-arrives, core-happens, core-reads, core-resumed, past-both, past-resumes, stepped}
 
 -- ---- a face's outbox and its time
 
@@ -62,7 +66,7 @@ put-append (x ∷ xs) ys b time = put-append xs ys (box.after_call b (puts x)) t
 
 -- ---- a step
 
-box-put : (at face : Face) (datagram : List ℕ) (more : List (List ℕ)) (fs : FaceStanding × FaceStanding)
+pub box-put : (at face : Face) (datagram : List ℕ) (more : List (List ℕ)) (fs : FaceStanding × FaceStanding)
     → put_all more (box_of (at_face (with_face fs face (putting datagram (at_face fs face))) at)) ≡ put_all (if_same face at (datagram ∷ more) more) (box_of (at_face fs at))
 box-put faces.Old faces.Old datagram more fs = refl
 box-put faces.Old faces.New datagram more fs = refl
@@ -94,11 +98,15 @@ box-telling at opened effects begun s =
 abbrev sent_by : GateSetup → Face → Gate → EventIn → List (List ℕ)
 sent_by setup at g event = routed_to at (gate_effects_of (gate_in setup g event).effects).out
 
-box-happens : (at : Face) (event : EventIn) (s : Standing) → box_at at (happens event s) ≡ put_all (sent_by s.setup at s.gate event) (box_at at s)
-unfolding happens
-box-happens at event s =
+box-happens-with : (at : Face) (event : EventIn) (journal : Option Journalled) (s : Standing)
+    → box_at at (happens_with event journal s) ≡ put_all (sent_by s.setup at s.gate event) (box_at at s)
+unfolding happens_with
+box-happens-with at event journal s =
     box-telling at (opens_in (gate_in s.setup s.gate event).gate) (gate_effects_of (gate_in s.setup s.gate event).effects)
-    (own_begun s.setup s.gate event) (record s { gate = (gate_in s.setup s.gate event).gate })
+    (own_begun s.setup s.gate event) (record s { gate = (gate_in s.setup s.gate event).gate; journal = journal })
+
+box-happens : (at : Face) (event : EventIn) (s : Standing) → box_at at (happens event s) ≡ put_all (sent_by s.setup at s.gate event) (box_at at s)
+box-happens at event s = box-happens-with at event (recorded_with (happened_in event s) s.journal) s
 
 -- ---- before anything is sent
 
@@ -118,6 +126,61 @@ box-arrives at face (datagram ∷ more) m s is =
     ∙ ap (λ (x : Moments). put_all (sent_by s.setup at s.gate (a_datagram_in face (segment_of datagram) (moments_value x))) (box_at at s)) is)
     ∙ put-append (sent_by s.setup at s.gate event) (sends_with s.setup at (gate_in s.setup s.gate event).gate rest) (box_at at s).0 (box_at at s).1))
 
+-- what is begun of earlier runs
+box-resumed : (at : Face) (p : Pending) (s : Standing) → box_at at (parts.resumed p s) ≡ put_all (sent_by s.setup at s.gate (parts.begin_of p s)) (box_at at s)
+unfolding resumed
+box-resumed at p s = box-happens-with at (parts.begin_of p s) (parts.resuming_in p (parts.next_number p.face s) s.journal) s
+
+box-next-resumed : (at : Face) (next : Option Pending) (does : Pending → Standing) (begins : Pending → List EventIn) (s : Standing)
+    → ((p : Pending) → box_at at (does p) ≡ put_all (sends_with s.setup at s.gate (begins p)) (box_at at s))
+    → box_at at (parts.where_some next does s) ≡ put_all (sends_with s.setup at s.gate (parts.where_some next begins [])) (box_at at s)
+unfolding sends_with
+box-next-resumed at None does begins s later = refl
+box-next-resumed at (Some p) does begins s later = later p
+
+box-resumes : (n : ℕ) (at face : Face) (s : Standing)
+    → box_at at (resumes_within n face s) ≡ put_all (sends_with s.setup at s.gate (resumed_in n face s)) (box_at at s)
+unfolding resumes_within resumed_in sends_with
+box-resumes zero at face s = refl
+box-resumes (suc n) at face s =
+    box-next-resumed at (parts.next_resumed face s) (λ p. resumes_within n face (parts.resumed p s)) (λ p. parts.begin_of p s ∷ resumed_in n face (parts.resumed p s)) s
+    (λ p.
+    let next : Standing = parts.resumed p s in
+    let event : EventIn = parts.begin_of p s in
+    let rest : List EventIn = resumed_in n face next in
+    box-resumes n at face next
+    ∙ (ap (λ (c : Core). put_all (sends_with c.setup at c.gate rest) (box_at at next)) (core-resumed p s)
+    ∙ (ap (put_all (sends_with s.setup at (gate_in s.setup s.gate event).gate rest)) (box-resumed at p s)
+    ∙ put-append (sent_by s.setup at s.gate event) (sends_with s.setup at (gate_in s.setup s.gate event).gate rest) (box_at at s).0 (box_at at s).1)))
+
+-- events, and others after them
+sends-append : (setup : GateSetup) (at : Face) (xs ys : List EventIn) (g : Gate)
+    → sends_with setup at g (xs ++ ys) ≡ sends_with setup at g xs ++ sends_with setup at (gate_past setup xs g) ys
+unfolding sends_with gate_past
+sends-append setup at [] ys g = refl
+sends-append setup at (x ∷ xs) ys g =
+    ap (λ ds. sent_by setup at g x ++ ds) (sends-append setup at xs ys (gate_in setup g x).gate)
+    ∙ sym (append_assoc (sent_by setup at g x) (sends_with setup at (gate_in setup g x).gate xs) (sends_with setup at (gate_past setup xs (gate_in setup g x).gate) ys))
+
+-- some events happened to a standing, and others to the one after it
+box-then : (at : Face) (s middle after : Standing) (xs ys : List EventIn) → middle.setup ≡ s.setup → middle.gate ≡ gate_past s.setup xs s.gate
+    → (b : Box) → box_at at middle ≡ put_all (sends_with s.setup at s.gate xs) b
+    → box_at at after ≡ put_all (sends_with middle.setup at middle.gate ys) (box_at at middle)
+    → box_at at after ≡ put_all (sends_with s.setup at s.gate (xs ++ ys)) b
+box-then at s middle after xs ys setup_is gate_is b first more =
+    more ∙ (ap (λ (t : GateSetup). put_all (sends_with t at middle.gate ys) (box_at at middle)) setup_is
+    ∙ (ap (λ (g : Gate). put_all (sends_with s.setup at g ys) (box_at at middle)) gate_is
+    ∙ (ap (put_all (sends_with s.setup at (gate_past s.setup xs s.gate) ys)) first
+    ∙ (put-append (sends_with s.setup at s.gate xs) (sends_with s.setup at (gate_past s.setup xs s.gate) ys) b.0 b.1
+    ∙ ap (λ ds. put_all ds b) (sym (sends-append s.setup at xs ys s.gate))))))
+
+box-both : (n : ℕ) (at : Face) (s : Standing)
+    → box_at at (resumes_within n faces.New (resumes_within n faces.Old s)) ≡ put_all (sends_with s.setup at s.gate (resumed_within n s)) (box_at at s)
+box-both n at s =
+    let old = past-resumes n faces.Old s in
+    box-then at s (resumes_within n faces.Old s) (resumes_within n faces.New (resumes_within n faces.Old s)) (resumed_in n faces.Old s) (resumed_in n faces.New (resumes_within n faces.Old s))
+    old.setup_is old.gate_is (box_at at s) (box-resumes n at faces.Old s) (box-resumes n at faces.New (resumes_within n faces.Old s))
+
 faces-polled : (face : Face) (failed : Bool) (s : Standing) → (parts.ends_polling face failed s).faces ≡ s.faces
 faces-polled face true s = refl
 faces-polled face false s = refl
@@ -131,7 +194,7 @@ unfolding parts.reads
 faces-read now s =
     let old = saying_of faces.Old (told_at (s.faces.0).outbox now) (parts.reading_clocks now s) in
     let new = saying_of faces.New (told_at (s.faces.1).outbox now) old in
-    faces-started new.started (events.Start (new.setup).parties.0.first (new.setup).parties.1.first 0 0) new
+    faces-started new.started (events.Start (new.setup).parties.0.first (new.setup).parties.1.first (parts.marks_in new.journal) (parts.pending_in new.journal)) new
     ∙ (faces-of faces.New (told_at (s.faces.1).outbox now) old ∙ faces-of faces.Old (told_at (s.faces.0).outbox now) (parts.reading_clocks now s))
 
 -- the clocks are read
@@ -142,31 +205,46 @@ box-clocks : (at : Face) (now : Reading) (s : Standing) → box_at at (parts.rea
 box-clocks faces.Old now s = refl
 box-clocks faces.New now s = refl
 
-pub box-hears : (at face : Face) (came : Came) (s : Standing)
-    → box_at at (hears face came s) ≡ put_all (sends_with s.setup at s.gate (events_in face came s)) (read_by came.reading (box_at at s))
+-- the tick of a half, and its arrivals
+box-passing : (at face : Face) (came : Came) (m : Moments) (s : Standing) → s.moments ≡ m
+    → box_at at (parts.ends_polling face came.poll_failed (parts.arrives_all face came.datagrams (parts.ticks s)))
+    ≡ put_all (sends_with s.setup at s.gate (a_tick_in (moments_value m) ∷ map (arrival face (moments_value m)) came.datagrams)) (box_at at s)
 unfolding sends_with
-box-hears at face came s =
-    let read : Standing = parts.reads came.reading s in
-    let clocks : Standing = parts.reading_clocks came.reading s in
-    let m : Moments = clocks.moments in
-    let reads_so = core-reads came.reading s in
+box-passing at face came m s is =
     let tick : EventIn = a_tick_in (moments_value m) in
-    let same_moments : read.moments ≡ m = ap (λ (c : Core). c.moments) reads_so in
-    let ticked : core (parts.ticks read) ≡ stepped tick (core clocks) =
-    core-happens (a_tick_in (moments_value read.moments)) read
-    ∙ (ap (λ (x : Moments). stepped (a_tick_in (moments_value x)) (core read)) same_moments ∙ ap (stepped tick) reads_so) in
+    let ticked : core (parts.ticks s) ≡ stepped tick (core s) =
+    core-happens (a_tick_in (moments_value s.moments)) s ∙ ap (λ (x : Moments). stepped (a_tick_in (moments_value x)) (core s)) is in
     let rest : List EventIn = map (arrival face (moments_value m)) came.datagrams in
     let after : Gate = (gate_in s.setup s.gate tick).gate in
-    let box_read : box_at at read ≡ read_by came.reading (box_at at s) = ap (λ fs. box_of (at_face fs at)) (faces-read came.reading s) ∙ box-clocks at came.reading s in
-    let box_ticked : box_at at (parts.ticks read) ≡ put_all (sent_by s.setup at s.gate tick) (read_by came.reading (box_at at s)) =
-    box-happens at (a_tick_in (moments_value read.moments)) read
-    ∙ (ap (λ (c : Core). put_all (sent_by c.setup at c.gate (a_tick_in (moments_value c.moments))) (box_at at read)) reads_so
-    ∙ ap (put_all (sent_by s.setup at s.gate tick)) box_read) in
-    ap (λ fs. box_of (at_face fs at)) (faces-polled face came.poll_failed (parts.arrives_all face came.datagrams (parts.ticks read)))
-    ∙ (box-arrives at face came.datagrams m (parts.ticks read) (ap (λ (c : Core). c.moments) ticked)
-    ∙ (ap (λ (c : Core). put_all (sends_with c.setup at c.gate rest) (box_at at (parts.ticks read))) ticked
+    let box_ticked : box_at at (parts.ticks s) ≡ put_all (sent_by s.setup at s.gate tick) (box_at at s) =
+    box-happens at (a_tick_in (moments_value s.moments)) s
+    ∙ ap (λ (x : Moments). put_all (sent_by s.setup at s.gate (a_tick_in (moments_value x))) (box_at at s)) is in
+    ap (λ fs. box_of (at_face fs at)) (faces-polled face came.poll_failed (parts.arrives_all face came.datagrams (parts.ticks s)))
+    ∙ (box-arrives at face came.datagrams m (parts.ticks s) (ap (λ (c : Core). c.moments) ticked ∙ is)
+    ∙ (ap (λ (c : Core). put_all (sends_with c.setup at c.gate rest) (box_at at (parts.ticks s))) ticked
     ∙ (ap (put_all (sends_with s.setup at after rest)) box_ticked
-    ∙ put-append (sent_by s.setup at s.gate tick) (sends_with s.setup at after rest) (read_by came.reading (box_at at s)).0 (read_by came.reading (box_at at s)).1)))
+    ∙ put-append (sent_by s.setup at s.gate tick) (sends_with s.setup at after rest) (box_at at s).0 (box_at at s).1)))
+
+-- a standing of which the moments alone are new
+box-moved : (at : Face) (s moved after : Standing) (events : List EventIn) (m : Moments) → core moved ≡ record (core s) { moments = m }
+    → box_at at after ≡ put_all (sends_with moved.setup at moved.gate events) (box_at at moved)
+    → box_at at after ≡ put_all (sends_with s.setup at s.gate events) (box_at at moved)
+box-moved at s moved after events m same is = is ∙ ap (λ (c : Core). put_all (sends_with c.setup at c.gate events) (box_at at moved)) same
+
+pub box-hears : (at face : Face) (came : Came) (s : Standing)
+    → box_at at (hears face came s) ≡ put_all (sends_with s.setup at s.gate (events_in face came s)) (read_by came.reading (box_at at s))
+box-hears at face came s =
+    let read : Standing = parts.reads came.reading s in
+    let m : Moments = (parts.reading_clocks came.reading s).moments in
+    let reads_so = core-reads came.reading s in
+    let before : Standing = parts.resumes read in
+    let past = past-both 64 read in
+    let passing : List EventIn = a_tick_in (moments_value m) ∷ map (arrival face (moments_value m)) came.datagrams in
+    let box_read : box_at at read ≡ read_by came.reading (box_at at s) = ap (λ fs. box_of (at_face fs at)) (faces-read came.reading s) ∙ box-clocks at came.reading s in
+    box-moved at s read (hears face came s) (events_in face came s) m reads_so
+    (box-then at read before (hears face came s) (resumed_within 64 read) passing past.setup_is past.gate_is (box_at at read) (box-both 64 at read)
+    (box-passing at face came m before (past.moments_is ∙ ap (λ (c : Core). c.moments) reads_so)))
+    ∙ ap (put_all (sends_with s.setup at s.gate (events_in face came s))) box_read
 
 -- ---- a face sends
 
@@ -273,7 +351,22 @@ faces-ends s =
     faces-of faces.New (lost_event (face_of faces.New b)) c ∙ (faces-of faces.New (full_event (face_of faces.New b)) b
     ∙ (faces-of faces.Old (lost_event (face_of faces.Old s)) a ∙ faces-of faces.Old (full_event (face_of faces.Old s)) s))
 
-pub apart-writes : (at : Face) (s : Standing) → IsApart at (box_at at s) (parts.writes (parts.ends_sending s))
+none-commits : (at : Face) (records : List RecordValue) → tried_at at (parts.commits_those records) ≡ []
+none-commits at [] = refl
+none-commits at (first ∷ more) = refl
+
+pub apart-commits : (at : Face) (s : Standing) → IsApart at (box_at at s) (parts.commits s)
+apart-commits at s = record { box_is = refl; tried_is = none-commits at (records_in (parts.reserves s).journal) }
+
+pub none-installed : (at : Face) (kept : Option KeptValue) → tried_at at (parts.installs_those kept) ≡ []
+none-installed at None = refl
+none-installed at (Some kept) = refl
+
+apart-installs : (at : Face) (large : Bool) (s : Standing) → IsApart at (box_at at s) (if large then parts.makes_anew s else stands s)
+apart-installs at true s = record { box_is = refl; tried_is = none-installed at (kept_in s.journal) }
+apart-installs at false s = record { box_is = refl; tried_is = refl }
+
+apart-writes : (at : Face) (s : Standing) → IsApart at (box_at at s) (parts.writes (parts.ends_sending s))
 apart-writes at s = record {
   box_is = ap (λ fs. box_of (at_face fs at)) (faces-ends s);
   tried_is = none-lines at (wall_of (parts.ends_sending s)) (parts.ends_sending s).said;
@@ -289,6 +382,18 @@ apart-then at b x y first later = record {
   box_is = later.box_is ∙ first.box_is;
   tried_is = tried-append at x.acts y.acts ∙ (ap (λ ds. ds ++ tried_at at y.acts) first.tried_is ∙ later.tried_is);
 }
+
+-- what is done once both faces have sent
+abbrev pub tells : Bool → Came → Standing → Acted
+tells board came s =
+    and_then (parts.writes (parts.ends_sending s)) (λ v. and_then (parts.installs v) (parts.shows board came.show_fails))
+
+pub apart-tells : (at : Face) (board : Bool) (came : Came) (s : Standing) → IsApart at (box_at at s) (tells board came s)
+apart-tells at board came s =
+    let u = parts.ends_sending s in
+    let i = parts.installs u in
+    apart-then at (box_at at s) (parts.writes u) (after_acts i.acts (parts.shows board came.show_fails i.standing)) (apart-writes at s)
+    (apart-then at (box_at at u) i (parts.shows board came.show_fails i.standing) (apart-installs at (is_large u.journal) u) (apart-shows at board came.show_fails i.standing))
 
 sent-then : (at : Face) (b : Box) (x y : Acted) → IsSent at b x → IsApart at (box_at at x.standing) y → IsSent at b (after_acts x.acts y)
 sent-then at b x y first later = record {
@@ -307,25 +412,27 @@ then-sent at b x y first later = record {
 
 sent-answers : (at : Face) (board : Bool) (came : Came) (s : Standing) → IsSent at (box_at at s) (answers board came s)
 sent-answers faces.Old board came s =
-    let old = parts.sends faces.Old came.old_failing s in
+    let c = parts.commits s in
+    let old = parts.sends faces.Old came.old_failing c.standing in
     let new = parts.sends faces.New came.new_failing old.standing in
-    let w = parts.writes (parts.ends_sending new.standing) in
-    let shown = parts.shows board came.show_fails w.standing in
-    sent-then faces.Old (box_at faces.Old s) old (after_acts new.acts (after_acts w.acts shown))
-    (sent-within (length ((face_of faces.Old s).outbox).waiting) faces.Old came.old_failing s)
-    (apart-then faces.Old (box_at faces.Old old.standing) new (after_acts w.acts shown)
+    let told = tells board came new.standing in
+    then-sent faces.Old (box_at faces.Old s) c (after_acts old.acts (after_acts new.acts told)) (apart-commits faces.Old s)
+    (sent-then faces.Old (box_at faces.Old c.standing) old (after_acts new.acts told)
+    (sent-within (length ((face_of faces.Old c.standing).outbox).waiting) faces.Old came.old_failing c.standing)
+    (apart-then faces.Old (box_at faces.Old old.standing) new told
     (apart-within (length ((face_of faces.New old.standing).outbox).waiting) faces.Old came.new_failing old.standing)
-    (apart-then faces.Old (box_at faces.Old new.standing) w shown (apart-writes faces.Old new.standing) (apart-shows faces.Old board came.show_fails w.standing)))
+    (apart-tells faces.Old board came new.standing)))
 sent-answers faces.New board came s =
-    let old = parts.sends faces.Old came.old_failing s in
+    let c = parts.commits s in
+    let old = parts.sends faces.Old came.old_failing c.standing in
     let new = parts.sends faces.New came.new_failing old.standing in
-    let w = parts.writes (parts.ends_sending new.standing) in
-    let shown = parts.shows board came.show_fails w.standing in
-    then-sent faces.New (box_at faces.New s) old (after_acts new.acts (after_acts w.acts shown))
-    (apart-within (length ((face_of faces.Old s).outbox).waiting) faces.New came.old_failing s)
-    (sent-then faces.New (box_at faces.New old.standing) new (after_acts w.acts shown)
+    let told = tells board came new.standing in
+    then-sent faces.New (box_at faces.New s) c (after_acts old.acts (after_acts new.acts told)) (apart-commits faces.New s)
+    (then-sent faces.New (box_at faces.New c.standing) old (after_acts new.acts told)
+    (apart-within (length ((face_of faces.Old c.standing).outbox).waiting) faces.New came.old_failing c.standing)
+    (sent-then faces.New (box_at faces.New old.standing) new told
     (sent-within (length ((face_of faces.New old.standing).outbox).waiting) faces.New came.new_failing old.standing)
-    (apart-then faces.New (box_at faces.New new.standing) w shown (apart-writes faces.New new.standing) (apart-shows faces.New board came.show_fails w.standing)))
+    (apart-tells faces.New board came new.standing)))
 
 -- ---- a half
 

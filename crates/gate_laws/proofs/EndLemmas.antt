@@ -33,9 +33,10 @@ use Rattle.gateway_core.specs.declared.note.GateNote.TheVariants as notes
 use Rattle.gateway_core.specs.Gate.{EventIn, Gate, GateSetup, GateStep, a_datagram_in, a_tick_in, a_block_in, and_then, answers_in, arrives_in, at_face, case_note, decides_in, does_at, engine_note_at, gate_after_in, gate_in, hears_at, in_turn, is_unreported, judged_at, noted_at, passes_in, reports_in, sends_at, sends_in, sends_unless, ticks_at, ticks_in}
 use Rattle.gateway_core.specs.Moments.{MomentsValue}
 use Rattle.gateway_core.specs.Opens.{is_open_at}
-use Rattle.gate_half.specs.Setup.{setup_in}
+use Rattle.gate_laws.specs.Runs.{setup_of}
 use Rattle.gate_laws.specs.Ends.{EndsAreNoted, IsEndOf, TellEnd}
 use Rattle.gate_laws.proofs.OwnLemmas.{open-same}
+use Rattle.gate_laws.proofs.StartLemmas.{evicted, received}
 
 not-both : (b : Bool) {X : Type 0} → b ≡ true → b ≡ false → X
 not-both b was shut = absurd (cc (was, shut))
@@ -153,16 +154,6 @@ ends-settled n m e f step same tells was shut = by_number (m == n) refl where
       (tells (ap (λ k. is_open k e.senders) at ∙ was) (ap is_kept_open (sym (find-settled m step.next e.senders)) ∙ (ap (λ k. is_open k (settled m step.next e.senders)) at ∙ there)))))
   by_number false is =
       not-both (is_open n e.senders) was (ap is_kept_open (sym (find-settled_other n m step.next e.senders (λ same. absurd (grind (arith, nat_tests))))) ∙ there)
-
-received : (e : Engine) (n : ℕ) (change : Change Receiving) → (with_receiver e n change).senders ≡ e.senders
-unfolding with_receiver
-received e n stays = refl
-received e n (keeps r) = refl
-received e n ends = refl
-
-evicted : (e : Engine) (gone : Option ℕ) → (without_evicted e gone).senders ≡ e.senders
-evicted e None = refl
-evicted e (Some n) = received e n ends
 
 abbrev engine_left : Engine → Option Reply → Engine
 engine_left e None = e
@@ -381,6 +372,6 @@ ends-event s at n g (a_block_in face block m) = ends-sent s at face n (m.at face
 pub ends-are-noted : EndsAreNoted
 unfolding gate_after_in
 ends-are-noted r later earlier event is at n was shut =
-    let s : GateSetup = setup_in r.file r.wall in
+    let s : GateSetup = setup_of r in
     let g : Gate = gate_after_in s earlier in
     ends-event s at n g event (sym (open-same g at n) ∙ was) (sym (open-same (gate_in s g event).gate at n) ∙ shut)

@@ -12,14 +12,17 @@ use Rattle.outbox.specs.Outbox.{OutboxValue, after_reading, octets_in}
 use Rattle.outbox.specs.Run as box
 use Rattle.outbox.specs.Run.{Call, StaysIn, datagrams_of, last_monotonic, longest, puts, reads, sends}
 use Rattle.outbox.specs.Schedule.{ScheduleValue}
-use Rattle.gate_half.specs.Standing.{Standing, face_of}
+use Rattle.gate_half.specs.Journals.{kept_in}
+use Rattle.gate_half.specs.Standing.{Standing, face_of, starts_empty}
+use Rattle.gate_half.specs.Starts.{starts_at}
 use Rattle.gate_half.specs.Acts.{Acted}
 use Rattle.gate_half.specs.Half.{Came, half}
 use Rattle.gate_half.specs.Laws.{GoesInContact, tried_at, waiting_at}
-use Rattle.gate_half.specs.Run.{halves}
-use Rattle.gate_laws.specs.Runs.{Run, begins_at, events_in, moments_in}
-use Rattle.gate_laws.specs.Faces.{AreInContact, ClockRises, GoesInContactInRuns, GoesOnceInOrder, KeepsPaceInRuns, LieIn, TimeIsHeld, TimeIsOfHalf, TimeRises, accepted_in, accepted_over, calls_in, last_clock, plan_of, sends_with}
-use Rattle.gate_laws.proofs.BoxLemmas.{half-is, half_calls, many_sends, tried-append}
+use Rattle.gate_half.specs.Run.{halves, recovers}
+use Rattle.gate_laws.specs.Runs.{Run, acts_of, begins_at, events_in, marked_before, moments_in, setup_of, stands_at}
+use Rattle.gate_laws.specs.Faces.{AreInContact, ClockRises, GoesInContactInRuns, GoesOnceInOrder, KeepsPaceInRuns, LieIn, TimeIsHeld, TimeIsOfHalf, TimeRises, accepted_first, accepted_in, accepted_over, calls_in, cancels_at, last_clock, plan_of, sends_with}
+use Rattle.gate_laws.proofs.BoxLemmas.{Box, half-is, half_calls, many_sends, none-installed, tried-append}
+use Rattle.gate_laws.proofs.StartLemmas.{box-begins}
 
 -- ---- time
 
@@ -84,14 +87,42 @@ order-halves law board at face (came ∷ more) s =
     ∙ order-join (tried_at at now.acts) (tried_at at later.acts) (waiting_at at later.standing) (waiting_at at s) (waiting_at at now.standing)
     (accepted_in at face came s) (accepted_over at board (other_of face) more now.standing) (order-half law board at face came s) rest
 
-pub none-waits : (r : Run) (at : Face) → waiting_at at (begins_at r) ≡ []
-none-waits r faces.Old = refl
-none-waits r faces.New = refl
+-- what is put before the first half
+puts-alone : (ds : List (List ℕ)) (b : OutboxValue) → datagrams_of (box.tried b (map puts ds)) ≡ []
+puts-alone [] b = refl
+puts-alone (d ∷ ds) b = puts-alone ds (box.after_call b (puts d))
+
+first-waits : GoesOutInOrder → (r : Run) (at : Face) → waiting_at at (begins_at r) ≡ accepted_first at r
+first-waits law r at =
+    let cancels : List (List ℕ) = cancels_at at (setup_of r) (marked_before r) in
+    let b : OutboxValue = (face_of at (starts_empty r.file r.kept r.wall)).outbox in
+    ap (λ (x : Box). x.0.waiting) (box-begins r at)
+    ∙ (ap (λ ds. ds ++ (box.run b (map puts cancels)).waiting) (sym (puts-alone cancels b))
+    ∙ (law b (map puts cancels) ∙ ap (λ ds. ds ++ accepted_first at r) (by_face at)))
+  where
+    by_face : (at : Face) → ((face_of at (starts_empty r.file r.kept r.wall)).outbox).waiting ≡ []
+    by_face faces.Old = refl
+    by_face faces.New = refl
+
+pub none-waits : (r : Run) (at : Face) → cancels_at at (setup_of r) (marked_before r) ≡ [] → waiting_at at (begins_at r) ≡ []
+none-waits r at unmarked =
+    ap (λ (x : Box). x.0.waiting) (box-begins r at)
+    ∙ (ap (λ ds. (box.run (face_of at (starts_empty r.file r.kept r.wall)).outbox (map puts ds)).waiting) unmarked ∙ by_face at)
+  where
+    by_face : (at : Face) → ((face_of at (starts_empty r.file r.kept r.wall)).outbox).waiting ≡ []
+    by_face faces.Old = refl
+    by_face faces.New = refl
+
+pub tried-acts : (r : Run) (at : Face) → tried_at at (acts_of r) ≡ tried_at at (halves r.board faces.Old r.comes (begins_at r)).acts
+tried-acts r at =
+    tried-append at (recovers r.file r.kept r.wall).acts (halves r.board faces.Old r.comes (begins_at r)).acts
+    ∙ ap (λ ds. ds ++ tried_at at (halves r.board faces.Old r.comes (begins_at r)).acts) (none-installed at (kept_in (starts_at r.file r.kept r.wall).journal))
 
 pub goes-once-in-order : GoesOutInOrder → GoesOnceInOrder
 goes-once-in-order law r at =
-    order-halves law r.board at faces.Old r.comes (begins_at r)
-    ∙ ap (λ ds. ds ++ accepted_over at r.board faces.Old r.comes (begins_at r)) (none-waits r at)
+    ap (λ ds. ds ++ waiting_at at (stands_at r)) (tried-acts r at)
+    ∙ (order-halves law r.board at faces.Old r.comes (begins_at r)
+    ∙ ap (λ ds. ds ++ accepted_over at r.board faces.Old r.comes (begins_at r)) (first-waits law r at))
 
 -- ---- contact
 
@@ -115,9 +146,14 @@ contact-halves law board at face (came ∷ more) s plan is =
     let rest = contact-halves law board at (other_of face) more (half board face came s).standing plan (schedule-half board at face came s ∙ is) in
     (subst (λ (p : ScheduleValue). (tried_at at (half board face came s).acts ≡ []) ⊎ IsOpenAt p (came.reading).wall) is (law board face came s at), rest)
 
-schedule-at : (r : Run) (at : Face) → ((face_of at (begins_at r)).outbox).schedule ≡ plan_of r at
-schedule-at r faces.Old = refl
-schedule-at r faces.New = refl
+pub schedule-at : (r : Run) (at : Face) → ((face_of at (begins_at r)).outbox).schedule ≡ plan_of r at
+schedule-at r at =
+    ap (λ (x : Box). x.0.schedule) (box-begins r at)
+    ∙ (schedule-run (map puts (cancels_at at (setup_of r) (marked_before r))) (face_of at (starts_empty r.file r.kept r.wall)).outbox ∙ by_face at)
+  where
+    by_face : (at : Face) → ((face_of at (starts_empty r.file r.kept r.wall)).outbox).schedule ≡ plan_of r at
+    by_face faces.Old = refl
+    by_face faces.New = refl
 
 pub goes-in-contact-in-runs : GoesInContact → GoesInContactInRuns
 goes-in-contact-in-runs law r at = contact-halves law r.board at faces.Old r.comes (begins_at r) (plan_of r at) (schedule-at r at)

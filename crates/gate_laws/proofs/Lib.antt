@@ -1,12 +1,15 @@
 pub mod GateLemmas
-pub mod OwnLemmas
 pub mod BoxLemmas
+pub mod StartLemmas
+pub mod JournalLemmas
+pub mod OwnLemmas
 pub mod FaceLemmas
 pub mod AheadLemmas
 pub mod TickLemmas
 pub mod EndLemmas
 pub mod OnceLemmas
 pub mod BeginLemmas
+pub mod BlockLemmas
 pub mod OctetLemmas
 pub mod ExactLemmas
 pub mod WaitLemmas

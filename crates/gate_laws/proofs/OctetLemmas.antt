@@ -67,7 +67,7 @@ use Rattle.gateway_core.specs.Comings.{begun_come, comings_in, event_comes, if_s
 use Rattle.gateway_core.specs.Gate.{EventIn, GateSetup, a_block_in, a_datagram_in, a_tick_in, at_face, gate_after_in, hears_at}
 use Rattle.gateway_core.specs.Moments.{MomentsValue}
 use Rattle.gateway_core.specs.RedParts.{AreEnginesIn}
-use Rattle.gate_laws.proofs.BeginLemmas.{CanPass, IsCarried, IsPassable}
+use Rattle.gate_laws.proofs.BeginLemmas.{IsCarried, IsPassable}
 
 -- ---- what is spelled by octets
 
@@ -176,11 +176,11 @@ ComingOctets (a_block_comes block red now) = Unit {0}
 ComingOctets (a_datagram_comes read now) = ReadOctets read
 ComingOctets (a_moment_comes now) = Unit {0}
 
--- in a run datagrams of octets come, and moments
+-- datagrams of octets come
 abbrev pub EventOctets : EventIn → Type 0
 EventOctets (a_datagram_in face read m) = ReadOctets read
 EventOctets (a_tick_in m) = Unit {0}
-EventOctets (a_block_in face block m) = ⊥
+EventOctets (a_block_in face block m) = Unit {0}
 
 abbrev AllCome : List Coming → Type 0
 AllCome comings = AllByRecursion ComingOctets comings
@@ -423,11 +423,8 @@ all-passable : (s : GateSetup) (face : Face) (ups : List UpValue) → IsEndpoint
 all-passable s face [] legal all = tt
 all-passable s face (up ∷ ups) legal all = let rest = all-passable s face ups legal all.1 in (passable s face up legal all.0, rest)
 
--- with each event of a run what comes whole can be passed
-pub can-pass : AreEnginesIn → HandsUpRedParts → (s : GateSetup) (event : EventIn) (earlier : List EventIn) → IsEndpoint s.gate
-    → AllByRecursion EventOctets (event ∷ earlier) → CanPass s (gate_after_in s earlier) event
-can-pass engines hands_up s (a_datagram_in face read m) earlier legal all =
-    all-passable s face (hears_at s face (gate_after_in s earlier) read (m.at face)).effects.ups legal
-    (ups-octets engines hands_up s face read m earlier all.0 all.1)
-can-pass engines hands_up s (a_tick_in m) earlier legal all = tt
-can-pass engines hands_up s (a_block_in face block m) earlier legal all = absurd all.0
+-- with each datagram of a run what comes whole can be passed
+pub can-hear : AreEnginesIn → HandsUpRedParts → (s : GateSetup) (face : Face) (read : Result SegmentValue (ℕ × SegmentCause)) (m : MomentsValue) (earlier : List EventIn) → IsEndpoint s.gate
+    → ReadOctets read → AllByRecursion EventOctets earlier → AllByRecursion (IsPassable s face) (hears_at s face (gate_after_in s earlier) read (m.at face)).effects.ups
+can-hear engines hands_up s face read m earlier legal fits all =
+    all-passable s face (hears_at s face (gate_after_in s earlier) read (m.at face)).effects.ups legal (ups-octets engines hands_up s face read m earlier fits all)

@@ -1,13 +1,11 @@
 -- The gate of a run is that of its events, and its open sessions are its own.
 
-use Rattle.std.proofs.Common.{◌≡◌, ℕ, Bool, true, false, ◌==◌, List, [], ◌∷◌, ◌++◌, map, Option, None, Some, ◌⊎◌, inl, inr, if◌then◌else◌, refl, ap, ◌∙◌, subst, sym, eq-eqb}
+use Rattle.std.proofs.Common.{◌≡◌, ℕ, Bool, true, false, ◌==◌, List, [], ◌∷◌, ◌++◌, map, Some, ◌⊎◌, inl, inr, if◌then◌else◌, refl, ap, ◌∙◌, subst, sym, eq-eqb}
 use Rattle.std.specs.Option.{is_some}
 use Rattle.std.proofs.lemmas.Bool.{eqb-true}
-use Rattle.ltp_session.specs.Sender.{Sending, SendingPhase, sender_open, sender_cancelling}
-use Rattle.ltp_session.specs.Table.{find}
 use Rattle.ltp_segment.specs.declared.session.Note.{Note}
 use Rattle.ltp_segment.specs.declared.session.Note.TheVariants as engine
-use Rattle.ltp_sender.specs.Sender.{is_kept_open}
+use Rattle.ltp_engine.specs.RedParts.{HandsUpRedParts}
 use Rattle.gate_cases.specs.declared.face.Face.{Face}
 use Rattle.gate_cases.specs.declared.face.Face.TheVariants as faces
 use Rattle.gateway_core.specs.declared.begun.Begun.{Begun}
@@ -17,64 +15,41 @@ use Rattle.gateway_core.specs.declared.note.GateNote.TheVariants as notes
 use Rattle.gateway_core.specs.Begun.{begun_with}
 use Rattle.gateway_core.specs.Comings.{if_same}
 use Rattle.gateway_core.specs.Effects.{gate_effects_of}
-use Rattle.gateway_core.specs.Gate.{EventIn, Gate, GateSetup, at_face, gate_after_in, gate_in, starts_gate}
+use Rattle.gateway_core.specs.Gate.{EventIn, Gate, GateSetup, at_face, gate_after_in, gate_in}
 use Rattle.gateway_core.specs.Opens.{IsBegunAt, OpensByBeginning, is_open_at}
 use Rattle.gateway_core.specs.RedParts.{AreEnginesIn, HandsUpEachOnceIn, HandsUpRedPartsIn}
 use Rattle.gate_events.specs.declared.own.Own.{Own}
 use Rattle.gate_events.specs.Own.{OpenAt, find_own, is_of, left_by, own_with, without_own}
 use Rattle.gate_events.specs.Events.{Seen, Untold, own_after, own_after_step, own_left, own_untold, seen, untold, untold_after}
-use Rattle.gate_half.specs.Setup.{setup_in}
-use Rattle.gate_half.specs.Steps.{is_open, opens_in, own_begun}
-use Rattle.gate_laws.specs.Runs.{Run, begins_at, events_of, stands_at}
+use Rattle.gate_half.specs.Steps.{opens_in, own_begun}
+use Rattle.gate_laws.specs.Runs.{Run, begins_at, events_of, first_events, setup_of, stands_at}
 use Rattle.gate_laws.specs.Sessions.{EnginesAreOfTheirFaces, GateIsOfEvents, HandsUpOnceInRuns, HandsUpWholeInRuns, OpenAreOwn}
-use Rattle.gate_laws.proofs.GateLemmas.{Core, Keeps, core, keeps-halves, stepped}
+use Rattle.gate_laws.proofs.GateLemmas.{Core, IsGateOf, Keeps, core, gate-step, keeps-halves, stepped}
+use Rattle.gate_laws.proofs.StartLemmas.{gate-begins, none-open}
 
 -- ---- the gate
 
-pub record IsGateOf (setup : GateSetup) (c : Core) (events : List EventIn) : Type 0 where
-  pub setup_is : c.setup ≡ setup
-  pub gate_is : c.gate ≡ gate_after_in setup events
-
-pub gate-step : (setup : GateSetup) → Keeps (IsGateOf setup)
-unfolding gate_after_in
-gate-step setup c m earlier event so = record {
-  setup_is = so.setup_is;
-  gate_is = ap (λ (s : GateSetup). (gate_in s c.gate event).gate) so.setup_is ∙ ap (λ (g : Gate). (gate_in setup g event).gate) so.gate_is;
-}
-
-pub gate-start : (setup : GateSetup) → starts_gate setup ≡ gate_after_in setup []
-unfolding gate_after_in
-gate-start setup = refl
-
-is-gate : (r : Run) → IsGateOf (setup_in r.file r.wall) (core (stands_at r)) (events_of r)
-is-gate r = keeps-halves (IsGateOf (setup_in r.file r.wall)) (gate-step (setup_in r.file r.wall)) r.board faces.Old r.comes (begins_at r) []
-    (record { setup_is = refl; gate_is = gate-start (setup_in r.file r.wall) })
+is-gate : (r : Run) → IsGateOf (setup_of r) (core (stands_at r)) (events_of r)
+is-gate r = keeps-halves (IsGateOf (setup_of r)) (gate-step (setup_of r)) r.board faces.Old r.comes (begins_at r) (first_events r) (gate-begins r)
 
 pub gate-is-of-events : GateIsOfEvents
 gate-is-of-events r = (is-gate r).gate_is
 
 pub engines-are-of-their-faces : AreEnginesIn → EnginesAreOfTheirFaces
 engines-are-of-their-faces law r at =
-    ap (λ (g : Gate). at_face g.engines at) (gate-is-of-events r) ∙ law (setup_in r.file r.wall) at (events_of r)
+    ap (λ (g : Gate). at_face g.engines at) (gate-is-of-events r) ∙ law (setup_of r) at (events_of r)
 
 pub hands-up-whole-in-runs : HandsUpRedPartsIn → HandsUpWholeInRuns
-hands-up-whole-in-runs law r later earlier event is at n body = law (setup_in r.file r.wall) at n earlier event body
+hands-up-whole-in-runs law r later earlier event is at n body = law (setup_of r) at n earlier event body
 
 pub hands-up-once-in-runs : HandsUpEachOnceIn → HandsUpOnceInRuns
-hands-up-once-in-runs law r at = law (setup_in r.file r.wall) at (events_of r)
+hands-up-once-in-runs law r at = law (setup_of r) at (events_of r)
 
 -- ---- which sessions are open, in the words of two crates
 
-open-kept : (kept : Option Sending) → is_open kept ≡ is_kept_open kept
-open-kept None = refl
-open-kept (Some s) = by_phase s.phase refl where
-  by_phase : (phase : SendingPhase) → s.phase ≡ phase → is_open (Some s) ≡ is_kept_open (Some s)
-  by_phase (sender_open checkpoint timer) is = rw is refl
-  by_phase (sender_cancelling reason timer) is = rw is refl
-
 pub open-same : (g : Gate) (at : Face) (n : ℕ) → opens_in g at n ≡ is_open_at at n g
-open-same g faces.Old n = open-kept (find n g.engines.0.senders)
-open-same g faces.New n = open-kept (find n g.engines.1.senders)
+open-same g faces.Old n = refl
+open-same g faces.New n = refl
 
 -- ---- an own session that is open stays one
 
@@ -226,14 +201,15 @@ owning-step law setup c m earlier event so = record {
       (from_before at n (law setup at n earlier event
       (ap (is_open_at at n) (sym gate_now) ∙ (sym (open-same (gate_in c.setup c.gate event).gate at n) ∙ opened))))
 
-none-open : (setup : GateSetup) (at : Face) (n : ℕ) → opens_in (starts_gate setup) at n ≡ true → IsOwn at n []
-unfolding find
-none-open setup faces.Old n opened = absurd (cc)
-none-open setup faces.New n opened = absurd (cc)
+none-own : AreEnginesIn → HandsUpRedParts → (r : Run) (at : Face) (n : ℕ) → opens_in (begins_at r).gate at n ≡ true → IsOwn at n (begins_at r).own
+none-own engines hands_up r at n opened = absurd (cc (none, opened)) where
+  none : opens_in (begins_at r).gate at n ≡ false
+  none = none-open engines hands_up r at n
 
-is-owning : OpensByBeginning → (r : Run) → IsOwning (setup_in r.file r.wall) (core (stands_at r)) (events_of r)
-is-owning law r = keeps-halves (IsOwning (setup_in r.file r.wall)) (owning-step law (setup_in r.file r.wall)) r.board faces.Old r.comes (begins_at r) []
-    (record { of_gate = record { setup_is = refl; gate_is = gate-start (setup_in r.file r.wall) }; own = none-open (setup_in r.file r.wall) })
+is-owning : OpensByBeginning → AreEnginesIn → HandsUpRedParts → (r : Run) → IsOwning (setup_of r) (core (stands_at r)) (events_of r)
+is-owning law engines hands_up r =
+    keeps-halves (IsOwning (setup_of r)) (owning-step law (setup_of r)) r.board faces.Old r.comes (begins_at r) (first_events r)
+    (record { of_gate = gate-begins r; own = none-own engines hands_up r })
 
-pub open-are-own : OpensByBeginning → OpenAreOwn
-open-are-own law r face n opened = (is-owning law r).own face n opened
+pub open-are-own : OpensByBeginning → AreEnginesIn → HandsUpRedParts → OpenAreOwn
+open-are-own law engines hands_up r face n opened = (is-owning law engines hands_up r).own face n opened

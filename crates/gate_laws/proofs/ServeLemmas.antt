@@ -10,8 +10,8 @@ use Rattle.gate_cases.specs.Faces.{other_of}
 use Rattle.gateway_core.specs.declared.effects.Routed.{Routed}
 use Rattle.gateway_core.specs.Comings.{if_same}
 use Rattle.gateway_core.specs.Effects.{routed_of}
-use Rattle.gateway_core.specs.Gate.{EventIn, Gate, GateSetup, GateStep, a_datagram_in, a_tick_in, arrives_at, gate_in, starts_gate, stays_so, ticks_gate}
-use Rattle.gateway_core.specs.Moments.{MomentsValue}
+use Rattle.gateway_core.specs.Gate.{EventIn, Gate, GateSetup, GateStep, a_datagram_in, a_tick_in, arrives_at, gate_after_in, gate_in, starts_gate, stays_so, ticks_gate}
+use Rattle.gateway_core.specs.Moments.{MomentsValue, same}
 use Rattle.outbox.specs.declared.reading.Reading.{Reading}
 use Rattle.outbox.specs.FaceTime.{FaceMoment, growth, gone_on, last_moment, moment_at}
 use Rattle.outbox.specs.Outbox.{OutboxValue, first_of, octets_in}
@@ -20,16 +20,21 @@ use Rattle.serve_run.specs.Outside.{ClockAhead, Outside, gave, past_reading}
 use Rattle.serve_run.specs.Serve.{Serving, serve_turns, serves, serving_from, serving_rules, setup_named}
 use Rattle.serve_run.specs.Turns as turns
 use Rattle.serve_run.specs.Turns.{Acted, Made, StepEffects, answers, does, give, nothing, only_sent, polls, put_before, says, sends, sends_all, with_more, ◌>>=◌, ◌>>◌, lines}
-use Rattle.gate_half.specs.Standing.{Standing, face_of}
+use Rattle.gate_half.specs.Journals.{anew_in, starts_journal}
+use Rattle.gate_half.specs.Standing.{Standing, face_of, starts_empty}
+use Rattle.gate_half.specs.Starts.{marked_in}
+use Rattle.gate_half.specs.Parts.{reads}
 use Rattle.gate_half.specs.Half.{Came, half}
 use Rattle.gate_half.specs.Laws.{tried_at, waiting_at}
 use Rattle.gate_half.specs.Run.{halves}
-use Rattle.gate_laws.specs.Runs.{Run, after_events, arrival, begins_at, events_in, moments_in}
-use Rattle.gate_laws.specs.Faces.{config_of, routed_to, sends_with}
+use Rattle.gate_laws.specs.Runs.{Run, after_events, arrival, begins_at, closings, events_in, moments_in, setup_of}
+use Rattle.gate_laws.specs.Faces.{cancels_at, config_of, routed_to, sends_with}
 use Rattle.gate_laws.specs.Serves.{AreTurns, ClocksAreOne, ComeSingly, FitsInEach, GoAlike, IsAsServe, ServesAlike, clock_over, made_at, polls_give, turns_in, wall_in}
-use Rattle.gate_laws.proofs.GateLemmas.{Core, Keeps, core, keeps-half}
-use Rattle.gate_laws.proofs.BoxLemmas.{tried-append}
-use Rattle.gate_laws.proofs.FaceLemmas.{none-waits, schedule-half, time-is-of-half}
+use Rattle.gate_laws.proofs.GateLemmas.{Core, Keeps, core, gate-start, keeps-half}
+use Rattle.gate_laws.proofs.StartLemmas.{box-begins, gate-begins}
+use Rattle.gate_laws.proofs.JournalLemmas.{journal-begins, journal-reads, none-half, none-resumed}
+use Rattle.gate_laws.proofs.BoxLemmas.{Box, tried-append}
+use Rattle.gate_laws.proofs.FaceLemmas.{none-waits, schedule-half, time-is-of-half, tried-acts}
 use Rattle.gate_laws.proofs.MomentLemmas.{AreOne, one-arrival, one-tick}
 use Rattle.gate_laws.proofs.WaitLemmas.{IsFree, emptied-half, free-at, limit-at, limit-half, tried-half}
 
@@ -318,6 +323,7 @@ record Stands (s : Standing) (last : Option Reading) : Type 0 where
   free : (at : Face) → IsFree ((face_of at s).outbox).schedule
   none : (at : Face) → waiting_at at s ≡ []
   time : (at : Face) → (face_of at s).time ≡ time_of last
+  no_journal : s.journal ≡ None
 
 no-growth : (windows : List Window) (waiting : List (List ℕ)) (before now : Reading) → windows ≡ [] → waiting ≡ [] → growth waiting windows before now ≡ now.monotonic - before.monotonic
 no-growth windows waiting before now no_windows none = rw (none, no_windows) refl
@@ -346,7 +352,14 @@ stands-half board face came more s last stands alike = record {
   none = λ at. (emptied-half board at face came s (stands.free at)).none;
   time = λ at. time-is-of-half board face came s at
       ∙ ap (λ k. Some (record { moment = k; reading = came.reading })) ((one-moments s last came more stands alike).at at);
+  no_journal = none-half board face came s stands.no_journal;
 }
+
+-- nothing waits of earlier runs
+no-events : (face : Face) (came : Came) (s : Standing) → s.journal ≡ None → events_in face came s ≡ a_tick_in (moments_in came s) ∷ map (arrival face (moments_in came s)) came.datagrams
+no-events face came s none =
+    ap (λ xs. xs ++ (a_tick_in (moments_in came s) ∷ map (arrival face (moments_in came s)) came.datagrams))
+    (none-resumed 64 (reads came.reading s) (journal-reads came.reading s ∙ none))
 
 -- the gate after some events from a state on, the newest first
 abbrev gate_from : GateSetup → Gate → List EventIn → Gate
@@ -398,14 +411,16 @@ sent-halves at limit board face (came ∷ more) s last stands alike singly is fi
     let now : Standing = (half board face came s).standing in
     let one = in-one at face s.setup (wall_in came) s.gate (moments_in came s) came.datagrams (one-moments s last came more stands alike) singly.0 in
     let from = half-from board face came s in
+    let events = no-events face came s stands.no_journal in
     let rest = sent-halves at limit board (other_of face) more now (Some came.reading) (stands-half board face came more s last stands alike) (alike-next last came more alike)
     singly.1 (limit-half board at face came s ∙ is) fits.1 in
     tried-append at (half board face came s).acts (halves board (other_of face) more now).acts
     ∙ (ap (λ ds. ds ++ tried_at at (halves board (other_of face) more now).acts)
-    (tried-half board at face came s (stands.free at) (stands.none at) (subst (λ k. octets_in (sends_with s.setup at s.gate (events_in face came s)) ≤ k) (sym is) fits.0) ∙ one.sent_is)
+    (tried-half board at face came s (stands.free at) (stands.none at) (subst (λ k. octets_in (sends_with s.setup at s.gate (events_in face came s)) ≤ k) (sym is) fits.0)
+    ∙ (ap (sends_with s.setup at s.gate) events ∙ one.sent_is))
     ∙ ap (λ ds. sent_in at s.setup face (wall_in came) came.datagrams s.gate ++ ds)
     (rest ∙ (ap (λ (setup : GateSetup). sent_over at setup (other_of face) more now.gate) from.setup_is
-    ∙ ap (λ (g : Gate). sent_over at s.setup (other_of face) more g) (from.gate_is ∙ one.gate_is))))
+    ∙ ap (λ (g : Gate). sent_over at s.setup (other_of face) more g) (from.gate_is ∙ (ap (λ es. gate_from s.setup s.gate (after_events es [])) events ∙ one.gate_is)))))
 
 -- ---- a run
 
@@ -419,16 +434,26 @@ shows-all wall (came ∷ more) = (refl, later (wall_in came) more) where
 stands-first : (r : Run) → IsAsServe r → Stands (begins_at r) None
 stands-first r like = record {
   free = λ at. free-at r at (like.contacts at) (like.rates at);
-  none = λ at. none-waits r at;
-  time = by_face;
+  none = λ at. none-waits r at (ap (λ kept. cancels_at at (setup_of r) (marked_in (starts_journal r.file r.wall kept))) like.no_journal);
+  time = λ at. ap (λ (b : Box). b.1) (box-begins r at) ∙ by_face at;
+  no_journal = journal-begins r ∙ ap (λ kept. anew_in (starts_journal r.file r.wall kept)) like.no_journal;
 } where
-  by_face : (at : Face) → (face_of at (begins_at r)).time ≡ None
+  by_face : (at : Face) → (face_of at (starts_empty r.file r.kept r.wall)).time ≡ None
   by_face faces.Old = refl
   by_face faces.New = refl
+
+gate-first : (r : Run) → IsAsServe r → (begins_at r).gate ≡ starts_gate (setup_of r)
+gate-first r like =
+    (gate-begins r).gate_is
+    ∙ (ap (λ kept. gate_after_in (setup_of r) (after_events (closings (setup_of r) (same r.wall) (marked_in (starts_journal r.file r.wall kept))) [])) like.no_journal
+    ∙ sym (gate-start (setup_of r)))
 
 pub serves-alike : ServesAlike
 unfolding serve_turns
 serves-alike r like whole at =
-    sent-halves at (config_of r at).outbox r.board faces.Old r.comes (begins_at r) None (stands-first r like) like.one_clock like.singly (limit-at r at) (like.fits at)
+    tried-acts r at
+    ∙ (sent-halves at (config_of r at).outbox r.board faces.Old r.comes (begins_at r) None (stands-first r like) like.one_clock like.singly (limit-at r at) (like.fits at)
+    ∙ (ap (λ (setup : GateSetup). sent_over at setup faces.Old r.comes (begins_at r).gate) (gate-begins r).setup_is
+    ∙ (ap (sent_over at (setup_of r) faces.Old r.comes) (gate-first r like)
     ∙ (ap (λ (setup : GateSetup). sent_over at setup faces.Old r.comes (starts_gate setup)) like.setup
-    ∙ sym (sends-turns r.comes whole (serving_from (setup_named ((r.file).gateway).endpoint)) (clock_over r.wall r.comes) (shows-all r.wall r.comes) at))
+    ∙ sym (sends-turns r.comes whole (serving_from (setup_named ((r.file).gateway).endpoint)) (clock_over r.wall r.comes) (shows-all r.wall r.comes) at)))))

@@ -14,16 +14,17 @@ use Rattle.outbox.specs.Run as box
 use Rattle.outbox.specs.Run.{Call, puts, reads, sends}
 use Rattle.outbox.specs.Schedule.{ScheduleValue, contact_in, rate_of}
 use Rattle.gate_face.specs.Halves.{taking}
-use Rattle.gate_half.specs.Standing.{Standing, doing_at, face_of}
+use Rattle.gate_half.specs.Standing.{Standing, doing_at, face_of, starts_empty}
 use Rattle.gate_half.specs.Acts.{Acted, after_acts, stands}
 use Rattle.gate_half.specs.Parts as parts
 use Rattle.gate_half.specs.Parts.{sends_within}
 use Rattle.gate_half.specs.Half.{Came, answers, half, hears}
 use Rattle.gate_half.specs.Laws.{tried_at, waiting_at}
-use Rattle.gate_laws.specs.Runs.{Run, begins_at, events_in}
-use Rattle.gate_laws.specs.Faces.{AreAtOnce, GoesAtOnceInRuns, config_of, sends_with}
-use Rattle.gate_laws.proofs.BoxLemmas.{Box, IsApart, apart-shows, apart-then, apart-within, apart-writes, box-goes, box-hears, box_at, gone, half-is, half_calls, tried-append}
-use Rattle.gate_laws.proofs.FaceLemmas.{none-waits, schedule-half}
+use Rattle.gate_laws.specs.Runs.{Run, begins_at, events_in, marked_before, setup_of}
+use Rattle.gate_laws.specs.Faces.{AreAtOnce, GoesAtOnceInRuns, cancels_at, config_of, plan_of, sends_with}
+use Rattle.gate_laws.proofs.BoxLemmas.{Box, IsApart, apart-commits, apart-tells, apart-then, apart-within, box-goes, box-hears, box_at, gone, half-is, half_calls, tells, tried-append}
+use Rattle.gate_laws.proofs.FaceLemmas.{none-waits, schedule-at, schedule-half}
+use Rattle.gate_laws.proofs.StartLemmas.{box-begins}
 
 -- ---- an outbox whose link is open, and that has no pace
 
@@ -114,25 +115,27 @@ then-emptied at b x y first later = record {
 
 emptied-answers : (at : Face) (board : Bool) (came : Came) (s : Standing) → Goes (box_at at s).0 → IsEmptied at (box_at at s) (answers board came s)
 emptied-answers faces.Old board came s goes =
-    let old = parts.sends faces.Old came.old_failing s in
+    let c = parts.commits s in
+    let old = parts.sends faces.Old came.old_failing c.standing in
     let new = parts.sends faces.New came.new_failing old.standing in
-    let w = parts.writes (parts.ends_sending new.standing) in
-    let shown = parts.shows board came.show_fails w.standing in
-    emptied-then faces.Old (box_at faces.Old s) old (after_acts new.acts (after_acts w.acts shown))
-    (emptied-sends faces.Old came.old_failing s goes)
-    (apart-then faces.Old (box_at faces.Old old.standing) new (after_acts w.acts shown)
+    let told = tells board came new.standing in
+    then-emptied faces.Old (box_at faces.Old s) c (after_acts old.acts (after_acts new.acts told)) (apart-commits faces.Old s)
+    (emptied-then faces.Old (box_at faces.Old c.standing) old (after_acts new.acts told)
+    (emptied-sends faces.Old came.old_failing c.standing goes)
+    (apart-then faces.Old (box_at faces.Old old.standing) new told
     (apart-within (length ((face_of faces.New old.standing).outbox).waiting) faces.Old came.new_failing old.standing)
-    (apart-then faces.Old (box_at faces.Old new.standing) w shown (apart-writes faces.Old new.standing) (apart-shows faces.Old board came.show_fails w.standing)))
+    (apart-tells faces.Old board came new.standing)))
 emptied-answers faces.New board came s goes =
-    let old = parts.sends faces.Old came.old_failing s in
+    let c = parts.commits s in
+    let old = parts.sends faces.Old came.old_failing c.standing in
     let new = parts.sends faces.New came.new_failing old.standing in
-    let w = parts.writes (parts.ends_sending new.standing) in
-    let shown = parts.shows board came.show_fails w.standing in
-    let apart = apart-within (length ((face_of faces.Old s).outbox).waiting) faces.New came.old_failing s in
-    then-emptied faces.New (box_at faces.New s) old (after_acts new.acts (after_acts w.acts shown)) apart
-    (emptied-then faces.New (box_at faces.New old.standing) new (after_acts w.acts shown)
+    let told = tells board came new.standing in
+    let apart = apart-within (length ((face_of faces.Old c.standing).outbox).waiting) faces.New came.old_failing c.standing in
+    then-emptied faces.New (box_at faces.New s) c (after_acts old.acts (after_acts new.acts told)) (apart-commits faces.New s)
+    (then-emptied faces.New (box_at faces.New c.standing) old (after_acts new.acts told) apart
+    (emptied-then faces.New (box_at faces.New old.standing) new told
     (emptied-sends faces.New came.new_failing old.standing (subst (λ (b : Box). Goes b.0) (sym apart.box_is) goes))
-    (apart-then faces.New (box_at faces.New new.standing) w shown (apart-writes faces.New new.standing) (apart-shows faces.New board came.show_fails w.standing)))
+    (apart-tells faces.New board came new.standing)))
 
 -- ---- what is put, where it has no more octets than may wait
 
@@ -199,14 +202,22 @@ once-halves limit at board face (came ∷ more) s free is none =
     (limit-half board at face came s ∙ is) empty in
     (empty, (λ few. tried-half board at face came s free none (omega (arith, few, is))), rest)
 
+-- when it begins a face is set up as the file has it
 pub free-at : (r : Run) (at : Face) → (config_of r at).contacts ≡ [] → (config_of r at).rate ≡ None → IsFree ((face_of at (begins_at r)).outbox).schedule
-free-at r faces.Old none unpaced = record { windows = rw none refl; rates = rw none refl; rate = unpaced }
-free-at r faces.New none unpaced = record { windows = rw none refl; rates = rw none refl; rate = unpaced }
+free-at r at none unpaced = subst IsFree (sym (schedule-at r at)) (by_face at none unpaced) where
+  by_face : (at : Face) → (config_of r at).contacts ≡ [] → (config_of r at).rate ≡ None → IsFree (plan_of r at)
+  by_face faces.Old none unpaced = record { windows = rw none refl; rates = rw none refl; rate = unpaced }
+  by_face faces.New none unpaced = record { windows = rw none refl; rates = rw none refl; rate = unpaced }
 
 pub limit-at : (r : Run) (at : Face) → ((face_of at (begins_at r)).outbox).limit ≡ (config_of r at).outbox
-limit-at r faces.Old = refl
-limit-at r faces.New = refl
+limit-at r at =
+    ap (λ (b : Box). b.0.limit) (box-begins r at)
+    ∙ (limit-run (map puts (cancels_at at (setup_of r) (marked_before r))) (face_of at (starts_empty r.file r.kept r.wall)).outbox ∙ by_face at)
+  where
+    by_face : (at : Face) → ((face_of at (starts_empty r.file r.kept r.wall)).outbox).limit ≡ (config_of r at).outbox
+    by_face faces.Old = refl
+    by_face faces.New = refl
 
 pub goes-at-once-in-runs : GoesAtOnceInRuns
-goes-at-once-in-runs r at none unpaced =
-    once-halves (config_of r at).outbox at r.board faces.Old r.comes (begins_at r) (free-at r at none unpaced) (limit-at r at) (none-waits r at)
+goes-at-once-in-runs r at none unpaced unmarked =
+    once-halves (config_of r at).outbox at r.board faces.Old r.comes (begins_at r) (free-at r at none unpaced) (limit-at r at) (none-waits r at unmarked)

@@ -8,9 +8,8 @@ use Rattle.gateway_core.specs.declared.effects.FaceNote.{FaceNote}
 use Rattle.gateway_core.specs.declared.note.GateNote.{GateNote}
 use Rattle.gateway_core.specs.declared.note.GateNote.TheVariants as notes
 use Rattle.gateway_core.specs.Gate.{EventIn, gate_after_in, gate_in}
-use Rattle.gate_half.specs.Setup.{setup_in}
 use Rattle.gate_half.specs.Steps.{opens_in}
-use Rattle.gate_laws.specs.Runs.{Run, events_of}
+use Rattle.gate_laws.specs.Runs.{Run, events_of, setup_of}
 
 -- a note says that a session of this number was sent, failed, or was cancelled
 abbrev pub IsEndOf : ℕ → Note → Type 0
@@ -47,7 +46,7 @@ abbrev pub EndsAreNoted : Type 0
 EndsAreNoted =
     (r : Run) (later earlier : List EventIn) (event : EventIn)
     → events_of r ≡ later ++ event ∷ earlier → (at : Face) (n : ℕ)
-    → opens_in (gate_after_in (setup_in r.file r.wall) earlier) at n ≡ true
-    → opens_in (gate_after_in (setup_in r.file r.wall) (event ∷ earlier)) at n ≡ false
+    → opens_in (gate_after_in (setup_of r) earlier) at n ≡ true
+    → opens_in (gate_after_in (setup_of r) (event ∷ earlier)) at n ≡ false
     → TellEnd at n
-    (gate_in (setup_in r.file r.wall) (gate_after_in (setup_in r.file r.wall) earlier) event).effects.notes
+    (gate_in (setup_of r) (gate_after_in (setup_of r) earlier) event).effects.notes

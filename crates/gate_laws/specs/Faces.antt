@@ -16,11 +16,13 @@ use Rattle.outbox.specs.Outbox.{octets_in}
 use Rattle.outbox.specs.Run.{Call, kept, longest, puts, reads}
 use Rattle.outbox.specs.Schedule.{ScheduleValue, contact_at, rate_of}
 use Rattle.gate_face.specs.Schedules.{schedule_in}
-use Rattle.gate_half.specs.Standing.{Standing, face_of}
+use Rattle.journal_file.specs.declared.kept.Mark.{Mark}
+use Rattle.gate_half.specs.Standing.{Standing, face_of, starts_empty}
+use Rattle.gate_half.specs.Starts.{receiver_ends}
 use Rattle.gate_half.specs.Half.{Came, half}
 use Rattle.gate_half.specs.Laws.{tried_at, waiting_at}
 use Rattle.gate_half.specs.Run.{halves}
-use Rattle.gate_laws.specs.Runs.{Run, acts_of, begins_at, events_in, moments_in, stands_at}
+use Rattle.gate_laws.specs.Runs.{Run, acts_of, begins_at, events_in, marked_before, moments_in, setup_of, stands_at}
 
 -- ---- what is put into a face's outbox
 
@@ -54,6 +56,19 @@ accepted_over at board face (came ∷ more) s =
     accepted_in at face came s
     ++ accepted_over at board (other_of face) more (half board face came s).standing
 
+-- before the first half: the cancels of the sessions that are closed then
+abbrev pub cancels_at : Face → GateSetup → List Mark → List (List ℕ)
+cancels_at at setup [] = []
+cancels_at at setup (mark ∷ marks) =
+    if_same mark.face at
+    (receiver_ends (at_face setup.parties mark.face) mark.session ∷ cancels_at at setup marks)
+    (cancels_at at setup marks)
+
+abbrev pub accepted_first : Face → Run → List (List ℕ)
+accepted_first at r =
+    kept (face_of at (starts_empty r.file r.kept r.wall)).outbox
+    (map puts (cancels_at at (setup_of r) (marked_before r)))
+
 -- ---- what goes out
 
 -- what went out at a face in a run, sent or lost, and after it what still waits, is what was put
@@ -62,7 +77,7 @@ abbrev pub GoesOnceInOrder : Type 0
 GoesOnceInOrder =
     (r : Run) (at : Face)
     → tried_at at (acts_of r) ++ waiting_at at (stands_at r)
-    ≡ accepted_over at r.board Old r.comes (begins_at r)
+    ≡ accepted_first at r ++ accepted_over at r.board Old r.comes (begins_at r)
 
 -- ---- without contacts and pace
 
@@ -82,10 +97,12 @@ AreAtOnce limit at board face (came ∷ more) s =
     ≡ sends_with s.setup at s.gate (events_in face came s))
     × AreAtOnce limit at board (other_of face) more (half board face came s).standing
 
--- so it is in each half of a run, at a face of which the file has no contacts and no rate
+-- so it is in each half of a run, at a face of which the file has no contacts and no rate, where no
+-- session of the face is marked when the run begins
 abbrev pub GoesAtOnceInRuns : Type 0
 GoesAtOnceInRuns =
     (r : Run) (at : Face) → (config_of r at).contacts ≡ [] → (config_of r at).rate ≡ None
+    → cancels_at at (setup_of r) (marked_before r) ≡ []
     → AreAtOnce (config_of r at).outbox at r.board Old r.comes (begins_at r)
 
 -- ---- contact

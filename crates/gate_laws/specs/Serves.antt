@@ -10,11 +10,10 @@ use Rattle.outbox.specs.Outbox.{first_of, octets_in}
 use Rattle.serve_run.specs.Outside.{ClockAhead, LinkAhead, Outside}
 use Rattle.serve_run.specs.Serve.{serve_turns, setup_named}
 use Rattle.serve_run.specs.Turns.{Made}
-use Rattle.gate_half.specs.Setup.{setup_in}
 use Rattle.gate_half.specs.Standing.{Standing}
 use Rattle.gate_half.specs.Half.{Came, half}
 use Rattle.gate_half.specs.Laws.{tried_at}
-use Rattle.gate_laws.specs.Runs.{Run, acts_of, begins_at, events_in}
+use Rattle.gate_laws.specs.Runs.{Run, acts_of, begins_at, events_in, setup_of}
 use Rattle.gate_laws.specs.Faces.{config_of, sends_with}
 
 -- ---- a run that is as one of `serve`
@@ -45,11 +44,12 @@ FitsInEach limit at board face (came ∷ more) s =
     (octets_in (sends_with s.setup at s.gate (events_in face came s)) ≤ limit)
     × FitsInEach limit at board (other_of face) more (half board face came s).standing
 
--- The run is set up as `serve` is: the numbers of its engines, the first sessions, how they send, and the
--- cut. Its clocks are one, one datagram comes to a half at most, and nothing is dropped. Its faces have no
+-- No journal is kept. The run is set up as `serve` is: the numbers of its engines, the first sessions, how
+-- they send, and the cut. Its clocks are one, one datagram comes to a half at most, and nothing is dropped. Its faces have no
 -- contacts and no rate.
 pub record IsAsServe (r : Run) : Type 0 where
-  pub setup : setup_in r.file r.wall ≡ setup_named ((r.file).gateway).endpoint
+  pub no_journal : r.kept ≡ None
+  pub setup : setup_of r ≡ setup_named ((r.file).gateway).endpoint
   pub contacts : (at : Face) → (config_of r at).contacts ≡ []
   pub rates : (at : Face) → (config_of r at).rate ≡ None
   pub one_clock : ClocksAreOne r.comes

@@ -10,7 +10,8 @@ ghost use Rattle.gate_laws.specs.Faces.{TimeIsHeld, TimeIsOfHalf, TimeRises};
 ghost use Rattle.gate_laws.specs.Ticks.{TicksOnce};
 ghost use Rattle.gate_laws.specs.Serves.{ServesAlike};
 
-/// The gate of a run is what its ticks and its datagrams make of a gate at its beginning.
+/// The gate of a run is what its ticks, its datagrams and the blocks of earlier runs make of a gate at its
+/// beginning.
 pub fn gate_is_of_events()
     ensures { GateIsOfEvents }
 {}
@@ -43,9 +44,12 @@ pub fn open_are_own()
     ensures { OpenAreOwn }
 {
     gateway_core::laws::opens_by_beginning();
+    gateway_core::laws::faces_are_engines_in();
+    ltp_engine::laws::hands_up_red_parts();
 }
 
-/// Each of those that the run keeps as its own is open, and it stands there once.
+/// Each of those that the run keeps as its own is open, and it stands there once, where each block that
+/// earlier runs kept can be sent.
 pub fn own_are_open()
     ensures open { OwnAreOpen }
     ensures once { OwnAreOnce }
@@ -64,15 +68,16 @@ pub fn ends_are_noted()
 // ---- a face
 
 /// What went out at a face in a run, sent or lost, and after it what still waits, is what was put there
-/// and not dropped: each goes out once, in order.
+/// and not dropped: each goes out once, in order. What was put first are the cancels of the sessions that
+/// were closed when the run began.
 pub fn goes_once_in_order()
     ensures { GoesOnceInOrder }
 {
     outbox::laws::goes_out_in_order();
 }
 
-/// Where the file has no contacts and no rate for a face, nothing waits there after a half, and what the
-/// half's events send goes out in it.
+/// Where the file has no contacts and no rate for a face, and no session of the face is marked when the
+/// run begins, nothing waits there after a half, and what the half's events send goes out in it.
 pub fn goes_at_once_in_runs()
     ensures { GoesAtOnceInRuns }
 {}
@@ -123,8 +128,9 @@ pub fn ticks_once()
 
 // ---- as `serve`
 
-/// A run that is set up as `serve` is sends at each face what `serve` sends, where its clocks are one,
-/// one datagram comes to a half at most, nothing is dropped, and its faces have no contacts and no rate.
+/// A run without a journal that is set up as `serve` is sends at each face what `serve` sends, where its
+/// clocks are one, one datagram comes to a half at most, nothing is dropped, and its faces have no contacts
+/// and no rate.
 pub fn serves_alike()
     ensures { ServesAlike }
 {}

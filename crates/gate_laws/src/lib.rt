@@ -1,8 +1,9 @@
 //! Laws over whole runs of the gateway that an operator runs, as `gate_half` defines them, whatever
 //! comes to their halves.
 //!
-//! `specs/Runs` says what happens to the gate of a run: in each half time passes, and then the
-//! datagrams come that were polled, all at the moments of the half's reading. So what holds of a
+//! `specs/Runs` says what happens to the gate of a run: before the first half the sessions are closed that
+//! earlier runs had claimed in part; in each half what waits of earlier runs is begun, time passes, and then
+//! the datagrams come that were polled, all at the moments of the half's reading. So what holds of a
 //! gateway's events holds of a run. There is no code here.
 #![tactic(auto)]
 

@@ -364,7 +364,7 @@ next-arrived p e s now = by_own (s.originator == p.own) (is_used p e s.session) 
   by_own false used true = by_receiver (receiver_answers p.policy (place_of p e s.session) (find s.session e.receivers) s.content now)
   by_own false used false = refl
 
-next-told : (p : Party) (e : Engine) (read : Result SegmentValue (ℕ × SegmentCause)) (now : ℕ) → (datagram_step p e read now).engine.next ≡ e.next
+pub next-told : (p : Party) (e : Engine) (read : Result SegmentValue (ℕ × SegmentCause)) (now : ℕ) → (datagram_step p e read now).engine.next ≡ e.next
 unfolding datagram_step
 next-told p e (Err refusal) now = refl
 next-told p e (Ok s) now = by_reply (arrives p e s now) (next-arrived p e s now) where
@@ -373,7 +373,7 @@ next-told p e (Ok s) now = by_reply (arrives p e s now) (next-arrived p e s now)
   by_reply None is = refl
   by_reply (Some reply) is = is
 
-next-does : (at face : Face) (g : Gate) (step : EngineStep) → step.engine.next ≡ (at_face g.engines face).next
+pub next-does : (at face : Face) (g : Gate) (step : EngineStep) → step.engine.next ≡ (at_face g.engines face).next
     → (at_face (does_at face g step).gate.engines at).next ≡ (at_face g.engines at).next
 next-does faces.Old faces.Old g step is = is
 next-does faces.Old faces.New g step is = refl

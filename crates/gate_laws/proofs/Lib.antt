@@ -15,3 +15,5 @@ pub mod ExactLemmas
 pub mod WaitLemmas
 pub mod MomentLemmas
 pub mod ServeLemmas
+pub mod KeepsLemmas
+pub mod NumberLemmas

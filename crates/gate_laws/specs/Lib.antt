@@ -5,3 +5,4 @@ pub mod Faces
 pub mod Ticks
 pub mod Ends
 pub mod Serves
+pub mod Keeps

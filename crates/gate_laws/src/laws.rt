@@ -9,6 +9,7 @@ ghost use Rattle.gate_laws.specs.Faces.{KeepsPaceInRuns};
 ghost use Rattle.gate_laws.specs.Faces.{TimeIsHeld, TimeIsOfHalf, TimeRises};
 ghost use Rattle.gate_laws.specs.Ticks.{TicksOnce};
 ghost use Rattle.gate_laws.specs.Serves.{ServesAlike};
+ghost use Rattle.gate_laws.specs.Keeps.{KeepsBeforeItSends, NumbersAreKept, NumbersGoOn};
 
 /// The gate of a run is what its ticks, its datagrams and the blocks of earlier runs make of a gate at its
 /// beginning.
@@ -134,3 +135,24 @@ pub fn ticks_once()
 pub fn serves_alike()
     ensures { ServesAlike }
 {}
+
+// ---- the journal
+
+/// In each half of a run, at each datagram that goes out, sent or lost, what the acts so far say is kept is
+/// what the run knows after all steps of that half, whatever they say of the greatest id.
+pub fn keeps_before_it_sends()
+    ensures { KeepsBeforeItSends }
+{}
+
+/// No session that begins in a run has a number that earlier runs had reserved.
+pub fn numbers_go_on()
+    ensures { NumbersGoOn }
+{}
+
+/// After all steps of a half the number of a face's next session isn't above what is reserved, so each
+/// number that was given is below that when a datagram goes out.
+pub fn numbers_are_kept()
+    ensures { NumbersAreKept }
+{
+    gate_records::laws::numbers_are_reserved();
+}

@@ -25,14 +25,13 @@ use Rattle.gate_half.specs.Journals.{Journalled, anew_in, is_large, kept_in, pas
 use Rattle.gate_half.specs.Standing.{Standing, counting, doing_at, face_of, wall_of}
 use Rattle.gate_half.specs.Starts.{starts_at}
 use Rattle.gate_half.specs.Steps.{happened_in, happens, recorded_with}
-use Rattle.gate_half.specs.Acts.{Act, sent, lost, said, shown, committed, installed, Acted, after_acts, stands}
+use Rattle.gate_half.specs.Acts.{Act, Acted, after_acts, stands}
 use Rattle.gate_half.specs.Parts as parts
 use Rattle.gate_half.specs.Parts.{arrives_all, resumed, resumes_within, sends_within}
 use Rattle.gate_half.specs.Half.{Came, half, hears}
 use Rattle.gate_half.specs.Run.{halves, recovers}
 use Rattle.gate_laws.specs.Runs.{Run, acts_of, begins_at, stands_at}
-use Rattle.gate_laws.specs.Keeps.{KeepsBeforeItSends, SayAtDatagrams, SaySame, kept_by, kept_from, kept_with, known_after}
-use Rattle.gate_laws.proofs.BoxLemmas.{tells}
+use Rattle.gate_laws.specs.Keeps.{KeepsBeforeItSends, SayAtDatagrams, SaySame, kept_by, kept_from, kept_with}
 use Rattle.gate_laws.proofs.JournalLemmas.{journal-answers, journal-begins, journal-happens, journal-polled, journal-reads, journal-resumed, journal-sent}
 
 -- ---- whatever is said of the greatest id

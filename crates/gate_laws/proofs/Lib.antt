@@ -17,3 +17,4 @@ pub mod MomentLemmas
 pub mod ServeLemmas
 pub mod KeepsLemmas
 pub mod NumberLemmas
+pub mod PieceLemmas

@@ -1,16 +1,14 @@
 -- The numbers of a run's sessions: they rise from what earlier runs reserved, and stay within what is reserved.
 
-use Rattle.std.proofs.Common.{◌≡◌, ℕ, ◌+◌, ◌^◌, ◌≤◌, Bool, true, false, nat_le, nat_lt, ◌==◌, List, [], ◌∷◌, ◌++◌, length, Option, None, Some, ◌⊎◌, inl, inr, if◌then◌else◌, refl, ap, ◌∙◌, sym, subst, arith, unwrap_or}
+use Rattle.std.proofs.Common.{◌≡◌, ℕ, ◌+◌, ◌≤◌, Bool, true, false, nat_le, nat_lt, ◌==◌, List, [], ◌∷◌, ◌++◌, length, Option, None, Some, ◌⊎◌, inl, inr, if◌then◌else◌, refl, ap, ◌∙◌, sym, subst, arith, unwrap_or}
 use Rattle.std.proofs.lemmas.Bool.Decides.{nat_tests}
-use Rattle.ltp_session.specs.Sender.{begin}
-use Rattle.ltp_session.specs.Engine.{Engine, EngineStep, Party, SubmitFault, UpValue, block_empty, block_too_large, numbers_spent, senders_busy, submit_fault, submit_step, submits, submits_unless, tick_step}
+use Rattle.ltp_session.specs.Engine.{EngineStep, SubmitFault, UpValue, block_empty, block_too_large, numbers_spent, senders_busy, submit_fault, submit_step, submits, submits_unless, tick_step}
 use Rattle.gate_cases.specs.declared.face.Face.{Face}
 use Rattle.gate_cases.specs.declared.face.Face.TheVariants as faces
 use Rattle.gate_cases.specs.declared.judged.Judged.{Judged}
 use Rattle.gate_cases.specs.declared.report.AskedReport.{AskedReport}
 use Rattle.gate_cases.specs.Bundles.{status_bundle}
 use Rattle.gate_cases.specs.Faces.{other_of}
-use Rattle.gate_config.specs.declared.file.FaceConfig.{FaceConfig}
 use Rattle.journal_file.specs.Values.{KeptValue}
 use Rattle.journal_file.specs.Keeping.{greater}
 use Rattle.gateway_core.specs.declared.begun.Begun.{Begun}
@@ -22,13 +20,13 @@ use Rattle.gateway_core.specs.Opens.{IsBegunAt}
 use Rattle.gate_records.specs.Keeping.{NUMBERS}
 use Rattle.gate_records.specs.Records.{after_reserving}
 use Rattle.gate_records.specs.Laws.{NumbersAreReserved}
-use Rattle.gate_half.specs.Setup.{first_in, first_session, setup_in}
+use Rattle.gate_half.specs.Setup.{first_session, setup_in}
 use Rattle.gate_half.specs.Journals.{Journalled, kept_in}
 use Rattle.gate_half.specs.Standing.{Standing}
 use Rattle.gate_half.specs.Parts as parts
-use Rattle.gate_half.specs.Half.{Came, answers, half, hears}
+use Rattle.gate_half.specs.Half.{Came, half, hears}
 use Rattle.gate_laws.specs.Runs.{Run, after_events, begins_at, events_in, events_of, first_events, setup_of, stands_at}
-use Rattle.gate_laws.specs.Keeps.{NumbersAreKept, NumbersGoOn, known_after, reserved_before}
+use Rattle.gate_laws.specs.Keeps.{NumbersAreKept, NumbersGoOn, reserved_before}
 use Rattle.gate_laws.proofs.BeginLemmas.{next-does, next-told}
 use Rattle.gate_laws.proofs.GateLemmas.{Core, IsGateOf, core, core-answers, gate-step, keeps-half, keeps-halves}
 use Rattle.gate_laws.proofs.StartLemmas.{gate-begins}

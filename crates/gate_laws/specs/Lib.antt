@@ -6,3 +6,4 @@ pub mod Ticks
 pub mod Ends
 pub mod Serves
 pub mod Keeps
+pub mod Pieces

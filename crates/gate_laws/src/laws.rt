@@ -10,6 +10,7 @@ ghost use Rattle.gate_laws.specs.Faces.{TimeIsHeld, TimeIsOfHalf, TimeRises};
 ghost use Rattle.gate_laws.specs.Ticks.{TicksOnce};
 ghost use Rattle.gate_laws.specs.Serves.{ServesAlike};
 ghost use Rattle.gate_laws.specs.Keeps.{KeepsBeforeItSends, NumbersAreKept, NumbersGoOn};
+ghost use Rattle.gate_laws.specs.Pieces.{PiecesAreKept};
 
 /// The gate of a run is what its ticks, its datagrams and the blocks of earlier runs make of a gate at its
 /// beginning.
@@ -155,4 +156,12 @@ pub fn numbers_are_kept()
     ensures { NumbersAreKept }
 {
     gate_records::laws::numbers_are_reserved();
+}
+
+/// Each piece that began with a step of a run is pending under an id of its own, until a step in which its
+/// session ended.
+pub fn pieces_are_kept()
+    ensures { PiecesAreKept }
+{
+    gate_records::laws::pieces_are_pending();
 }

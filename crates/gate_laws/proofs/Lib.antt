@@ -18,3 +18,4 @@ pub mod ServeLemmas
 pub mod KeepsLemmas
 pub mod NumberLemmas
 pub mod PieceLemmas
+pub mod MarkLemmas

@@ -7,3 +7,4 @@ pub mod Ends
 pub mod Serves
 pub mod Keeps
 pub mod Pieces
+pub mod Marks

@@ -11,6 +11,7 @@ ghost use Rattle.gate_laws.specs.Ticks.{TicksOnce};
 ghost use Rattle.gate_laws.specs.Serves.{ServesAlike};
 ghost use Rattle.gate_laws.specs.Keeps.{KeepsBeforeItSends, NumbersAreKept, NumbersGoOn};
 ghost use Rattle.gate_laws.specs.Pieces.{PiecesAreKept};
+ghost use Rattle.gate_laws.specs.Marks.{MarksAreKept};
 
 /// The gate of a run is what its ticks, its datagrams and the blocks of earlier runs make of a gate at its
 /// beginning.
@@ -164,4 +165,14 @@ pub fn pieces_are_kept()
     ensures { PiecesAreKept }
 {
     gate_records::laws::pieces_are_pending();
+}
+
+/// A session of the peer on which a report went out before it was handed up is marked, until a step with
+/// which it was over, or 1,024 later marks of its face.
+pub fn marks_are_kept()
+    ensures { MarksAreKept }
+{
+    gate_records::laws::report_is_marked();
+    gate_records::laws::mark_stays();
+    gate_records::laws::only_over_is_cleared();
 }

@@ -19,3 +19,4 @@ pub mod KeepsLemmas
 pub mod NumberLemmas
 pub mod PieceLemmas
 pub mod MarkLemmas
+pub mod ResumeLemmas

@@ -8,3 +8,4 @@ pub mod Serves
 pub mod Keeps
 pub mod Pieces
 pub mod Marks
+pub mod Resumes

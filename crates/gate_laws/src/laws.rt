@@ -12,6 +12,7 @@ ghost use Rattle.gate_laws.specs.Serves.{ServesAlike};
 ghost use Rattle.gate_laws.specs.Keeps.{KeepsBeforeItSends, NumbersAreKept, NumbersGoOn};
 ghost use Rattle.gate_laws.specs.Pieces.{PiecesAreKept};
 ghost use Rattle.gate_laws.specs.Marks.{MarksAreKept};
+ghost use Rattle.gate_laws.specs.Resumes.{ResumesWhatIsKept};
 
 /// The gate of a run is what its ticks, its datagrams and the blocks of earlier runs make of a gate at its
 /// beginning.
@@ -176,3 +177,9 @@ pub fn marks_are_kept()
     gate_records::laws::mark_stays();
     gate_records::laws::only_over_is_cleared();
 }
+
+/// What a half of a run begins of earlier runs are blocks that are pending, each once in the half; nothing
+/// is recorded with that, and the same is kept.
+pub fn resumes_what_is_kept()
+    ensures { ResumesWhatIsKept }
+{}

@@ -20,6 +20,7 @@ use Rattle.gate_events.specs.Counts.{begun_counted, event_counted}
 use Rattle.gate_events.specs.Log.{after_saying_all}
 use Rattle.gate_face.specs.Contacts.{told_at}
 use Rattle.gate_face.specs.Halves.{full_event, lost_event}
+use Rattle.gate_half.specs.Journals.{Journalled}
 use Rattle.gate_half.specs.Standing.{Standing, face_of, saying, saying_all, saying_of, wall_of}
 use Rattle.gate_half.specs.Steps.{putting_all, telling}
 use Rattle.gate_half.specs.Parts.{reading_clocks, troubled}
@@ -73,9 +74,10 @@ pub record Rest : Type 0 where
   pub moments : Moments
   pub started : Bool
   pub shown : Option ℕ
+  pub journal : Option Journalled
 
 abbrev pub rest_of : Standing → Rest
-rest_of s = record { setup = s.setup; gate = s.gate; moments = s.moments; started = s.started; shown = s.shown }
+rest_of s = record { setup = s.setup; gate = s.gate; moments = s.moments; started = s.started; shown = s.shown; journal = s.journal }
 
 pub rest-says-of : (face : Face) (what : Option LinkEvent) (s : Standing) → rest_of (saying_of face what s) ≡ rest_of s
 rest-says-of face None s = refl

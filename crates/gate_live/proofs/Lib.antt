@@ -1,3 +1,6 @@
 pub mod KeptLemmas
 pub mod ShowsLemmas
 pub mod PartLemmas
+pub mod ResumeLemmas
+pub mod CloseLemmas
+pub mod StartLemmas

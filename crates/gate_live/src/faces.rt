@@ -89,7 +89,7 @@ impl Faces {
     }
 
     /// A datagram waits at a face from here on, or is dropped.
-    fn put(&mut self, face: Face, datagram: Octets) -> Result<(), AllocError>
+    pub fn put(&mut self, face: Face, datagram: Octets) -> Result<(), AllocError>
         ensures { OnOk result (self.new
             ≡ with_face self.old face (putting datagram (at_face self.old face))) }
     {

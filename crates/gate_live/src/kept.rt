@@ -2,17 +2,20 @@
 
 ghost use Rattle.std.specs.Prelude.{◌≡◌, ◌<◌, ◌^◌, ◌++◌, [], false, IfOk, OnOk};
 ghost use Rattle.gate_face.specs.Faces.{starts_face};
-ghost use Rattle.gate_face.specs.Halves.{taking};
+ghost use Rattle.gate_face.specs.Halves.{putting, taking};
 ghost use Rattle.gate_face.specs.Schedules.{HasPlan};
 ghost use Rattle.gate_log.specs.Lines.{IsNamed};
 ghost use Rattle.gate_metrics.specs.Counting.{none_counted};
 ghost use Rattle.gateway_core.specs.Gate.{at_face};
 ghost use Rattle.outbox.specs.FaceTime.{moment_at};
 ghost use Rattle.outbox.specs.Outbox.{next_of};
+ghost use Rattle.gate_half.specs.Steps.{recorded_with};
 ghost use Rattle.gate_live.specs.Telling as spec;
 
 use crate::faces::Faces;
+use crate::journal::Journal;
 use crate::opened::Opened;
+use crate::recording;
 use endpoint::Octets;
 use gate_cases::Face;
 use gate_config::GateFile;
@@ -41,7 +44,7 @@ impl Model for Kept {
 }
 
 impl Kept {
-    ghost use Rattle.gate_live.specs.Shows.{opens_of};
+    ghost use Rattle.gate_live.specs.Shows.{did, opens_of};
 
     /// Before the first half, at whose reading the wall clock shows this.
     pub fn new(alloc: Global, file: &GateFile, wall: u64) -> Result<Kept, AllocError>
@@ -107,6 +110,22 @@ impl Kept {
         self.log.count(face, what);
     }
 
+    /// What a step of the gate answered is recorded, where a journal is kept.
+    pub fn record(
+        &self,
+        alloc: Global,
+        journal: &mut Option<Journal>,
+        wall: u64,
+        answer: &GateAnswer,
+        gate: &Gateway,
+    ) -> Result<(), AllocError>
+        requires { gate.now.spent ≡ false }
+        ensures { OnOk result (journal.new
+            ≡ recorded_with (did wall (self.now).own gate.now answer.now) journal.old) }
+    {
+        recording::record(alloc, journal, wall, &self.own, answer, gate)
+    }
+
     /// What a step of the gate answered: what it sends waits, the sessions that it began are counted,
     /// and its notes are told.
     pub fn tell(
@@ -133,6 +152,13 @@ impl Kept {
             &opened,
             &mut self.log,
         )
+    }
+
+    /// A datagram waits at a face from here on, or is dropped.
+    pub fn put(&mut self, face: Face, datagram: Octets) -> Result<(), AllocError>
+        ensures { OnOk result (self.new ≡ spec.does_at face (putting datagram) self.old) }
+    {
+        self.faces.put(face, datagram)
     }
 
     /// Takes out the datagram that may go next at a face, if one may.

@@ -1,8 +1,9 @@
 //! The gateway at work.
 
-ghost use Rattle.std.specs.Prelude.{◌≡◌, ◌<◌, ◌^◌, false, IfOk};
-ghost use Rattle.gate_half.specs.Setup.{IsRunnable};
-ghost use Rattle.gate_half.specs.Standing.{starts_at};
+ghost use Rattle.std.specs.Prelude.{◌≡◌, ◌<◌, ◌^◌, None, false, option_map, IfOk};
+ghost use Rattle.journal_file.specs.Ties.{kept_of};
+ghost use Rattle.gate_half.specs.Setup.{IsRunnable, used_up};
+ghost use Rattle.gate_half.specs.Starts.{starts_at};
 ghost use Rattle.gate_live.specs.Shows.{IsWhole};
 
 use crate::work::Work;
@@ -10,6 +11,7 @@ use endpoint::Octets;
 use gate_cases::Face;
 use gate_config::GateFile;
 use gate_parts::HalfParts;
+use journal_file::{Kept, Record};
 use outbox::Reading;
 use std::alloc::{AllocError, Global};
 
@@ -22,14 +24,23 @@ pub struct LiveGate {
 }
 
 impl LiveGate {
-    /// A gateway before its first half, at whose reading the wall clock shows this.
-    pub fn new(alloc: Global, file: &GateFile, wall: u64) -> Result<LiveGate, AllocError>
+    /// A gateway before its first half, at whose reading the wall clock shows this. Where a journal is
+    /// kept, it goes on from what earlier runs kept in it. [`used_up`](crate::used_up) tells whether
+    /// session numbers are left.
+    pub fn new(
+        alloc: Global,
+        file: &GateFile,
+        kept: Option<Kept>,
+        wall: u64,
+    ) -> Result<LiveGate, AllocError>
         requires runnable { IsRunnable file.now }
+        requires left { used_up file.now (option_map kept_of kept) wall ≡ None }
         requires small { wall < 2 ^ 62 }
-        ensures { IfOk result (λ live.
-            ⟦<LiveGate as HalfParts>⟧.Shows live (starts_at file.now wall)) }
+        ensures { IfOk result (λ live. ⟦<LiveGate as HalfParts>⟧.Shows live
+            (starts_at file.now (option_map kept_of kept) wall)) }
     {
-        let work = Work::new(alloc, file, wall)?;
+        let mut work = Work::new(alloc, file, kept, wall)?;
+        work.close_all(file.old.peer_engine, file.new.peer_engine)?;
         Ok(LiveGate { work, spent: false })
     }
 }
@@ -45,6 +56,16 @@ impl HalfParts for LiveGate {
         }
         self.spent = true;
         self.work.read(reading)?;
+        self.spent = false;
+        Ok(())
+    }
+
+    fn resume(&mut self) -> Result<(), AllocError> {
+        if self.spent {
+            return Err(AllocError);
+        }
+        self.spent = true;
+        self.work.resume()?;
         self.spent = false;
         Ok(())
     }
@@ -77,6 +98,40 @@ impl HalfParts for LiveGate {
         self.work.poll_failed(face)?;
         self.spent = false;
         Ok(())
+    }
+
+    fn reserve(&mut self) -> Result<(), AllocError> {
+        if self.spent {
+            return Err(AllocError);
+        }
+        self.spent = true;
+        self.work.reserve()?;
+        self.spent = false;
+        Ok(())
+    }
+
+    fn has_records(&self) -> bool {
+        self.work.has_records()
+    }
+
+    fn records(&self) -> Result<Vec<Record<'_>>, AllocError> {
+        self.work.records()
+    }
+
+    fn committed(&mut self, octets: usize) {
+        self.work.committed(octets);
+    }
+
+    fn is_large(&self) -> bool {
+        self.work.is_large()
+    }
+
+    fn kept(&self) -> Option<&Kept> {
+        self.work.kept()
+    }
+
+    fn installed(&mut self, place: usize) {
+        self.work.installed(place);
     }
 
     fn waiting(&self, face: Face) -> usize {

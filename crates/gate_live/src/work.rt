@@ -1,26 +1,32 @@
 //! The gateway at work, while memory lasts.
 
-ghost use Rattle.std.specs.Prelude.{◌≡◌, ◌<◌, ◌^◌, ◌++◌, IfOk, OnOk, Some, flat_map, length};
+ghost use Rattle.std.specs.Prelude.{◌≡◌, ◌==◌, ◌<◌, ◌^◌, ◌++◌, not, map, option_map, IfOk, IfSome, OnOk, None, Some, flat_map, length};
 ghost use Rattle.std.specs.String.{string_bytes};
 ghost use Rattle.gate_log.specs.declared.event.Event.TheVariants as events;
 ghost use Rattle.gate_log.specs.Lines.{line_of};
 ghost use Rattle.gate_metrics.specs.Text.{metrics_text};
 ghost use Rattle.gate_face.specs.Halves.{taking};
 ghost use Rattle.outbox.specs.Outbox.{next_of};
-ghost use Rattle.gate_half.specs.Setup.{IsRunnable};
-ghost use Rattle.gate_half.specs.Standing.{Standing, doing_at, face_of, saying, starts_at, wall_of};
+ghost use Rattle.gate_half.specs.Setup.{IsRunnable, used_up};
+ghost use Rattle.gate_half.specs.Journals.{anew_in, is_large, kept_in, past_commit, records_in};
+ghost use Rattle.journal_file.specs.Length.{entries_length, gate_of};
+ghost use Rattle.journal_file.specs.Ties.{kept_of, record_of};
+ghost use Rattle.gate_half.specs.Standing.{Standing, doing_at, face_of, saying, starts_empty, wall_of};
 ghost use Rattle.gate_half.specs.Parts as parts;
 ghost use Rattle.gateway_core.specs.Moments.{AreMoments, moments_value};
 ghost use Rattle.gateway_core.specs.declared.moments.Moments.TheVariants as moments;
 
+use crate::journal::Journal;
 use crate::kept::Kept;
-use crate::setup::{gate_of, party_in};
+use crate::recording;
+use crate::setup::{gate_of, journal_of, new_reserved, old_reserved, party_in};
 use endpoint::Octets;
 use gate_cases::Face;
 use gate_config::GateFile;
 use gate_log::{Event, LinkEvent, write_line};
 use gate_metrics::{Counted, FaceGauges, Gauges, write_metrics};
-use gateway_core::{Gateway, Moments};
+use gateway_core::{GateAnswer, Gateway, Moments};
+use journal_file::{Kept as JournalKept, Record};
 use outbox::Reading;
 use std::alloc::{AllocError, Global};
 
@@ -30,11 +36,13 @@ const BETWEEN_METRICS: u64 = 10_000;
 /// A gateway at work, while memory lasts.
 #[derive(Debug, Drop)]
 pub(crate) struct Work {
-    alloc: Global,
-    gate: Gateway,
+    pub alloc: Global,
+    pub gate: Gateway,
     /// The moments of this half.
-    moments: Moments,
-    kept: Kept,
+    pub moments: Moments,
+    pub kept: Kept,
+    /// What is known of the journal, where one is kept.
+    pub journal: Option<Journal>,
     /// The numbers of the first sessions.
     old_first: u64,
     new_first: u64,
@@ -47,22 +55,32 @@ pub(crate) struct Work {
 impl Work {
     ghost use Rattle.gate_live.specs.Shows.{Does, IsWhole, ShowsWork, reads_clocks};
 
-    /// Before the first half, at whose reading the wall clock shows this.
-    pub fn new(alloc: Global, file: &GateFile, wall: u64) -> Result<Work, AllocError>
+    /// Before the first half, at whose reading the wall clock shows this, and before the sessions that
+    /// earlier runs had claimed in part are closed.
+    pub fn new(
+        alloc: Global,
+        file: &GateFile,
+        kept: Option<JournalKept>,
+        wall: u64,
+    ) -> Result<Work, AllocError>
         requires runnable { IsRunnable file.now }
+        requires left { used_up file.now (option_map kept_of kept) wall ≡ None }
         requires small { wall < 2 ^ 62 }
         ensures whole { IfOk result IsWhole }
-        ensures shows { IfOk result (λ work. ShowsWork work (starts_at file.now wall)) }
+        ensures shows { IfOk result (λ work.
+            ShowsWork work (starts_empty file.now (option_map kept_of kept) wall)) }
     {
-        let old = party_in(&file.old, wall);
-        let new = party_in(&file.new, wall);
+        let old = party_in(&file.old, old_reserved(&kept), wall);
+        let new = party_in(&file.new, new_reserved(&kept), wall);
         let gate = gate_of(alloc, file, old, new)?;
+        let journal = journal_of(alloc, file, kept, wall)?;
         let kept = Kept::new(alloc, file, wall)?;
         Ok(Work {
             alloc,
             gate,
             moments: Moments::Same(wall),
             kept,
+            journal,
             old_first: old.first_session,
             new_first: new.first_session,
             started: false,
@@ -105,8 +123,8 @@ impl Work {
         self.kept.say(&Event::Start {
             old: self.old_first,
             new: self.new_first,
-            marks: 0,
-            pending: 0,
+            marks: recording::marks(&self.journal) as u64,
+            pending: recording::pending(&self.journal) as u64,
         })
     }
 
@@ -116,6 +134,9 @@ impl Work {
         ensures { OnOk result (Does self.old self.new parts.ticks) }
     {
         let answer = self.gate.tick_in(self.moments)?;
+        let wall = self.moments.wall();
+        self.kept
+            .record(self.alloc, &mut self.journal, wall, &answer, &self.gate)?;
         self.kept.tell(self.alloc, answer, &self.gate)
     }
 
@@ -127,7 +148,71 @@ impl Work {
         let octets = datagram.len() as u64;
         self.kept.count(face, Counted::Received { octets });
         let answer = self.gate.arrive_in(face, datagram, self.moments)?;
+        let wall = self.moments.wall();
+        self.kept
+            .record(self.alloc, &mut self.journal, wall, &answer, &self.gate)?;
         self.kept.tell(self.alloc, answer, &self.gate)
+    }
+
+    /// The last records of the half: session numbers are reserved.
+    pub fn reserve(&mut self) -> Result<(), AllocError>
+        requires { IsWhole self.old }
+        ensures { OnOk result (Does self.old self.new parts.reserves) }
+    {
+        let old = self.gate.next_session(Face::Old);
+        let new = self.gate.next_session(Face::New);
+        recording::reserve(self.alloc, &mut self.journal, old, new)
+    }
+
+    /// Whether there are records that are to be committed.
+    pub fn has_records(&self) -> bool
+        ensures { (s : Standing)
+            → ShowsWork self.now s → result ≡ not (length (records_in s.journal) == 0) }
+    {
+        recording::has_records(&self.journal)
+    }
+
+    /// The records that are to be committed.
+    pub fn records(&self) -> Result<Vec<Record<'_>>, AllocError>
+        ensures { IfOk result (λ records. (s : Standing)
+            → ShowsWork self.now s → map record_of records.items ≡ records_in s.journal) }
+    {
+        recording::records(self.alloc, &self.journal)
+    }
+
+    /// They were committed, and take so many octets.
+    pub fn committed(&mut self, octets: usize)
+        ensures whole { IsWhole self.old → IsWhole self.new }
+        ensures goes { (s : Standing) → ShowsWork self.old s
+            → octets ≡ entries_length (records_in s.journal)
+            → ShowsWork self.new (record s { journal = past_commit s.journal }) }
+    {
+        recording::committed(&mut self.journal, octets);
+    }
+
+    /// Whether the journal's file is to be made anew.
+    pub fn is_large(&self) -> bool
+        ensures { (s : Standing) → ShowsWork self.now s → result ≡ is_large s.journal }
+    {
+        recording::is_large(&self.journal)
+    }
+
+    /// What the journal keeps, where one is kept.
+    pub fn kept(&self) -> Option<&JournalKept>
+        ensures { (s : Standing) → ShowsWork self.now s
+            → option_map (λ kept. kept_of kept.now) result ≡ kept_in s.journal }
+    {
+        recording::kept(&self.journal)
+    }
+
+    /// The journal's file was made anew, and its gate stands there.
+    pub fn installed(&mut self, place: usize)
+        ensures whole { IsWhole self.old → IsWhole self.new }
+        ensures goes { (s : Standing) → ShowsWork self.old s
+            → IfSome (kept_in s.journal) (λ kept. place ≡ gate_of kept)
+            → ShowsWork self.new (record s { journal = anew_in s.journal }) }
+    {
+        recording::installed(&mut self.journal, place);
     }
 
     /// The last poll of the half failed.
@@ -218,7 +303,7 @@ impl Work {
         Gauges {
             old: self.gauges_at(Face::Old),
             new: self.gauges_at(Face::New),
-            pending_pieces: 0,
+            pending_pieces: recording::pending(&self.journal) as u64,
         }
     }
 

@@ -1,6 +1,6 @@
 -- A half, stage by stage, and as the definition has it.
 
-use Rattle.std.proofs.Common.{◌≡◌, Bool, List, ◌++◌, length, Option, None, Some, Result, Err, OnOk, sym, ◌∙◌, ap, append_assoc}
+use Rattle.std.proofs.Common.{◌≡◌, Bool, true, false, List, ◌++◌, length, Option, None, Some, Result, Err, OnOk, refl, sym, ◌∙◌, ap, append_assoc, if◌then◌else◌}
 use Rattle.edge_traits.proofs.ContentLemmas.{GainsFront-none}
 use Rattle.gate_cases.specs.declared.face.Face.{Face}
 use Rattle.gate_cases.specs.declared.face.Face.TheVariants.{Old, New}
@@ -8,13 +8,14 @@ use Rattle.gate_edges.specs.Ahead.{Ahead, past_reading, reading_next}
 use Rattle.gate_edges.specs.Made.{Made, AsTold}
 use Rattle.outbox.specs.declared.reading.Reading.{Reading}
 use Rattle.gate_half.specs.Standing.{Standing, face_of}
-use Rattle.gate_half.specs.Acts.{Acted}
-use Rattle.gate_half.specs.Parts.{reads, ticks, sends}
+use Rattle.gate_half.specs.Acts.{Act, Acted, stands}
+use Rattle.gate_half.specs.Parts.{reads, resumes, ticks, sends, makes_anew, installs}
+use Rattle.gate_half.specs.Journals.{is_large}
 use Rattle.gate_half.specs.Half.{half}
-use Rattle.gate_run.specs.Comes.{most_polls, comes}
-use Rattle.gate_run.specs.Course.{Point, old_sent, new_sent, past_half, ahead_past_half}
+use Rattle.gate_run.specs.Comes.{most_polls, comes, past_polls}
+use Rattle.gate_run.specs.Course.{Point, recorded, old_sent, new_sent, ended, shows_in, past_sendings, past_shows, ahead_past_half}
 use Rattle.gate_run.specs.Outcome.{made_by_all}
-use Rattle.gate_run.specs.Stages.{IsAt, Reached, Goes, and_on, hears_over, polls_within, sends_over, sends_both, tells_over, answers_over, half_over}
+use Rattle.gate_run.specs.Stages.{IsAt, Reached, Goes, and_on, hears_over, polls_within, commits_over, sends_over, sends_both, tells_over, sends_and_tells, answers_over, half_over}
 use Rattle.gate_run.specs.declared.stop.Stop.{Stop}
 use Rattle.gate_run.specs.declared.stop.Stop.TheVariants.{NoMemory}
 use Rattle.gate_run.proofs.PollLemmas.{hears-are}
@@ -24,11 +25,11 @@ use Rattle.gate_run.proofs.SendLemmas.{sent_to, sends-are}
 
 pub heard-so : {X E : Type 0} (Shows_read Shows : Standing → Type 0) (result : Result X E) (ahead ahead_now : Option Ahead) (face : Face) (reading : Reading) (p : Point)
     → reading ≡ reading_next p.ahead → ahead ≡ Some (past_reading p.ahead)
-    → Shows_read (ticks (reads reading p.standing))
+    → Shows_read (ticks (resumes (reads reading p.standing)))
     → ((q : Point) → IsAt Shows_read ahead q → OnOk result (IsAt Shows ahead_now (polls_within most_polls face q)))
     → OnOk result (IsAt Shows ahead_now (hears_over face p))
 heard-so Shows_read Shows result ahead ahead_now face reading p is told shown polls =
-    let q : Point = record { ahead = past_reading p.ahead; standing = ticks (reads (reading_next p.ahead) p.standing) } in
+    let q : Point = record { ahead = past_reading p.ahead; standing = ticks (resumes (reads (reading_next p.ahead) p.standing)) } in
     let at : IsAt Shows_read ahead q = record { shown = rw is at shown; told = told } in
     rw (sym (hears-are face p)) (polls q at)
 
@@ -64,21 +65,48 @@ both-are q =
     ∙ ap (λ r. record { point = r.point; acts = old.acts ++ r.acts })
     (sends-are (length ((face_of New old.standing).outbox).waiting) New (sent_to Old old q).point)
 
+-- whether the metrics are shown doesn't depend on the journal
+installs-shows : (board : Bool) (s : Standing) → shows_in board (installs s).standing ≡ shows_in board s
+installs-shows board s = by-large (is_large s.journal)
+  where
+    by-large : (large : Bool) → shows_in board (if large then makes_anew s else stands s).standing ≡ shows_in board s
+    by-large true = refl
+    by-large false = refl
+
+abbrev reached_at : Bool → Ahead → Standing → List Act → Reached
+reached_at shows ahead s acts = record { point = record { ahead = past_shows shows ahead; standing = s }; acts = acts }
+
+same-reached : (a b : Bool) (ahead : Ahead) (s : Standing) (acts more : List Act) → a ≡ b → acts ≡ more
+    → reached_at a ahead s acts ≡ reached_at b ahead s more
+same-reached a b ahead s acts more shows_are acts_are =
+    ap (λ shows. reached_at shows ahead s acts) shows_are ∙ ap (λ v. reached_at b ahead s v) acts_are
+
+-- both faces sent, and then the half is told of
+then-told : (board : Bool) → Point → Reached
+then-told board q = and_on (both-sent q) (tells_over board)
+
 half-stages : (board : Bool) (face : Face) (p : Point)
-    → half_over board face p ≡ and_on (both-sent (hears_over face p)) (tells_over board)
-unfolding half both-sent ahead_past_half comes
+    → half_over board face p ≡ and_on (commits_over (hears_over face p)) (then-told board)
+unfolding half both-sent then-told ahead_past_half comes
 half-stages board Old p =
-    ap (λ acts. record { point = past_half board Old p; acts = acts })
-    (sym (append_assoc (old_sent Old p).acts (new_sent Old p).acts _))
+    same-reached _ _ (past_sendings (length (old_sent Old p).acts) (length (new_sent Old p).acts) (past_polls Old p.ahead)) _ _ _
+    (sym (installs-shows board (ended Old p)))
+    (ap (λ acts. (recorded Old p).acts ++ acts) (sym (append_assoc (old_sent Old p).acts (new_sent Old p).acts _)))
 half-stages board New p =
-    ap (λ acts. record { point = past_half board New p; acts = acts })
-    (sym (append_assoc (old_sent New p).acts (new_sent New p).acts _))
+    same-reached _ _ (past_sendings (length (old_sent New p).acts) (length (new_sent New p).acts) (past_polls New p.ahead)) _ _ _
+    (sym (installs-shows board (ended New p)))
+    (ap (λ acts. (recorded New p).acts ++ acts) (sym (append_assoc (old_sent New p).acts (new_sent New p).acts _)))
+
+told-are : (board : Bool) (q : Point) → sends_and_tells board q ≡ then-told board q
+unfolding then-told
+told-are board q = ap (λ r. and_on r (tells_over board)) (both-are q)
 
 pub half-is : (board : Bool) (face : Face) (p : Point)
     → half_over board face p ≡ answers_over board (hears_over face p)
 half-is board face p =
     half-stages board face p
-    ∙ ap (λ r. and_on r (tells_over board)) (sym (both-are (hears_over face p)))
+    ∙ ap (λ r. record { point = r.point; acts = (commits_over (hears_over face p)).acts ++ r.acts })
+    (sym (told-are board (commits_over (hears_over face p)).point))
 
 -- ---- a half of the code
 

@@ -2,6 +2,7 @@ pub mod MadeLemmas
 pub mod PollLemmas
 pub mod SendLemmas
 pub mod TellLemmas
+pub mod StoreLemmas
 pub mod HalfLemmas
 pub mod TurnLemmas
 pub mod RunLemmas

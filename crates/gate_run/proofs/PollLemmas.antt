@@ -5,7 +5,7 @@ use Rattle.gate_cases.specs.declared.face.Face.{Face}
 use Rattle.gate_cases.specs.declared.face.Face.TheVariants.{Old, New}
 use Rattle.gate_edges.specs.Ahead.{Ahead, LinkAhead, Polled, failed, empty, gave, polled_at, link_of, with_link, link_past_poll, past_poll, past_reading, reading_next}
 use Rattle.gate_half.specs.Standing.{Standing}
-use Rattle.gate_half.specs.Parts.{reads, ticks, arrives, arrives_all, ends_polling}
+use Rattle.gate_half.specs.Parts.{reads, resumes, ticks, arrives, arrives_all, ends_polling}
 use Rattle.gate_run.specs.Comes.{Taken, taken_by, takes, most_polls, comes}
 use Rattle.gate_run.specs.Course.{Point}
 use Rattle.gate_run.specs.Stages.{IsAt, is_given, after_polled, past_polled, polls_within, hears_over}
@@ -108,10 +108,10 @@ link-of-read Old ahead = refl
 link-of-read New ahead = refl
 
 pub hears-are : (face : Face) (p : Point)
-    → polls_within most_polls face record { ahead = past_reading p.ahead; standing = ticks (reads (reading_next p.ahead) p.standing) }
+    → polls_within most_polls face record { ahead = past_reading p.ahead; standing = ticks (resumes (reads (reading_next p.ahead) p.standing)) }
     ≡ hears_over face p
 unfolding comes
 hears-are face p =
-    polls-are most_polls face record { ahead = past_reading p.ahead; standing = ticks (reads (reading_next p.ahead) p.standing) }
-    ∙ ap (λ link. taken_to face (takes most_polls link) record { ahead = past_reading p.ahead; standing = ticks (reads (reading_next p.ahead) p.standing) })
+    polls-are most_polls face record { ahead = past_reading p.ahead; standing = ticks (resumes (reads (reading_next p.ahead) p.standing)) }
+    ∙ ap (λ link. taken_to face (takes most_polls link) record { ahead = past_reading p.ahead; standing = ticks (resumes (reads (reading_next p.ahead) p.standing)) })
     (link-of-read face p.ahead)

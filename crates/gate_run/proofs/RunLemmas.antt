@@ -1,21 +1,23 @@
 -- A run of turns, as the definition has it.
 
 use Rattle.std.proofs.Common.{◌≡◌, ℕ, zero, suc, ◌<◌, Bool, List, ◌∷◌, ◌++◌, Option, Result, Ok, Err, refl, sym, ◌∙◌, ap, append_assoc, arith}
-use Rattle.edge_traits.specs.Content.{GainsFront}
+use Rattle.edge_traits.specs.Content.{Gains, GainsFront}
 use Rattle.edge_traits.proofs.ContentLemmas.{GainsFront-none}
 use Rattle.gate_cases.specs.declared.face.Face.TheVariants.{Old, New}
 use Rattle.gate_config.specs.declared.file.GateFile.{GateFile}
-use Rattle.gate_edges.specs.Ahead.{Ahead, reading_next}
-use Rattle.gate_half.specs.Standing.{Standing, starts_at}
+use Rattle.gate_edges.specs.Ahead.{Ahead, past_reading, reading_next}
+use Rattle.journal_file.specs.Values.{KeptValue}
+use Rattle.gate_half.specs.Standing.{Standing}
+use Rattle.gate_half.specs.Starts.{starts_at}
 use Rattle.gate_half.specs.Half.{Came, half}
-use Rattle.gate_half.specs.Run.{halves, run}
+use Rattle.gate_half.specs.Run.{halves, recovers, run}
 use Rattle.gate_run.specs.Comes.{comes}
 use Rattle.gate_run.specs.Course.{Point, past_half, past_turn, come, has_board, begins, run_over}
 use Rattle.gate_run.specs.Outcome.{made_by_all}
-use Rattle.gate_run.specs.Stages.{IsAt, Leads, Goes, WentSo, Reached, and_on, half_over, turn_over, turns_over}
+use Rattle.gate_run.specs.Stages.{IsAt, Leads, Goes, WentSo, Reached, and_on, half_over, turn_over, turns_over, run_over_turns}
 use Rattle.gate_run.specs.declared.stop.Stop.{Stop}
 use Rattle.gate_edges.specs.Made.{Made}
-use Rattle.gate_run.proofs.MadeLemmas.{goes-on, stops-first}
+use Rattle.gate_run.proofs.MadeLemmas.{goes-on, stops-first, made-more, made-after}
 
 -- two halves, and those after them
 two-halves : (board : Bool) (old new : Came) (more : List Came) (s : Standing)
@@ -52,25 +54,30 @@ turns-are board (suc n) p =
     ∙ sym (two-halves board (comes Old p.ahead) (comes New (past_half board Old p).ahead) (come board n (past_turn board p)) p.standing)
     ∙ ap (λ v. (halves board Old v p.standing).acts) (sym (come-more board n p))
 
-run-some : (file : GateFile) (board : Bool) (came : List Came) (first : Came) (more : List Came)
+run-some : (file : GateFile) (kept : Option KeptValue) (board : Bool) (came : List Came) (first : Came) (more : List Came)
     → came ≡ first ∷ more
-    → run file board came ≡ (halves board Old came (starts_at file (first.reading).wall)).acts
-run-some file board came first more is = rw is refl
+    → run file kept board came
+    ≡ (recovers file kept (first.reading).wall).acts ++ (halves board Old came (recovers file kept (first.reading).wall).standing).acts
+run-some file kept board came first more is = rw is refl
 
 first-wall : (ahead : Ahead) → ((comes Old ahead).reading).wall ≡ (reading_next ahead).wall
 unfolding comes
 first-wall ahead = refl
 
-pub run-is : (file : GateFile) (turns : ℕ) (ahead : Ahead)
-    → run_over file turns ahead ≡ (turns_over (has_board file) turns (begins file ahead)).acts
-unfolding turns_over come
-run-is file zero ahead = refl
-run-is file (suc n) ahead =
-    run-some file (has_board file) (come (has_board file) (suc n) (begins file ahead)) (comes Old ahead) _
-    (come-more (has_board file) n (begins file ahead))
-    ∙ ap (λ wall. (halves (has_board file) Old (come (has_board file) (suc n) (begins file ahead)) (starts_at file wall)).acts)
+-- before the journal's file is made anew
+abbrev pub before_anew : GateFile → Option KeptValue → Ahead → Point
+before_anew file kept ahead = record { ahead = ahead; standing = starts_at file kept (reading_next ahead).wall }
+
+pub run-is : (file : GateFile) (kept : Option KeptValue) (turns : ℕ) (ahead : Ahead) → 0 < turns
+    → run_over file kept turns ahead ≡ (run_over_turns (has_board file) turns (before_anew file kept ahead)).acts
+run-is file kept zero ahead some = absurd (omega arith)
+run-is file kept (suc n) ahead some =
+    let came = come (has_board file) (suc n) (begins file kept ahead) in
+    run-some file kept (has_board file) came (comes Old ahead) _
+    (come-more (has_board file) n (begins file kept ahead))
+    ∙ ap (λ wall. (recovers file kept wall).acts ++ (halves (has_board file) Old came (recovers file kept wall).standing).acts)
     (first-wall ahead)
-    ∙ sym (turns-are (has_board file) (suc n) (begins file ahead))
+    ∙ ap (λ acts. (recovers file kept (reading_next ahead).wall).acts ++ acts) (sym (turns-are (has_board file) (suc n) (begins file kept ahead)))
 
 -- a turn, and those after it
 pub first-turn : (board : Bool) (n : ℕ) (p : Point)
@@ -104,3 +111,23 @@ went-on {X = X} Shows Shows_now board turns n p result ahead ahead_now before mi
 pub unmade : {X : Type 0} (reached : Reached) (result : Result X Stop) (stop : Stop) (before now : Option (List Made))
     → result ≡ Err stop → now ≡ before → WentSo reached result before now
 unmade reached result stop before now is same = rw (is, same) (GainsFront-none before (made_by_all reached.acts))
+
+-- ---- what is made before the first turn
+
+-- it was made, and the turns after it or a front of them
+pub went-after : {X : Type 0} (first : Reached) (next : Point → Reached) (result : Result X Stop) (before mid now : Option (List Made))
+    → Gains before mid (made_by_all first.acts) → WentSo (next first.point) result mid now
+    → WentSo (and_on first next) result before now
+went-after first next (Ok x) before mid now gains more =
+    made-more first.acts (next first.point).acts before mid now gains more
+went-after first next (Err e) before mid now gains more =
+    made-after first.acts (next first.point).acts before mid now gains more
+
+-- it stopped
+pub went-first : {X : Type 0} (first : Reached) (next : Point → Reached) (result : Result X Stop) (stop : Stop) (before now : Option (List Made))
+    → result ≡ Err stop → GainsFront before now (made_by_all first.acts) → WentSo (and_on first next) result before now
+went-first first next result stop before now is front = rw is (stops-first first next before now front)
+
+-- the clocks were read
+abbrev pub read_at : Point → Point
+read_at p = record { ahead = past_reading p.ahead; standing = p.standing }

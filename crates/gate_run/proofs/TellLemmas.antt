@@ -13,9 +13,9 @@ use Rattle.gate_half.specs.Standing.{Standing, wall_of}
 use Rattle.gate_half.specs.Parts.{line_at}
 use Rattle.gate_run.specs.Course.{Point}
 use Rattle.gate_run.specs.Outcome.{made_by_all}
-use Rattle.gate_run.specs.Stages.{IsAt, Goes, WroteText, StopsWriting, writes_over}
+use Rattle.gate_run.specs.Stages.{IsAt, Goes, WroteText, StopsWriting, StopsStoring, writes_over}
 use Rattle.gate_run.specs.declared.stop.Stop.{Stop}
-use Rattle.gate_run.specs.declared.stop.Stop.TheVariants.{Fault, NoMemory}
+use Rattle.gate_run.specs.declared.stop.Stop.TheVariants.{Fault, NoMemory, NoJournal}
 
 -- ---- writes
 
@@ -33,12 +33,44 @@ pub stops-after : {X : Type 0} (result : Result X Stop) (a b c : Calls)
 stops-after (Ok x) a b c first second = NoneFailed-more a b c first second
 stops-after (Err Fault) a b c first second = LastFailed-after a b c first second
 stops-after (Err NoMemory) a b c first second = NoneFailed-more a b c first second
+stops-after (Err NoJournal) a b c first second = NoneFailed-more a b c first second
 
 -- the last of them stopped
 pub stops-err : (X : Type 0) {Y : Type 0} (result : Result Y Stop) (stop : Stop) (a b c : Calls)
     → result ≡ Err stop → NoneFailed a b → StopsWriting {X = X} (Err stop) b c → StopsWriting result a c
 stops-err X result Fault a b c is first second = rw is (LastFailed-after a b c first second)
 stops-err X result NoMemory a b c is first second = rw is (NoneFailed-more a b c first second)
+stops-err X result NoJournal a b c is first second = rw is (NoneFailed-more a b c first second)
+
+-- ---- calls on the journal
+
+-- none was made
+pub stops-unstored : {X : Type 0} (result : Result X Stop) (before now : Calls)
+    → result ≡ Err NoMemory → now ≡ before → StopsStoring result before now
+stops-unstored result before now is same = rw (is, same) (NoneFailed-same before)
+
+-- calls of which none failed, and then others
+pub stores-after : {X : Type 0} (result : Result X Stop) (a b c : Calls)
+    → NoneFailed a b → StopsStoring result b c → StopsStoring result a c
+stores-after (Ok x) a b c first second = NoneFailed-more a b c first second
+stores-after (Err Fault) a b c first second = NoneFailed-more a b c first second
+stores-after (Err NoMemory) a b c first second = NoneFailed-more a b c first second
+stores-after (Err NoJournal) a b c first second = LastFailed-after a b c first second
+
+-- the last of them stopped
+pub stores-err : (X : Type 0) {Y : Type 0} (result : Result Y Stop) (stop : Stop) (a b c : Calls)
+    → result ≡ Err stop → NoneFailed a b → StopsStoring {X = X} (Err stop) b c → StopsStoring result a c
+stores-err X result Fault a b c is first second = rw is (NoneFailed-more a b c first second)
+stores-err X result NoMemory a b c is first second = rw is (NoneFailed-more a b c first second)
+stores-err X result NoJournal a b c is first second = rw is (LastFailed-after a b c first second)
+
+-- nothing was called on it
+pub unstored : {X : Type 0} (result : Result X Stop) (before now : Calls)
+    → (result ≡ Err NoJournal → ⊥) → now ≡ before → StopsStoring result before now
+unstored (Ok x) before now not_so same = rw same (NoneFailed-same before)
+unstored (Err Fault) before now not_so same = rw same (NoneFailed-same before)
+unstored (Err NoMemory) before now not_so same = rw same (NoneFailed-same before)
+unstored (Err NoJournal) before now not_so same = absurd (not_so refl)
 
 -- ---- lines
 

@@ -65,6 +65,11 @@ abbrev pub WroteText : {X E : Type 0} → List ℕ → Result X E → Option (Li
 WroteText text (Ok x) before now = Gains before now (written text)
 WroteText text (Err e) before now = GainsFront before now (written text)
 
+-- these acts were made, or a front of them by code that stopped
+abbrev pub Did : {X E : Type 0} → List Act → Result X E → Option (List Made) → Option (List Made) → Type 0
+Did acts (Ok x) before now = Gains before now (made_by_all acts)
+Did acts (Err e) before now = GainsFront before now (made_by_all acts)
+
 -- the writes of code that may stop: it stopped by a failed one, or none failed
 abbrev pub StopsWriting : {X : Type 0} → Result X Stop → Calls → Calls → Type 0
 StopsWriting (Ok x) before now = NoneFailed before now
@@ -185,16 +190,21 @@ shows_over board p = record {
 
 -- ---- what is done after what came was taken
 
+-- the journal's file is made anew where it is large, and then the metrics are shown
+abbrev pub shows_after : (board : Bool) → Point → Reached
+shows_after board p = and_on (installs_over p) (shows_over board)
+
 abbrev pub tells_over : (board : Bool) → Point → Reached
-tells_over board p =
-    and_on (writes_over (ends_over p)) (λ q. and_on (installs_over q) (shows_over board))
+tells_over board p = and_on (writes_over (ends_over p)) (shows_after board)
 
 abbrev pub sends_both : Point → Reached
 sends_both p = and_on (sends_over Old p) (sends_over New)
 
+abbrev pub sends_and_tells : (board : Bool) → Point → Reached
+sends_and_tells board p = and_on (sends_both p) (tells_over board)
+
 abbrev pub answers_over : (board : Bool) → Point → Reached
-answers_over board p =
-    and_on (commits_over p) (λ q. and_on (sends_both q) (tells_over board))
+answers_over board p = and_on (commits_over p) (sends_and_tells board)
 
 -- ---- halves
 
@@ -210,3 +220,9 @@ turn_over board p = and_on (half_over board Old p) (half_over board New)
 unfoldable pub turns_over : (board : Bool) → ℕ → Point → Reached
 turns_over board zero p = stays p
 turns_over board (suc n) p = and_on (turn_over board p) (turns_over board n)
+
+-- ---- a run
+
+-- before the first turn the journal's file is made anew of what is recovered
+abbrev pub run_over_turns : (board : Bool) → ℕ → Point → Reached
+run_over_turns board turns p = and_on (makes_anew_over p) (turns_over board turns)

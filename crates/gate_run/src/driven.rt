@@ -4,12 +4,13 @@ ghost use Rattle.std.specs.Prelude.{◌≡◌, ◌≤◌, ◌<◌, ◌^◌, ℕ,
 ghost use Rattle.gate_edges.specs.Ahead.{polled_at, reading_next, past_reading};
 ghost use Rattle.gate_run.specs.Comes.{most_polls};
 ghost use Rattle.gate_run.specs.Course.{Point};
-ghost use Rattle.gate_run.specs.Stages.{IsAt, Goes, StopsWriting, is_given, past_polled};
-ghost use Rattle.gate_run.specs.Stages.{polls_within, hears_over, answers_over, half_over};
-ghost use Rattle.gate_run.specs.Stages.{turn_over, turns_over};
+ghost use Rattle.gate_run.specs.Stages.{IsAt, Goes, StopsWriting, StopsStoring, is_given, past_polled};
+ghost use Rattle.gate_run.specs.Stages.{polls_within, hears_over, makes_anew_over, sends_and_tells};
+ghost use Rattle.gate_run.specs.Stages.{answers_over, half_over, turn_over, turns_over};
 
 use crate::sending::send_both;
 use crate::stop::Stop;
+use crate::storing::{commit, make_anew};
 use crate::telling::tell;
 use edge_traits::{Failed, LONGEST_DATAGRAM};
 use gate_cases::Face;
@@ -43,6 +44,17 @@ impl<T: HalfParts + Drop> Driven<T> {
         })
     }
 
+    /// Before the first turn the journal's file is made anew of what is kept, where a journal is kept.
+    pub fn begin<O: Outside>(&mut self, outside: &mut O) -> Result<(), Stop>
+        ensures goes { (p : Point) → IsAt (T.Shows self.old.parts) (O.ahead outside.old) p
+            → Goes (T.Shows self.new.parts) (makes_anew_over p) result (O.ahead outside.new)
+            (O.made outside.old) (O.made outside.new) }
+        ensures writes { StopsWriting result (O.writes outside.old) (O.writes outside.new) }
+        ensures stores { StopsStoring result (O.stores outside.old) (O.stores outside.new) }
+    {
+        make_anew(&mut self.parts, outside)
+    }
+
     /// Polls a face's link once, and takes what came. Whether a datagram came.
     fn poll<O: Outside>(&mut self, face: Face, outside: &mut O) -> Result<bool, AllocError>
         ensures at { (p : Point) → IsAt (T.Shows self.old.parts) (O.ahead outside.old) p
@@ -51,6 +63,7 @@ impl<T: HalfParts + Drop> Driven<T> {
             → IfOk result (λ came. came ≡ is_given (polled_at face p.ahead)) }
         ensures made { O.made outside.new ≡ O.made outside.old }
         ensures writes { O.writes outside.new ≡ O.writes outside.old }
+        ensures stores { O.stores outside.new ≡ O.stores outside.old }
     {
         match outside.poll(face, &mut self.buffer) {
             Ok(Some(n)) => {
@@ -72,6 +85,7 @@ impl<T: HalfParts + Drop> Driven<T> {
             (polls_within most_polls face p)) }
         ensures made { O.made outside.new ≡ O.made outside.old }
         ensures writes { O.writes outside.new ≡ O.writes outside.old }
+        ensures stores { O.stores outside.new ≡ O.stores outside.old }
     {
         let mut left = MOST_POLLS;
         'polling: while left > 0 {
@@ -83,8 +97,8 @@ impl<T: HalfParts + Drop> Driven<T> {
         Ok(())
     }
 
-    /// What is done before anything is sent, once the clocks were read: time passes, and what comes at
-    /// the half's face is taken.
+    /// What is done before anything is made outside, once the clocks were read: what waits of earlier
+    /// runs is begun, time passes, and what comes at the half's face is taken.
     fn hear<O: Outside>(
         &mut self,
         face: Face,
@@ -97,18 +111,34 @@ impl<T: HalfParts + Drop> Driven<T> {
             → OnOk result (IsAt (T.Shows self.new.parts) (O.ahead outside.new) (hears_over face p)) }
         ensures made { O.made outside.new ≡ O.made outside.old }
         ensures writes { O.writes outside.new ≡ O.writes outside.old }
+        ensures stores { O.stores outside.new ≡ O.stores outside.old }
     {
         self.parts.read(reading)?;
+        self.parts.resume()?;
         self.parts.tick()?;
         self.polls(face, outside)
     }
 
-    /// What is done after that: both faces send, and the half is told of.
+    /// What is done after that: the records are committed, and then both faces send and the half is
+    /// told of.
     fn answer<O: Outside>(&mut self, board: bool, outside: &mut O) -> Result<(), Stop>
         ensures goes { (p : Point) → IsAt (T.Shows self.old.parts) (O.ahead outside.old) p
             → Goes (T.Shows self.new.parts) (answers_over board p) result (O.ahead outside.new)
             (O.made outside.old) (O.made outside.new) }
         ensures writes { StopsWriting result (O.writes outside.old) (O.writes outside.new) }
+        ensures stores { StopsStoring result (O.stores outside.old) (O.stores outside.new) }
+    {
+        commit(&mut self.parts, outside)?;
+        self.send_and_tell(board, outside)
+    }
+
+    /// Both faces send, and the half is told of.
+    fn send_and_tell<O: Outside>(&mut self, board: bool, outside: &mut O) -> Result<(), Stop>
+        ensures goes { (p : Point) → IsAt (T.Shows self.old.parts) (O.ahead outside.old) p
+            → Goes (T.Shows self.new.parts) (sends_and_tells board p) result (O.ahead outside.new)
+            (O.made outside.old) (O.made outside.new) }
+        ensures writes { StopsWriting result (O.writes outside.old) (O.writes outside.new) }
+        ensures stores { StopsStoring result (O.stores outside.old) (O.stores outside.new) }
     {
         send_both(&mut self.parts, outside);
         tell(board, &mut self.parts, &mut self.text, outside)
@@ -128,6 +158,7 @@ impl<T: HalfParts + Drop> Driven<T> {
             → Goes (T.Shows self.new.parts) (half_over board face p) result (O.ahead outside.new)
             (O.made outside.old) (O.made outside.new) }
         ensures writes { StopsWriting result (O.writes outside.old) (O.writes outside.new) }
+        ensures stores { StopsStoring result (O.stores outside.old) (O.stores outside.new) }
     {
         self.hear(face, reading, outside)?;
         self.answer(board, outside)
@@ -139,6 +170,7 @@ impl<T: HalfParts + Drop> Driven<T> {
             → Goes (T.Shows self.new.parts) (half_over board face p) result (O.ahead outside.new)
             (O.made outside.old) (O.made outside.new) }
         ensures writes { StopsWriting result (O.writes outside.old) (O.writes outside.new) }
+        ensures stores { StopsStoring result (O.stores outside.old) (O.stores outside.new) }
     {
         let reading = outside.read();
         self.half_at(board, face, reading, outside)
@@ -158,6 +190,7 @@ impl<T: HalfParts + Drop> Driven<T> {
             → Goes (T.Shows self.new.parts) (turn_over board p) result (O.ahead outside.new)
             (O.made outside.old) (O.made outside.new) }
         ensures writes { StopsWriting result (O.writes outside.old) (O.writes outside.new) }
+        ensures stores { StopsStoring result (O.stores outside.old) (O.stores outside.new) }
     {
         self.half_at(board, Face::Old, reading, outside)?;
         self.half(board, Face::New, outside)
@@ -169,6 +202,7 @@ impl<T: HalfParts + Drop> Driven<T> {
             → Goes (T.Shows self.new.parts) (turn_over board p) result (O.ahead outside.new)
             (O.made outside.old) (O.made outside.new) }
         ensures writes { StopsWriting result (O.writes outside.old) (O.writes outside.new) }
+        ensures stores { StopsStoring result (O.stores outside.old) (O.stores outside.new) }
     {
         let reading = outside.read();
         self.turn_at(board, reading, outside)
@@ -185,6 +219,7 @@ impl<T: HalfParts + Drop> Driven<T> {
             → Goes (T.Shows self.new.parts) (turns_over board turns p) result (O.ahead outside.new)
             (O.made outside.old) (O.made outside.new) }
         ensures writes { StopsWriting result (O.writes outside.old) (O.writes outside.new) }
+        ensures stores { StopsStoring result (O.stores outside.old) (O.stores outside.new) }
     {
         let mut left = turns;
         'turning: while left > 0 {

@@ -44,7 +44,7 @@ pub fn gate<O: Outside>(
         return GateStatus::Done;
     }
     let reading = outside.read();
-    if let Some(face) = used_up(file, kept.as_ref(), reading.wall) {
+    if let Some(face) = used_up(file, &kept, reading.wall) {
         return GateStatus::SessionsUsed { face };
     }
     match LiveGate::new(alloc, file, kept, reading.wall) {

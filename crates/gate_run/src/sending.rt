@@ -17,6 +17,7 @@ fn send_one<T: HalfParts, O: Outside>(parts: &mut T, face: Face, outside: &mut O
     ensures went { (p : Point) → IsAt (T.Shows parts.old) (O.ahead outside.old) p
         → result ≡ is_some (next_at face p) }
     ensures writes { O.writes outside.new ≡ O.writes outside.old }
+    ensures stores { O.stores outside.new ≡ O.stores outside.old }
 {
     let Some(datagram) = parts.next(face) else {
         return false;
@@ -32,6 +33,7 @@ fn send_at<T: HalfParts, O: Outside>(parts: &mut T, face: Face, outside: &mut O)
         → Leads (T.Shows parts.new) (sends_over face p) (O.ahead outside.new)
         (O.made outside.old) (O.made outside.new) }
     ensures writes { O.writes outside.new ≡ O.writes outside.old }
+    ensures stores { O.stores outside.new ≡ O.stores outside.old }
 {
     let mut left = parts.waiting(face);
     'sending: while left > 0 {
@@ -48,6 +50,7 @@ pub fn send_both<T: HalfParts, O: Outside>(parts: &mut T, outside: &mut O)
         → Leads (T.Shows parts.new) (sends_both p) (O.ahead outside.new)
         (O.made outside.old) (O.made outside.new) }
     ensures writes { O.writes outside.new ≡ O.writes outside.old }
+    ensures stores { O.stores outside.new ≡ O.stores outside.old }
 {
     send_at(parts, Face::Old, outside);
     send_at(parts, Face::New, outside);

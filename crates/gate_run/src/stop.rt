@@ -29,6 +29,16 @@ impl Stop {
             Stop::NoJournal => GateStatus::Journal,
         }
     }
+
+    /// Why a run stops where a call on the journal isn't done.
+    pub fn of_store(fault: StoreFault) -> Stop
+        ensures { result ≡ of_store fault }
+    {
+        match fault {
+            StoreFault::Failed => Stop::NoJournal,
+            StoreFault::Memory => Stop::NoMemory,
+        }
+    }
 }
 
 impl From<AllocError> for Stop {
@@ -38,16 +48,5 @@ impl From<AllocError> for Stop {
 
     fn from(_: AllocError) -> Stop {
         Stop::NoMemory
-    }
-}
-
-impl From<StoreFault> for Stop {
-    ghost from_gives = { λ fault stop. stop ≡ of_store fault };
-
-    fn from(fault: StoreFault) -> Stop {
-        match fault {
-            StoreFault::Failed => Stop::NoJournal,
-            StoreFault::Memory => Stop::NoMemory,
-        }
     }
 }

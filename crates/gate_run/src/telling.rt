@@ -1,4 +1,4 @@
-//! Writing the lines of a half, and showing the metrics.
+//! What a half ends with: writing its lines, and showing the metrics.
 
 ghost use Rattle.std.specs.Prelude.{◌≡◌, ◌++◌, Some, flat_map, false};
 ghost use Rattle.std.specs.String.{string_bytes};
@@ -7,10 +7,11 @@ ghost use Rattle.gate_log.specs.Lines.{line_of};
 ghost use Rattle.gate_half.specs.Standing.{Standing, wall_of};
 ghost use Rattle.gate_half.specs.Parts.{is_due};
 ghost use Rattle.gate_run.specs.Course.{Point, shows_in};
-ghost use Rattle.gate_run.specs.Stages.{IsAt, Goes, StopsWriting, WroteText};
-ghost use Rattle.gate_run.specs.Stages.{ends_over, writes_over, shows_due, shows_over, tells_over};
+ghost use Rattle.gate_run.specs.Stages.{IsAt, Goes, StopsWriting, StopsStoring, WroteText};
+ghost use Rattle.gate_run.specs.Stages.{ends_over, writes_over, shows_due, shows_over, shows_after, tells_over};
 
 use crate::stop::Stop;
+use crate::storing::install_large;
 use edge_traits::Failed;
 use gate_edges::Outside;
 use gate_parts::HalfParts;
@@ -20,6 +21,7 @@ fn write_text<O: Outside>(text: &str, outside: &mut O) -> Result<(), Stop>
     ensures ahead { O.ahead outside.new ≡ O.ahead outside.old }
     ensures made { WroteText text.now result (O.made outside.old) (O.made outside.new) }
     ensures writes { StopsWriting result (O.writes outside.old) (O.writes outside.new) }
+    ensures stores { StopsStoring result (O.stores outside.old) (O.stores outside.new) }
 {
     if text.is_empty() {
         return Ok(());
@@ -36,6 +38,7 @@ fn write_lines<T: HalfParts, O: Outside>(parts: &T, outside: &mut O) -> Result<(
         → Goes (T.Shows parts.now) (writes_over p) result (O.ahead outside.new)
         (O.made outside.old) (O.made outside.new) }
     ensures writes { StopsWriting result (O.writes outside.old) (O.writes outside.new) }
+    ensures stores { StopsStoring result (O.stores outside.old) (O.stores outside.new) }
 {
     write_text(parts.text(), outside)
 }
@@ -51,6 +54,7 @@ fn write_unshown<T: HalfParts, O: Outside>(
         → WroteText (line_of (wall_of s) events.MetricsFailed) result
         (O.made outside.old) (O.made outside.new) }
     ensures writes { StopsWriting result (O.writes outside.old) (O.writes outside.new) }
+    ensures stores { StopsStoring result (O.stores outside.old) (O.stores outside.new) }
 {
     text.clear();
     parts.write_metrics_failed(text)?;
@@ -67,6 +71,7 @@ fn show<T: HalfParts, O: Outside>(
         → Goes (T.Shows parts.new) (shows_due p) result (O.ahead outside.new)
         (O.made outside.old) (O.made outside.new) }
     ensures writes { StopsWriting result (O.writes outside.old) (O.writes outside.new) }
+    ensures stores { StopsStoring result (O.stores outside.old) (O.stores outside.new) }
 {
     text.clear();
     parts.write_metrics(text)?;
@@ -87,6 +92,7 @@ fn show_if_due<T: HalfParts, O: Outside>(
         → Goes (T.Shows parts.new) (shows_over board p) result (O.ahead outside.new)
         (O.made outside.old) (O.made outside.new) }
     ensures writes { StopsWriting result (O.writes outside.old) (O.writes outside.new) }
+    ensures stores { StopsStoring result (O.stores outside.old) (O.stores outside.new) }
 {
     if board && parts.is_due() {
         return show(parts, text, outside);
@@ -94,7 +100,25 @@ fn show_if_due<T: HalfParts, O: Outside>(
     Ok(())
 }
 
-/// Tells of a half, once both faces have sent: writes its lines, and then shows the metrics.
+/// Makes the journal's file anew, where it is large, and then shows the metrics.
+fn show_after<T: HalfParts, O: Outside>(
+    board: bool,
+    parts: &mut T,
+    text: &mut String,
+    outside: &mut O,
+) -> Result<(), Stop>
+    ensures goes { (p : Point) → IsAt (T.Shows parts.old) (O.ahead outside.old) p
+        → Goes (T.Shows parts.new) (shows_after board p) result (O.ahead outside.new)
+        (O.made outside.old) (O.made outside.new) }
+    ensures writes { StopsWriting result (O.writes outside.old) (O.writes outside.new) }
+    ensures stores { StopsStoring result (O.stores outside.old) (O.stores outside.new) }
+{
+    install_large(parts, outside)?;
+    show_if_due(board, parts, text, outside)
+}
+
+/// Tells of a half, once both faces have sent: writes its lines, makes the journal's file anew where it
+/// is large, and then shows the metrics.
 pub fn tell<T: HalfParts, O: Outside>(
     board: bool,
     parts: &mut T,
@@ -105,8 +129,9 @@ pub fn tell<T: HalfParts, O: Outside>(
         → Goes (T.Shows parts.new) (tells_over board p) result (O.ahead outside.new)
         (O.made outside.old) (O.made outside.new) }
     ensures writes { StopsWriting result (O.writes outside.old) (O.writes outside.new) }
+    ensures stores { StopsStoring result (O.stores outside.old) (O.stores outside.new) }
 {
     parts.end_sending()?;
     write_lines(parts, outside)?;
-    show_if_due(board, parts, text, outside)
+    show_after(board, parts, text, outside)
 }

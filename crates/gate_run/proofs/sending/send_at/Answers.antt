@@ -9,6 +9,7 @@ pub sending-init : goal.sending-init
 sending-init g c = record {
   sending = λ p at. rw (c.waiting-left.ensures p.standing at.shown) (sending-start _ _ _ _ c.args.face p at);
   writes = search rules;
+  stores = search rules;
 }
 
 pub returns-then-not-send_one-clause-leads : goal.returns-then-not-send_one-clause-leads
@@ -26,6 +27,7 @@ sending-preserved g c = record {
       sym (c.send_one.ensures.went sending.point sending.at) ∙ c.if-not-send_one.false in
       sending-more _ _ _ _ _ _ _ _ c.args.face _ sending went (c.send_one.ensures.leads sending.point sending.at);
   writes = search rules;
+  stores = search rules;
 }
 
 pub returns-clause-leads : goal.returns-clause-leads

@@ -10,6 +10,7 @@ invariant-sending g l = record {
       → Sending (g.T.HalfParts.Shows l.parts) (g.O.Outside.ahead l.outside)
       (g.O.Outside.made l.initial.outside) (g.O.Outside.made l.outside) l.left l.face (sends_over l.face p);
   writes : g.O.Outside.writes l.outside ≡ g.O.Outside.writes l.initial.outside;
+  stores : g.O.Outside.stores l.outside ≡ g.O.Outside.stores l.initial.outside;
 }
 
 abbrev pub decreases-sending : goal.decreases-sending

@@ -10,6 +10,7 @@ polling-init g c = record {
   polling = λ p at. polling-start _ _ c.args.face p at;
   made = search rules;
   writes = search rules;
+  stores = search rules;
 }
 
 pub returns-then-not-branch-clause-at : goal.returns-then-not-branch-clause-at
@@ -28,6 +29,7 @@ polling-preserved g c = record {
       polling-more _ _ _ _ _ c.args.face _ polling given (c.in_ok-poll.ensures.at polling.point polling.at);
   made = search rules;
   writes = search rules;
+  stores = search rules;
 }
 
 pub returns-clause-at : goal.returns-clause-at

@@ -11,6 +11,7 @@ invariant-polling g l = record {
       → Polling (g.T.HalfParts.Shows l.self.parts) (g.O.Outside.ahead l.outside) l.left l.face (polls_within most_polls l.face p);
   made : g.O.Outside.made l.outside ≡ g.O.Outside.made l.initial.outside;
   writes : g.O.Outside.writes l.outside ≡ g.O.Outside.writes l.initial.outside;
+  stores : g.O.Outside.stores l.outside ≡ g.O.Outside.stores l.initial.outside;
 }
 
 abbrev pub decreases-polling : goal.decreases-polling

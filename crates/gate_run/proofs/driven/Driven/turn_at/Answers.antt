@@ -1,7 +1,7 @@
 use Rattle.gate_cases.specs.declared.face.Face.TheVariants.{Old, New}
 use Rattle.gate_run.specs.Stages.{half_over, turn_over}
 use Rattle.gate_run.proofs.MadeLemmas.{err-is, goes-err, goes-on, stops-first}
-use Rattle.gate_run.proofs.TellLemmas.{stops-after}
+use Rattle.gate_run.proofs.TellLemmas.{stops-after, stores-after}
 use Rattle.gate_run.proofs.driven.Driven.turn_at.Goals as goal
 
 pub returns-in_err-half_at-clause-goes : goal.returns-in_err-half_at-clause-goes
@@ -20,3 +20,7 @@ returns-clause-goes g c = λ p shown is told.
 pub returns-clause-writes : goal.returns-clause-writes
 returns-clause-writes g c =
     stops-after c.half.result _ _ _ c.in_ok-half_at.ensures.writes c.half.ensures.writes
+
+pub returns-clause-stores : goal.returns-clause-stores
+returns-clause-stores g c =
+    stores-after c.half.result _ _ _ c.in_ok-half_at.ensures.stores c.half.ensures.stores

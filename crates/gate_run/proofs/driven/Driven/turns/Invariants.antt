@@ -11,6 +11,7 @@ invariant-turning g l = record {
       (g.O.Outside.made l.initial.outside) (g.O.Outside.made l.outside) l.board l.left
       (turns_over l.board l.turns p);
   writes : NoneFailed (g.O.Outside.writes l.initial.outside) (g.O.Outside.writes l.outside);
+  stores : NoneFailed (g.O.Outside.stores l.initial.outside) (g.O.Outside.stores l.outside);
 }
 
 abbrev pub decreases-turning : goal.decreases-turning

@@ -7,6 +7,10 @@
 #![tactic(auto)]
 
 #[cfg(test)]
+mod journal_runs;
+#[cfg(test)]
+mod journal_table;
+#[cfg(test)]
 mod runs;
 #[cfg(test)]
 mod table;

@@ -5,9 +5,10 @@ usage: tools/gate_model.py --runs FILE      runs as JSON lines, which the model 
        tools/gate_model.py --make COUNT SEED    as many runs, a line of JSON for each, the same for a seed
 
 A run has `file` (the configuration), `turns`, `readings` (of both clocks alike), for `old` and `new` what the polls give
-(hex, null for nothing, "fail"), `failing_sends` and `failing_shows` by number of the call, and then `acts`, all that is
-made, in order: sent and lost datagrams, lines, metrics. It shares no code with the program; sessions and cases are those
-of ltp_model.py and gateway_model.py.
+(hex, null for nothing, "fail"), `failing_sends` and `failing_shows` by number of the call, in `journal` the journal's file
+where one is kept, and then `acts`, all that is made, in order: records that are committed, files that are installed, sent
+and lost datagrams, lines, metrics. It shares no code with the program; sessions and cases are those of ltp_model.py and
+gateway_model.py, the journal that of journal_model.py.
 """
 import collections
 import json
@@ -23,7 +24,8 @@ import format_model
 from format_model import Fields, Refused
 from gateway_model import (ENDS, LEAST_NOW, MOST_REPORTS, MOST_SESSIONS, NEW, OLD, OTHER, SERIALS, VERSION, case_of,
                            status_bundle)
-from ltp_model import Engine, Policy
+import journal_model
+from ltp_model import RECEIVER_CANCEL, RED, REPORT, SENDER_CANCEL, Engine, Policy, read_segment, written
 from made_bundles import Made
 
 NAMES = {OLD: "old", NEW: "new"}
@@ -78,13 +80,13 @@ def subject_of(octets):
 class Face:
     """One face: its engine, its outbox, its contacts and its time."""
 
-    def __init__(self, face, table, wall):
+    def __init__(self, face, table, first):
         own, peer = NUMBERS[face]
         timeout = table.get("timeout_ms", 10_000)
         policy = Policy(table.get("segment", 1024), timeout, table.get("limit", 10),
                         table.get("cap_ms", max(160_000, timeout)))
         self.engine = Engine(table.get("engine", own), table.get("peer_engine", peer),
-                             table.get("first_session", wall // 1000 % (1 << 31) + 1), policy)
+                             first, policy)
         self.contacts = [(moment_of(each["from"]), moment_of(each["to"]), each.get("rate", table.get("rate")))
                          for each in table.get("contact", [])]
         self.rate, self.most = table.get("rate"), table.get("outbox", 536_870_912)
@@ -157,16 +159,70 @@ class Face:
         return f"{later[0] // 1000}.{later[0] % 1000:03}" if later else None
 
 
+class Step:
+    """What a step of the gateway did, as far as the journal has to know it."""
+
+    def __init__(self):
+        self.ends, self.pieces, self.out = [], [], []
+        self.over = []          # sessions of the peers that came whole or were cancelled by their senders
+
+
+class UsedUp(Exception):
+    """Earlier runs have used all session numbers of a face."""
+
+
+class Journal:
+    """What a run knows of its journal: what is kept, the ids of own sessions, and the records of this half."""
+
+    def __init__(self, octets, wall, firsts):
+        self.kept, _ = journal_model.read(octets)
+        self.firsts = self.kept.recover(wall, firsts)
+        for face, first in zip(NAMES.values(), self.firsts):
+            if first >= SERIALS:
+                raise UsedUp(face)
+        self.ids, self.records, self.next_id = {}, [], self.kept.greatest + 1
+        self.install()
+
+    def install(self):
+        self.octets = self.kept.file()
+
+    def add(self, *record):
+        self.records.append(list(record))
+        self.kept.apply(list(record))
+
+    def begin(self, face, block):
+        self.add("begun", self.next_id, face, block)
+        self.next_id += 1
+        return self.next_id - 1
+
+    def waiting(self, face):
+        """The first block of an earlier run that waits at a face."""
+        begun = set(self.ids.values())
+        return next(((number, block) for number, (at, block) in self.kept.pending.items()
+                     if at == face and number not in begun), None)
+
+    def is_large(self):
+        return len(self.octets) - 1 >= (64 << 20) + 2 * sum(len(block) for _, block in self.kept.pending.values())
+
+
+FACES = {OLD: 0, NEW: 1}
+
+
 class Run:
     """A run: the gateway, what it counted, and what it made."""
 
-    def __init__(self, text, wall):
+    def __init__(self, text, wall, journal=None):
         file = tomllib.loads(text)
         self.name, self.cut = file["gateway"]["endpoint"], file["gateway"].get("cut", 65_536)
         self.has_board, self.shown, self.shows = "metrics" in file["gateway"], None, 0
-        self.faces = {OLD: Face(OLD, file["old"], wall), NEW: Face(NEW, file["new"], wall)}
+        firsts = [file[name].get("first_session", wall // 1000 % (1 << 31) + 1) for name in NAMES.values()]
+        self.journal = None if journal is None else Journal(journal, wall, firsts)
+        firsts = self.journal.firsts if self.journal else firsts
+        self.faces = {face: Face(face, file[name], first) for (face, name), first in zip(NAMES.items(), firsts)}
         self.counts, self.own, self.reports = collections.Counter(), {}, 0
         self.acts, self.lines, self.is_begun = [], [], False
+        if self.journal:
+            self.acts.append(["installed", self.journal.octets.hex()])
 
     # ---- what is told ----
 
@@ -186,6 +242,7 @@ class Run:
             how, session = word.lower(), rest[0]
             block = ended.pop(session, None)
             if block is not None:
+                self.step.ends.append((face, session, how))
                 self.count("sessions_ended_total", face, how)
                 subject = subject_of(block)
                 if word == "Sent":
@@ -193,6 +250,7 @@ class Run:
                 else:
                     self.say(how, face, session=session, reason=rest[1], side="sending", subject=subject)
             else:
+                self.step.over += [(face, session)] * (word == "Cancelled")
                 self.say(how, face, session=session, reason=rest[1], side="receiving")
         elif word == "Refused":
             self.say("refused", face, session=rest[0], service=rest[1])
@@ -205,6 +263,7 @@ class Run:
 
     def send_all(self, face, effects):
         for datagram, in effects.out:
+            self.step.out.append((face, datagram))
             if not self.faces[face].put(datagram):
                 self.count("datagrams_dropped_total", face)
 
@@ -220,33 +279,39 @@ class Run:
         ended = {number: self.own.pop((face, number)) for number in gone}
         for note in effects.notes:
             self.tell_note(face, note, None, ended)
+        self.step.over += [(face, session) for session, _ in effects.ups]
         return effects.ups
 
-    def submit(self, face, block):
+    def submit(self, face, block, is_piece=False):
         engine = self.faces[face].engine
         number = engine.next
         self.send_all(face, engine.submit(block, len(block), self.faces[face].moment))
         self.own[face, number] = block
+        self.step.pieces += [(face, number, block)] * is_piece
         self.count("sessions_begun_total", face)
         return number
 
     def tick(self):
+        self.step = Step()
         for face, each in self.faces.items():
             self.engine_part(face, lambda engine, at=each.moment: engine.tick(at))
+        self.record()
 
     def arrive(self, face, datagram):
+        self.step = Step()
         self.count("datagrams_received_total", face)
         self.count("received_bytes_total", face, more=len(datagram))
         at = self.faces[face].moment
         for session, body in self.engine_part(face, lambda engine: engine.arrive(datagram, at)):
             self.hand_over(face, session, body)
+        self.record()
 
     def hand_over(self, face, session, body):
         other, subject = self.faces[OTHER[face]].engine, subject_of(body)
         case = case_of(body, VERSION[face], self.wall, MOST_SESSIONS - len(other.senders), SERIALS - other.next, self.cut)
         word, first = case.note[0], other.next
         for piece in case.out:
-            self.submit(OTHER[face], piece)
+            self.submit(OTHER[face], piece, is_piece=True)
         event = {"Passed": "passed", "BadBundle": "bad_bundle", "Untranslated": "untranslated", **EVENTS}[word]
         self.count("blocks_total", face, event)
         if word == "Passed":
@@ -270,6 +335,59 @@ class Run:
         self.reports += 1
         self.say("reported", face, session=session, subject=subject, report=self.submit(face, octets))
 
+    # ---- the journal ----
+
+    def record(self):
+        """The records of a step, in their order."""
+        if not self.journal:
+            return
+        kept, ids = self.journal.kept, self.journal.ids
+        for face, session, how in self.step.ends:
+            if (face, session) in ids:
+                self.journal.add("done", ids.pop((face, session)), how)
+        for face, session, block in self.step.pieces:
+            ids[face, session] = self.journal.begin(FACES[face], block)
+        for face, datagram in self.step.out:
+            kind, (_, session), _ = read_segment(datagram)
+            receiver = self.faces[face].engine.receivers.get(session)
+            if kind == REPORT and not (receiver and receiver.handed_up) and not kept.is_marked(FACES[face], session):
+                self.journal.add("mark", FACES[face], session, self.wall)
+        for face, session, _ in [*kept.marks]:
+            if ((OLD, NEW)[face], session) in self.step.over:
+                self.journal.add("clear", face, session)
+
+    def close_marked(self):
+        """Sessions that earlier runs had claimed in part are closed, and their peers are told."""
+        for face, session, _ in self.journal.kept.marks:
+            each = self.faces[(OLD, NEW)[face]]
+            name = each.engine.peer, session
+            each.engine.arrive(written(RED, name, 1, 0, 1, body=b"\0"), self.wall)
+            each.engine.arrive(written(SENDER_CANCEL, name, body=b"\0"), self.wall)
+            each.put(written(RECEIVER_CANCEL, name, body=b"\4"))
+
+    def resume(self, face):
+        """Blocks of earlier runs that wait are begun, as long as sessions are free."""
+        engine = self.faces[face].engine
+        while len(engine.senders) < MOST_SESSIONS and engine.next < SERIALS:
+            found = self.journal.waiting(FACES[face])
+            if not found:
+                return
+            self.step = Step()
+            session = self.submit(face, found[1])
+            self.journal.ids[face, session] = found[0]
+            self.say("resumed", face, session=session, subject=subject_of(found[1]))
+
+    def commit(self):
+        for face, at in FACES.items():
+            number = self.faces[face].engine.next
+            if number > self.journal.kept.reserved[at]:
+                self.journal.add("reserved", at, min(number + journal_model.AHEAD, journal_model.NUMBERS))
+        if self.journal.records:
+            octets = journal_model.behind_gate(self.journal.records)
+            self.journal.octets = self.journal.octets[:-1] + journal_model.OPEN + octets
+            self.journal.records = []
+            self.acts.append(["committed", octets.hex()])
+
     # ---- halves ----
 
     def half(self, face, wall, polled, fails_send, fails_show):
@@ -281,7 +399,14 @@ class Run:
                 self.say(face=each, **told)
         if not self.is_begun:
             self.is_begun = True
-            self.say("start", first_session=[self.faces[each].engine.first for each in (OLD, NEW)], marks=0, pending=0)
+            kept = self.journal.kept if self.journal else journal_model.Kept()
+            self.say("start", first_session=[self.faces[each].engine.first for each in (OLD, NEW)], marks=len(kept.marks),
+                     pending=len(kept.pending))
+            if self.journal:
+                self.close_marked()
+        if self.journal:
+            self.resume(OLD)
+            self.resume(NEW)
         self.tick()
         datagrams, has_failed = polled
         for datagram in datagrams:
@@ -289,11 +414,16 @@ class Run:
         if has_failed:
             self.count("poll_failures_total", face)
             self.say("poll_failed", face)
+        if self.journal:
+            self.commit()
         for each in (OLD, NEW):
             self.send(each, fails_send)
         for each in (OLD, NEW):
             self.tell_losses(each)
         self.acts += [["said", line] for line in self.lines]
+        if self.journal and self.journal.is_large():
+            self.journal.install()
+            self.acts.append(["installed", self.journal.octets.hex()])
         self.show(fails_show)
 
     def send(self, face, fails):
@@ -345,20 +475,28 @@ class Run:
                     if number is not None:
                         lines.append(f'fimdahol_{name}{{face="{NAMES[face]}"{more}}} {number}')
         name = "fimdahol_journal_pending_pieces"
-        lines += [f"# HELP {name} Pieces in the journal that haven't ended.", f"# TYPE {name} gauge", f"{name} 0"]
+        lines += [f"# HELP {name} Pieces in the journal that haven't ended.", f"# TYPE {name} gauge",
+                  f"{name} {len(self.journal.kept.pending) if self.journal else 0}"]
         return "".join(line + "\n" for line in lines)
 
 
 def played(row):
-    """The acts of a run, and for each reading how many came before it."""
+    """How a run ends: its status, the line on standard error, its acts, for each reading how many came before it, and the
+    journal's file after it."""
     gives = {"old": collections.deque(row["old"]), "new": collections.deque(row["new"])}
-    run, before = Run(row["file"], row["readings"][0]), []
+    journal = None if row.get("journal") is None else bytes.fromhex(row["journal"])
+    try:
+        run, before = Run(row["file"], row["readings"][0], journal), []
+    except UsedUp as face:
+        return 8, f"the session numbers of {face} are used up", [], [0], row["journal"]
+    except Refused as damage:
+        return 8, f"the journal is damaged: {damage.at} {damage.cause}", [], [0], row["journal"]
     for at, wall in enumerate(row["readings"]):
         face = (OLD, NEW)[at % 2]
         before.append(len(run.acts))
         run.half(face, wall, polled(gives[NAMES[face]]), lambda name, call: call in row["failing_sends"][name],
                  lambda call: call in row["failing_shows"])
-    return run.acts, before
+    return 0, None, run.acts, [0, *before[1:]], run.journal.octets.hex() if run.journal else None
 
 
 def polled(gives):
@@ -379,12 +517,13 @@ def check(path):
     with open(path, encoding="utf-8") as rows:
         for number, text in enumerate(rows, 1):
             row = json.loads(text)
-            if row.get("journal") is not None or row.get("status", 0):
-                continue
             count += 1
-            acts, before = played(row)
-            if acts != row["acts"] or before != row.get("acts_before", before):
+            status, error, acts, before, after = played(row)
+            found = {"status": status, "error": error, "acts_before": before, "journal_after": after}
+            differs = [name for name, value in found.items() if row.get(name, value) != value]
+            if acts != row["acts"] or differs:
                 wrong += 1
+                print(*(f"run {number}: {name} {found[name]}, wanted {row[name]}" for name in differs), sep="\n")
                 at = next((at for at, pair in enumerate(zip(acts, row["acts"])) if pair[0] != pair[1]),
                           min(len(acts), len(row["acts"])))
                 print(f"run {number}: act {at}: {acts[at:at + 1]}, wanted {row['acts'][at:at + 1]}")
@@ -397,7 +536,7 @@ def check(path):
 FILE = """[gateway]
 endpoint = "ipn:9.0"
 cut = {cut}
-{metrics}[old]
+{journal}{metrics}[old]
 bind = "a"
 peer = "b"
 first_session = 1
@@ -424,21 +563,28 @@ def made_keys(draw, face, began):
     return keys
 
 
-def made(seed):
+def made_journal(draw, depth):
+    """The journal's file at the start: none there yet, or what an earlier run left."""
+    return "" if depth == 2 or draw.random() < 0.3 else made(draw.randrange(1 << 32), depth + 1)["journal_after"]
+
+
+def made(seed, depth=0):
     """A run between two nodes that answer, over ways that lose and repeat."""
     draw = random.Random(seed)
+    journal = made_journal(draw, depth) if depth or draw.random() < 0.5 else None
     began = 850_000_000_000 + draw.randrange(1_000_000)
     cut, metrics = draw.choice([50, 700, 65_536]), 'metrics = "m"\n' if draw.random() < 0.3 else ""
-    first = draw.choice([1, 1, 127, (1 << 32) - 9])
-    text = FILE.format(cut=cut, metrics=metrics, first=first, old=made_keys(draw, "old", began),
+    # with a journal few numbers left are none for the next run
+    first = draw.choice([1, 1, 127, (1 << 32) - 9] if journal is None else [1, 127])
+    text = FILE.format(cut=cut, journal="" if journal is None else 'journal = "j"\n', metrics=metrics, first=first, old=made_keys(draw, "old", began),
                        new=made_keys(draw, "new", began))
     nodes = {"old": Engine(1, 2, policy=Policy(512, 400, 3, 1000)), "new": Engine(4, 3, policy=Policy(512, 400, 3, 1000))}
     blocks = {name: Made(draw, version, 2000, began, cut, 1500).items(16) for name, version in (("old", 6), ("new", 7))}
     row = {"seed": seed, "file": text, "turns": draw.randrange(3, 12), "readings": [], "old": [], "new": [],
            "failing_sends": {name: sorted(draw.sample(range(40), draw.randrange(3))) for name in ("old", "new")},
            "failing_shows": [0] if draw.random() < 0.1 else []}
-    run, wall, on_way = Run(text, began), began, {"old": [], "new": []}
-    before = []
+    run, wall = Run(text, began, None if journal is None else bytes.fromhex(journal)), began
+    on_way, before = {"old": [], "new": []}, []
     for at in range(2 * row["turns"]):
         face, name = (OLD, NEW)[at % 2], ("old", "new")[at % 2]
         if draw.random() < 0.4:
@@ -458,7 +604,8 @@ def made(seed):
                 answered = nodes[act[1]].arrive(bytes.fromhex(act[2]), wall)
                 on_way[act[1]] += [datagram for datagram, in answered.out]
         wall += draw.choice([0, 1, 10, draw.randrange(400), draw.randrange(3000)])
-    return {**row, "journal": None, "status": 0, "acts": run.acts, "acts_before": before}
+    return {**row, "journal": journal, "status": 0, "error": None, "acts": run.acts, "acts_before": [0, *before[1:]],
+            "journal_after": None if journal is None else run.journal.octets.hex()}
 
 
 def main(words):

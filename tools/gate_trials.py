@@ -127,8 +127,9 @@ class WayNode(Node):
 class Between:
     """A program, `serve` or `gate`, between an old node and a new node."""
 
-    def __init__(self, path, kind, ways, policy=POLICY, keys="", environment=None):
+    def __init__(self, path, kind, ways, policy=POLICY, keys="", environment=None, gateway=""):
         self.path, self.kind, self.keys, self.environment = path, kind, keys, environment
+        self.gateway = gateway        # keys of the gateway itself
         self.queues = Queues(False)
         self.old = WayNode((1, 2), "127.0.0.1", self.queues, policy, *ways[:2])
         self.new = WayNode((4, 3), "127.0.0.1", self.queues, policy, *ways[2:])
@@ -141,7 +142,8 @@ class Between:
             words = [word for node in self.nodes for word in (node.gate_address, node.address)]
             words = ["serve", GATE, *words, FOR_EVER]
         else:
-            words = gate_words(os.path.join(self.folder.name, "gate.toml"), self.nodes, keys=(self.keys + more,) * 2)
+            file = os.path.join(self.folder.name, "gate.toml")
+            words = gate_words(file, self.nodes, self.gateway, (self.keys + more,) * 2)
         kept = dict(os.environ)
         os.environ.update(self.environment or {})
         self.program = Program(self.path, words)

@@ -47,6 +47,7 @@ PATIENT = Policy(1024, 3_600_000, 100, 3_600_000)     # of the nodes: nothing is
 ROUND = 1000              # datagrams, after which memory is looked at
 STRANGE = 30              # sessions that are opened by false pieces at a time
 FIRST_STRANGE = 5000      # the first of their numbers
+NODES_OWN = range(1, FIRST_STRANGE)           # those of the nodes; a session 0 is a stranger's too
 GROWTH = 2048             # kilobytes
 SECONDS = 60              # for what is to get through afterwards
 MOST_KEPT = 2000
@@ -148,7 +149,7 @@ class Attack:
             self.lines[" ".join(words[:1] if words[0] == "up" else words[1:3])] += 1
             if words[0] == "up":
                 self.judge_up(words[1], int(words[2]), bytes.fromhex(words[3]))
-            elif words[2] in ENDINGS + ("Sent",) * self.is_attacked and int(words[3]) < FIRST_STRANGE:
+            elif words[2] in ENDINGS + ("Sent",) * self.is_attacked and int(words[3]) in NODES_OWN:
                 self.wrong.append(f"{' '.join(words)}, of a session that nobody ended")
 
     def read_event(self, line):
@@ -160,7 +161,7 @@ class Attack:
         self.lines[f"{face} {word}"] += 1
         if event in BLOCKS:
             self.judge_up(face, line["session"], None)
-        elif word in ENDINGS + ("Sent",) * self.is_attacked and line["session"] < FIRST_STRANGE:
+        elif word in ENDINGS + ("Sent",) * self.is_attacked and line["session"] in NODES_OWN:
             self.wrong.append(f"{line}, of a session that nobody ended")
 
     def judge_up(self, face, session, body):

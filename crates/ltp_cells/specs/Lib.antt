@@ -1,0 +1,5 @@
+-- what public clauses cite
+pub mod Covers
+-- what ties the code to it
+pub mod Laid
+pub mod Gaps

@@ -4,7 +4,6 @@ pub mod LawLemmas
 pub mod TableLemmas
 pub mod CountLemmas
 pub mod TranscriptLemmas
-pub mod OpenPartLemmas
 pub mod SessionsLemmas
 pub mod WordLemmas
 pub mod NamedLemmas

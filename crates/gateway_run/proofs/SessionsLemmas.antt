@@ -1,6 +1,6 @@
 -- The table of the code, entry by entry.
-use Rattle.std.proofs.Common.{◌≡◌, ℕ, zero, suc, ◌+◌, ◌≤◌, Bool, true, false, ◌&&◌, ◌==◌, List, [], ◌∷◌, length, Option, None, Some, refl, sym, ◌∙◌, ap, arith, subst, ⊎_elim, if◌then◌else◌, nat_lt, nat_le, Result, Ok, Err, OnErr, not}
-use Rattle.std.proofs.lemmas.Bool.{eqb-true, eq-eqb, cases_lt, lt-ltb, le-ltb, leb-true, leb-false}
+use Rattle.std.proofs.Common.{◌≡◌, ℕ, zero, suc, ◌+◌, ◌≤◌, Bool, true, false, ◌&&◌, ◌==◌, List, [], ◌∷◌, length, Option, None, Some, refl, sym, ◌∙◌, ap, arith, subst, ⊎_elim, if◌then◌else◌, nat_lt, ◌<◌, Result, Ok, Err, OnErr, not}
+use Rattle.std.proofs.lemmas.Bool.{eqb-true, eq-eqb, cases_lt, lt-ltb, le-ltb}
 use Rattle.std.proofs.lemmas.Bool.Decides.{nat_tests}
 use Rattle.std.specs.Cmp.{nat_cmp_is}
 use Rattle.std.specs.declared.cmp.Ordering.{Ordering}
@@ -210,21 +210,28 @@ pub none_too_many : (most : ℕ) (kept : List Kept) (one : SessionName) (state :
 none_too_many most kept one state few no_more =
     le-ltb most (unfinished (with_session one state kept)) (omega (arith, unfinished-with one state kept, few, no_more))
 
--- of a session of which nothing came
-pub fresh_too_many : (most : ℕ) (kept : List Kept) (one : SessionName) (state : Session) → unfinished kept ≤ most
+-- one session changes the count by one at the most
+count-most : (t : Bool) → count t ≤ 1
+count-most true = omega arith
+count-most false = omega arith
+
+pub fewer_too_many : (most : ℕ) (kept : List Kept) (one : SessionName) (state : Session) → unfinished kept < most
+    → nat_lt most (unfinished (with_session one state kept)) ≡ false
+fewer_too_many most kept one state few =
+    le-ltb most (unfinished (with_session one state kept)) (omega (arith, unfinished-with one state kept, few, count-most (is_unfinished state)))
+
+-- of a session of which nothing came, where as many as there may be are unfinished
+pub fresh_too_many : (most : ℕ) (kept : List Kept) (one : SessionName) (state : Session) → unfinished kept ≡ most
     → session_in one kept ≡ fresh
-    → nat_lt most (unfinished (with_session one state kept)) ≡ (nat_le most (unfinished kept) && is_unfinished state)
-fresh_too_many most kept one state few first = by_test (is_unfinished state) refl (nat_le most (unfinished kept)) refl
+    → nat_lt most (unfinished (with_session one state kept)) ≡ is_unfinished state
+fresh_too_many most kept one state full first = by_test (is_unfinished state) refl
   where
     none : count (is_unfinished (session_in one kept)) ≡ 0
     none = rw first refl
 
-    by_test : (t : Bool) → is_unfinished state ≡ t → (u : Bool) → nat_le most (unfinished kept) ≡ u
-        → nat_lt most (unfinished (with_session one state kept)) ≡ (u && t)
-    by_test false is true full = le-ltb most (unfinished (with_session one state kept)) (omega (arith, unfinished-with one state kept, none, few, ap count is))
-    by_test false is false full = le-ltb most (unfinished (with_session one state kept)) (omega (arith, unfinished-with one state kept, none, few, ap count is))
-    by_test true is true full = lt-ltb most (unfinished (with_session one state kept)) (omega (arith, unfinished-with one state kept, none, leb-true most (unfinished kept) full, ap count is))
-    by_test true is false full = le-ltb most (unfinished (with_session one state kept)) (omega (arith, unfinished-with one state kept, none, leb-false most (unfinished kept) full, ap count is))
+    by_test : (t : Bool) → is_unfinished state ≡ t → nat_lt most (unfinished (with_session one state kept)) ≡ t
+    by_test false is = le-ltb most (unfinished (with_session one state kept)) (omega (arith, unfinished-with one state kept, none, full, ap count is))
+    by_test true is = lt-ltb most (unfinished (with_session one state kept)) (omega (arith, unfinished-with one state kept, none, full, ap count is))
 
 -- an open session that meets a piece is unfinished or not, so no more than before
 pub open_too_many : (most : ℕ) (kept : List Kept) (one : SessionName) (state : Session) → unfinished kept ≤ most
@@ -249,13 +256,13 @@ pub found_open : (entry : Option Standing) (session : Session) (reach : ℕ) (en
 found_open None session reach end stands is = absurd (cc)
 found_open (Some standings.HandedUp) session reach end stands is = absurd (cc)
 found_open (Some (standings.Open part)) session reach end (cells, known, open_is, stands) is =
-    let same_reach : part.value.reach ≡ reach = cc in
+    let same_reach : length part.value.cells ≡ reach = cc in
     let same_length : part.value.length ≡ end = cc in
     record {
       cells = cells;
       known = known;
       is_open = open_is;
-      reach_is = sym same_reach ∙ stands.reach;
+      reach_is = sym same_reach ∙ ap length stands.came;
       length_is = sym same_length ∙ stands.length_is;
     }
 

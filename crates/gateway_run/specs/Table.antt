@@ -5,6 +5,7 @@ use Rattle.std.specs.declared.cmp.Ordering.{Ordering}
 use Rattle.std.specs.BTreeMap.{get}
 use Rattle.ltp_segment.specs.declared.session.TheConstants.{BLOCK_MAX}
 use Rattle.ltp_session.specs.declared.name.SessionName.{SessionName}
+use Rattle.ltp_session.specs.Cells.{reach_of}
 use Rattle.gateway_run.specs.declared.part.OpenPart.{OpenPart}
 use Rattle.gateway_run.specs.declared.table.Standing.{Standing}
 use Rattle.gateway_run.specs.declared.table.Standing.TheVariants as standings
@@ -66,7 +67,7 @@ pub record Puts (old new : Sessions) (one : SessionName) (standing : Standing) :
 -- how a session is found
 abbrev pub found_at : Option Standing → Found
 found_at None = founds.Fresh
-found_at (Some (standings.Open part)) = founds.Open part.value.reach part.value.length
+found_at (Some (standings.Open part)) = founds.Open (reach_of part.value.cells) part.value.length
 found_at (Some standings.HandedUp) = founds.HandedUp
 
 -- a piece met its session: what it brought about, and the table after it

@@ -1,26 +1,25 @@
 //! Pieces that come for an open red part, until it is whole.
-ghost use Rattle.std.specs.Prelude.{◌≡◌, ℕ, ◌+◌, ◌-◌, ◌≤◌, ◌<◌, List, [], ◌++◌, ◌∷◌, Option, None, is_some, take, drop, length, replicate, OnOk, IfOk};
+ghost use Rattle.std.specs.Prelude.{◌≡◌, ◌<◌, ◌≤◌, [], None, length, OnOk, IfOk};
 ghost use Rattle.std.specs.Option.{option_map};
 ghost use Rattle.ltp_session.specs.Cells.{filled, whole_part, length_after as after};
 ghost use Rattle.gateway_run.specs.LineContent.{stop};
 ghost use Rattle.gateway_run.specs.Session.{is_out_of_bounds as bounds};
 ghost use Rattle.gateway_run.specs.Views.{red_piece};
-ghost use Rattle.gateway_run.specs.OpenPart.{Stands, ShowsThrough, laid};
+ghost use Rattle.gateway_run.specs.OpenPart.{Stands};
 
-use crate::part::{Held, OpenPart};
+use crate::part::OpenPart;
 use crate::piece::Piece;
+use ltp_cells::Cells;
 use ltp_segment::BLOCK_MAX;
-use spans::Spans;
 use std::alloc::{AllocError, Global};
+use std::mem;
 
 /// A red part of which nothing came.
 pub fn empty_part(alloc: Global) -> OpenPart
     ensures { Stands result [] None }
 {
     OpenPart {
-        pieces: Vec::new(alloc),
-        covered: Spans::new(alloc, BLOCK_MAX),
-        reach: 0,
+        cells: Cells::new(alloc),
         length: None,
     }
 }
@@ -42,21 +41,16 @@ pub fn is_out_of_bounds(reach: u64, length: Option<u64>, piece: &Piece<'_>) -> b
     }
 }
 
-/// Takes a piece that can be one of the red part.
+/// Takes a piece that can be one of the red part. Where memory runs out, the part may be empty.
 pub fn take(alloc: Global, part: &mut OpenPart, piece: &Piece<'_>) -> Result<(), AllocError>
-    requires { stop (red_piece piece.now) ≤ BLOCK_MAX }
-    ensures { (cells : List (Option ℕ)) (length : Option ℕ) → Stands part.old cells length
-        → OnOk result (Stands part.new (filled cells piece.now.offset piece.now.body.now)
-        (after length piece.now.ends (stop (red_piece piece.now)))) }
+    requires some { 0 < length piece.now.body.now }
+    requires fits { stop (red_piece piece.now) ≤ BLOCK_MAX }
+    ensures { OnOk result (Stands part.new (filled part.old.cells piece.now.offset piece.now.body.now)
+        (after part.old.length piece.now.ends (stop (red_piece piece.now)))) }
 {
     let stop = piece.offset + piece.body.len() as u64;
-    let body = Vec::from_slice(alloc, piece.body)?;
-    part.covered.cover(piece.offset, stop)?;
-    part.reach = part.reach.max(stop);
-    part.pieces.push(Held {
-        offset: piece.offset,
-        body,
-    })?;
+    let cells = mem::replace(&mut part.cells, Cells::new(alloc));
+    part.cells = cells.with(piece.offset, piece.body)?;
     part.length = length_after(part.length, piece.ends, stop);
     Ok(())
 }
@@ -73,51 +67,8 @@ fn length_after(length: Option<u64>, ends: bool, stop: u64) -> Option<u64>
 
 /// The red part, if it is whole.
 pub fn whole(alloc: Global, part: &OpenPart) -> Result<Option<Vec<u8>>, AllocError>
-    ensures { (cells : List (Option ℕ)) (length : Option ℕ) → Stands part.now cells length
-        → IfOk result (λ body. option_map (λ v. v.items) body ≡ whole_part cells length) }
+    ensures { IfOk result (λ body. option_map (λ v. v.items) body
+        ≡ whole_part part.now.cells part.now.length) }
 {
-    if is_whole(part) {
-        return Ok(Some(body_of(alloc, part)?));
-    }
-    Ok(None)
-}
-
-/// Whether the red part is whole: its length is known, and every place below it is covered.
-fn is_whole(part: &OpenPart) -> bool
-    ensures { (cells : List (Option ℕ)) (length : Option ℕ) → Stands part.now cells length
-        → result ≡ is_some (whole_part cells length) }
-{
-    part.length == Some(part.reach) && part.covered.is_whole(part.reach)
-}
-
-/// The octets of a red part up to its reach, and 0 for each place for which none came: what came
-/// first is laid last.
-fn body_of(alloc: Global, part: &OpenPart) -> Result<Vec<u8>, AllocError>
-    ensures { IfOk result (λ body. (length body.items ≡ part.now.reach)
-        × ShowsThrough [] body.items (laid [] part.now.pieces.items)) }
-{
-    let mut body = zeros(alloc, part.reach as usize)?;
-    let mut at = part.pieces.len();
-    'laying: while at > 0 {
-        at -= 1;
-        let held = &part.pieces[at];
-        lay(&mut body, held.offset as usize, &held.body);
-    }
-    Ok(body)
-}
-
-/// A buffer of so many octets 0.
-fn zeros(alloc: Global, size: usize) -> Result<Vec<u8>, AllocError>
-    ensures { IfOk result (λ buffer. buffer.items ≡ replicate size 0) }
-{
-    vec![in alloc; 0u8; size]
-}
-
-/// Lays octets over those of the buffer, from a place on.
-fn lay(buffer: &mut [u8], offset: usize, octets: &[u8])
-    requires { offset + length octets.now ≤ length buffer.old }
-    ensures { buffer.new ≡ take offset buffer.old ++ (octets.now ++ drop (offset + length octets.now) buffer.old) }
-{
-    let stop = offset + octets.len();
-    buffer[offset..stop].copy_from_slice(octets);
+    part.cells.whole_part(alloc, part.length)
 }

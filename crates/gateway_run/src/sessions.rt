@@ -1,6 +1,7 @@
 //! The sessions of `receive`, by originator and number.
-ghost use Rattle.std.specs.Prelude.{◌≡◌, ◌&&◌, ◌==◌, ℕ, ◌+◌, ◌<◌, ◌≤◌, ◌^◌, List, [], Option, None, true, false, nat_lt, nat_le, OnOk, OnErr, IfOk};
+ghost use Rattle.std.specs.Prelude.{◌≡◌, ◌&&◌, ◌==◌, ℕ, ◌+◌, ◌<◌, ◌≤◌, ◌^◌, List, [], Option, None, true, false, nat_lt, OnOk, OnErr, IfOk};
 ghost use Rattle.ltp_segment.specs.declared.session.TheConstants.{BLOCK_MAX};
+ghost use Rattle.ltp_session.specs.Cells.{reach_of};
 ghost use Rattle.gateway_run.specs.KeptSessions.{Kept, session_in, with_session, is_unfinished, unfinished};
 ghost use Rattle.gateway_run.specs.Session.{meets, fresh, is_out_of_bounds as bounds};
 ghost use Rattle.gateway_run.specs.Views.{red_piece};
@@ -25,24 +26,19 @@ pub fn no_sessions(alloc: Global) -> Sessions
 }
 
 /// Whether the piece would leave more than `most` sessions unfinished, where there are no more yet.
-/// No memory is taken.
+/// No memory is taken. The session is looked for only where so many are unfinished.
 pub fn is_one_too_many(sessions: &Sessions, piece: &Piece<'_>, most: usize) -> bool
     ensures { (kept : List Kept) → Shows sessions.now kept → sessions.now.unfinished ≤ most → result ≡ nat_lt most (unfinished
         (with_session piece.now.name (meets BLOCK_MAX (session_in piece.now.name kept) (red_piece piece.now)).1 kept)) }
 {
+    if sessions.unfinished < most {
+        return false;
+    }
     match find(sessions, (piece.name.originator, piece.name.number)) {
-        Found::Fresh => exceeds(sessions.unfinished, most, piece),
+        Found::Fresh => opens(piece),
         Found::Open(..) => false,
         Found::HandedUp => false,
     }
-}
-
-/// Whether the first piece of its session leaves more than `most` sessions unfinished, where so
-/// many are.
-fn exceeds(unfinished: usize, most: usize, piece: &Piece<'_>) -> bool
-    ensures { result ≡ (nat_le most unfinished && is_unfinished (meets BLOCK_MAX fresh (red_piece piece.now)).1) }
-{
-    unfinished >= most && opens(piece)
 }
 
 /// Whether a session of which nothing came is unfinished after the piece.
@@ -84,7 +80,7 @@ fn find(sessions: &Sessions, key: (u64, u64)) -> Found
     ensures { result ≡ found_at (get key_cmp sessions.now.table key) }
 {
     match sessions.table.get(&key) {
-        Some(Standing::Open(part)) => Found::Open(part.reach, part.length),
+        Some(Standing::Open(part)) => Found::Open(part.cells.reach(), part.length),
         Some(Standing::HandedUp) => Found::HandedUp,
         None => Found::Fresh,
     }
@@ -129,7 +125,7 @@ fn meet_open<'a>(
     mut part: Box<OpenPart>,
     piece: &Piece<'a>,
 ) -> Result<Reply<'a>, AllocError>
-    requires { bounds BLOCK_MAX part.value.reach part.value.length (red_piece piece.now) ≡ false }
+    requires { bounds BLOCK_MAX (reach_of part.value.cells) part.value.length (red_piece piece.now) ≡ false }
     ensures { (kept : List Kept) (cells : List (Option ℕ)) (length : Option ℕ)
         → LacksOpen sessions.old kept piece.now.name part.value cells length
         → IfOk result (λ reply. Meets kept (red_piece piece.now) reply sessions.new) }

@@ -1,18 +1,23 @@
-use Rattle.std.proofs.Common.{◌≡◌, ◌≤◌, ◌∙◌, refl, sym, ap, arith}
+use Rattle.std.proofs.Common.{◌≡◌, ◌≤◌, ◌<◌, ◌∙◌, refl, sym, ap, arith}
 use Rattle.ltp_segment.specs.declared.session.TheConstants.{BLOCK_MAX}
 use Rattle.gateway_run.specs.KeptSessions.{session_in, unfinished}
 use Rattle.gateway_run.specs.Session.{Session, fresh, handed_up, meets}
 use Rattle.gateway_run.specs.Views.{red_piece}
-use Rattle.gateway_run.proofs.SessionsLemmas.{found_handed_up, found_open, lacks_first, fresh_too_many, open_too_many, none_too_many}
+use Rattle.gateway_run.proofs.SessionsLemmas.{found_handed_up, found_open, lacks_first, fewer_too_many, fresh_too_many, open_too_many, none_too_many}
 use Rattle.gateway_run.proofs.sessions.is_one_too_many.Goals as goal
+
+pub returns-then-sessions-most : goal.returns-then-sessions-most
+returns-then-sessions-most c = λ kept shows low.
+    let few : unfinished kept < c.args.most = rw shows.count at c.if-sessions-most.true in
+    sym (fewer_too_many c.args.most kept c.args.piece.now.name _ few)
 
 pub returns-in-Fresh : goal.returns-in-Fresh
 returns-in-Fresh c = λ kept shows low.
     let lacks = lacks_first c.args.sessions.now kept _ shows (sym c.find.ensures ∙ c.in-Fresh.is) in
-    let few : unfinished kept ≤ c.args.most = rw shows.count at low in
+    let full : unfinished kept ≡ c.args.most = omega (arith, low, shows.count, c.if-sessions-most.false) in
     let same : meets BLOCK_MAX (session_in c.args.piece.now.name kept) (red_piece c.args.piece.now) ≡ meets BLOCK_MAX fresh (red_piece c.args.piece.now) =
     ap (λ (s : Session). meets BLOCK_MAX s (red_piece c.args.piece.now)) lacks.first in
-    rw same (c.exceeds.ensures ∙ rw shows.count (sym (fresh_too_many c.args.most kept c.args.piece.now.name _ few lacks.first)))
+    rw same (c.opens.ensures ∙ sym (fresh_too_many c.args.most kept c.args.piece.now.name _ full lacks.first))
 
 pub returns-in-Open : goal.returns-in-Open
 returns-in-Open c = λ kept shows low.

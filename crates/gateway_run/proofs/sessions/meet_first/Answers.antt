@@ -30,6 +30,6 @@ returns-clause-met c = λ kept lacks few.
           (open_part (filled [] c.args.piece.now.offset c.args.piece.now.body.now)
           (length_after None c.args.piece.now.ends (stop (red_piece c.args.piece.now))))
           lacks.others c.in_ok-put-2.ensures
-          (_, _, refl, rw c.in_ok-part.ensures.ok (c.in_ok-take.ensures [] None c.empty_part-part.ensures))
+          (_, _, refl, rw c.in_ok-part.ensures.ok (rw (c.empty_part-part.ensures.came, c.empty_part-part.ensures.length_is) at c.in_ok-take.ensures))
           refl (rw lacks.first (omega (arith, few, c.saturating_add-sessions.ensures, c.in_ok-put-2.ensures.count))),
     )

@@ -12,10 +12,9 @@ use Rattle.gateway_run.proofs.sessions.meet_open.Goals as goal
 pub returns-in-Some : goal.returns-in-Some
 returns-in-Some c = λ kept cells known lacks.
     let test : is_out_of_bounds BLOCK_MAX (length cells) known (red_piece c.args.piece.now) ≡ false =
-    rw (← lacks.stands.reach, ← lacks.stands.length_is) c.requires in
-    let stands = c.in_ok-take.ensures cells known (rw c.deref_mut.ensures.value lacks.stands) in
-    let w = rw c.in-Some.is at (c.in_ok-body.ensures (filled cells c.args.piece.now.offset c.args.piece.now.body.now)
-    (length_after known c.args.piece.now.ends (stop (red_piece c.args.piece.now))) (rw c.deref.ensures stands)) in
+    rw (← lacks.stands.came, ← lacks.stands.length_is) c.requires in
+    let stands = rw (c.deref_mut.ensures.value, lacks.stands.came, lacks.stands.length_is) at c.in_ok-take.ensures in
+    let w = rw (c.in-Some.is, c.deref.ensures, stands.came, stands.length_is) at c.in_ok-body.ensures in
     rw (open-inside _ (red_piece c.args.piece.now) cells known (Some c.in-Some.body.items) lacks.is_open test w) (
       refl,
       shows_put c.args.sessions.now c.put.new.sessions _ kept _ standings.HandedUp handed_up
@@ -32,10 +31,9 @@ returns-in-Some c = λ kept cells known lacks.
 pub returns : goal.returns
 returns c = λ kept cells known lacks.
     let test : is_out_of_bounds BLOCK_MAX (length cells) known (red_piece c.args.piece.now) ≡ false =
-    rw (← lacks.stands.reach, ← lacks.stands.length_is) c.requires in
-    let stands = c.in_ok-take.ensures cells known (rw c.deref_mut.ensures.value lacks.stands) in
-    let w = rw c.in-None.is at (c.in_ok-body.ensures (filled cells c.args.piece.now.offset c.args.piece.now.body.now)
-    (length_after known c.args.piece.now.ends (stop (red_piece c.args.piece.now))) (rw c.deref.ensures stands)) in
+    rw (← lacks.stands.came, ← lacks.stands.length_is) c.requires in
+    let stands = rw (c.deref_mut.ensures.value, lacks.stands.came, lacks.stands.length_is) at c.in_ok-take.ensures in
+    let w = rw (c.in-None.is, c.deref.ensures, stands.came, stands.length_is) at c.in_ok-body.ensures in
     rw (open-inside _ (red_piece c.args.piece.now) cells known None lacks.is_open test w) (
       refl,
       shows_put c.args.sessions.now c.put-in-None.new.sessions c.put-in-None.new.sessions kept _ _

@@ -97,6 +97,11 @@ def every_second():
     return b"".join(piece(7, 2 * at, b"a") for at in range(999_999))
 
 
+def in_fours():
+    """As many pieces as there may be lines, of four octets each, one after the other."""
+    return b"".join(piece(7, 4 * at, b"abcd") for at in range(999_999))
+
+
 def far_ends():
     """In as many sessions as may be unfinished, the last octet of the longest block."""
     return b"".join(piece(session, BLOCK - 1, b"a") for session in range(64))
@@ -144,8 +149,9 @@ ROWS = (
     ("64 wholes of 4 MiB, by single octets", ["join"], lambda: single_octets(64, 15_000), DONE, 960_000, 40),
     ("33 million references to a long name", ["check"], filled, DONE, 1, 4),
     ("a name of 40 MB that never ends", ["check"], endless, REFUSED, 1, 84),
-    ("1,000 pieces that bring an octet each", ["receive"], overlapping, DONE, 0, 40),
-    ("single octets at every second place", ["receive"], every_second, DONE, 0, 90),
+    ("1,000 pieces that bring an octet each", ["receive"], overlapping, DONE, 0, 4),
+    ("single octets at every second place", ["receive"], every_second, DONE, 0, 40),
+    ("999,999 pieces of four octets, in order", ["receive"], in_fours, DONE, 0, 20),
     ("64 sessions of one octet, far away", ["receive"], far_ends, DONE, 0, 4),
     ("65,536 closed numbers", ["node", "2", "1"], closed_runs, DONE, 2 * RUNS + 1, 6),
     ("64 blocks that go on", ["node", "2", "1"], many_blocks, DONE, 0, 64),

@@ -1,0 +1,154 @@
+//! Files as a journal makes them, octet by octet, and the calls on its store.
+
+use crate::texts::{BEGUN, BLOCK, CLEAR, DONE, MARKED, RESERVED, SENT, begun, said};
+use gate_journal::{Journal, RecoverFault, recover};
+use journal_file::{JournalCause, Kept, Record, read_kept, write_record};
+use std::alloc::Global;
+use std::test::Fail;
+use store_traits::{Call, MemStore};
+
+/// Records and their octets.
+const RECORDS: &[(Record, &str)] = &[
+    (SENT, "020101cec2ea03"),
+    (MARKED, "030007bdd2502ee8d1a7"),
+    (CLEAR, "0400072a70638b"),
+];
+
+#[test]
+fn a_record_is_written_so(rt: HostRuntime) -> Result<(), Fail> {
+    for (record, wanted) in RECORDS {
+        let mut octets = Vec::new(rt.alloc());
+        write_record(rt.alloc(), record, &mut octets)?;
+        let got = hex::encode(rt.alloc(), octets.as_slice())?;
+        assert_eq!(rt; got.as_str(), *wanted);
+    }
+    Ok(())
+}
+
+/// A journal in memory, whose file has these octets and its gate at this place.
+fn journal(alloc: Global, text: &str, gate: usize) -> Result<Journal<MemStore>, Fail> {
+    let octets = hex::decode(alloc, text)?;
+    let store = MemStore::new(alloc, &octets, None)?;
+    Ok(Journal { store, gate })
+}
+
+/// Whether a journal has such a file, and its gate at this place.
+fn has(alloc: Global, journal: &Journal<MemStore>, text: &str, gate: usize) -> Result<bool, Fail> {
+    let octets = hex::decode(alloc, text)?;
+    Ok(journal.gate == gate && journal.store.octets() == octets.as_slice())
+}
+
+/// What a file says is kept.
+fn kept(alloc: Global, text: &str) -> Result<Kept, Fail> {
+    let octets = hex::decode(alloc, text)?;
+    match read_kept(alloc, &octets) {
+        Ok(kept) => Ok(kept),
+        Err(_) => Err("the file is refused".into()),
+    }
+}
+
+#[test]
+fn a_file_is_made_anew(rt: HostRuntime) -> Result<(), Fail> {
+    let mut journal = journal(rt.alloc(), DONE, 84)?;
+    let kept = kept(rt.alloc(), RESERVED)?;
+    assert_eq!(rt; journal.install(rt.alloc(), &kept), Ok(26));
+    assert_eq!(rt; has(rt.alloc(), &journal, RESERVED, 26)?, true);
+    let calls = [
+        Call::StartNew,
+        Call::Add,
+        Call::SyncNew,
+        Call::Install,
+        Call::Sync,
+    ];
+    assert_eq!(rt; journal.store.calls(), calls.as_slice());
+    Ok(())
+}
+
+#[test]
+fn a_new_file_has_no_ended_block(rt: HostRuntime) -> Result<(), Fail> {
+    let mut journal = journal(rt.alloc(), DONE, 84)?;
+    let kept = kept(rt.alloc(), DONE)?;
+    assert_eq!(rt; journal.install(rt.alloc(), &kept), Ok(26));
+    assert_eq!(rt; has(rt.alloc(), &journal, RESERVED, 26)?, true);
+    Ok(())
+}
+
+#[test]
+fn a_block_goes_behind_the_gate(rt: HostRuntime) -> Result<(), Fail> {
+    let block = hex::decode(rt.alloc(), BLOCK)?;
+    let mut journal = journal(rt.alloc(), RESERVED, 26)?;
+    assert_eq!(rt; journal.commit(rt.alloc(), &[begun(&block)]), Ok(50));
+    assert_eq!(rt; has(rt.alloc(), &journal, BEGUN, 76)?, true);
+    let calls = [Call::Write, Call::Sync, Call::Write, Call::Sync];
+    assert_eq!(rt; journal.store.calls(), calls.as_slice());
+    Ok(())
+}
+
+#[test]
+fn an_end_goes_behind_the_gate(rt: HostRuntime) -> Result<(), Fail> {
+    let mut journal = journal(rt.alloc(), BEGUN, 76)?;
+    assert_eq!(rt; journal.commit(rt.alloc(), &[SENT]), Ok(8));
+    assert_eq!(rt; has(rt.alloc(), &journal, DONE, 84)?, true);
+    Ok(())
+}
+
+#[test]
+fn no_records_make_no_call(rt: HostRuntime) -> Result<(), Fail> {
+    let mut journal = journal(rt.alloc(), BEGUN, 76)?;
+    assert_eq!(rt; journal.commit(rt.alloc(), &[]), Ok(0));
+    assert_eq!(rt; has(rt.alloc(), &journal, BEGUN, 76)?, true);
+    assert_eq!(rt; journal.store.calls().len(), 0);
+    Ok(())
+}
+
+/// Several records are committed at once as they are one after another.
+#[test]
+fn records_go_at_once(rt: HostRuntime) -> Result<(), Fail> {
+    let block = hex::decode(rt.alloc(), BLOCK)?;
+    let mut journal = journal(rt.alloc(), RESERVED, 26)?;
+    assert_eq!(rt; journal.commit(rt.alloc(), &[begun(&block), SENT]), Ok(58));
+    assert_eq!(rt; has(rt.alloc(), &journal, DONE, 84)?, true);
+    Ok(())
+}
+
+/// What stands behind a closed gate counts for nothing, a whole record too.
+#[test]
+fn what_stands_behind_is_no_record(rt: HostRuntime) -> Result<(), Fail> {
+    let mut file = hex::decode(rt.alloc(), BEGUN)?;
+    let wanted = said(rt.alloc(), &file)?;
+    assert_eq!(rt;
+        wanted.as_str(),
+        "begun 1 new 41 reserved 4097 4097 greatest 1"
+    );
+    let done = hex::decode(rt.alloc(), "020101cec2ea03")?;
+    file.extend_from_slice(&done)?;
+    assert_eq!(rt; said(rt.alloc(), &file)?.as_str(), wanted.as_str());
+    Ok(())
+}
+
+/// Whether a file is refused there, and stays as it is.
+fn is_refused(alloc: Global, file: &[u8], at: usize, why: JournalCause) -> Result<bool, Fail> {
+    let mut store = MemStore::new(alloc, file, None)?;
+    let refused = match recover(alloc, &mut store) {
+        Err(RecoverFault::Damaged { at: place, cause }) => place == at && cause == why,
+        _ => false,
+    };
+    Ok(refused && store.octets() == file)
+}
+
+#[test]
+fn a_damaged_file_stays(rt: HostRuntime) -> Result<(), Fail> {
+    let mut changed = hex::decode(rt.alloc(), BEGUN)?;
+    if let Some(octet) = changed.get_mut(40) {
+        *octet = 0;
+    }
+    assert_eq!(rt;
+        is_refused(rt.alloc(), &changed, 72, JournalCause::Crc)?,
+        true
+    );
+    assert_eq!(rt;
+        is_refused(rt.alloc(), b"hello", 0, JournalCause::Start)?,
+        true
+    );
+    Ok(())
+}

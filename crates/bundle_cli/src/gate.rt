@@ -7,7 +7,7 @@ ghost use Rattle.journal_file.specs.Ties.{kept_of};
 ghost use Rattle.gate_half.specs.Setup.{IsRunnable};
 
 use crate::end::{end, unusable, unwatched};
-use crate::journal::{Opened, Unkept, open, unkept};
+use crate::journal::{Opened, Unkept, end_unkept, open};
 use crate::sockets::{sides_in, text_in};
 use edge_traits::{ReadRefused, Reading, Status, Writing, read_all};
 use endpoint::Octets;
@@ -67,7 +67,7 @@ fn file_at<R: Files + Eprint + AllocGlobal>(
 }
 
 /// Runs the gateway of a file over its sockets.
-fn run(rt: &HostRuntime, words: &[Word], file: &GateFile) -> ExitCode
+fn run<'a>(rt: &'a HostRuntime, words: &[Word], file: &'a GateFile) -> ExitCode
     requires { IsRunnable file.now }
 {
     let (old, new) = match sides_in(rt, file) {
@@ -82,10 +82,10 @@ fn run(rt: &HostRuntime, words: &[Word], file: &GateFile) -> ExitCode
 }
 
 /// Runs the gateway of a file over these sockets, with its journal and its board.
-fn run_over<T: Timer + Drop>(
-    rt: &HostRuntime,
+fn run_over<'a, T: Timer + Drop>(
+    rt: &'a HostRuntime,
     words: &[Word],
-    file: &GateFile,
+    file: &'a GateFile,
     sockets: Sockets<T>,
 ) -> ExitCode
     requires { IsRunnable file.now }
@@ -102,7 +102,7 @@ fn run_over<T: Timer + Drop>(
         Ok(None) => (None, None),
         Ok(Some(Opened { journal, kept })) => (Some(journal), Some(kept)),
         Err(Unkept::NoMemory) => return ended(rt, words, Status::Memory, false),
-        Err(why) => return unkept(rt, why),
+        Err(why) => return end_unkept(rt, why),
     };
     let board = board_at(rt, metrics, beside_metrics.as_str());
     let sink = Writing::new(io::writer(rt));
@@ -123,8 +123,8 @@ fn ends<R: Eprint + AllocGlobal>(
         GateStatus::Done => ended(rt, words, Status::Done, reader_gone),
         GateStatus::WriteFault => ended(rt, words, Status::WriteFault, reader_gone),
         GateStatus::Memory => ended(rt, words, Status::Memory, reader_gone),
-        GateStatus::Journal => unkept(rt, Unkept::Unwritten),
-        GateStatus::SessionsUsed { face } => unkept(rt, Unkept::UsedUp(face)),
+        GateStatus::Journal => end_unkept(rt, Unkept::Unwritten),
+        GateStatus::SessionsUsed { face } => end_unkept(rt, Unkept::UsedUp(face)),
     }
 }
 

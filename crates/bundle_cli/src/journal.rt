@@ -58,7 +58,7 @@ impl From<RecoverFault> for Unkept {
 
 /// A journal that is open, and what earlier runs kept in it.
 #[derive(Drop)]
-pub struct Opened<'a, R> {
+pub struct Opened<'a, R: Files<File = File>> {
     pub journal: Journal<FileStore<'a, R>>,
     pub kept: Kept,
 }
@@ -90,7 +90,7 @@ fn folder_of(path: &str) -> &str {
 }
 
 /// Ends a call whose journal can't be kept, and says why; for want of memory nothing is said here.
-pub fn unkept<R: Eprint>(rt: &R, why: Unkept) -> ExitCode {
+pub fn end_unkept<R: Eprint>(rt: &R, why: Unkept) -> ExitCode {
     let _ = match why {
         Unkept::InUse => eprintln!(rt; "fimdahol: the journal is in use"),
         Unkept::Unopened(error) => eprintln!(rt; "fimdahol: the journal can't be opened: {error}"),

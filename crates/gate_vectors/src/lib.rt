@@ -7,10 +7,6 @@
 #![tactic(auto)]
 
 #[cfg(test)]
-mod journal_runs;
-#[cfg(test)]
-mod journal_table;
-#[cfg(test)]
 mod runs;
 #[cfg(test)]
 mod table;

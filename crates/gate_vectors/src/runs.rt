@@ -1,7 +1,7 @@
 //! Whole runs, each as long as it is and cut off after each of its turns: so it is seen with which half
 //! each act came.
 
-ghost use Rattle.std.specs.Prelude.{◌≡◌, ◌<◌, ◌^◌, [], All, IfOk, IfSome};
+ghost use Rattle.std.specs.Prelude.{◌<◌, ◌^◌, All, IfOk};
 ghost use Rattle.gate_half.specs.Setup.{IsRunnable};
 
 use crate::table::{self, Run};
@@ -9,7 +9,7 @@ use edge_traits::LONGEST_DATAGRAM;
 use endpoint::Octets;
 use gate_cases::Face;
 use gate_config::{GateFile, read};
-use gate_edges::{MemAct, MemFace, MemOutside, Outside};
+use gate_edges::{MemAct, MemFace, MemOutside};
 use gate_run::laws::what_is_read_is_runnable;
 use gate_run::{GateStatus, gate};
 use outbox::Reading;
@@ -79,9 +79,9 @@ fn tell_datagram(
     Ok(())
 }
 
-/// What was made, as a text: a line for each datagram and for each call on the journal, the lines as they
-/// were written, and the metrics after a line of their own.
-pub(crate) fn told(alloc: Global, acts: &[MemAct]) -> Result<Vec<u8>, Fail> {
+/// What was made, as a text: a line for each datagram, the lines as they were written, and the metrics
+/// after a line of their own.
+fn told(alloc: Global, acts: &[MemAct]) -> Result<Vec<u8>, Fail> {
     let mut text = Vec::new(alloc);
     for act in acts {
         match act {
@@ -96,15 +96,16 @@ pub(crate) fn told(alloc: Global, acts: &[MemAct]) -> Result<Vec<u8>, Fail> {
                 text.extend_from_slice(b"shown\n")?;
                 text.extend_from_slice(metrics.as_slice())?;
             }
-            MemAct::Committed(_) => text.extend_from_slice(b"committed\n")?,
-            MemAct::Installed(_) => text.extend_from_slice(b"installed\n")?,
+            MemAct::Committed(_) | MemAct::Installed(_) => {
+                return Err(Fail::new("a run without a journal keeps something"));
+            }
         }
     }
     Ok(text)
 }
 
 /// What a gateway's file means.
-pub(crate) fn file(alloc: Global, text: &str) -> Result<GateFile, Fail>
+fn file(alloc: Global, text: &str) -> Result<GateFile, Fail>
     ensures { IfOk result IsRunnable }
 {
     what_is_read_is_runnable();
@@ -114,20 +115,12 @@ pub(crate) fn file(alloc: Global, text: &str) -> Result<GateFile, Fail>
     }
 }
 
-/// What is outside of a run, in memory.
-pub(crate) fn outside_of(alloc: Global, run: &Run) -> Result<MemOutside, Fail>
-    ensures { IfOk result (λ o. IfSome (⟦<MemOutside as Outside>⟧.made o) (λ acts. acts ≡ [])) }
-{
+/// Whether a run of so many turns makes exactly this.
+fn makes(alloc: Global, run: &Run, turns: u64, wanted: &[u8]) -> Result<bool, Fail> {
     let readings = readings(alloc, run.readings)?;
     let old = link(alloc, run.gives[0], run.failing[0])?;
     let new = link(alloc, run.gives[1], run.failing[1])?;
-    let outside = MemOutside::new(alloc, &readings, old, new, &[], run.showing, &[])?;
-    Ok(outside)
-}
-
-/// Whether a run of so many turns makes exactly this.
-fn makes(alloc: Global, run: &Run, turns: u64, wanted: &[u8]) -> Result<bool, Fail> {
-    let mut outside = outside_of(alloc, run)?;
+    let mut outside = MemOutside::new(alloc, &readings, old, new, &[], run.showing, &[])?;
     let status = gate(alloc, &file(alloc, run.file)?, None, turns, &mut outside);
     Ok(status == GateStatus::Done && told(alloc, outside.acts())?.as_slice() == wanted)
 }

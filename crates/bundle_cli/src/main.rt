@@ -16,7 +16,6 @@ mod given;
 mod help;
 mod hint;
 mod hinting;
-mod journal;
 mod limit;
 mod looks;
 mod reads;

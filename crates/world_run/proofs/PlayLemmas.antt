@@ -1,5 +1,5 @@
 -- What the lines after the first settle on a path, by what they say.
-use Rattle.std.proofs.Common.{◌≡◌, ℕ, ◌+◌, Bool, true, false, ◌||◌, nat_lt, nat_le, List, [], ◌∷◌, ◌++◌, length, map, Option, None, Some, Result, Ok, Err, refl, sym, ap, ◌∙◌, append_assoc, arith, subst, if◌then◌else◌}
+use Rattle.std.proofs.Common.{◌≡◌, ℕ, ◌+◌, ◌<◌, ◌⊎◌, Bool, true, false, ◌||◌, nat_lt, nat_le, List, [], ◌∷◌, ◌++◌, length, map, Option, None, Some, Result, Ok, Err, refl, sym, ap, ◌∙◌, append_assoc, arith, subst, inl, inr, if◌then◌else◌}
 use Rattle.std.proofs.lemmas.Bool.Decides.{nat_tests}
 use Rattle.edge_traits.specs.declared.status.Status.{Status}
 use Rattle.edge_traits.specs.declared.status.Status.TheVariants as statuses
@@ -13,11 +13,11 @@ use Rattle.path_drain.specs.Left.{IsOverBy, IsTimed}
 use Rattle.path_drain.specs.Drained.{EndsBy, DrainsAreMade}
 use Rattle.world_run.specs.WrittenLines.{refusal_line, after_drain_line}
 use Rattle.world_run.specs.World.{WorldState, on_path, drained, LaterLine, says_event, says_drain, line_in, event_text, events_text, is_late, is_late_if_any, no_moment, most_sent, octets_sent, clean_after, drain_made, drain_text, if_kept, happens, drains_by, line_turn, world_rules}
-use Rattle.world_run.specs.Headline.{lines_said, DrainMakes, if_drained_text, ClosesAs}
+use Rattle.world_run.specs.Headline.{lines_said, DrainMakes, if_drained_text, IsPastLines, IsPastPath, PassesLimit, ClosesAs}
 use Rattle.world_run.proofs.StepLemmas.{run-append}
 
 -- what some lines settle on a path, of which the first has number n, by what the first of them say
-pub record Plays (s : PathSetup) (w : Path) (n : ℕ) (lines : List (List ℕ)) (settled : Settled) : Type 0 where
+pub record Plays (longer : Bool) (s : PathSetup) (w : Path) (n : ℕ) (lines : List (List ℕ)) (settled : Settled) : Type 0 where
   pub events : List PathEvent
   pub drains : Bool
   pub later : List (List ℕ)
@@ -29,28 +29,40 @@ pub record Plays (s : PathSetup) (w : Path) (n : ℕ) (lines : List (List ℕ)) 
   pub ending : Status
   pub ends : settled.ends ≡ Some ending
   pub closing : List ℕ
-  pub closes : ClosesAs ending drains (n + length (lines_said events drains)) left closing
+  pub closes : ClosesAs longer s (path_run s w events) ending drains (n + length (lines_said events drains)) left closing
   pub written : settled.text ≡ events_text s w events ++ (if_drained_text drains s (path_run s w events) made ++ closing)
 
--- nothing more is played of some lines, of which the first has number n
-pub record Closes (over : Bool) (n : ℕ) (lines : List (List ℕ)) (settled : Settled) : Type 0 where
+-- nothing more is played of some lines after a drain, of which the first has number n
+pub record Closes (longer : Bool) (s : PathSetup) (w : Path) (n : ℕ) (lines : List (List ℕ)) (settled : Settled) : Type 0 where
   pub ending : Status
   pub ends : settled.ends ≡ Some ending
-  pub closes : ClosesAs ending over n lines settled.text
+  pub closes : ClosesAs longer s w ending true n lines settled.text
 
 -- how the run ends after the last line, wherever that leaves the path
-pub record EndsLines (ending : WorldState → Settled) : Type 0 where
+pub record EndsLines (longer : Bool) (ending : WorldState → Settled) : Type 0 where
   pub last : Status
-  pub none_left : (over : Bool) (n : ℕ) → ClosesAs last over n [] []
+  pub none_left : (s : PathSetup) (w : Path) (over : Bool) (n : ℕ) → ClosesAs longer s w last over n [] []
   pub on : (s : PathSetup) (w : Path) → ending (on_path s w) ≡ record { text = []; ends = Some last }
   pub after : ending drained ≡ record { text = []; ends = Some last }
 
+-- ---- limits
+
+less : (a b : ℕ) → nat_lt a b ≡ true → a < b
+less a b is = grind (arith, nat_tests, is)
+
+pub past-lines : (n : ℕ) (line : List ℕ) → (nat_lt world_rules.lines n || nat_lt world_rules.octets (length line)) ≡ true → IsPastLines n line
+past-lines n line = by (nat_lt world_rules.lines n) refl
+  where
+    by : (many : Bool) → nat_lt world_rules.lines n ≡ many → (many || nat_lt world_rules.octets (length line)) ≡ true → IsPastLines n line
+    by true many past = inl (less world_rules.lines n many)
+    by false few past = inr (less world_rules.octets (length line) past)
+
 -- ---- the run ends
 
-stops : (s : PathSetup) (w : Path) (n : ℕ) (lines : List (List ℕ)) (closing : List ℕ) (status : Status)
-    → ClosesAs status false n lines closing → Plays s w n lines (record { text = closing; ends = Some status })
-unfolding events_text
-stops s w n lines closing status closes = record {
+stops : (longer : Bool) (s : PathSetup) (w : Path) (n : ℕ) (lines : List (List ℕ)) (closing : List ℕ) (status : Status)
+    → ClosesAs longer s w status false n lines closing → Plays longer s w n lines (record { text = closing; ends = Some status })
+unfolding events_text path_run
+stops longer s w n lines closing status closes = record {
   events = [];
   drains = false;
   later = [];
@@ -62,27 +74,29 @@ stops s w n lines closing status closes = record {
   ending = status;
   ends = refl;
   closing = closing;
-  closes = subst (λ k. ClosesAs status false k lines closing) (omega arith) closes;
+  closes = subst (λ k. ClosesAs longer s w status false k lines closing) (omega arith) closes;
   written = refl;
 }
 
 -- ---- after a drain
 
-module _ (n : ℕ) (line : List ℕ) (lines : List (List ℕ)) (settle : WorldState → Settled) where
-  line_refused : Closes true n (line ∷ lines) (after_turn (turn_at world_rules n drained line) settle)
-  unfolding turn_at
-  line_refused = by_past (nat_lt world_rules.lines n || nat_lt world_rules.octets (length line))
-    where
-      by_past : (t : Bool) → Closes true n (line ∷ lines)
-          (after_turn (if t then ends_run [] statuses.Limit else ends_run (after_drain_line n) statuses.Refused) settle)
-      by_past true = record { ending = statuses.Limit; ends = refl; closes = refl }
-      by_past false = record { ending = statuses.Refused; ends = refl; closes = refl }
+module _ (longer : Bool) (s : PathSetup) (w : Path) where
+  module _ (n : ℕ) (line : List ℕ) (lines : List (List ℕ)) (settle : WorldState → Settled) where
+    line_refused : Closes longer s w n (line ∷ lines) (after_turn (turn_at world_rules n drained line) settle)
+    unfolding turn_at
+    line_refused = by_past (nat_lt world_rules.lines n || nat_lt world_rules.octets (length line)) refl
+      where
+        by_past : (t : Bool) → (nat_lt world_rules.lines n || nat_lt world_rules.octets (length line)) ≡ t
+            → Closes longer s w n (line ∷ lines)
+            (after_turn (if t then ends_run [] statuses.Limit else ends_run (after_drain_line n) statuses.Refused) settle)
+        by_past true past = record { ending = statuses.Limit; ends = refl; closes = (past-lines n line past, refl) }
+        by_past false past = record { ending = statuses.Refused; ends = refl; closes = refl }
 
-module _ (ending : WorldState → Settled) (last : EndsLines ending) where
-  closes_from : (n : ℕ) (lines : List (List ℕ)) → Closes true n lines (lines_settle world_rules n drained lines ending)
-  unfolding lines_settle
-  closes_from n [] = rw last.after (record { ending = last.last; ends = refl; closes = last.none_left true n })
-  closes_from n (line ∷ lines) = line_refused n line lines (λ now. lines_settle world_rules (n + 1) now lines ending)
+  module _ (ending : WorldState → Settled) (last : EndsLines longer ending) where
+    pub closes_from : (n : ℕ) (lines : List (List ℕ)) → Closes longer s w n lines (lines_settle world_rules n drained lines ending)
+    unfolding lines_settle
+    closes_from n [] = rw last.after (record { ending = last.last; ends = refl; closes = last.none_left s w true n })
+    closes_from n (line ∷ lines) = line_refused n line lines (λ now. lines_settle world_rules (n + 1) now lines ending)
 
 -- ---- where a drain ends
 
@@ -103,10 +117,10 @@ made-so s w law timed reached =
 
 -- ---- one line more
 
-module _ (s : PathSetup) (w : Path) (n : ℕ) (line : List ℕ) (lines : List (List ℕ)) where
+module _ (longer : Bool) (s : PathSetup) (w : Path) (n : ℕ) (line : List ℕ) (lines : List (List ℕ)) where
   goes_on : (event : PathEvent) (later : Settled) → line_in line ≡ Ok (says_event event)
-      → Plays s (path_step s w event).path (n + 1) lines later
-      → Plays s w n (line ∷ lines) (record { text = event_text s w event ++ later.text; ends = later.ends })
+      → Plays longer s (path_step s w event).path (n + 1) lines later
+      → Plays longer s w n (line ∷ lines) (record { text = event_text s w event ++ later.text; ends = later.ends })
   unfolding events_text path_run
   goes_on event later is rest = record {
     events = event ∷ rest.events;
@@ -120,20 +134,25 @@ module _ (s : PathSetup) (w : Path) (n : ℕ) (line : List ℕ) (lines : List (L
     ending = rest.ending;
     ends = rest.ends;
     closing = rest.closing;
-    closes = subst (λ k. ClosesAs rest.ending rest.drains k rest.left rest.closing) (omega arith) rest.closes;
+    closes = subst (λ k. ClosesAs longer s (path_run s (path_step s w event).path rest.events) rest.ending rest.drains k rest.left rest.closing) (omega arith) rest.closes;
     written = ap (λ t. event_text s w event ++ t) rest.written
         ∙ sym (append_assoc (event_text s w event) (events_text s (path_step s w event).path rest.events)
         (if_drained_text rest.drains s (path_run s (path_step s w event).path rest.events) rest.made ++ rest.closing));
   }
 
-  limit : Plays s w n (line ∷ lines) (record { text = []; ends = Some statuses.Limit })
-  limit = stops s w n (line ∷ lines) [] statuses.Limit refl
+  limit : PassesLimit false s w n line → Plays longer s w n (line ∷ lines) (record { text = []; ends = Some statuses.Limit })
+  limit past = stops longer s w n (line ∷ lines) [] statuses.Limit (past, refl)
+
+  past-path : (said : LaterLine) → line_in line ≡ Ok said → IsPastPath s w said
+      → Plays longer s w n (line ∷ lines) (record { text = []; ends = Some statuses.Limit })
+  past-path said is past = limit (inr (said, is, past))
 
   -- the path is drained, and these events were made
-  module _ (is : line_in line ≡ Ok says_drain) (made : List PathEvent) (ends : EndsBy no_moment s w (length w.sent) made)
-      (settle : WorldState → Settled) (rest : Closes true (n + 1) lines (settle drained)) where
+  module _ (is : line_in line ≡ Ok says_drain) (made : List PathEvent) (made_is : made ≡ drain_made s w)
+      (ends : EndsBy no_moment s w (length w.sent) made)
+      (settle : WorldState → Settled) (rest : Closes longer s w (n + 1) lines (settle drained)) where
     drained_so : clean_after s w made ≡ None
-        → Plays s w n (line ∷ lines) (record { text = drain_text s w made ++ (settle drained).text; ends = (settle drained).ends })
+        → Plays longer s w n (line ∷ lines) (record { text = drain_text s w made ++ (settle drained).text; ends = (settle drained).ends })
     unfolding events_text path_run
     drained_so none = record {
       events = [];
@@ -151,52 +170,59 @@ module _ (s : PathSetup) (w : Path) (n : ℕ) (line : List ℕ) (lines : List (L
       written = refl;
     }
 
-    pub drains : Plays s w n (line ∷ lines) (after_turn (drains_by s w made) settle)
+    past-drain : (is_late_if_any (clean_after s w made) ≡ true) ⊎ (most_sent < octets_sent (path_run s w made).sent)
+        → Plays longer s w n (line ∷ lines) (record { text = []; ends = Some statuses.Limit })
+    past-drain past = past-path says_drain is
+        (subst (λ (ms : List PathEvent). (is_late_if_any (clean_after s w ms) ≡ true) ⊎ (most_sent < octets_sent (path_run s w ms).sent)) made_is past)
+
+    pub drains : Plays longer s w n (line ∷ lines) (after_turn (drains_by s w made) settle)
     drains = by_late (is_late_if_any (clean_after s w made)) refl
       where
-        by_most : (t : Bool) → clean_after s w made ≡ None → Plays s w n (line ∷ lines)
+        by_most : (t : Bool) → nat_lt most_sent (octets_sent (path_run s w made).sent) ≡ t → clean_after s w made ≡ None
+            → Plays longer s w n (line ∷ lines)
             (after_turn (if t then ends_run [] statuses.Limit else passes (drain_text s w made) drained) settle)
-        by_most true none = limit
-        by_most false none = drained_so none
+        by_most true many none = past-drain (inr (less most_sent (octets_sent (path_run s w made).sent) many))
+        by_most false few none = drained_so none
 
-        by_late : (t : Bool) → is_late_if_any (clean_after s w made) ≡ t → Plays s w n (line ∷ lines)
+        by_late : (t : Bool) → is_late_if_any (clean_after s w made) ≡ t → Plays longer s w n (line ∷ lines)
             (after_turn (if t then ends_run [] statuses.Limit else if_kept (drain_text s w made) (path_run s w made) drained) settle)
-        by_late true late = limit
+        by_late true late = past-drain (inl late)
         by_late false early =
-            by_most (nat_lt most_sent (octets_sent (path_run s w made).sent)) (none-late (clean_after s w made) ends.over early)
+            by_most (nat_lt most_sent (octets_sent (path_run s w made).sent)) refl (none-late (clean_after s w made) ends.over early)
 
   module _ (settle : WorldState → Settled) (rest : (event : PathEvent) → line_in line ≡ Ok (says_event event)
-      → Plays s (path_step s w event).path (n + 1) lines (settle (on_path s (path_step s w event).path)))
-      (ends : EndsBy no_moment s w (length w.sent) (drain_made s w)) (over : Closes true (n + 1) lines (settle drained)) where
+      → Plays longer s (path_step s w event).path (n + 1) lines (settle (on_path s (path_step s w event).path)))
+      (ends : EndsBy no_moment s w (length w.sent) (drain_made s w)) (over : Closes longer s w (n + 1) lines (settle drained)) where
     happened : (event : PathEvent) → line_in line ≡ Ok (says_event event)
-        → Plays s w n (line ∷ lines) (after_turn (happens s w event) settle)
-    happened event is = by_late (is_late event)
+        → Plays longer s w n (line ∷ lines) (after_turn (happens s w event) settle)
+    happened event is = by_late (is_late event) refl
       where
-        by_most : (t : Bool) → Plays s w n (line ∷ lines)
+        by_most : (t : Bool) → nat_lt most_sent (octets_sent (path_step s w event).path.sent) ≡ t → Plays longer s w n (line ∷ lines)
             (after_turn (if t then ends_run [] statuses.Limit else passes (event_text s w event) (on_path s (path_step s w event).path)) settle)
-        by_most true = limit
-        by_most false = goes_on event _ is (rest event is)
+        by_most true many = past-path (says_event event) is (inr (less most_sent (octets_sent (path_step s w event).path.sent) many))
+        by_most false few = goes_on event _ is (rest event is)
 
-        by_late : (t : Bool) → Plays s w n (line ∷ lines)
+        by_late : (t : Bool) → is_late event ≡ t → Plays longer s w n (line ∷ lines)
             (after_turn (if t then ends_run [] statuses.Limit
             else if_kept (event_text s w event) (path_step s w event).path (on_path s (path_step s w event).path)) settle)
-        by_late true = limit
-        by_late false = by_most (nat_lt most_sent (octets_sent (path_step s w event).path.sent))
+        by_late true late = past-path (says_event event) is (inl late)
+        by_late false early = by_most (nat_lt most_sent (octets_sent (path_step s w event).path.sent)) refl
 
     turned : (said : Result LaterLine LineFault) → line_in line ≡ said
-        → Plays s w n (line ∷ lines) (after_turn (line_turn n s w said) settle)
+        → Plays longer s w n (line ∷ lines) (after_turn (line_turn n s w said) settle)
     turned (Ok (says_event event)) is = happened event is
-    turned (Ok says_drain) is = drains is (drain_made s w) ends settle over
-    turned (Err fault) is = stops s w n (line ∷ lines) (refusal_line n fault) statuses.Refused (fault, is, refl)
+    turned (Ok says_drain) is = drains is (drain_made s w) refl ends settle over
+    turned (Err fault) is = stops longer s w n (line ∷ lines) (refusal_line n fault) statuses.Refused (fault, is, refl)
 
-    pub line_turned : Plays s w n (line ∷ lines) (after_turn (turn_at world_rules n (on_path s w) line) settle)
+    pub line_turned : Plays longer s w n (line ∷ lines) (after_turn (turn_at world_rules n (on_path s w) line) settle)
     unfolding turn_at
-    line_turned = by_past (nat_lt world_rules.lines n || nat_lt world_rules.octets (length line))
+    line_turned = by_past (nat_lt world_rules.lines n || nat_lt world_rules.octets (length line)) refl
       where
-        by_past : (t : Bool) → Plays s w n (line ∷ lines)
+        by_past : (t : Bool) → (nat_lt world_rules.lines n || nat_lt world_rules.octets (length line)) ≡ t
+            → Plays longer s w n (line ∷ lines)
             (after_turn (if t then ends_run [] statuses.Limit else line_turn n s w (line_in line)) settle)
-        by_past true = limit
-        by_past false = turned (line_in line) refl
+        by_past true past = limit (inl (past-lines n line past))
+        by_past false past = turned (line_in line) refl
 
 -- ---- all lines on a path
 
@@ -210,12 +236,12 @@ reached-more s w event reached = record {
       ∙ ap (λ (x : Path). (path_step s x event).path) reached.leads;
 }
 
-module _ (law : DrainsAreMade) (ending : WorldState → Settled) (last : EndsLines ending) where
+module _ (law : DrainsAreMade) (longer : Bool) (ending : WorldState → Settled) (last : EndsLines longer ending) where
   pub plays_from : (s : PathSetup) (w : Path) (n : ℕ) (lines : List (List ℕ)) → IsTimed s BLOCK_MAX → IsPathReached s w
-      → Plays s w n lines (lines_settle world_rules n (on_path s w) lines ending)
+      → Plays longer s w n lines (lines_settle world_rules n (on_path s w) lines ending)
   unfolding lines_settle
-  plays_from s w n [] timed reached = rw (last.on s w) (stops s w n [] [] last.last (last.none_left false n))
+  plays_from s w n [] timed reached = rw (last.on s w) (stops longer s w n [] [] last.last (last.none_left s w false n))
   plays_from s w n (line ∷ lines) timed reached =
-      line_turned s w n line lines (λ now. lines_settle world_rules (n + 1) now lines ending)
+      line_turned longer s w n line lines (λ now. lines_settle world_rules (n + 1) now lines ending)
       (λ event said. plays_from s (path_step s w event).path (n + 1) lines timed (reached-more s w event reached))
-      (made-so s w law timed reached) (closes_from ending last (n + 1) lines)
+      (made-so s w law timed reached) (closes_from longer s w ending last (n + 1) lines)

@@ -1,6 +1,7 @@
 -- What `world` answers to an input, by what its lines say.
-use Rattle.std.proofs.Common.{◌≡◌, ℕ, Bool, true, false, ◌||◌, nat_lt, nat_le, List, [], ◌∷◌, ◌++◌, length, map, take, codes, Some, Result, Ok, Err, refl, sym, ap, ◌∙◌, inl, inr, if◌then◌else◌}
+use Rattle.std.proofs.Common.{◌≡◌, ℕ, Bool, true, false, ◌||◌, ◌≤◌, nat_lt, nat_le, List, [], ◌∷◌, ◌++◌, length, map, take, codes, Some, Result, Ok, Err, refl, sym, ap, ◌∙◌, arith, inl, inr, if◌then◌else◌}
 use Rattle.std.proofs.lemmas.List.{append-nil}
+use Rattle.std.proofs.lemmas.Bool.Decides.{nat_tests}
 use Rattle.edge_traits.specs.declared.status.Status.{Status}
 use Rattle.edge_traits.specs.declared.status.Status.TheVariants as statuses
 use Rattle.edge_traits.specs.Settled.{at_end, goes_on as going_on, Settled}
@@ -20,15 +21,15 @@ use Rattle.path_drain.specs.Decided.{BegunAreDecided}
 use Rattle.path_drain.specs.WholeRun.{WholeRunsComplete, run_path}
 use Rattle.path_drain.specs.Drained.{DrainsAreMade, PathsAreTimed}
 use Rattle.world_run.specs.World.{PathStart, WorldState, no_path, on_path, start_in, no_moment, start_turn, world_rules, settles}
-use Rattle.world_run.specs.Headline.{DrainMakes, DrainCompletes, lines_with, up_lines, note_lines, end_lines, up_text, note_text, end_texts, PlaysScript, ClosesFirst, EndsLawfully, WorldsKeepHeadline}
+use Rattle.world_run.specs.Headline.{DrainMakes, DrainCompletes, lines_with, datagram_lines, datagram_texts, PassesFirst, up_lines, note_lines, end_lines, up_text, note_text, end_texts, PlaysScript, ClosesFirst, EndsLawfully, WorldsKeepHeadline}
 use Rattle.world_run.proofs.StartLemmas.{starts_fit, starts_takes, starts_timed}
-use Rattle.world_run.proofs.PlayLemmas.{Plays, EndsLines, plays_from}
-use Rattle.world_run.proofs.LineLemmas.{Has, HasLines, nothing, and_then, told_in, told_if, both-have, events-have, drained-have, closing-has, ups-append, notes-append}
+use Rattle.world_run.proofs.PlayLemmas.{Plays, EndsLines, plays_from, past-lines}
+use Rattle.world_run.proofs.LineLemmas.{Has, HasLines, nothing, and_then, sent_in, told_in, told_if, both-have, events-have, drained-have, closing-has, sents-append, ups-append, notes-append}
 
 -- what some lines settle from the first on
-data Settles (lines : List (List ℕ)) (settled : Settled) : Type 0 where
-  on_a_path : (ending : Status) → settled.ends ≡ Some ending → PlaysScript lines settled.text ending → Settles lines settled
-  on_none : (ending : Status) → settled.ends ≡ Some ending → ClosesFirst ending lines settled.text → Settles lines settled
+data Settles (longer : Bool) (lines : List (List ℕ)) (settled : Settled) : Type 0 where
+  on_a_path : (ending : Status) → settled.ends ≡ Some ending → PlaysScript longer lines settled.text ending → Settles longer lines settled
+  on_none : (ending : Status) → settled.ends ≡ Some ending → ClosesFirst longer ending lines settled.text → Settles longer lines settled
 
 -- what is proved of a path, and of drains of it
 record Laws : Type 0 where
@@ -49,14 +50,19 @@ unfolding lines_of lines_with
 alone front text lines has =
     ap (λ (t : List ℕ). lines_with front (lines_of t)) (sym (append-nil text)) ∙ (has [] ∙ append-nil lines)
 
-module _ (s : PathSetup) (w : Path) (n : ℕ) (lines : List (List ℕ)) (settled : Settled) (plays : Plays s w n lines settled) where
+module _ (longer : Bool) (s : PathSetup) (w : Path) (n : ℕ) (lines : List (List ℕ)) (settled : Settled) (plays : Plays longer s w n lines settled) where
   all-have : HasLines settled.text (and_then (told_in s w plays.events)
       (and_then (told_if plays.drains s (path_run s w plays.events) plays.made) nothing))
   all-have =
       rw plays.written
       (both-have _ _ _ _ (events-have s w plays.events)
       (both-have _ _ _ _ (drained-have plays.drains s (path_run s w plays.events) plays.made plays.drain)
-      (closing-has plays.ending plays.drains _ plays.left plays.closing plays.closes)))
+      (closing-has longer s (path_run s w plays.events) plays.ending plays.drains _ plays.left plays.closing plays.closes)))
+
+  sents-are : w.sent ≡ [] → datagram_lines settled.text ≡ datagram_texts 0 (path_run s w (plays.events ++ plays.made)).sent
+  sents-are none =
+      alone (codes "sent ") settled.text _ all-have.sents
+      ∙ (ap (λ ls. datagram_texts (length w.sent) (sent_in s w plays.events) ++ ls) (append-nil _) ∙ sents-append s w plays.events plays.made none)
 
   ups-are : up_lines settled.text ≡ map up_text (ups_in s w (plays.events ++ plays.made))
   ups-are =
@@ -71,7 +77,7 @@ module _ (s : PathSetup) (w : Path) (n : ℕ) (lines : List (List ℕ)) (settled
   end-is : end_lines settled.text ≡ end_texts plays.drains (length plays.made)
   end-is = alone (codes "end ") settled.text _ all-have.ends ∙ append-nil (end_texts plays.drains (length plays.made))
 
-module _ (laws : Laws) where
+module _ (longer : Bool) (laws : Laws) where
   completes : (drains : Bool) (s : PathSetup) (start : ℕ) (events made : List PathEvent) → IsFitPath s → TakesBlocks s
       → DrainMakes drains s (run_path s start events) made → DrainCompletes drains s start events made
   completes true s start events made fit takes (clean, early, none) = λ hopeful room.
@@ -80,7 +86,7 @@ module _ (laws : Laws) where
   completes false s start events made fit takes makes = tt
 
   played : (first : List ℕ) (lines : List (List ℕ)) (start : PathStart) (settled : Settled) → start_in first ≡ Ok start
-      → Plays start.setup (starts_path start.setup start.now) 2 lines settled → Settles (first ∷ lines) settled
+      → Plays longer start.setup (starts_path start.setup start.now) 2 lines settled → Settles longer (first ∷ lines) settled
   played first lines start settled said plays =
       let fit = starts_fit first start said laws.fit in
       on_a_path plays.ending plays.ends (record {
@@ -100,9 +106,10 @@ module _ (laws : Laws) where
         closing = plays.closing;
         closes = plays.closes;
         written = plays.written;
-        ups = ups-are start.setup (starts_path start.setup start.now) 2 lines settled plays;
-        notes = notes-are start.setup (starts_path start.setup start.now) 2 lines settled plays;
-        end = end-is start.setup (starts_path start.setup start.now) 2 lines settled plays;
+        sents = sents-are longer start.setup (starts_path start.setup start.now) 2 lines settled plays refl;
+        ups = ups-are longer start.setup (starts_path start.setup start.now) 2 lines settled plays;
+        notes = notes-are longer start.setup (starts_path start.setup start.now) 2 lines settled plays;
+        end = end-is longer start.setup (starts_path start.setup start.now) 2 lines settled plays;
         hands_on = λ earlier later is. laws.received start.setup start.now earlier fit.linked;
         carried_out = λ face up among at.
             laws.carried_out start.setup (starts_path start.setup start.now) (plays.events ++ plays.made) face up
@@ -114,40 +121,41 @@ module _ (laws : Laws) where
 
 -- ---- from the first line on
 
-limited : (first : List ℕ) (lines : List (List ℕ)) → turn_at world_rules 1 no_path first ≡ ends_run [] statuses.Limit
-    → Settles (first ∷ lines) (record { text = []; ends = Some statuses.Limit })
-limited first lines turns = on_none statuses.Limit refl (turns, refl)
+limited : (longer : Bool) (first : List ℕ) (lines : List (List ℕ)) → PassesFirst first
+    → Settles longer (first ∷ lines) (record { text = []; ends = Some statuses.Limit })
+limited longer first lines past = on_none statuses.Limit refl (past, refl)
+
+within-most : (a b : ℕ) → nat_le a b ≡ true → a ≤ b
+within-most a b is = grind (arith, nat_tests, is)
 
 -- nothing happened yet
 reached-first : (s : PathSetup) (now : ℕ) → IsPathReached s (starts_path s now)
 unfolding path_run
 reached-first s now = record { start = now; events = []; leads = refl }
 
-module _ (laws : Laws) (ending : WorldState → Settled) (last : EndsLines ending) where
+module _ (longer : Bool) (laws : Laws) (ending : WorldState → Settled) (last : EndsLines longer ending) where
   module _ (first : List ℕ) (lines : List (List ℕ)) where
     started : (start : PathStart) → start_in first ≡ Ok start
-        → turn_at world_rules 1 no_path first ≡ start_turn 1 (Ok start)
-        → Settles (first ∷ lines) (after_turn (start_turn 1 (Ok start)) (λ now. lines_settle world_rules 2 now lines ending))
-    started start said turns = by_late (nat_le no_moment start.now) refl
+        → Settles longer (first ∷ lines) (after_turn (start_turn 1 (Ok start)) (λ now. lines_settle world_rules 2 now lines ending))
+    started start said = by_late (nat_le no_moment start.now) refl
       where
         turn_by : Bool → Turn WorldState
         turn_by t = if t then ends_run [] statuses.Limit else passes [] (on_path start.setup (starts_path start.setup start.now))
 
-        by_late : (t : Bool) → nat_le no_moment start.now ≡ t → Settles (first ∷ lines)
+        by_late : (t : Bool) → nat_le no_moment start.now ≡ t → Settles longer (first ∷ lines)
             (after_turn (turn_by t) (λ now. lines_settle world_rules 2 now lines ending))
-        by_late true late = limited first lines (turns ∙ ap turn_by late)
-        by_late false late =
-            played laws first lines start _ said
-            (plays_from laws.made ending last start.setup (starts_path start.setup start.now) 2 lines
+        by_late true late = limited longer first lines (inr (start, said, within-most no_moment start.now late))
+        by_late false early =
+            played longer laws first lines start _ said
+            (plays_from laws.made longer ending last start.setup (starts_path start.setup start.now) 2 lines
             (starts_timed first start said laws.timed) (reached-first start.setup start.now))
 
     first_turned : (said : Result PathStart LineFault) → start_in first ≡ said
-        → turn_at world_rules 1 no_path first ≡ start_turn 1 said
-        → Settles (first ∷ lines) (after_turn (start_turn 1 said) (λ now. lines_settle world_rules 2 now lines ending))
-    first_turned (Ok start) said turns = started start said turns
-    first_turned (Err fault) said turns = on_none statuses.Refused refl (fault, said, refl)
+        → Settles longer (first ∷ lines) (after_turn (start_turn 1 said) (λ now. lines_settle world_rules 2 now lines ending))
+    first_turned (Ok start) said = started start said
+    first_turned (Err fault) said = on_none statuses.Refused refl (fault, said, refl)
 
-    first_answered : Settles (first ∷ lines) (lines_settle world_rules 1 no_path (first ∷ lines) ending)
+    first_answered : Settles longer (first ∷ lines) (lines_settle world_rules 1 no_path (first ∷ lines) ending)
     unfolding lines_settle turn_at
     first_answered = by_past (nat_lt world_rules.lines 1 || nat_lt world_rules.octets (length first)) refl
       where
@@ -155,11 +163,11 @@ module _ (laws : Laws) (ending : WorldState → Settled) (last : EndsLines endin
         turn_by t = if t then ends_run [] statuses.Limit else start_turn 1 (start_in first)
 
         by_past : (t : Bool) → (nat_lt world_rules.lines 1 || nat_lt world_rules.octets (length first)) ≡ t
-            → Settles (first ∷ lines) (after_turn (turn_by t) (λ now. lines_settle world_rules 2 now lines ending))
-        by_past true past = limited first lines (ap turn_by past)
-        by_past false past = first_turned (start_in first) refl (ap turn_by past)
+            → Settles longer (first ∷ lines) (after_turn (turn_by t) (λ now. lines_settle world_rules 2 now lines ending))
+        by_past true past = limited longer first lines (inl (past-lines 1 first past))
+        by_past false past = first_turned (start_in first) refl
 
-  all_settled : (lines : List (List ℕ)) → Settles [] (ending no_path) → Settles lines (lines_settle world_rules 1 no_path lines ending)
+  all_settled : (lines : List (List ℕ)) → Settles longer [] (ending no_path) → Settles longer lines (lines_settle world_rules 1 no_path lines ending)
   unfolding lines_settle
   all_settled [] none = none
   all_settled (first ∷ lines) none = first_answered first lines
@@ -170,14 +178,14 @@ module _ (laws : Laws) (ending : WorldState → Settled) (last : EndsLines endin
 abbrev past_end : WorldState → Settled
 past_end now = record { text = []; ends = Some statuses.Limit }
 
-past-ends : EndsLines past_end
-past-ends = record { last = statuses.Limit; none_left = λ over n. refl; on = λ s w. refl; after = refl }
+past-ends : EndsLines true past_end
+past-ends = record { last = statuses.Limit; none_left = λ s w over n. (refl, refl); on = λ s w. refl; after = refl }
 
-input-ends : EndsLines world_rules.finish
-input-ends = record { last = statuses.Done; none_left = λ over n. (refl, refl); on = λ s w. refl; after = refl }
+input-ends : EndsLines false world_rules.finish
+input-ends = record { last = statuses.Done; none_left = λ s w over n. (refl, refl, refl); on = λ s w. refl; after = refl }
 
 -- what `world` answers to an input
-kept : (most : ℕ) (input : List ℕ) → Settles (lines_within most input) (within most settles at_end input) → EndsLawfully most input
+kept : (most : ℕ) (input : List ℕ) → Settles (nat_lt most (length input)) (lines_within most input) (within most settles at_end input) → EndsLawfully most input
 kept most input (on_a_path ending ends plays) = record { ending = ending; ends = ends; law = inl plays }
 kept most input (on_none ending ends closes) = record { ending = ending; ends = ends; law = inr closes }
 
@@ -189,11 +197,11 @@ keep_headline received fit timed made carried_out decided complete arrives most 
     laws : Laws
     laws = record { received = received; fit = fit; timed = timed; made = made; carried_out = carried_out; decided = decided; complete = complete; arrives = arrives }
 
-    by_test : (t : Bool) → Settles (if t then lines_of (ended_part (take most input)) else lines_of input)
+    by_test : (t : Bool) → Settles t (if t then lines_of (ended_part (take most input)) else lines_of input)
         (if t then or_limit (lines_from world_rules 1 no_path going_on (take most input)) else lines_from world_rules 1 no_path at_end input)
     by_test true =
         rw (from-limit world_rules 1 no_path (take most input))
-        (all_settled laws past_end past-ends (lines_of (ended_part (take most input))) (on_none statuses.Limit refl refl))
+        (all_settled true laws past_end past-ends (lines_of (ended_part (take most input))) (on_none statuses.Limit refl (refl, refl)))
     by_test false =
         rw (from-end world_rules 1 no_path input)
-        (all_settled laws world_rules.finish input-ends (lines_of input) (on_none statuses.Refused refl refl))
+        (all_settled false laws world_rules.finish input-ends (lines_of input) (on_none statuses.Refused refl (refl, refl)))

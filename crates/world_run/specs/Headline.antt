@@ -2,16 +2,16 @@
 -- those of a drain after them. Each `up` line is a block that came whole and as it was sent, once; and
 -- where a path is hopeful and has room, a drain from there completes the sessions, in no more events
 -- than they cost.
-use Rattle.std.specs.Prelude.{◌≡◌, ℕ, ◌+◌, ◌⊎◌, Bool, true, false, length, map, List, [], ◌∷◌, ◌++◌}
+use Rattle.std.specs.Prelude.{◌≡◌, ℕ, ◌+◌, ◌<◌, ◌≤◌, nat_lt, ◌⊎◌, Bool, true, false, length, map, List, [], ◌∷◌, ◌++◌}
 use Rattle.std.specs.Prelude.{codes, None, Some, Ok, Err, if◌then◌else◌}
 use Rattle.std.specs.List.{AllByRecursion}
 use Rattle.edge_traits.specs.declared.status.Status.{Status}
 use Rattle.edge_traits.specs.declared.status.Status.TheVariants as statuses
 use Rattle.edge_traits.specs.Settled.{at_end}
 use Rattle.command_frame.specs.InputLines.{lines_of, lines_within}
-use Rattle.command_frame.specs.Lines.{ends_run, turn_at}
 use Rattle.command_frame.specs.Within.{within}
 use Rattle.endpoint.specs.Endpoints.{begins}
+use Rattle.ltp_segment.specs.Spelling.{segment_octets}
 use Rattle.replay_script.specs.declared.fault.LineFault.{LineFault}
 use Rattle.replay_script.specs.declared.fault.LineFault.TheVariants as faults
 use Rattle.replay_script.specs.Words.{spaced}
@@ -19,7 +19,7 @@ use Rattle.ltp_laws.specs.View.{IsIn}
 use Rattle.gate_cases.specs.declared.face.Face.{Face}
 use Rattle.path_laws.specs.declared.effects.NoteAt.{NoteAt}
 use Rattle.path_laws.specs.declared.effects.UpAt.{UpAt}
-use Rattle.path_laws.specs.Path.{PathSetup, Path, PathEvent, starts_path}
+use Rattle.path_laws.specs.Path.{PathSetup, Path, SentFrom, PathEvent, starts_path, path_step, path_run}
 use Rattle.path_laws.specs.Laws.{HandsOn}
 use Rattle.path_laws.specs.Log.{Begun, ups_in}
 use Rattle.path_laws.specs.Places.{face_place}
@@ -32,11 +32,11 @@ use Rattle.path_drain.specs.Arrival.{IsPassedOnIn}
 use Rattle.path_drain.specs.CarriedOut.{IsCarriedOutIn}
 use Rattle.path_drain.specs.Decided.{IsBegunIn}
 use Rattle.path_drain.specs.WholeRun.{IsRunComplete, run_begun, run_path, run_ups}
-use Rattle.world_run.specs.WrittenLines.{up_words, note_words, end_words, refusal_line}
+use Rattle.world_run.specs.WrittenLines.{sent_words, up_words, note_words, end_words, refusal_line}
 use Rattle.world_run.specs.WrittenLines.{after_drain_line}
 use Rattle.world_run.specs.World.{PathStart, LaterLine, says_event, says_drain, start_in, line_in}
-use Rattle.world_run.specs.World.{no_moment, clean_after, events_text, drain_text, no_path}
-use Rattle.world_run.specs.World.{world_rules, settles}
+use Rattle.world_run.specs.World.{no_moment, is_late, is_late_if_any, most_sent, octets_sent}
+use Rattle.world_run.specs.World.{drain_made, clean_after, events_text, drain_text, world_rules, settles}
 
 -- ---- what the lines of a script say
 
@@ -75,6 +75,37 @@ abbrev pub if_drained_text : Bool → PathSetup → Path → List PathEvent → 
 if_drained_text true s w made = drain_text s w made
 if_drained_text false s w made = []
 
+-- ---- limits
+
+-- line n is one too many, or too long
+abbrev pub IsPastLines : ℕ → List ℕ → Type 0
+IsPastLines n line = (world_rules.lines < n) ⊎ (world_rules.octets < length line)
+
+-- what a line says isn't done on a path: the clock would be set past the last moment, or all datagrams
+-- together would have too many octets
+abbrev pub IsPastPath : PathSetup → Path → LaterLine → Type 0
+IsPastPath s w (says_event event) =
+    (is_late event ≡ true) ⊎ (most_sent < octets_sent (path_step s w event).path.sent)
+IsPastPath s w says_drain =
+    (is_late_if_any (clean_after s w (drain_made s w)) ≡ true)
+    ⊎ (most_sent < octets_sent (path_run s w (drain_made s w)).sent)
+
+-- line n passes a limit, on a path or after its drain
+abbrev pub PassesLimit : Bool → PathSetup → Path → ℕ → List ℕ → Type 0
+PassesLimit true s w n line = IsPastLines n line
+PassesLimit false s w n line =
+    IsPastLines n line ⊎ ((said : LaterLine) × (line_in line ≡ Ok said) × IsPastPath s w said)
+
+-- The next line, line n, passes a limit; or none is left, and the input is longer than is looked at.
+abbrev pub LimitsNext : Bool → Bool → PathSetup → Path → ℕ → List (List ℕ) → Type 0
+LimitsNext longer drained s w n [] = longer ≡ true
+LimitsNext longer drained s w n (line ∷ left) = PassesLimit drained s w n line
+
+-- the first line is too long, or its clock shows no moment
+abbrev pub PassesFirst : List ℕ → Type 0
+PassesFirst line =
+    IsPastLines 1 line ⊎ ((start : PathStart) × (start_in line ≡ Ok start) × (no_moment ≤ start.now))
+
 -- ---- how the text ends
 
 -- line n is refused: after a drain whatever it says, and else for what it says
@@ -87,17 +118,19 @@ abbrev pub RefusesNext : Bool → ℕ → List (List ℕ) → List ℕ → Type 
 RefusesNext drained n [] closing = ⊥
 RefusesNext drained n (line ∷ left) closing = RefusesLine drained n line closing
 
--- How the text ends after what happens, by how the run ends: where it is done, all lines were
--- answered, and nothing more is written; at a limit lines may be left, and nothing more is written
--- either; and else the next line, line n, is refused.
-abbrev pub ClosesAs : Status → Bool → ℕ → List (List ℕ) → List ℕ → Type 0
-ClosesAs statuses.Done drained n left closing = (left ≡ []) × (closing ≡ [])
-ClosesAs statuses.Limit drained n left closing = closing ≡ []
-ClosesAs statuses.Refused drained n left closing = RefusesNext drained n left closing
-ClosesAs statuses.Usage drained n left closing = ⊥
-ClosesAs statuses.ReadFault drained n left closing = ⊥
-ClosesAs statuses.WriteFault drained n left closing = ⊥
-ClosesAs statuses.Memory drained n left closing = ⊥
+-- How the text ends after what happens, by how the run ends: where it is done, the input has been looked
+-- at whole, all lines were answered, and nothing more is written; at a limit that one is passed with the
+-- next line, line n, or by the input, and nothing more is written either; and else the next line is
+-- refused.
+abbrev pub ClosesAs : Bool → PathSetup → Path → Status → Bool → ℕ → List (List ℕ) → List ℕ → Type 0
+ClosesAs longer s w statuses.Done drained n left closing = (longer ≡ false) × (left ≡ []) × (closing ≡ [])
+ClosesAs longer s w statuses.Limit drained n left closing =
+    LimitsNext longer drained s w n left × (closing ≡ [])
+ClosesAs longer s w statuses.Refused drained n left closing = RefusesNext drained n left closing
+ClosesAs longer s w statuses.Usage drained n left closing = ⊥
+ClosesAs longer s w statuses.ReadFault drained n left closing = ⊥
+ClosesAs longer s w statuses.WriteFault drained n left closing = ⊥
+ClosesAs longer s w statuses.Memory drained n left closing = ⊥
 
 -- ---- the lines of a text, by how they begin
 
@@ -107,7 +140,11 @@ lines_with front [] = []
 lines_with front (line ∷ lines) =
     if begins front line then line ∷ lines_with front lines else lines_with front lines
 
--- the lines that say that a block came whole, the notes, and the lines that say that a drain ended
+-- the lines that say that a datagram was sent or that a block came whole, the notes, and the lines that
+-- say that a drain ended
+abbrev pub datagram_lines : List ℕ → List (List ℕ)
+datagram_lines text = lines_with (codes "sent ") (lines_of text)
+
 abbrev pub up_lines : List ℕ → List (List ℕ)
 up_lines text = lines_with (codes "up ") (lines_of text)
 
@@ -116,6 +153,12 @@ note_lines text = lines_with (codes "note ") (lines_of text)
 
 abbrev pub end_lines : List ℕ → List (List ℕ)
 end_lines text = lines_with (codes "end ") (lines_of text)
+
+-- datagrams, of which the first has number k
+unfoldable pub datagram_texts : ℕ → List SentFrom → List (List ℕ)
+datagram_texts k [] = []
+datagram_texts k (d ∷ sent) =
+    spaced (sent_words k d.from (segment_octets d.segment)) ∷ datagram_texts (k + 1) sent
 
 abbrev pub up_text : UpAt → List ℕ
 up_text up = spaced (up_words up)
@@ -149,7 +192,8 @@ DrainCompletes false s start events made = Unit {0}
 
 -- The text of a script that sets up a path. It is what happens in these events, and in those of a
 -- drain after them, where there is one, with their number; after it at most the line of a refusal
--- follows. Its `up` lines are exactly the blocks that came whole, and its notes those that were made.
+-- follows. Its `sent` lines are exactly the datagrams that were sent, with their numbers, its `up` lines
+-- the blocks that came whole, and its notes those that were made.
 -- After each of the events holds of the blocks all that `HandsOn` says, by what was begun up to then:
 -- each is the whole block of the session of that number that was begun across the link; no two came
 -- at one place in one session; and at either end each is a piece of what becomes of one bundle that
@@ -159,7 +203,8 @@ DrainCompletes false s start events made = Unit {0}
 -- gate began is a piece of such a block, or a report on it, as it decided then.
 -- And from a path that is hopeful and has room a drain completes the sessions, and what passes in it
 -- arrives.
-pub record PlaysScript (lines : List (List ℕ)) (text : List ℕ) (ending : Status) : Type 0 where
+pub record PlaysScript
+    (longer : Bool) (lines : List (List ℕ)) (text : List ℕ) (ending : Status) : Type 0 where
   pub start : PathStart
   pub events : List PathEvent
   pub drains : Bool
@@ -168,11 +213,15 @@ pub record PlaysScript (lines : List (List ℕ)) (text : List ℕ) (ending : Sta
   pub made : List PathEvent
   pub drain : DrainMakes drains start.setup (run_path start.setup start.now events) made
   pub closing : List ℕ
-  pub closes : ClosesAs ending drains (2 + length (lines_said events drains)) left closing
+  pub closes :
+      ClosesAs longer start.setup (run_path start.setup start.now events) ending drains
+      (2 + length (lines_said events drains)) left closing
   pub written :
       text
       ≡ events_text start.setup (starts_path start.setup start.now) events
       ++ (if_drained_text drains start.setup (run_path start.setup start.now events) made ++ closing)
+  pub sents :
+      datagram_lines text ≡ datagram_texts 0 (run_path start.setup start.now (events ++ made)).sent
   pub ups : up_lines text ≡ map up_text (run_ups start.setup start.now (events ++ made))
   pub notes :
       note_lines text
@@ -191,27 +240,26 @@ pub record PlaysScript (lines : List (List ℕ)) (text : List ℕ) (ending : Sta
       → IsBegunIn start.setup (starts_path start.setup start.now) (events ++ made) b
   pub completes : DrainCompletes drains start.setup start.now events made
 
--- No path is set up, and no line is answered: the first line passes a limit, or the input does before
--- it ends, with nothing written; or the first line is refused for what it says, or for want of it.
-abbrev pub ClosesFirst : Status → List (List ℕ) → List ℕ → Type 0
-ClosesFirst statuses.Limit [] text = text ≡ []
-ClosesFirst statuses.Limit (first ∷ lines) text =
-    (turn_at world_rules 1 no_path first ≡ ends_run [] statuses.Limit) × (text ≡ [])
-ClosesFirst statuses.Refused [] text = text ≡ refusal_line 1 faults.Word
-ClosesFirst statuses.Refused (first ∷ lines) text =
+-- No path is set up, and no line is answered: the input passes its limit before its first line ends; the
+-- first line passes one; or it is refused for what it says, or for want of it.
+abbrev pub ClosesFirst : Bool → Status → List (List ℕ) → List ℕ → Type 0
+ClosesFirst longer statuses.Limit [] text = (longer ≡ true) × (text ≡ [])
+ClosesFirst longer statuses.Limit (first ∷ lines) text = PassesFirst first × (text ≡ [])
+ClosesFirst longer statuses.Refused [] text = (longer ≡ false) × (text ≡ refusal_line 1 faults.Word)
+ClosesFirst longer statuses.Refused (first ∷ lines) text =
     (fault : LineFault) × (start_in first ≡ Err fault) × (text ≡ refusal_line 1 fault)
-ClosesFirst statuses.Done lines text = ⊥
-ClosesFirst statuses.Usage lines text = ⊥
-ClosesFirst statuses.ReadFault lines text = ⊥
-ClosesFirst statuses.WriteFault lines text = ⊥
-ClosesFirst statuses.Memory lines text = ⊥
+ClosesFirst longer statuses.Done lines text = ⊥
+ClosesFirst longer statuses.Usage lines text = ⊥
+ClosesFirst longer statuses.ReadFault lines text = ⊥
+ClosesFirst longer statuses.WriteFault lines text = ⊥
+ClosesFirst longer statuses.Memory lines text = ⊥
 
 -- what is promised of a path, of the text that `world` writes of an input of which at most so many
 -- octets are looked at
 abbrev pub KeepsHeadline : ℕ → List ℕ → List ℕ → Status → Type 0
 KeepsHeadline most input text ending =
-    PlaysScript (lines_within most input) text ending
-    ⊎ ClosesFirst ending (lines_within most input) text
+    PlaysScript (nat_lt most (length input)) (lines_within most input) text ending
+    ⊎ ClosesFirst (nat_lt most (length input)) ending (lines_within most input) text
 
 -- what `world` answers to every input keeps it
 pub record EndsLawfully (most : ℕ) (input : List ℕ) : Type 0 where

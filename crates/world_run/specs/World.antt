@@ -1,6 +1,6 @@
 -- What `world` writes: the first line of the input sets up a path, and each line after it is an event
 -- there; the last one may drain the path.
-use Rattle.std.specs.Prelude.{ℕ, ◌+◌, ◌^◌, Bool, true, false, nat_lt, nat_le, List, [], ◌∷◌, ◌++◌, length, slice_get}
+use Rattle.std.specs.Prelude.{◌≡◌, ℕ, ◌+◌, ◌*◌, ◌^◌, Bool, true, false, nat_lt, nat_le, List, [], ◌∷◌, ◌++◌, length, slice_get}
 use Rattle.std.specs.Prelude.{Option, None, Some, Result, Ok, Err, if◌then◌else◌}
 use Rattle.edge_traits.specs.declared.status.Status.TheVariants as statuses
 use Rattle.edge_traits.specs.Settled.{Settled}
@@ -93,6 +93,10 @@ octets_sent (d ∷ sent) = length (segment_octets d.segment) + octets_sent sent
 
 abbrev pub most_sent : ℕ
 most_sent = 2 ^ 28
+
+-- all datagrams of a path have 256 MiB at most
+abbrev pub Sends256MiB : Type 0
+Sends256MiB = most_sent ≡ 256 * 1024 * 1024
 
 -- why an event isn't done: a block isn't sent, or there is no datagram to deliver
 abbrev pub unless_sent : PathEnd → Result EngineStep SubmitFault → List ℕ

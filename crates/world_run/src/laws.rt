@@ -2,6 +2,7 @@
 //! cite those of a path.
 
 ghost use Rattle.world_run.specs.Headline.{WorldsKeepHeadline};
+ghost use Rattle.world_run.specs.World.{Sends256MiB};
 
 /// Whatever the input: what is written are the answers to the events that its first lines say, in
 /// their order, then those to the events of a drain, where a line says one, with their number; and
@@ -23,3 +24,8 @@ pub fn worlds_keep_headline()
     path_drain::whole_runs::whole_runs_complete();
     path_drain::whole_runs::what_passes_arrives();
 }
+
+/// The datagrams of a path have 256 MiB of octets at most.
+pub fn worlds_send_256_mib()
+    ensures { Sends256MiB }
+{}

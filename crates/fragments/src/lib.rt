@@ -31,4 +31,4 @@ pub use fault::{CutRefused, JoinRefused};
 pub use fulls::Fulls;
 pub use joining::{Joined, Joiner};
 pub use laws::{pieces_join_again, pieces_lie_end_to_end, totals_are_small, whole_when_all_came};
-pub use limits::{NAMES_MAX, TOTAL_MAX};
+pub use limits::{NAMES_MAX, TOTAL_MAX, joining_limits};

@@ -1,7 +1,7 @@
 -- How often a segment that waits for an answer was sent, and until when it waits (RFC 5326,
 -- sections 6.7, 6.8 and 6.16). The serial numbers of such segments.
 
-use Rattle.std.specs.Prelude.{ℕ, ◌+◌, ◌%◌, ◌^◌, Bool, ◌==◌, nat_lt, nat_le}
+use Rattle.std.specs.Prelude.{ℕ, ◌+◌, ◌%◌, ◌^◌, ◌<◌, Bool, ◌==◌, nat_lt, nat_le}
 use Rattle.ltp_segment.specs.Policy.{PolicyValue, wait_after}
 use Rattle.ltp_session.specs.declared.timer.Timer.{Timer}
 
@@ -28,6 +28,11 @@ may_repeat policy timer = nat_lt timer.times policy.limit
 -- for a random one; this one is small and differs between neighbouring sessions
 abbrev pub first_serial : ℕ → ℕ
 first_serial session = 1 + session % 16383
+
+-- Such a number isn't 0, which is that of no checkpoint (RFC 5326, section 3.2.1), and two octets of
+-- an SDNV have room for it.
+abbrev pub FirstSerialsAreShort : Type 0
+FirstSerialsAreShort = (session : ℕ) → (0 < first_serial session) × (first_serial session < 2 ^ 14)
 
 -- we send no segment with this serial or a larger one. Own rule
 abbrev pub is_past_serials : ℕ → Bool

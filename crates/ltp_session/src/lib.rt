@@ -17,4 +17,4 @@ mod name;
 mod timer;
 
 pub use name::SessionName;
-pub use timer::{Timer, first_serial};
+pub use timer::{Timer, first_serial, first_serials_are_short};

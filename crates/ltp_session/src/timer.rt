@@ -2,7 +2,7 @@
 
 ghost use Rattle.std.specs.Prelude.{◌≡◌, ℕ, ◌^◌, ◌<◌, true};
 ghost use Rattle.ltp_segment.specs.PolicyViews.{policy_value};
-ghost use Rattle.ltp_session.specs.Timer.{first_timer, next_timer, is_due, may_repeat, first_serial};
+ghost use Rattle.ltp_session.specs.Timer.{first_timer, next_timer, is_due, may_repeat, first_serial, FirstSerialsAreShort};
 
 use ltp_segment::Policy;
 
@@ -64,3 +64,8 @@ pub fn first_serial(session: u64) -> u64
 {
     1 + session % 16383
 }
+
+/// No session's first serial number is 0, and each is written in one octet or two.
+pub fn first_serials_are_short()
+    ensures { FirstSerialsAreShort }
+{}

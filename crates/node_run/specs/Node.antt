@@ -1,5 +1,5 @@
 -- What `node` writes: each line of the input is an event at one end of an LTP link (RFC 5326).
-use Rattle.std.specs.Prelude.{ℕ, Bool, false, nat_le, ◌^◌, max, length, [], Some, Result, Ok, Err, if◌then◌else◌}
+use Rattle.std.specs.Prelude.{◌≡◌, ℕ, Bool, false, nat_le, ◌^◌, max, length, [], Some, Result, Ok, Err, if◌then◌else◌}
 use Rattle.edge_traits.specs.declared.status.Status.TheVariants as statuses
 use Rattle.command_frame.specs.Task.{Settling}
 use Rattle.command_frame.specs.Lines.{Turn, passes, ends_run, LineRules, by_lines}
@@ -81,6 +81,10 @@ node_rules = record {
 abbrev pub node_party : ℕ → ℕ → Party
 node_party own peer =
     record { own = own; peer = peer; first = 1; policy = default_policy; most = BLOCK_MAX }
+
+-- the first session of a node has number 1, whoever is at the other end
+abbrev pub BeginsWithFirst : Type 0
+BeginsWithFirst = (own peer : ℕ) → (starts (node_party own peer)).next ≡ 1
 
 -- before the first line: the engine is at its beginning, and the clock shows 0
 abbrev pub begins : Party → NodeState

@@ -1,6 +1,7 @@
 //! What `node` writes and hands up, whoever is at the other end. Each law is the contract of a
 //! function that does nothing but cite that of an engine.
 
+ghost use Rattle.node_run.specs.Node.{BeginsWithFirst};
 ghost use Rattle.node_run.specs.RedParts.{AnswersEvents, HandsUpRedParts, HandsUpEachOnce};
 
 /// Whatever the input: what is written are the answers to the events that its first lines say, in
@@ -24,3 +25,8 @@ pub fn hands_up_each_once()
 {
     ltp_engine::laws::hands_up_each_once();
 }
+
+/// The first block that a node sends has the session with number 1.
+pub fn begins_with_first()
+    ensures { BeginsWithFirst }
+{}

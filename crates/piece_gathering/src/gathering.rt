@@ -119,8 +119,9 @@ impl Gathering {
     }
 }
 
-/// Whether a piece of so many octets doesn't go with so many in front of it.
-fn is_apart(wanted: u64, size: u64, more: u64) -> bool
+/// Whether a piece of so many octets doesn't go in one block with so many in front of it: those are as many
+/// as are wanted, or the block would be longer than a session carries.
+pub fn is_apart(wanted: u64, size: u64, more: u64) -> bool
     requires { more ≤ BLOCK_MAX }
     ensures { result ≡ is_apart wanted size more }
 {

@@ -15,6 +15,6 @@ mod gathering;
 mod laws;
 mod piece;
 
-pub use gathering::Gathering;
+pub use gathering::{Gathering, is_apart};
 pub use laws::{blocks_fit, gathers_as_said, in_order, none_waits_late, pieces_alone};
 pub use piece::{BLOCK_MAX, Piece};

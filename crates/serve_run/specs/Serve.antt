@@ -1,5 +1,5 @@
 -- `serve`: a gate that is driven in turns.
-use Rattle.std.specs.Prelude.{ℕ, map}
+use Rattle.std.specs.Prelude.{◌≡◌, ℕ, ◌*◌, map}
 use Rattle.endpoint.specs.declared.name.Endpoint.{Endpoint}
 use Rattle.ltp_segment.specs.Policy.{default_policy}
 use Rattle.ltp_segment.specs.Reading.{segment_of}
@@ -33,6 +33,10 @@ serving_rules = record {
 -- a gate of this name: its engines send as is usual, and a payload is cut to 65,536 octets
 abbrev pub setup_named : Endpoint → GateSetup
 setup_named gate = record { parties = gate_parties default_policy; gate = gate; cut = 65536 }
+
+-- no fragment of a payload has more than 64 KiB of it
+abbrev pub CutsAt64KiB : Type 0
+CutsAt64KiB = (gate : Endpoint) → (setup_named gate).cut ≡ 64 * 1024
 
 abbrev pub serving_from : GateSetup → Serving
 serving_from setup = record { setup = setup; gate = starts_gate setup }

@@ -1,6 +1,7 @@
 -- What a caller can rely on: that what is decided can be sent.
-use Rattle.std.specs.Prelude.{◌≡◌, ℕ, ◌+◌, ◌^◌, ◌<◌, ◌≤◌, List, length, Option, Some, None}
+use Rattle.std.specs.Prelude.{◌≡◌, ℕ, ◌+◌, ◌*◌, ◌^◌, ◌<◌, ◌≤◌, List, length, Option, Some, None}
 use Rattle.std.specs.List.{All}
+use Rattle.endpoint.specs.declared.name.Endpoint.{Endpoint}
 use Rattle.endpoint.specs.Endpoints.{IsEndpoint}
 use Rattle.bundle_meaning.specs.Reports.{IsReportPart}
 use Rattle.gate_cases.specs.declared.case.TheConstants.{BLOCK_MAX, SENDING_MAX, NUMBERS}
@@ -10,6 +11,7 @@ use Rattle.gate_cases.specs.declared.face.Face.{Face}
 use Rattle.gate_cases.specs.declared.report.AskedReport.{AskedReport}
 use Rattle.gate_cases.specs.declared.report.Creation.{Creation}
 use Rattle.gate_cases.specs.declared.report.Creation.TheVariants.{Six, Seven}
+use Rattle.gate_cases.specs.Bundles.{bundle6_with, bundle7_with}
 use Rattle.gate_cases.specs.Cases.{judged}
 
 -- a session carries the octets as one block
@@ -31,6 +33,14 @@ PiecesHaveRoom = (face : Face) (block : List ℕ) (now cut : ℕ) (room : Room)
     → HaveRoom room (judged face block now cut room).pieces
 
 -- ---- reports
+
+-- The bundle in which a report goes back lives a day: in seconds (RFC 5050, section 4.5.1), and in
+-- milliseconds (RFC 9171, section 4.3.1).
+pub record ReportsLiveADay : Type 0 where
+  pub seconds : (gate : Endpoint) (counter now : ℕ) (asked : AskedReport) (body : List ℕ)
+      → (bundle6_with gate counter now asked body).primary.lifetime ≡ 24 * 60 * 60
+  pub millis : (gate : Endpoint) (counter now : ℕ) (asked : AskedReport) (body : List ℕ)
+      → (bundle7_with gate counter now asked body).primary.lifetime ≡ 24 * 60 * 60 * 1000
 
 abbrev pub IsCreation : Creation → Type 0
 IsCreation (Six id) = (id.seconds < 2 ^ 64) × (id.sequence < 2 ^ 64)

@@ -33,7 +33,7 @@ const DELETION: u32 = 18;
 const PAYLOAD: u8 = 1;
 
 /// The report that a version 6 bundle asks for in a case.
-pub(crate) fn asked6(
+pub fn asked6(
     alloc: Global,
     bundle: &Bundle6,
     case: GateCase,
@@ -61,7 +61,7 @@ pub(crate) fn asked6(
 }
 
 /// The report that a version 7 bundle asks for in a case.
-pub(crate) fn asked7(
+pub fn asked7(
     alloc: Global,
     bundle: &Bundle7,
     case: GateCase,

@@ -15,6 +15,13 @@ pub const SENDING_MAX: usize = 64;
 /// All session numbers are below this one.
 pub const NUMBERS: u64 = 4_294_967_296;
 
+/// The numbers that `BLOCK_MAX`, `SENDING_MAX` and `NUMBERS` name.
+pub fn sending_limits()
+    ensures block { BLOCK_MAX ≡ 4194304 }
+    ensures sending { SENDING_MAX ≡ 64 }
+    ensures numbers { NUMBERS ≡ 4294967296 }
+{}
+
 /// What room there is for new sending sessions at a face.
 #[derive(Clone, Copy, Debug, PartialEq, Eq)]
 pub struct Room {

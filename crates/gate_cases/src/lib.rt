@@ -23,11 +23,15 @@ mod report;
 mod sending;
 mod spelling;
 
-pub use case::{BLOCK_MAX, GateCase, NUMBERS, Room, SENDING_MAX};
+pub use asking::{asked6, asked7};
+pub use case::{BLOCK_MAX, GateCase, NUMBERS, Room, SENDING_MAX, sending_limits};
 pub use cause::BadCause;
 pub use face::Face;
 pub use judged::{Judged, Pieces};
 pub use judging::judge;
-pub use laws::pieces_have_room;
+pub use laws::{pieces_have_room, reports_live_a_day};
+pub use names::is_any_over;
+pub use passage::{has_no_hop_left, passage};
+pub use reading::{read6, read7};
 pub use report::{AskedReport, Creation, Statuses};
-pub use sending::spelled;
+pub use sending::{all_fit, piece_count, piece_records, spelled};

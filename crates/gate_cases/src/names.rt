@@ -64,8 +64,9 @@ fn over_at(to: Face, full: &Full) -> bool
     }
 }
 
-/// Whether those of one of the records are.
-pub(crate) fn is_any_over(to: Face, records: &[Full]) -> bool
+/// Whether the names of a block of one of the records are longer than a session carries, where the block is
+/// wrapped on the way to a face. It takes no memory.
+pub fn is_any_over(to: Face, records: &[Full]) -> bool
     ensures { result ≡ list_any (over_at to) records.now }
 {
     records.iter().any(|full| over_at(to, full))

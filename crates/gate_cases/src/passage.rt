@@ -17,8 +17,8 @@ const PREVIOUS_NODE: u64 = 6;
 /// The block type of a hop count.
 const HOP_COUNT: u64 = 10;
 
-/// Whether a hop count among the blocks leaves no hop.
-pub(crate) fn has_no_hop_left(exts: &[Ext]) -> bool
+/// Whether a hop count among the blocks leaves no hop (RFC 9171, section 4.4.3).
+pub fn has_no_hop_left(exts: &[Ext]) -> bool
     ensures { result ≡ has_no_hop_left exts.now }
 {
     exts.iter().any(|ext| ends_here(ext))
@@ -52,7 +52,7 @@ fn is_last(hop: Option<Hop>) -> bool
 }
 
 /// The record as it goes on. Its payload is moved, and not copied.
-pub(crate) fn passage(alloc: Global, full: Full) -> Result<Full, AllocError>
+pub fn passage(alloc: Global, full: Full) -> Result<Full, AllocError>
     requires sound { IsSound full }
     requires left { has_no_hop_left full.exts ≡ false }
     ensures is { IfOk result (λ passed. passed ≡ passage full) }

@@ -16,7 +16,7 @@ use std::alloc::{AllocError, Global};
 use translate::{Refused, from6, from7};
 
 /// The record of a version 6 bundle, or why it isn't translated.
-pub(crate) fn read6(alloc: Global, bundle: &Bundle6) -> Result<Result<Full, Refused>, AllocError>
+pub fn read6(alloc: Global, bundle: &Bundle6) -> Result<Result<Full, Refused>, AllocError>
     requires { IsLegal bundle.now }
     ensures exact { IfOk result (Reads (first_that_holds (refusals6 bundle.now)) (full6_of bundle.now)) }
     ensures sound { IfOk result (λ read. IfOk read IsSound) }
@@ -29,7 +29,7 @@ pub(crate) fn read6(alloc: Global, bundle: &Bundle6) -> Result<Result<Full, Refu
 }
 
 /// The record of a version 7 bundle, or why it isn't translated.
-pub(crate) fn read7(alloc: Global, bundle: &Bundle7) -> Result<Result<Full, Refused>, AllocError>
+pub fn read7(alloc: Global, bundle: &Bundle7) -> Result<Result<Full, Refused>, AllocError>
     requires { IsLegal7 bundle.now }
     ensures exact { IfOk result (Reads (first_that_holds (refusals7 bundle.now)) (full7_of bundle.now)) }
     ensures sound { IfOk result (λ read. IfOk read IsSound) }

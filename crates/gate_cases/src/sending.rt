@@ -76,8 +76,8 @@ fn send_passed(
     requires sound { IsSound passed }
     ensures { IfOk result (λ sent. sent ≡ sent_records to (pieces_on passed size) room) }
 {
-    if has_sessions(room, how_many(&passed, size)) {
-        send_pieces(alloc, to, records(alloc, passed, size)?)
+    if has_sessions(room, piece_count(&passed, size)) {
+        send_pieces(alloc, to, piece_records(alloc, passed, size)?)
     } else {
         Ok(unsent(alloc, fits(to, &passed)))
     }
@@ -158,8 +158,8 @@ fn fits(to: Face, full: &Full) -> bool
     }
 }
 
-/// Whether there is for those of each.
-fn all_fit(to: Face, records: &[Full]) -> bool
+/// Whether there is room for the blocks of each record in its bundle at a face.
+pub fn all_fit(to: Face, records: &[Full]) -> bool
     requires { All IsSound records.now }
     ensures { result ≡ list_all (fits_at to) records.now }
 {
@@ -181,8 +181,9 @@ fn has_sessions(room: Room, pieces: u64) -> bool
         && pieces <= NUMBERS - room.next_session
 }
 
-/// How many pieces a record has.
-fn how_many(full: &Full, size: u64) -> u64
+/// How many pieces a record has that goes on, where a piece has at most so many octets of its payload
+/// (RFC 9171, section 5.8). It takes no memory.
+pub fn piece_count(full: &Full, size: u64) -> u64
     requires { 0 < size }
     ensures { result ≡ length (pieces_on full.now size) }
 {
@@ -217,8 +218,8 @@ fn must_not(shared: &Shared) -> bool
     shared.flags / 4 % 2 == 1 || matches!(shared.source, Endpoint::Null)
 }
 
-/// The records of the pieces. One that stays whole is moved, and not copied.
-fn records(alloc: Global, full: Full, size: u64) -> Result<Fulls, AllocError>
+/// The records of those pieces, in order. One that stays whole is moved, and not copied.
+pub fn piece_records(alloc: Global, full: Full, size: u64) -> Result<Fulls, AllocError>
     requires some { 0 < size }
     requires sound { IsSound full }
     ensures pieces { IfOk result (λ fulls. fulls ≡ pieces_on full size) }

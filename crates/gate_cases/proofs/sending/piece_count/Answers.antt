@@ -1,6 +1,6 @@
 use Rattle.std.proofs.Common.{sym}
 use Rattle.gate_cases.proofs.PieceLemmas.{one-piece, many-pieces}
-use Rattle.gate_cases.proofs.sending.how_many.Goals as goal
+use Rattle.gate_cases.proofs.sending.piece_count.Goals as goal
 
 pub returns-then-stays_whole : goal.returns-then-stays_whole
 returns-then-stays_whole c = sym (one-piece c.args.full.now c.args.size (sym c.if-stays_whole.ensures))

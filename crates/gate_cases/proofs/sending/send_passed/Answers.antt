@@ -6,5 +6,5 @@ use Rattle.gate_cases.proofs.sending.send_passed.Goals as goal
 pub returns-else-has_sessions : goal.returns-else-has_sessions
 returns-else-has_sessions c =
     few-sent c.args.to c.args.passed c.args.size c.args.room c.unsent.result
-    (subst (λ n. has_sessions c.args.room n ≡ false) c.how_many.ensures (sym c.if-has_sessions.ensures))
+    (subst (λ n. has_sessions c.args.room n ≡ false) c.piece_count.ensures (sym c.if-has_sessions.ensures))
     (rw c.fits.ensures at c.unsent.ensures)

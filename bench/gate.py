@@ -13,6 +13,9 @@ Seconds are from the first datagram to the last. A second of the processor is th
 bits of payload, peak MB are of the program's resident memory. `--window` is how many sessions are open at most at a time
 (40; of bundles of 10,000 octets 8, of a million 3). Last stands what `gate` does where nothing comes for so many seconds
 (60). Each bundle has to come out as tools/gateway_model.py translates it. The program's lines go to /dev/null.
+
+`journal` is `gate` with a journal where the system keeps what is temporary (or where TMPDIR says), `memory` with one in
+/dev/shm. Behind their rows stands how many octets more they wrote than `gate` for each octet of payload.
 """
 import os
 import struct
@@ -33,7 +36,8 @@ CASES = ((100, 40_000, 40), (1000, 20_000, 40), (10_000, 5000, 8), (1_000_000, 6
 CUT = SERVED[1]
 SESSIONS = 56               # at the gateway, of 64
 DAY = 86_400
-KINDS = ("forwarder", "serve", "gate")
+KINDS = ("forwarder", "serve", "gate", "journal", "memory")
+JOURNALED = ("journal", "memory")
 COLUMNS = (f"{'octets':>10} {'':<10}{'bundles':>9}{'s':>8}{'bundles/s':>11}{'Mbit/s':>9}{'s proc.':>9}{'us/bundle':>11}"
            f"{'busy':>6}{'peak MB':>9}")
 
@@ -70,9 +74,14 @@ def blocks_in(path):
     return blocks
 
 
+def octets_written(pid):
+    with open(f"/proc/{pid}/io", encoding="ascii") as file:
+        return int(dict(line.split(": ") for line in file)["wchar"])
+
+
 class Bench:
     def __init__(self, path, options, folder):
-        self.path, self.options, self.folder, self.wrong = path, options, folder, 0
+        self.path, self.options, self.folder, self.wrong, self.left = path, options, folder, 0, None
         self.player, self.forwarder = built("player", folder), built("forwarder", folder)
         print(f"{path}, load {os.getloadavg()[0]:.1f} on {os.cpu_count()} processors\n{COLUMNS}", flush=True)
 
@@ -83,9 +92,9 @@ class Bench:
         elif kind == "serve":
             words = [self.path, "serve", GATE, *(f"127.0.0.1:{port}" for port in (gate_old, old, gate_new, new)), 1_000_000_000]
         else:
-            file = os.path.join(self.folder, "gate.toml")
+            file, journal = os.path.join(self.folder, "gate.toml"), self.journal(kind)
             with open(file, "w", encoding="utf-8") as text:
-                text.write(f'[gateway]\nendpoint = "{GATE}"\nmetrics = "{self.folder}/gate.prom"\n'
+                text.write(f'[gateway]\nendpoint = "{GATE}"\n{journal}metrics = "{self.folder}/gate.prom"\n'
                            f'[old]\nbind = "127.0.0.1:{gate_old}"\npeer = "127.0.0.1:{old}"\n'
                            f'[new]\nbind = "127.0.0.1:{gate_new}"\npeer = "127.0.0.1:{new}"\n')
             words = [self.path, "gate", file]
@@ -97,8 +106,18 @@ class Bench:
         time.sleep(0.2)
         return program
 
+    def journal(self, kind):
+        """The key of a journal that is begun anew, where the kind has one."""
+        if kind not in JOURNALED:
+            return ""
+        path = os.path.join("/dev/shm" if kind == "memory" else self.folder, f"journal-{os.getpid()}")
+        if os.path.exists(path):
+            os.unlink(path)
+        self.left = path
+        return f'journal = "{path}"\n'
+
     def run(self, kind, blocks, wanted, window):
-        """Seconds, those of the processor, and the peak in kB, of one run; none where it went wrong."""
+        """Seconds, those of the processor, the peak in kB, and the octets written, of one run; none where it went wrong."""
         ports = [free_port("127.0.0.1") for _ in range(4)]
         source, came = os.path.join(self.folder, "blocks"), os.path.join(self.folder, "came")
         written(blocks, source)
@@ -109,6 +128,7 @@ class Bench:
         words = [self.player, *ports, source, came, most, pieces, int(self.options["seconds"])]
         played = subprocess.run(list(map(str, words)), capture_output=True, text=True)
         used, peak = program.processor_seconds() - used, program.kilobytes("VmHWM")
+        written_by = octets_written(program.child.pid)
         program.child.kill()
         program.end()
         right = sorted(blocks if kind == "forwarder" else wanted)
@@ -116,7 +136,7 @@ class Bench:
             print(f"  wrong: {kind}: status {played.returncode}, {played.stdout.strip()} {played.stderr[-300:]}", flush=True)
             self.wrong += 1
             return None
-        return float(played.stdout.split()[0]), used, peak
+        return float(played.stdout.split()[0]), used, peak, written_by
 
     def case(self, size, count, window):
         moment, count = system_clock(), max(1, int(count * self.options["scale"] / 100))
@@ -128,10 +148,11 @@ class Bench:
                 ran = self.run(kind, blocks, wanted, min(window, int(self.options["window"])))
                 if ran and ran < best.get(kind, (1e9,)):
                     best[kind] = ran
-        for kind, (seconds, used, peak) in best.items():
+        for kind, (seconds, used, peak, written_by) in best.items():
+            more = f"{(written_by - best['gate'][3]) / (count * size):>8.2f}" if kind in JOURNALED and "gate" in best else ""
             print(f"{size:>10,} {kind:<10}{count:>9,}{seconds:>8.2f}{count / seconds:>11,.0f}"
                   f"{count * size * 8 / 1e6 / seconds:>9.1f}{used:>9.2f}{1e6 * used / count:>11.1f}{used / seconds:>6.2f}"
-                  f"{peak / 1024:>9.1f}", flush=True)
+                  f"{peak / 1024:>9.1f}{more}", flush=True)
 
     def idle(self, seconds):
         program = self.start("gate", [free_port("127.0.0.1") for _ in range(4)])
@@ -155,6 +176,8 @@ def main(words):
             bench.case(*case)
         if options["idle"]:
             bench.idle(options["idle"])
+        if bench.left:
+            os.unlink(bench.left)
     return int(bench.wrong > 0)
 
 

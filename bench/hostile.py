@@ -6,11 +6,13 @@ usage: bench/hostile.py [PROGRAM] [--only WORD]    the program as this repositor
 Each row is one run on one input: the peak of the process's memory, its time by the wall clock, and the most that the
 peak may be. A row is wrong where the peak is higher, or where the status or the count of lines isn't the one wanted;
 then the script fails. The peak is told by GNU time (/usr/bin/time), since a process that python begins is a copy of
-python at first. Nothing is said of a time: where others work beside it, it may be many times as long. `serve` gets its
-blocks over loopback, from a socket of this script. With --only the rows whose command is that word are run alone.
+python at first. Nothing is said of a time: where others work beside it, it may be many times as long. `serve` and
+`gate` get their blocks over loopback, from a socket of this script; `gate` is stopped once it has told of the block.
+With --only the rows whose command is that word are run alone.
 """
 import argparse
 import os
+import signal
 import socket
 import subprocess
 import sys
@@ -21,6 +23,7 @@ sys.dont_write_bytecode = True
 from measure import ROOT, program_of
 
 sys.path[:0] = [os.path.join(ROOT, "examples"), os.path.join(ROOT, "tools")]
+from live_nodes import free_port
 from make_bundles import NOBODY, block6, block7, bundle6, bundle7, ipn, sdnv
 
 TIME = "/usr/bin/time"
@@ -31,6 +34,7 @@ PIECE = 30_000
 RUNS = 65_536           # closed numbers that an engine remembers, each apart from the next
 NAME = b"dtn\0//a/" + b"x" * 1019 + b"\0"     # a scheme, and the longest text that there is
 TO_NAME = [0, 4] * 4
+LIFE = 4_294_967_295    # seconds: none of the bundles has expired
 FRAGMENT, REPLICATED, LAST = 1, 1, 8
 DONE, REFUSED, LIMIT = 0, 1, 6
 NEVER = b"dtn\0" + b"x" * 40_000_000      # a dictionary whose last text has no end
@@ -40,25 +44,31 @@ def named(references, flags, payload, name=NAME):
     """A bundle of version 6 with a block of so many references to the longest name, two octets each."""
     pairs = [0, 4] * references
     blocks = [block6(32, flags, b"abc", pairs), block6(1, LAST, payload)]
-    return bundle6(0x90, TO_NAME, (1000, 5), 60, blocks, name)
+    return bundle6(0x90, TO_NAME, (1000, 5), LIFE, blocks, name)
 
 
 def endless():
     """A bundle whose names have no end, or whose references to one fill the input."""
-    return bundle6(0x90, TO_NAME, (1000, 5), 60, [block6(1, LAST, b"abc")], NEVER)
+    return bundle6(0x90, TO_NAME, (1000, 5), LIFE, [block6(1, LAST, b"abc")], NEVER)
 
 
 def filled():
     """References to the longest name, two octets each, as many as an input has room for."""
     count = (MOST - 2000) // 2
-    front = bundle6(0x90, TO_NAME, (1000, 5), 60, [], NAME)
+    front = bundle6(0x90, TO_NAME, (1000, 5), LIFE, [], NAME)
     return front + bytes([32]) + sdnv(0x40) + sdnv(count) + b"\0\4" * count + sdnv(3) + b"abc" \
         + block6(1, LAST, b"abc")
 
 
 def old(payload):
     """From ipn:1.1 to ipn:2.1, in version 6."""
-    return bundle6(0x90, [2, 1, 1, 1, 0, 0, 0, 0], (1000, 5), 60, [block6(1, LAST, payload)])
+    return bundle6(0x90, [2, 1, 1, 1, 0, 0, 0, 0], (1000, 5), LIFE, [block6(1, LAST, payload)])
+
+
+def marked():
+    """A block of 4 MiB of which half stands in each of 32 pieces: no other block becomes more octets."""
+    blocks = [block6(32, REPLICATED, bytes(BLOCK - 32 * 65_536 - 100)), block6(1, LAST, bytes(32 * 65_536))]
+    return bundle6(0x90, [2, 1, 1, 1, 0, 0, 0, 0], (1000, 5), LIFE, blocks)
 
 
 def new(payload):
@@ -120,15 +130,28 @@ def many_blocks():
     return b"".join(piece(session + 1, at * size, bytes(size), b"in ") for session in range(64) for at in range(parts))
 
 
-def full_world():
-    """A block of the greatest length, of which only the checkpoint arrives, over and over: each time all of it but
-    the octets that came is sent again."""
-    lines = [b"path ipn:9.0 1024 10000 100 65536 1010000\n", b"send old " + bytes(BLOCK).hex().encode() + b"\n"]
+def sessions_of_one_piece():
+    """As many entries as a recording may have, each a red octet of another session."""
+    return b"".join(piece(session, 0, b"a", b"in ") for session in range(1, 1_000_000))
+
+
+def full(first, send):
+    """A script, up to the limit on its datagrams: a block of the greatest length, of which only the checkpoint arrives,
+    over and over. Each time all of it but the octets that came is sent again."""
+    lines = [first, send + bytes(BLOCK).hex().encode() + b"\n"]
     checkpoint, missing = 4095, 4095
     for _ in range(64):
         lines.append(b"deliver %d\ndeliver %d\n" % (checkpoint, checkpoint + 1))
         checkpoint, missing = checkpoint + 2 + missing, missing - 1
     return b"".join(lines)
+
+
+def full_world():
+    return full(b"path ipn:9.0 1024 10000 100 65536 1010000\n", b"send old ")
+
+
+def full_link():
+    return full(b"link 1024 10000 100 160000 0\n", b"send first ")
 
 
 # What a row is called, the words of the run, its input, the status and how many lines are wanted (None: any), and the
@@ -155,14 +178,22 @@ ROWS = (
     ("64 sessions of one octet, far away", ["receive"], far_ends, DONE, 0, 4),
     ("65,536 closed numbers", ["node", "2", "1"], closed_runs, DONE, 2 * RUNS + 1, 6),
     ("64 blocks that go on", ["node", "2", "1"], many_blocks, DONE, 0, 64),
+    ("64 blocks that go on", ["record", "2", "1"], many_blocks, DONE, 1024, 160),
+    ("999,999 sessions of one octet", ["audit", "2", "1"], sessions_of_one_piece, DONE, 1, 880),
     ("a world up to its limit", ["world"], full_world, LIMIT, None, 880),
+    ("a link up to its limit", ["link"], full_link, LIMIT, None, 880),
+    ("1,000 bundles", ["make", "7", "1000"], lambda: b"", DONE, 1, 64),
+    ("25,000 references", ["show"], lambda: named(25_000, 0, b"abc"), DONE, 1, 4),
 )
 
-# Of `serve`: a bundle, and the most memory in MB.
+# Of `serve` and `gate`: a bundle, what becomes of it, and the most memory in MB of each, of `gate` also where it keeps
+# a journal.
 BLOCKS = (
-    ("a block of 300,000 references to one name", lambda: named(299_700, 0, b"abc"), 12),
-    ("33 pieces, a marked block of 20,000 references", lambda: named(20_000, REPLICATED, bytes(1 << 21)), 16),
-    ("the same payload, no other block", lambda: old(bytes(1 << 21)), 16),
+    ("a block of 300,000 references to one name", lambda: named(299_700, 0, b"abc"), b"storage", 12, 12, 12),
+    ("33 pieces, a marked block of 20,000 references", lambda: named(20_000, REPLICATED, bytes(1 << 21)), b"storage", 24, 16, 16),
+    ("the same payload, no other block", lambda: old(bytes(1 << 21)), b"passed", 28, 20, 28),
+    ("a block of 4 MiB", lambda: old(bytes(BLOCK - 40)), b"passed", 48, 32, 48),
+    ("32 pieces, in each a marked block of 2 MiB", marked, b"passed", 240, 240, 400),
 )
 
 
@@ -183,30 +214,54 @@ def node():
     return found
 
 
-def free_port():
-    with node() as found:
-        return found.getsockname()[1]
-
-
-def serve(program, bundle):
-    """The same of a run of `serve` to whose old face a block comes, and whether a line tells of it."""
-    with tempfile.NamedTemporaryFile("r") as told, node() as old_node, node() as new_node:
-        binds = [free_port() for _ in range(2)]
+def served(program, bundle, event, journal=None):
+    """The same of a run to whose old face a block comes, with the lines of this event: of `gate`, where it is said
+    whether it keeps a journal."""
+    with tempfile.TemporaryDirectory() as folder, node() as old_node, node() as new_node:
+        binds = [free_port("127.0.0.1") for _ in range(2)]
         at = [f"127.0.0.1:{port}" for port in (binds[0], old_node.getsockname()[1], binds[1], new_node.getsockname()[1])]
-        child = subprocess.Popen([TIME, "-q", "-o", told.name, "-f", "%M %e", program, "serve", "ipn:9.0", *at, "1500"],
+        words = ["serve", "ipn:9.0", *at, "1500"] if journal is None else gate_words(folder, at, journal)
+        child = subprocess.Popen([TIME, "-q", "-o", f"{folder}/told", "-f", "%M %e", program, *words],
                                  stdin=subprocess.DEVNULL, stdout=subprocess.PIPE, stderr=subprocess.PIPE)
-        child.stderr.readline()     # (both sockets are bound)
-        size = 32_768
-        for offset in range(0, len(bundle), size):
-            part, is_last = bundle[offset:offset + size], offset + size >= len(bundle)
-            numbers = (1, offset, len(part)) + ((1, 0) if is_last else ())
-            octets = bytes([3 if is_last else 0, 1, 1, 0]) + b"".join(map(sdnv, numbers)) + part
-            old_node.sendto(octets, ("127.0.0.1", binds[0]))
-            time.sleep(0.02)
-        lines = sum(part.count(b"\n") for part in iter(lambda: child.stdout.read(1 << 16), b""))
-        status = child.wait()
-        peak, seconds = told.read().split()
+        (child.stderr if journal is None else child.stdout).readline()      # (both sockets are bound)
+        send(bundle, old_node, binds[0])
+        if journal is None:
+            lines, status = sum(event in line[:99].lower() for line in child.stdout), child.wait()
+        else:
+            lines, status = int(event in child.stdout.readline()[:99].lower()), DONE
+            time.sleep(1)
+            stop(child)
+        with open(f"{folder}/told", encoding="ascii") as told:
+            peak, seconds = told.read().split()
     return status, lines, int(peak) * 1024 / 1e6, float(seconds)
+
+
+def gate_words(folder, at, journal):
+    """The words that run `gate` at these addresses."""
+    kept = f'journal = "{folder}/journal"\n' if journal else ""
+    with open(f"{folder}/gate.toml", "w", encoding="ascii") as file:
+        file.write(f'[gateway]\nendpoint = "ipn:9.0"\n{kept}[old]\nbind = "{at[0]}"\npeer = "{at[1]}"\n'
+                   f'[new]\nbind = "{at[2]}"\npeer = "{at[3]}"\n')
+    return ["gate", f"{folder}/gate.toml"]
+
+
+def send(bundle, from_node, port):
+    """Sends a bundle as one block, in segments that don't fill the socket."""
+    size = 32_768
+    for offset in range(0, len(bundle), size):
+        part, is_last = bundle[offset:offset + size], offset + size >= len(bundle)
+        numbers = (1, offset, len(part)) + ((1, 0) if is_last else ())
+        octets = bytes([3 if is_last else 0, 1, 1, 0]) + b"".join(map(sdnv, numbers)) + part
+        from_node.sendto(octets, ("127.0.0.1", port))
+        time.sleep(0.02)
+
+
+def stop(child):
+    """Stops the program that GNU time runs."""
+    with open(f"/proc/{child.pid}/task/{child.pid}/children", encoding="ascii") as file:
+        for program in file.read().split():
+            os.kill(int(program), signal.SIGTERM)
+    child.communicate()
 
 
 def said(words, name, size, wanted, most, found):
@@ -215,7 +270,7 @@ def said(words, name, size, wanted, most, found):
     says = [f"status {status}"] * (status != wanted[0])
     says += [f"{wanted[1]} lines wanted"] * (wanted[1] is not None and lines != wanted[1])
     says += ["too much memory"] * (peak > most)
-    print(f"{' '.join(words):<10}{name:<48}{size / 1e6:>8.2f}{lines:>11,}{seconds:>9.2f}{peak:>9.1f}{most:>6}"
+    print(f"{' '.join(words):<12}{name:<48}{size / 1e6:>8.2f}{lines:>11,}{seconds:>9.2f}{peak:>9.1f}{most:>6}"
           + "".join(f"  wrong: {it}" for it in says), flush=True)
     return bool(says)
 
@@ -229,7 +284,7 @@ def main():
     if not os.access(TIME, os.X_OK):
         sys.exit(f"{TIME} isn't there: install GNU time")
     wrong = 0
-    print(f"{'command':<10}{'input':<48}{'MB in':>8}{'lines':>11}{'seconds':>9}{'peak MB':>9}{'most':>6}", flush=True)
+    print(f"{'command':<12}{'input':<48}{'MB in':>8}{'lines':>11}{'seconds':>9}{'peak MB':>9}{'most':>6}", flush=True)
     for name, words, made, status, lines, most in ROWS:
         if given.only not in ("", words[0]):
             continue
@@ -238,10 +293,11 @@ def main():
             source.flush()
             found = run(program, words, source.name)
         wrong += said(words, name, size, (status, lines), most, found)
-    for name, made, most in BLOCKS:
-        if given.only in ("", "serve"):
-            bundle = made()
-            wrong += said(["serve"], name, len(bundle), (DONE, None), most, serve(program, bundle))
+    for name, made, event, *mosts in BLOCKS:
+        for words, journal, most in zip((["serve"], ["gate"], ["gate", "(j)"]), (None, False, True), mosts):
+            if given.only in ("", words[0]):
+                bundle = made()
+                wrong += said(words, name, len(bundle), (DONE, 1), most, served(program, bundle, event, journal))
     sys.exit(f"{wrong} wrong" if wrong else 0)
 
 

@@ -74,13 +74,12 @@ def killed(path, folder, kills, seed):
     """Killed so often while both nodes send."""
     journal = os.path.join(folder, "journal")
     between = Killed(path, journal, random.Random(seed))
-    resumed = 0
     for _ in range(kills):
         between.start()
         between.run_for(between.draw.uniform(0.01, 1.0))
         between.program.child.send_signal(signal.SIGKILL)
         between.program.end()
-        resumed += sum(b'"event":"resumed"' in line for line in between.program.lines)
+        between.read()
     between.start()
     pairs = ((between.old, between.new, 6), (between.new, between.old, 7))
 
@@ -100,7 +99,7 @@ def killed(path, folder, kills, seed):
         others += len(set(came) - set(passages(blocks, version)))
     size = os.path.getsize(journal)
     print(f"{kills} kills: {between.sent} bundles, of {claimed} the sender was told that they came, {lost} of those are lost, "
-          f"{others} came that nobody sent; {resumed} sessions were resumed; the journal has {size:,} octets")
+          f"{others} came that nobody sent; {between.told['resumed']} sessions were resumed; the journal has {size:,} octets")
     return settled and not lost and not others
 
 

@@ -32,6 +32,8 @@ MOST_OLD = 3000                             # datagrams that may come again
 SETTLED = 0.1                               # seconds
 ACKNOWLEDGEMENT = bytes([REPORT_ACK])
 UNUSED = 1 << 40                            # a session number of a node that it never comes to
+PORTS = random.SystemRandom()
+GIVEN = set()                               # ports that free_port has given
 
 
 def moment():
@@ -214,9 +216,20 @@ class Node:
 
 
 def free_port(host):
-    with socket.socket(socket.AF_INET6 if ":" in host else socket.AF_INET, socket.SOCK_DGRAM) as probe:
-        probe.bind((host, 0))
-        return probe.getsockname()[1]
+    """A port that nobody has, of those that the system gives to no socket by itself, so that it is still free when the
+    program comes to bind it. None comes twice in a run."""
+    with open("/proc/sys/net/ipv4/ip_local_port_range", encoding="ascii") as told:
+        least = int(told.read().split()[0])
+    while True:
+        port = PORTS.randrange(least // 3, least)
+        with socket.socket(socket.AF_INET6 if ":" in host else socket.AF_INET, socket.SOCK_DGRAM) as probe:
+            try:
+                probe.bind((host, port))
+            except OSError:
+                continue
+        if port not in GIVEN:
+            GIVEN.add(port)
+            return port
 
 
 class Program:

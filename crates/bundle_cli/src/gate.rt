@@ -1,16 +1,19 @@
 //! The commands `gate FILE` and `gate check FILE`: the file is opened, and how the run, or the check,
 //! ended is said.
 
-ghost use Rattle.std.specs.Prelude.{IfOk};
+ghost use Rattle.std.specs.Prelude.{IfOk, IfSome};
+ghost use Rattle.journal_file.specs.Legal.{IsLegal};
+ghost use Rattle.journal_file.specs.Ties.{kept_of};
 ghost use Rattle.gate_half.specs.Setup.{IsRunnable};
 
 use crate::end::{end, unusable, unwatched};
+use crate::journal::{Opened, Unkept, end_unkept, open};
 use crate::sockets::{sides_in, text_in};
 use edge_traits::{ReadRefused, Reading, Status, Writing, read_all};
+use endpoint::Octets;
 use gate_check::{Checked, check};
 use gate_config::{ConfigFault, GateFile, MOST_OCTETS, Refusal, read};
 use gate_edges::{FileBoard, SystemClocks};
-use gate_journal::Journal;
 use gate_run::laws::what_is_read_is_runnable;
 use gate_run::{GateStatus, gate};
 use gate_sockets::{SocketOutside, Sockets};
@@ -20,15 +23,17 @@ use std::fs;
 use std::io::{self, Read};
 use std::process::ExitCode;
 use std::rt::Files;
-use store_traits::FileStore;
+use std::time::Clock as Timer;
 
-/// What stands after a path's name in that of the file beside it.
-const BESIDE: &str = ".tmp";
+/// What stands after a path's name in that of the file beside it: of the metrics, and of the journal.
+const BESIDE_METRICS: &str = ".tmp";
+
+const BESIDE_JOURNAL: &str = ".new";
 
 /// Runs the gateway that a file configures, until a line can't be written or memory runs out.
 pub fn run_file(rt: &HostRuntime, words: &[Word], name: &str) -> ExitCode {
     match file_at(rt, words, name) {
-        Ok(file) => run(rt, words, name, &file),
+        Ok(file) => run(rt, words, &file),
         Err(code) => code,
     }
 }
@@ -61,13 +66,10 @@ fn file_at<R: Files + Eprint + AllocGlobal>(
     }
 }
 
-/// Runs the gateway of a file over its sockets.
-fn run(rt: &HostRuntime, words: &[Word], name: &str, file: &GateFile) -> ExitCode
+/// Runs the gateway of a file over its sockets, with the files beside its journal and its metrics.
+fn run(rt: &HostRuntime, words: &[Word], file: &GateFile) -> ExitCode
     requires { IsRunnable file.now }
 {
-    if file.gateway.journal.is_some() {
-        return no_journal(rt, name);
-    }
     let (old, new) = match sides_in(rt, file) {
         Ok(sides) => sides,
         Err(address) => return unusable(rt, address),
@@ -76,27 +78,81 @@ fn run(rt: &HostRuntime, words: &[Word], name: &str, file: &GateFile) -> ExitCod
         Ok(sockets) => sockets,
         Err(error) => return unwatched(rt, error),
     };
-    let path = match &file.gateway.metrics {
-        Some(path) => text_in(path),
-        None => "",
-    };
-    let Ok(beside) = beside(rt.alloc(), path) else {
+    let journal = path_in(&file.gateway.journal);
+    let Ok(journal) = beside(rt.alloc(), journal, BESIDE_JOURNAL) else {
         return ended(rt, words, Status::Memory, false);
     };
-    let board = board_at(rt, path, beside.as_str());
+    let metrics = path_in(&file.gateway.metrics);
+    let Ok(metrics) = beside(rt.alloc(), metrics, BESIDE_METRICS) else {
+        return ended(rt, words, Status::Memory, false);
+    };
+    run_over(rt, words, file, sockets, journal.as_str(), metrics.as_str())
+}
+
+/// Runs the gateway of a file over these sockets, with its journal and its board; their files are made anew at
+/// these paths. What the journal and the board lend has one lifetime.
+fn run_over<'a, T: Timer + Drop>(
+    rt: &'a HostRuntime,
+    words: &[Word],
+    file: &'a GateFile,
+    sockets: Sockets<T>,
+    beside_journal: &'a str,
+    beside_metrics: &'a str,
+) -> ExitCode
+    requires { IsRunnable file.now }
+{
+    let journal = path_in(&file.gateway.journal);
+    let (journal, kept) = match journal_at(rt, journal, beside_journal) {
+        Ok(None) => (None, None),
+        Ok(Some(Opened { journal, kept })) => (Some(journal), Some(kept)),
+        Err(Unkept::NoMemory) => return ended(rt, words, Status::Memory, false),
+        Err(why) => return end_unkept(rt, why),
+    };
+    let board = board_at(rt, path_in(&file.gateway.metrics), beside_metrics);
     let sink = Writing::new(io::writer(rt));
-    // No journal is kept yet.
-    let journal: Option<Journal<FileStore<HostRuntime>>> = None;
     let clocks = SystemClocks::new(rt);
     let mut outside = SocketOutside::new(rt.alloc(), clocks, sockets, sink, board, journal);
-    let status = match gate(rt.alloc(), file, None, u64::MAX, &mut outside) {
-        GateStatus::Done => Status::Done,
-        GateStatus::WriteFault => Status::WriteFault,
-        GateStatus::Memory => Status::Memory,
-        // These two come with a journal alone.
-        GateStatus::Journal | GateStatus::SessionsUsed { .. } => Status::Memory,
-    };
-    ended(rt, words, status, outside.sink().is_reader_gone())
+    let status = gate(rt.alloc(), file, kept, u64::MAX, &mut outside);
+    ends(rt, words, status, outside.sink().is_reader_gone())
+}
+
+/// Ends as a run did.
+fn ends<R: Eprint + AllocGlobal>(
+    rt: &R,
+    words: &[Word],
+    status: GateStatus,
+    reader_gone: bool,
+) -> ExitCode {
+    match status {
+        GateStatus::Done => ended(rt, words, Status::Done, reader_gone),
+        GateStatus::WriteFault => ended(rt, words, Status::WriteFault, reader_gone),
+        GateStatus::Memory => ended(rt, words, Status::Memory, reader_gone),
+        GateStatus::Journal => end_unkept(rt, Unkept::Unwritten),
+        GateStatus::SessionsUsed { face } => end_unkept(rt, Unkept::UsedUp(face)),
+    }
+}
+
+/// A path of a file, where there is one; no path is empty.
+fn path_in(path: &Option<Octets>) -> &str {
+    match path {
+        Some(path) => text_in(path),
+        None => "",
+    }
+}
+
+/// The journal at a path, where there is one.
+fn journal_at<'a>(
+    rt: &'a HostRuntime,
+    path: &'a str,
+    beside: &'a str,
+) -> Result<Option<Opened<'a, HostRuntime>>, Unkept>
+    ensures { IfOk result (λ opened. IfSome opened (λ o. IsLegal (kept_of o.kept))) }
+{
+    if path.is_empty() {
+        return Ok(None);
+    }
+    let opened = open(rt.alloc(), rt, path, beside)?;
+    Ok(Some(opened))
 }
 
 /// Where the metrics are put: at a path, with another beside it. No path is empty, so there is no board at
@@ -112,20 +168,12 @@ fn board_at<'a>(
     Some(FileBoard::new(rt, path, beside))
 }
 
-/// The path of the file beside another.
-fn beside(alloc: Global, path: &str) -> Result<String, AllocError> {
+/// The path of the file beside another, whose name goes on so.
+fn beside(alloc: Global, path: &str, more: &str) -> Result<String, AllocError> {
     let mut beside = String::new(alloc);
     beside.push_str(path)?;
-    beside.push_str(BESIDE)?;
+    beside.push_str(more)?;
     Ok(beside)
-}
-
-/// Ends a call with a file that names a journal, since none is kept.
-fn no_journal<R: Eprint>(rt: &R, name: &str) -> ExitCode {
-    let _ = eprintln!(rt;
-        "fimdahol: {name}: gateway.journal: no journal is kept yet, so none may be named"
-    );
-    ExitCode::from(Status::Refused.code())
 }
 
 /// Writes what a file means as the gateway's configuration, or says why that can't be.

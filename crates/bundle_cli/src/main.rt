@@ -16,6 +16,7 @@ mod given;
 mod help;
 mod hint;
 mod hinting;
+mod journal;
 mod limit;
 mod looks;
 mod reads;

@@ -1,0 +1,540 @@
+//! Runs that keep a journal.
+
+/// A run of the gateway that keeps a journal.
+#[derive(Clone, Copy)]
+pub(crate) struct Row {
+    /// Its configuration.
+    pub(crate) file: &'static str,
+    /// What the clock shows in each half: the wall clock and the monotonic one alike.
+    pub(crate) readings: &'static [u64],
+    /// What the polls of each face give, in hex, the old face first; `-` where nothing is there.
+    pub(crate) gives: [&'static [&'static str]; 2],
+    /// All that is made in its turns, as `crate::outside` tells it.
+    pub(crate) made: &'static str,
+    /// How many octets of that are made by the end of each turn.
+    pub(crate) ends: &'static [usize],
+    /// The journal's file before the run, in hex; empty where there is none yet.
+    pub(crate) before: &'static str,
+    /// And after each turn.
+    pub(crate) files: &'static [&'static str],
+}
+
+/// The configuration of most runs.
+pub(crate) fn plain_file() -> &'static str {
+    r#"[gateway]
+endpoint = "ipn:9.0"
+journal = "j"
+[old]
+bind = "a"
+peer = "b"
+first_session = 1
+[new]
+bind = "c"
+peer = "d"
+first_session = 1
+"#
+}
+
+/// A bundle of version 7.
+pub(crate) fn a_block() -> &'static str {
+    "9f8907000182028202018202820101820100821a000f42450019ea5b425a46850101000043616263ff"
+}
+
+/// A block that passed is pending until it is sent.
+pub(crate) fn a_block_that_passed() -> Row {
+    Row {
+        file: plain_file(),
+        readings: &[1010000, 1010000, 1010000, 1010000],
+        gives: [
+            &[
+                "0301010001001702000681100d02010101000000008768053c00010803616263",
+                "-",
+                "-",
+            ],
+            &["-", "0803010002022900010029", "-"],
+        ],
+        made: r#"installed
+committed
+sent old 0801010002021700010017
+sent new 0303010001002902009f8907000182028202018202820101820100821a000f42450019ea5b425a46850101000043616263ff
+{"at":"2000-01-01T00:16:50.000Z","event":"start","first_session":[1,1],"marks":0,"pending":0}
+{"at":"2000-01-01T00:16:50.000Z","event":"passed","face":"old","first":1,"pieces":1,"session":1,"subject":{"creation":[1000,5],"destination":"ipn:2.1","fragment":null,"payload":3,"source":"ipn:1.1","version":6}}
+committed
+sent new 0903010002
+{"at":"2000-01-01T00:16:50.000Z","event":"sent","face":"new","session":1,"subject":{"creation":[1000005,0],"destination":"ipn:2.1","fragment":null,"payload":3,"source":"ipn:1.1","version":7}}
+"#,
+        ends: &[468, 690],
+        before: "",
+        files: &[
+            "66696d6a726e6c31010500a00198234a74010501a0013d62d80a01010101299f8907000182028202018202820101820100821a000f42450019ea5b425a46850101000043616263ff56f4406a00",
+            "66696d6a726e6c31010500a00198234a74010501a0013d62d80a01010101299f8907000182028202018202820101820100821a000f42450019ea5b425a46850101000043616263ff56f4406a01020101cec2ea0300",
+        ],
+    }
+}
+
+/// It is resumed in the next run.
+pub(crate) fn a_block_that_is_resumed() -> Row {
+    Row {
+        file: plain_file(),
+        readings: &[1015000, 1015000],
+        gives: [&["-"], &["-"]],
+        made: r#"installed
+sent new 0303a00100010029a002009f8907000182028202018202820101820100821a000f42450019ea5b425a46850101000043616263ff
+{"at":"2000-01-01T00:16:55.000Z","event":"start","first_session":[4097,4097],"marks":0,"pending":1}
+{"at":"2000-01-01T00:16:55.000Z","event":"resumed","face":"new","session":4097,"subject":{"creation":[1000005,0],"destination":"ipn:2.1","fragment":null,"payload":3,"source":"ipn:1.1","version":7}}
+"#,
+        ends: &[422],
+        before: "66696d6a726e6c31010500a00198234a74010501a0013d62d80a01010101299f8907000182028202018202820101820100821a000f42450019ea5b425a46850101000043616263ff56f4406a00",
+        files: &[
+            "66696d6a726e6c31010500c00118bf6f72010501c001bdfefd0c01010101299f8907000182028202018202820101820100821a000f42450019ea5b425a46850101000043616263ff56f4406a00",
+        ],
+    }
+}
+
+/// A record behind a closed gate counts for nothing.
+pub(crate) fn a_record_behind_a_closed_gate() -> Row {
+    Row {
+        file: plain_file(),
+        readings: &[1015000, 1015000],
+        gives: [&["-"], &["-"]],
+        made: r#"installed
+sent new 0303a00100010029a002009f8907000182028202018202820101820100821a000f42450019ea5b425a46850101000043616263ff
+{"at":"2000-01-01T00:16:55.000Z","event":"start","first_session":[4097,4097],"marks":0,"pending":1}
+{"at":"2000-01-01T00:16:55.000Z","event":"resumed","face":"new","session":4097,"subject":{"creation":[1000005,0],"destination":"ipn:2.1","fragment":null,"payload":3,"source":"ipn:1.1","version":7}}
+"#,
+        ends: &[422],
+        before: "66696d6a726e6c31010500a00198234a74010501a0013d62d80a01010101299f8907000182028202018202820101820100821a000f42450019ea5b425a46850101000043616263ff56f4406a00020101cec2ea03",
+        files: &[
+            "66696d6a726e6c31010500c00118bf6f72010501c001bdfefd0c01010101299f8907000182028202018202820101820100821a000f42450019ea5b425a46850101000043616263ff56f4406a00",
+        ],
+    }
+}
+
+/// A gate that is neither open nor closed is closed.
+pub(crate) fn a_gate_that_is_neither() -> Row {
+    Row {
+        file: plain_file(),
+        readings: &[1015000, 1015000, 1030000, 1030000],
+        gives: [
+            &[
+                "0301010001001702000681100d02010101000000008768053c00010803616263",
+                "-",
+                "-",
+            ],
+            &["-", "-"],
+        ],
+        made: r#"installed
+committed
+sent old 0801010002021700010017
+sent new 0303a00100010029a002009f8907000182028202018202820101820100821a000f42450019ea5b425a46850101000043616263ff
+sent new 0303a00200010029a003009f8907000182028202018202820101820100821a000f42450019ea5b425a46850101000043616263ff
+{"at":"2000-01-01T00:16:55.000Z","event":"start","first_session":[4097,4097],"marks":0,"pending":1}
+{"at":"2000-01-01T00:16:55.000Z","event":"resumed","face":"new","session":4097,"subject":{"creation":[1000005,0],"destination":"ipn:2.1","fragment":null,"payload":3,"source":"ipn:1.1","version":7}}
+{"at":"2000-01-01T00:16:55.000Z","event":"passed","face":"old","first":4098,"pieces":1,"session":1,"subject":{"creation":[1000,5],"destination":"ipn:2.1","fragment":null,"payload":3,"source":"ipn:1.1","version":6}}
+sent old 0801010002021700010017
+sent new 0303a00100010029a002009f8907000182028202018202820101820100821a000f42450019ea5b425a46850101000043616263ff
+sent new 0303a00200010029a003009f8907000182028202018202820101820100821a000f42450019ea5b425a46850101000043616263ff
+"#,
+        ends: &[793, 1053],
+        before: "66696d6a726e6c31010500a00198234a74010501a0013d62d80a01010101299f8907000182028202018202820101820100821a000f42450019ea5b425a46850101000043616263ff56f4406aff020101cec2ea03",
+        files: &[
+            "66696d6a726e6c31010500c00118bf6f72010501c001bdfefd0c01010101299f8907000182028202018202820101820100821a000f42450019ea5b425a46850101000043616263ff56f4406a01010201299f8907000182028202018202820101820100821a000f42450019ea5b425a46850101000043616263fff6072c2b00",
+            "66696d6a726e6c31010500c00118bf6f72010501c001bdfefd0c01010101299f8907000182028202018202820101820100821a000f42450019ea5b425a46850101000043616263ff56f4406a01010201299f8907000182028202018202820101820100821a000f42450019ea5b425a46850101000043616263fff6072c2b00",
+        ],
+    }
+}
+
+/// A report goes out about a block that isn't whole: a mark, which goes when it is.
+pub(crate) fn a_mark_until_it_is_whole() -> Row {
+    Row {
+        file: plain_file(),
+        readings: &[1010000, 1010000, 1010000, 1010000],
+        gives: [
+            &[
+                "03010700018c00836508007878787878787878787878787878787878787878787878787878787878787878787878787878787878787878787878787878787878787878787878787878787878787878787878787878787878787878787878787878787878787878787878787878787878787878787878787878787878787878787878787878787878787878787878787878787878787878787878787878787878787878787878787878787878787878787878787878787878787878787878787878787878787878787878787878787878787878787878787878787878787878787878787878787878787878787878787878787878787878787878787878787878787878787878787878787878787878787878787878787878787878787878787878787878787878787878787878787878787878787878787878787878787878787878787878787878787878787878787878787878787878787878787878787878787878787878787878787878787878787878787878787878787878787878787878787878787878787878787878787878787878787878787878787878787878787878787878787878787878787878787878787878787878787878787878787878787878787878787878787878787878787878787878787878787878787878787878787878787878787878787878787878",
+                "-",
+                "0301320001001a3300068110100201010100000000876805afd7c20000010803787878",
+                "-",
+            ],
+            &["-", "-"],
+        ],
+        made: r#"installed
+committed
+sent old 0801070008088f6500018c008365
+{"at":"2000-01-01T00:16:50.000Z","event":"start","first_session":[1,1],"marks":0,"pending":0}
+committed
+sent old 0801320033331a0001001a
+sent new 0303010001002f02009f8907000182028202018202820101820100821a000f4245001b000000174876e7fb428394850101000043787878ff
+{"at":"2000-01-01T00:16:50.000Z","event":"passed","face":"old","first":1,"pieces":1,"session":50,"subject":{"creation":[1000,5],"destination":"ipn:2.1","fragment":null,"payload":3,"source":"ipn:1.1","version":6}}
+"#,
+        ends: &[152, 529],
+        before: "",
+        files: &[
+            "66696d6a726e6c31010500a00198234a74010501a0013d62d80a01030007bdd2502ee8d1a700",
+            "66696d6a726e6c31010500a00198234a74010501a0013d62d80a01030007bdd2502ee8d1a7010101012f9f8907000182028202018202820101820100821a000f4245001b000000174876e7fb428394850101000043787878ff58fdc77900",
+        ],
+    }
+}
+
+/// A marked session is closed in the next run.
+pub(crate) fn a_marked_session() -> Row {
+    Row {
+        file: plain_file(),
+        readings: &[1015000, 1015000, 1015000, 1015000],
+        gives: [
+            &[
+                "03010700018c00836508007878787878787878787878787878787878787878787878787878787878787878787878787878787878787878787878787878787878787878787878787878787878787878787878787878787878787878787878787878787878787878787878787878787878787878787878787878787878787878787878787878787878787878787878787878787878787878787878787878787878787878787878787878787878787878787878787878787878787878787878787878787878787878787878787878787878787878787878787878787878787878787878787878787878787878787878787878787878787878787878787878787878787878787878787878787878787878787878787878787878787878787878787878787878787878787878787878787878787878787878787878787878787878787878787878787878787878787878787878787878787878787878787878787878787878787878787878787878787878787878787878787878787878787878787878787878787878787878787878787878787878787878787878787878787878787878787878787878787878787878787878787878787878787878787878787878787878787878787878787878787878787878787878787878787878787878787878787878787878787878787878787878",
+                "-",
+                "0301320001001a3300068110100201010100000000876805afd7c20000010803787878",
+                "-",
+            ],
+            &["-", "-"],
+        ],
+        made: r#"installed
+sent old 0e01070004
+{"at":"2000-01-01T00:16:55.000Z","event":"start","first_session":[4097,4097],"marks":1,"pending":0}
+{"at":"2000-01-01T00:16:55.000Z","event":"closed","face":"old","session":7}
+committed
+sent old 0801320033331a0001001a
+sent new 0303a0010001002fa002009f8907000182028202018202820101820100821a000f4245001b000000174876e7fb428394850101000043787878ff
+{"at":"2000-01-01T00:16:55.000Z","event":"passed","face":"old","first":4097,"pieces":1,"session":50,"subject":{"creation":[1000,5],"destination":"ipn:2.1","fragment":null,"payload":3,"source":"ipn:1.1","version":6}}
+"#,
+        ends: &[206, 590],
+        before: "66696d6a726e6c31010500a00198234a74010501a0013d62d80a01030007bdd2502ee8d1a700",
+        files: &[
+            "66696d6a726e6c31010500c00118bf6f72010501c001bdfefd0c01030007bdd2502ee8d1a700",
+            "66696d6a726e6c31010500c00118bf6f72010501c001bdfefd0c01030007bdd2502ee8d1a7010101012f9f8907000182028202018202820101820100821a000f4245001b000000174876e7fb428394850101000043787878ff58fdc77900",
+        ],
+    }
+}
+
+/// A mark goes when its sender cancels.
+pub(crate) fn a_cancel_of_a_marked_session() -> Row {
+    Row {
+        file: plain_file(),
+        readings: &[1010000, 1010000, 1010000, 1010000],
+        gives: [
+            &[
+                "01014d000164090500787878787878787878",
+                "-",
+                "01014d000164090500787878787878787878",
+                "0c014d0002",
+                "03014e000100174f000681100d02010101000000008768053c00010803616263",
+                "-",
+            ],
+            &["-", "-"],
+        ],
+        made: r#"installed
+committed
+sent old 08014d004e056d00016409
+{"at":"2000-01-01T00:16:50.000Z","event":"start","first_session":[1,1],"marks":0,"pending":0}
+committed
+sent old 08014d004f056d00016409
+sent old 0d014d00
+sent old 08014e004f4f1700010017
+sent new 0303010001002902009f8907000182028202018202820101820100821a000f42450019ea5b425a46850101000043616263ff
+{"at":"2000-01-01T00:16:50.000Z","event":"cancelled","face":"old","reason":2,"session":77,"side":"receiving"}
+{"at":"2000-01-01T00:16:50.000Z","event":"passed","face":"old","first":1,"pieces":1,"session":78,"subject":{"creation":[1000,5],"destination":"ipn:2.1","fragment":null,"payload":3,"source":"ipn:1.1","version":6}}
+"#,
+        ends: &[146, 671],
+        before: "",
+        files: &[
+            "66696d6a726e6c31010500a00198234a74010501a0013d62d80a0103004dbdd250cc6dce2700",
+            "66696d6a726e6c31010500a00198234a74010501a0013d62d80a0103004dbdd250cc6dce270104004d00e9560f01010101299f8907000182028202018202820101820100821a000f42450019ea5b425a46850101000043616263ff56f4406a00",
+        ],
+    }
+}
+
+/// A mark goes when its sender cancels an unfinished block.
+pub(crate) fn a_cancel_of_an_unfinished_one() -> Row {
+    Row {
+        file: plain_file(),
+        readings: &[1010000, 1010000, 1010000, 1010000],
+        gives: [
+            &["-", "-"],
+            &[
+                "01044d000164090500787878787878787878",
+                "-",
+                "01044d000164090500787878787878787878",
+                "0c044d0002",
+                "03044e000100294f009f8907000182028202018202820101820100821a000f42450019ea5b425a46850101000043616263ff",
+                "-",
+            ],
+        ],
+        made: r#"installed
+{"at":"2000-01-01T00:16:50.000Z","event":"start","first_session":[1,1],"marks":0,"pending":0}
+committed
+sent new 08044d004e056d00016409
+committed
+sent old 0302010001001702000681100d02010101000000008768053c00010803616263
+sent new 08044d004f056d00016409
+sent new 0d044d00
+sent new 08044e004f4f2900010029
+{"at":"2000-01-01T00:16:50.000Z","event":"cancelled","face":"new","reason":2,"session":77,"side":"receiving"}
+{"at":"2000-01-01T00:16:50.000Z","event":"passed","face":"new","first":1,"pieces":1,"session":78,"subject":{"creation":[1000005,0],"destination":"ipn:2.1","fragment":null,"payload":3,"source":"ipn:1.1","version":7}}
+"#,
+        ends: &[146, 638],
+        before: "",
+        files: &[
+            "66696d6a726e6c31010500a00198234a74010501a0013d62d80a0103014dbdd250f47ca18b00",
+            "66696d6a726e6c31010500a00198234a74010501a0013d62d80a0103014dbdd250f47ca18b0104014d134bce7801010100170681100d02010101000000008768053c000108036162633eb0f24200",
+        ],
+    }
+}
+
+/// A mark of thirty days is gone.
+pub(crate) fn a_mark_of_thirty_days() -> Row {
+    Row {
+        file: plain_file(),
+        readings: &[2593009999, 2593009999],
+        gives: [
+            &[
+                "0301070001001a0800068110100201010100000000876805afd7c20000010803787878",
+                "0301320001001a3300068110100201010100000000876805afd7c20000010803787878",
+                "-",
+            ],
+            &["-"],
+        ],
+        made: r#"installed
+committed
+sent old 0e01070004
+sent old 0801320033331a0001001a
+sent new 0e04090004
+sent new 0303010001002f02009f8907000182028202018202820101820100821a000f4245001b000000174876e7fb428394850101000043787878ff
+{"at":"2000-01-31T00:16:49.999Z","event":"start","first_session":[1,1],"marks":2,"pending":0}
+{"at":"2000-01-31T00:16:49.999Z","event":"closed","face":"old","session":7}
+{"at":"2000-01-31T00:16:49.999Z","event":"passed","face":"old","first":1,"pieces":1,"session":50,"subject":{"creation":[1000,5],"destination":"ipn:2.1","fragment":null,"payload":3,"source":"ipn:1.1","version":6}}
+"#,
+        ends: &[597],
+        before: "66696d6a726e6c3101030007bdd2502ee8d1a701030109bdd251d6934c9c00",
+        files: &[
+            "66696d6a726e6c31010500a00198234a74010501a0013d62d80a01030007bdd2502ee8d1a701030109bdd251d6934c9c010101012f9f8907000182028202018202820101820100821a000f4245001b000000174876e7fb428394850101000043787878ff58fdc77900",
+        ],
+    }
+}
+
+/// A younger one isn't.
+pub(crate) fn a_younger_mark() -> Row {
+    Row {
+        file: plain_file(),
+        readings: &[2593010000, 2593010000],
+        gives: [
+            &[
+                "0301070001001a0800068110100201010100000000876805afd7c20000010803787878",
+                "0301320001001a3300068110100201010100000000876805afd7c20000010803787878",
+                "-",
+            ],
+            &["-"],
+        ],
+        made: r#"installed
+committed
+sent old 0801070008081a0001001a
+sent old 0801320033331a0001001a
+sent new 0e04090004
+sent new 0303010001002f02009f8907000182028202018202820101820100821a000f4245001b000000174876e7fb428394850101000043787878ff
+sent new 0303020001002f03009f8907000182028202018202820101820100821a000f4245001b000000174876e7fb428394850101000043787878ff
+{"at":"2000-01-31T00:16:50.000Z","event":"start","first_session":[1,1],"marks":1,"pending":0}
+{"at":"2000-01-31T00:16:50.000Z","event":"passed","face":"old","first":1,"pieces":1,"session":7,"subject":{"creation":[1000,5],"destination":"ipn:2.1","fragment":null,"payload":3,"source":"ipn:1.1","version":6}}
+{"at":"2000-01-31T00:16:50.000Z","event":"passed","face":"old","first":2,"pieces":1,"session":50,"subject":{"creation":[1000,5],"destination":"ipn:2.1","fragment":null,"payload":3,"source":"ipn:1.1","version":6}}
+"#,
+        ends: &[867],
+        before: "66696d6a726e6c3101030007bdd2502ee8d1a701030109bdd251d6934c9c00",
+        files: &[
+            "66696d6a726e6c31010500a00198234a74010501a0013d62d80a01030109bdd251d6934c9c010101012f9f8907000182028202018202820101820100821a000f4245001b000000174876e7fb428394850101000043787878ff58fdc779010102012f9f8907000182028202018202820101820100821a000f4245001b000000174876e7fb428394850101000043787878ff7f14ab5300",
+        ],
+    }
+}
+
+/// What is kept of both faces.
+pub(crate) fn what_is_kept_of_both_faces() -> Row {
+    Row {
+        file: plain_file(),
+        readings: &[1010000, 1010000],
+        gives: [
+            &[
+                "03013c000100173d000681100d02010101000000008768053c00010803616263",
+                "-",
+            ],
+            &["-"],
+        ],
+        made: r#"installed
+committed
+sent old 0e01010004
+sent old 03028374000100178375000681100d02010101000000008768053c00010803616263
+sent old 08013c003d3d1700010017
+sent new 0e04010004
+sent new 0303010001002902009f8907000182028202018202820101820100821a000f42450019ea5b425a46850101000043616263ff
+{"at":"2000-01-01T00:16:50.000Z","event":"start","first_session":[500,1],"marks":2,"pending":1}
+{"at":"2000-01-01T00:16:50.000Z","event":"resumed","face":"old","session":500,"subject":{"creation":[1000,5],"destination":"ipn:2.1","fragment":null,"payload":3,"source":"ipn:1.1","version":6}}
+{"at":"2000-01-01T00:16:50.000Z","event":"passed","face":"old","first":1,"pieces":1,"session":60,"subject":{"creation":[1000,5],"destination":"ipn:2.1","fragment":null,"payload":3,"source":"ipn:1.1","version":6}}
+"#,
+        ends: &[783],
+        before: "66696d6a726e6c310105008374972641fe010500148c3fc56e01030001050c164e950103010106ba072f1f0103000207d9ca96fb0103000108b33e0246010401370931b24d010400021f81779701010701299f8907000182028202018202820101820100821a000f42450019ea5b425a46850101000043616263ff12feee1901010900170681100d02010101000000008768053c000108036162635628a4cb01010a01299f8907000182028202018202820101820100821a000f42450019ea5b425a46850101000043616263fffaba96c001020702b45d48c501020a03860af1d500",
+        files: &[
+            "66696d6a726e6c31010500a374e8ada2fc010501a0013d62d80a01010900170681100d02010101000000008768053c000108036162635628a4cb0103010106ba072f1f0103000108b33e024601010b01299f8907000182028202018202820101820100821a000f42450019ea5b425a46850101000043616263ff9aebb2ff00",
+        ],
+    }
+}
+
+/// Pending octets that are no bundle.
+pub(crate) fn octets_that_are_no_bundle() -> Row {
+    Row {
+        file: plain_file(),
+        readings: &[1010000, 1010000],
+        gives: [
+            &[
+                "0301010001001702000681100d02010101000000008768053c00010803616263",
+                "-",
+            ],
+            &["-"],
+        ],
+        made: r#"installed
+committed
+sent old 0302010001001802000681100d02010101000000008768053c0001080361626300
+sent old 0801010002021700010017
+sent new 030301000100010200ff
+sent new 0303020001002903009f8907000182028202018202820101820100821a000f42450019ea5b425a46850101000043616263ff
+sent new 0303030001002904009f8907000182028202018202820101820100821a000f42450019ea5b425a46850101000043616263ff
+{"at":"2000-01-01T00:16:50.000Z","event":"start","first_session":[1,1],"marks":0,"pending":3}
+{"at":"2000-01-01T00:16:50.000Z","event":"resumed","face":"old","session":1,"subject":{"creation":[1000,5],"destination":"ipn:2.1","fragment":null,"payload":3,"source":"ipn:1.1","version":6}}
+{"at":"2000-01-01T00:16:50.000Z","event":"resumed","face":"new","session":1,"subject":null}
+{"at":"2000-01-01T00:16:50.000Z","event":"resumed","face":"new","session":2,"subject":{"creation":[1000005,0],"destination":"ipn:2.1","fragment":null,"payload":3,"source":"ipn:1.1","version":7}}
+{"at":"2000-01-01T00:16:50.000Z","event":"passed","face":"old","first":3,"pieces":1,"session":1,"subject":{"creation":[1000,5],"destination":"ipn:2.1","fragment":null,"payload":3,"source":"ipn:1.1","version":6}}
+"#,
+        ends: &[1163],
+        before: "66696d6a726e6c310101010101ffbbb8ea7901010200180681100d02010101000000008768053c0001080361626300ae8461c201018180808080808080800001299f8907000182028202018202820101820100821a000f42450019ea5b425a46850101000043616263ffa2c6edc000",
+        files: &[
+            "66696d6a726e6c31010500a00198234a74010501a0013d62d80a0101010101ffbbb8ea7901010200180681100d02010101000000008768053c0001080361626300ae8461c201018180808080808080800001299f8907000182028202018202820101820100821a000f42450019ea5b425a46850101000043616263ffa2c6edc001018180808080808080800101299f8907000182028202018202820101820100821a000f42450019ea5b425a46850101000043616263ffc297c9ff00",
+        ],
+    }
+}
+
+/// The last session numbers.
+pub(crate) fn the_last_numbers() -> Row {
+    Row {
+        file: r#"[gateway]
+endpoint = "ipn:9.0"
+journal = "j"
+[old]
+bind = "a"
+peer = "b"
+first_session = 4294967294
+[new]
+bind = "c"
+peer = "d"
+first_session = 4294967294
+"#,
+        readings: &[1010000, 1010000],
+        gives: [
+            &[
+                "0301010001001702000681100d02010101000000008768053c00010803616263",
+                "0301020001001703000681100d02010101000000008768053c00010803616263",
+                "0301030001001704000681100d02010101000000008768053c00010803616263",
+                "-",
+            ],
+            &["-"],
+        ],
+        made: r#"installed
+committed
+sent old 0801010002021700010017
+sent old 0801020003031700010017
+sent old 0801030004041700010017
+sent new 03038fffffff7e000100290f009f8907000182028202018202820101820100821a000f42450019ea5b425a46850101000043616263ff
+sent new 03038fffffff7f0001002910009f8907000182028202018202820101820100821a000f42450019ea5b425a46850101000043616263ff
+{"at":"2000-01-01T00:16:50.000Z","event":"start","first_session":[4294967294,4294967294],"marks":0,"pending":0}
+{"at":"2000-01-01T00:16:50.000Z","event":"passed","face":"old","first":4294967294,"pieces":1,"session":1,"subject":{"creation":[1000,5],"destination":"ipn:2.1","fragment":null,"payload":3,"source":"ipn:1.1","version":6}}
+{"at":"2000-01-01T00:16:50.000Z","event":"passed","face":"old","first":4294967295,"pieces":1,"session":2,"subject":{"creation":[1000,5],"destination":"ipn:2.1","fragment":null,"payload":3,"source":"ipn:1.1","version":6}}
+{"at":"2000-01-01T00:16:50.000Z","event":"storage","face":"old","session":3,"subject":{"creation":[1000,5],"destination":"ipn:2.1","fragment":null,"payload":3,"source":"ipn:1.1","version":6}}
+"#,
+        ends: &[1098],
+        before: "",
+        files: &[
+            "66696d6a726e6c310105009080808000b519737e01050190808080005a29186701010101299f8907000182028202018202820101820100821a000f42450019ea5b425a46850101000043616263ff56f4406a01010201299f8907000182028202018202820101820100821a000f42450019ea5b425a46850101000043616263fff6072c2b00",
+        ],
+    }
+}
+
+/// Numbers that end in a run.
+pub(crate) fn numbers_that_end() -> Row {
+    Row {
+        file: plain_file(),
+        readings: &[1010000, 1010000, 1010000, 1010000],
+        gives: [
+            &["-", "-"],
+            &[
+                "-",
+                "0304010001002902009f8907000182028202018202820101820100821a000f42450019ea5b425a46850101000043616263ff",
+                "-",
+            ],
+        ],
+        made: r#"installed
+sent old 03028fffffff7f0001001710000681100d02010101000000008768053c00010803616263
+sent new 0303010001002902009f8907000182028202018202820101820100821a000f42450019ea5b425a46850101000043616263ff
+{"at":"2000-01-01T00:16:50.000Z","event":"start","first_session":[4294967295,1],"marks":0,"pending":3}
+{"at":"2000-01-01T00:16:50.000Z","event":"resumed","face":"old","session":4294967295,"subject":{"creation":[1000,5],"destination":"ipn:2.1","fragment":null,"payload":3,"source":"ipn:1.1","version":6}}
+{"at":"2000-01-01T00:16:50.000Z","event":"resumed","face":"new","session":1,"subject":{"creation":[1000005,0],"destination":"ipn:2.1","fragment":null,"payload":3,"source":"ipn:1.1","version":7}}
+sent new 0804010002022900010029
+{"at":"2000-01-01T00:16:50.000Z","event":"storage","face":"new","session":1,"subject":{"creation":[1000005,0],"destination":"ipn:2.1","fragment":null,"payload":3,"source":"ipn:1.1","version":7}}
+"#,
+        ends: &[701, 928],
+        before: "66696d6a726e6c310105008fffffff7f4000dcbd01010100170681100d02010101000000008768053c000108036162633eb0f24201010200170681100d02010101000000008768053c0001080361626348437e5301010301299f8907000182028202018202820101820100821a000f42450019ea5b425a46850101000043616263ff9656081400",
+        files: &[
+            "66696d6a726e6c310105009080808000b519737e010501a0013d62d80a01010100170681100d02010101000000008768053c000108036162633eb0f24201010200170681100d02010101000000008768053c0001080361626348437e5301010301299f8907000182028202018202820101820100821a000f42450019ea5b425a46850101000043616263ff9656081400",
+            "66696d6a726e6c310105009080808000b519737e010501a0013d62d80a01010100170681100d02010101000000008768053c000108036162633eb0f24201010200170681100d02010101000000008768053c0001080361626348437e5301010301299f8907000182028202018202820101820100821a000f42450019ea5b425a46850101000043616263ff9656081400",
+        ],
+    }
+}
+
+/// Pieces that failed and were cancelled.
+pub(crate) fn pieces_that_failed() -> Row {
+    Row {
+        file: r#"[gateway]
+endpoint = "ipn:9.0"
+journal = "j"
+[old]
+bind = "a"
+peer = "b"
+first_session = 1
+[new]
+bind = "c"
+peer = "d"
+first_session = 1
+limit = 1
+timeout_ms = 5
+"#,
+        readings: &[1010000, 1010000, 1010005, 1010005, 1010006, 1010006],
+        gives: [
+            &[
+                "0301010001001702000681100d02010101000000008768053c00010803616263",
+                "-",
+                "0301020001001703000681100d02010101000000008768053c00010803616263",
+                "-",
+                "-",
+            ],
+            &["-", "0e03020003", "-", "-"],
+        ],
+        made: r#"installed
+committed
+sent old 0801010002021700010017
+sent new 0303010001002902009f8907000182028202018202820101820100821a000f42450019ea5b425a46850101000043616263ff
+{"at":"2000-01-01T00:16:50.000Z","event":"start","first_session":[1,1],"marks":0,"pending":0}
+{"at":"2000-01-01T00:16:50.000Z","event":"passed","face":"old","first":1,"pieces":1,"session":1,"subject":{"creation":[1000,5],"destination":"ipn:2.1","fragment":null,"payload":3,"source":"ipn:1.1","version":6}}
+committed
+sent old 0801020003031700010017
+sent new 0c03010002
+sent new 0303020001002903009f8907000182028202018202820101820100821a000f42450019ea5b425a46850101000043616263ff
+{"at":"2000-01-01T00:16:50.005Z","event":"failed","face":"new","reason":2,"session":1,"side":"sending","subject":{"creation":[1000005,0],"destination":"ipn:2.1","fragment":null,"payload":3,"source":"ipn:1.1","version":7}}
+{"at":"2000-01-01T00:16:50.005Z","event":"passed","face":"old","first":2,"pieces":1,"session":2,"subject":{"creation":[1000,5],"destination":"ipn:2.1","fragment":null,"payload":3,"source":"ipn:1.1","version":6}}
+committed
+sent new 0f030200
+{"at":"2000-01-01T00:16:50.005Z","event":"cancelled","face":"new","reason":3,"session":2,"side":"sending","subject":{"creation":[1000005,0],"destination":"ipn:2.1","fragment":null,"payload":3,"source":"ipn:1.1","version":7}}
+"#,
+        ends: &[468, 1327, 1327],
+        before: "",
+        files: &[
+            "66696d6a726e6c31010500a00198234a74010501a0013d62d80a01010101299f8907000182028202018202820101820100821a000f42450019ea5b425a46850101000043616263ff56f4406a00",
+            "66696d6a726e6c31010500a00198234a74010501a0013d62d80a01010101299f8907000182028202018202820101820100821a000f42450019ea5b425a46850101000043616263ff56f4406a01020102dd9219f701010201299f8907000182028202018202820101820100821a000f42450019ea5b425a46850101000043616263fff6072c2b010202031b1e326d00",
+            "66696d6a726e6c31010500a00198234a74010501a0013d62d80a01010101299f8907000182028202018202820101820100821a000f42450019ea5b425a46850101000043616263ff56f4406a01020102dd9219f701010201299f8907000182028202018202820101820100821a000f42450019ea5b425a46850101000043616263fff6072c2b010202031b1e326d00",
+        ],
+    }
+}

@@ -1,0 +1,3 @@
+pub mod NeedLemmas
+pub mod BlockLemmas
+pub mod RoomLemmas

@@ -1,0 +1,5 @@
+-- what a reader must believe, in this order
+pub mod Bounds
+pub mod Loads
+pub mod Faces
+pub mod Laws

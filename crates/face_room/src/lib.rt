@@ -1,0 +1,21 @@
+//! Whether a face of the gateway has room for pieces: sessions, session numbers, and octets.
+//!
+//! A face sends a bounded number of sessions at once, and keeps a bounded number of octets for them (own
+//! rule): [`Bounds`]. Half of its memory is for what it sends, so that a node that takes nothing can't stop
+//! what comes from it. What it keeps is the blocks that are being sent, the datagrams in its outbox, and of
+//! each piece that waits what it will [`need`]: itself and no less than its datagrams. Pieces may wait to go
+//! together ([`piece_gathering`]), so they need as many sessions as they make blocks.
+//!
+//! [`has_room`] decides for some pieces at once, from the face's [`Load`] in numbers, and takes no memory. An
+//! idle face has room for each piece ([`idle_has_room`]); what has room goes without being refused, and
+//! leaves the face within its bounds ([`goes_within`]); and pieces that have as many octets as are wanted
+//! take a session of their own each ([`alone_each`]).
+#![tactic(auto)]
+
+mod bounds;
+mod laws;
+mod load;
+
+pub use bounds::{BLOCK_MAX, Bounds, HEADER_MAX, NUMBERS, need};
+pub use laws::{alone_each, fewer_have_room, fronts_are_blocks, goes_within, idle_has_room};
+pub use load::{Load, Waiting, has_room, is_within, with_piece};

@@ -1,0 +1,3 @@
+pub mod RowLemmas
+pub mod PlainLemmas
+pub mod BeforeLemmas

@@ -1,0 +1,6 @@
+-- what a reader must believe, in this order
+pub mod Arrivals
+pub mod Pieces
+pub mod Cases
+pub mod Rows
+pub mod Laws

@@ -1,0 +1,154 @@
+-- A gate among other implementations: a face at each of two links, a counter of its reports, and what it
+-- tells of a step.
+
+use Rattle.std.specs.Prelude.{ℕ, Bool, List, [], ◌∷◌, ◌++◌, map, length, Option}
+use Rattle.std.specs.List.{sum_by}
+use Rattle.ltp_segment.specs.declared.session.Note.{Note}
+use Rattle.ltp_segment.specs.declared.session.Green.{Green}
+use Rattle.ltp_segment.specs.Spelling.{segment_octets}
+use Rattle.ltp_segment.specs.Values.{SegmentValue}
+use Rattle.ltp_session.specs.Sender.{Sending}
+use Rattle.piece_gathering.specs.declared.piece.Piece.{Piece}
+use Rattle.piece_gathering.specs.Gathered.{GatheringValue}
+use Rattle.gate_cases.specs.declared.case.GateCase.{GateCase}
+use Rattle.gate_cases.specs.declared.face.Face.{Face}
+use Rattle.block_types.specs.declared.losing.LeftOut.{LeftOut}
+use Rattle.bundle_rows.specs.declared.next.End.{End}
+use Rattle.face_room.specs.Faces.{load_of}
+use Rattle.gateway_core.specs.Gate.{RoutedValue, segment_at}
+use Rattle.peer_cases.specs.Cases.{FaceRoom}
+use Rattle.peer_gateway.specs.Keys.{FaceKeys, PeerSetup, gathers_from}
+use Rattle.peer_gateway.specs.Sessions.{Sessions, starts_sessions}
+
+-- ---- moments
+
+-- What the wall clock shows; the moment of each face, on which its timers run; and until when, by the wall
+-- clock, what goes at a face waits for its link: now, where that is open, and else the next contact.
+pub record PeerMoments : Type 0 where
+  pub wall : ℕ
+  pub at : Face → ℕ
+  pub leaves : Face → ℕ
+
+-- ---- a gate
+
+-- a face's sessions; the pieces that wait there; and how many octets wait in its outbox
+pub record PeerFace : Type 0 where
+  pub sessions : Sessions
+  pub gathering : GatheringValue
+  pub queued : ℕ
+
+pub record PeerGate : Type 0 where
+  pub faces : PeerFace × PeerFace
+  pub counter : ℕ
+
+-- at a moment of the face, with the sessions of the peer that were acknowledged in an earlier run
+abbrev pub starts_face : FaceKeys → ℕ → List ℕ → PeerFace
+starts_face k now marks =
+    record { sessions = starts_sessions k now marks; gathering = gathers_from k; queued = 0 }
+
+abbrev pub starts_peer_gate : PeerSetup → ℕ × ℕ → List ℕ × List ℕ → PeerGate
+starts_peer_gate s now marks = record {
+  faces = (starts_face s.keys.0 now.0 marks.0, starts_face s.keys.1 now.1 marks.1);
+  counter = 0;
+}
+
+-- what a face keeps of what it sends, and what room there is for more
+abbrev pub room_at : FaceKeys → PeerFace → FaceRoom
+room_at k f = record {
+  bounds = k.bounds;
+  load = load_of k.bounds (record {
+    blocks = map (λ (entry : ℕ × Sending). length entry.1.block) ((f.sessions).engine).senders;
+    outbox = f.queued ∷ [];
+    pieces = (f.gathering).waiting;
+    next_session = ((f.sessions).engine).next;
+  });
+}
+
+-- ---- what it tells
+
+-- A note of a face's engine; runs of closed numbers were forgotten before their time; a green piece came. A
+-- block begins: how many pieces it has, how many octets, and the session. About a bundle, with its place in
+-- its row and its session: the case, how many pieces go on, and the first of their sessions, where each has
+-- one of its own; what they lack; that a report is sent, and its session; that it isn't. And the end of a
+-- row.
+pub data Told : Type 0 where
+  told_engine : Note → Told
+  told_forgotten : ℕ → Told
+  told_green : Green → Told
+  told_began : ℕ → ℕ → ℕ → Told
+  told_case : Option ℕ → ℕ → GateCase → ℕ → Option ℕ → Told
+  told_left : Option ℕ → ℕ → LeftOut → Told
+  told_reported : Option ℕ → ℕ → Option ℕ → Told
+  told_unreported : Option ℕ → ℕ → Told
+  told_end : Option ℕ → ℕ → End → Told
+
+-- at a face
+pub record FaceTold : Type 0 where
+  pub face : Face
+  pub told : Told
+
+-- a piece was added at a face: one of a bundle that goes on, or a report
+pub record AddedAt : Type 0 where
+  pub face : Face
+  pub piece : Piece
+  pub is_report : Bool
+
+-- a session began at a face, with a block of so many pieces
+pub record BegunAt : Type 0 where
+  pub face : Face
+  pub session : ℕ
+  pub block : List ℕ
+  pub pieces : ℕ
+
+-- segments that are to be sent, what is told, and what a journal has to know, each in its order
+pub record PeerEffects : Type 0 where
+  pub out : List RoutedValue
+  pub told : List FaceTold
+  pub added : List AddedAt
+  pub begun : List BegunAt
+
+-- the gate after a step, and the effects
+pub record PeerStep : Type 0 where
+  pub gate : PeerGate
+  pub effects : PeerEffects
+
+abbrev pub no_effects : PeerEffects
+no_effects = record { out = []; told = []; added = []; begun = [] }
+
+abbrev pub with_more : PeerEffects → PeerEffects → PeerEffects
+with_more first more = record {
+  out = first.out ++ more.out;
+  told = first.told ++ more.told;
+  added = first.added ++ more.added;
+  begun = first.begun ++ more.begun;
+}
+
+-- nothing is done
+abbrev pub stays_so : PeerGate → PeerStep
+stays_so g = record { gate = g; effects = no_effects }
+
+-- one step, and then another of the gate that it leaves
+unfoldable pub and_then : PeerStep → (PeerGate → PeerStep) → PeerStep
+and_then step next =
+    record { gate = (next step.gate).gate; effects = with_more step.effects (next step.gate).effects }
+
+-- a step for each of a list, one after the other
+unfoldable pub in_turn : {X : Type 0} → (X → PeerGate → PeerStep) → List X → PeerGate → PeerStep
+in_turn does [] g = stays_so g
+in_turn does (x ∷ xs) g = and_then (does x g) (in_turn does xs)
+
+-- something is told, and nothing done
+abbrev pub tells : Face → Told → PeerGate → PeerStep
+tells face told g = record {
+  gate = g;
+  effects = record no_effects { told = record { face = face; told = told } ∷ [] };
+}
+
+-- ---- datagrams
+
+abbrev pub routed_at : Face → List SegmentValue → List RoutedValue
+routed_at face segments = map (segment_at face) segments
+
+-- how many octets segments have as datagrams
+abbrev pub octets_out : List SegmentValue → ℕ
+octets_out segments = sum_by (λ (segment : SegmentValue). length (segment_octets segment)) segments

@@ -1,0 +1,170 @@
+-- What a gate among other implementations does when a datagram comes, when time passes, and about a piece
+-- that was kept from an earlier run.
+
+use Rattle.std.specs.Prelude.{ℕ, ◌+◌, true, false, if◌then◌else◌, List, [], ◌∷◌, ◌++◌, map, length, Option, Some, None, Result}
+use Rattle.ltp_segment.specs.declared.fault.SegmentCause.{SegmentCause}
+use Rattle.ltp_segment.specs.Values.{SegmentValue}
+use Rattle.ltp_session.specs.Engine.{UpValue}
+use Rattle.piece_gathering.specs.declared.piece.Piece.{Piece}
+use Rattle.gate_cases.specs.declared.face.Face.{Face}
+use Rattle.gate_cases.specs.declared.face.Face.TheVariants as faces
+use Rattle.gate_cases.specs.declared.report.AskedReport.{AskedReport}
+use Rattle.gate_cases.specs.Faces.{other_of}
+use Rattle.gate_cases.specs.Bundles.{status_bundle}
+use Rattle.block_types.specs.declared.losing.LeftOut.{LeftOut}
+use Rattle.gateway_core.specs.Gate.{at_face, with_face}
+use Rattle.peer_cases.specs.declared.pieces.SizedPiece.{SizedPiece}
+use Rattle.peer_cases.specs.Arrivals.{Came}
+use Rattle.peer_cases.specs.Cases.{Decision, decided, is_unreported}
+use Rattle.peer_cases.specs.Rows.{Item, a_bundle, an_end, came_in, items_of}
+use Rattle.peer_gateway.specs.Keys.{PeerSetup}
+use Rattle.peer_gateway.specs.Sessions.{SessionsStep, hears, ticks}
+use Rattle.peer_gateway.specs.Gate.{PeerMoments, PeerGate, PeerStep, Told, FaceTold, no_effects, stays_so, and_then, in_turn, tells, room_at, routed_at, octets_out}
+use Rattle.peer_gateway.specs.Gate.{told_engine, told_forgotten, told_green, told_case, told_left, told_reported, told_unreported, told_end}
+use Rattle.peer_gateway.specs.Going.{adds, piece_at, due, gathers}
+
+-- ---- a face's sessions
+
+-- what is told of a step of its sessions: forgotten runs, the engine's notes, and green pieces
+abbrev pub forgotten_told : Option ℕ → List Told
+forgotten_told None = []
+forgotten_told (Some runs) = told_forgotten runs ∷ []
+
+abbrev pub told_of : SessionsStep → List Told
+told_of step =
+    forgotten_told step.forgotten ++ (map told_engine (step.effects).notes ++ map told_green (step.effects).greens)
+
+abbrev pub told_at : Face → Told → FaceTold
+told_at face told = record { face = face; told = told }
+
+-- what they do is done at their face, and waits in its outbox
+abbrev pub does_at : Face → PeerGate → SessionsStep → PeerStep
+does_at face g step = record {
+  gate = record g {
+    faces = with_face g.faces face (record (at_face g.faces face) {
+      sessions = step.sessions;
+      queued = (at_face g.faces face).queued + octets_out (step.effects).out;
+    });
+  };
+  effects = record no_effects {
+    out = routed_at face (step.effects).out;
+    told = map (told_at face) (told_of step);
+  };
+}
+
+abbrev pub hears_at : PeerSetup → Face → PeerGate → Result SegmentValue (ℕ × SegmentCause) → ℕ → SessionsStep
+hears_at s face g read now = hears (at_face s.keys face) (at_face g.faces face).sessions read now
+
+-- ---- a bundle
+
+-- its pieces are added at the other face, in order
+abbrev pub adds_all : PeerSetup → Face → PeerMoments → List SizedPiece → PeerGate → PeerStep
+adds_all s to m pieces g = in_turn (λ (piece : SizedPiece). adds s to m false (piece_at m to piece)) pieces g
+
+-- the session of what goes next at a face, where each piece has one of its own
+abbrev pub next_if : PeerSetup → Face → PeerGate → Option ℕ
+next_if s face g =
+    if gathers (at_face s.keys face) then None else Some (((at_face g.faces face).sessions).engine).next
+
+-- what the pieces lack is told, where they lack something
+abbrev pub tells_left : Face → Option ℕ → ℕ → Option LeftOut → PeerGate → PeerStep
+tells_left face index session None g = stays_so g
+tells_left face index session (Some left) g = tells face (told_left index session left) g
+
+-- a report has no age, and no block of the gateway's own
+abbrev pub report_piece : PeerSetup → PeerMoments → AskedReport → PeerGate → SizedPiece
+report_piece s m asked g = record {
+  octets = status_bundle s.gate g.counter m.wall asked;
+  size = length (status_bundle s.gate g.counter m.wall asked);
+}
+
+-- it is made with the counter's number, which rises, and goes back as a piece of the face at which the
+-- bundle came
+abbrev pub reports : PeerSetup → Face → PeerMoments → Option ℕ → ℕ → SizedPiece → PeerGate → PeerStep
+reports s face m index session piece g =
+    and_then (adds s face m true (piece_at m face piece) (record g { counter = g.counter + 1 }))
+    (tells face (told_reported index session (next_if s face g)))
+
+unfoldable pub answers : PeerSetup → Face → PeerMoments → Option ℕ → ℕ → Option AskedReport → PeerGate → PeerStep
+answers s face m index session None g = stays_so g
+answers s face m index session (Some asked) g =
+    if is_unreported (room_at (at_face s.keys face) (at_face g.faces face)) (report_piece s m asked g).size m.wall g.counter
+    then tells face (told_unreported index session) g
+    else reports s face m index session (report_piece s m asked g) g
+
+-- once it is decided: the pieces; the case; what they lack; and the report
+unfoldable pub decides : PeerSetup → Face → PeerMoments → Option ℕ → ℕ → Decision → PeerGate → PeerStep
+decides s face m index session d g =
+    and_then (adds_all s (other_of face) m d.pieces g) (λ h.
+    and_then (tells face (told_case index session d.case (length d.pieces) (next_if s (other_of face) g)) h) (λ i.
+    and_then (tells_left face index session d.left i)
+    (answers s face m index session d.report)))
+
+-- by the room at the other face as it is now
+abbrev pub decided_at : PeerSetup → Face → PeerMoments → Came → PeerGate → Decision
+decided_at s face m came g =
+    decided s.settings face came m.wall s.cut
+    (room_at (at_face s.keys (other_of face)) (at_face g.faces (other_of face)))
+
+abbrev pub passes_came : PeerSetup → Face → PeerMoments → Option ℕ → ℕ → Option Came → PeerGate → PeerStep
+passes_came s face m index session None g = stays_so g
+passes_came s face m index session (Some came) g = decides s face m index session (decided_at s face m came g) g
+
+-- ---- a block that came whole
+
+-- a bundle of its row, or the end
+abbrev pub passes_item : PeerSetup → Face → PeerMoments → ℕ → Item → PeerGate → PeerStep
+passes_item s face m session (a_bundle index octets) g =
+    passes_came s face m index session (came_in s.settings face octets) g
+passes_item s face m session (an_end index end) g = tells face (told_end index session end) g
+
+-- all that stands in it, in turn
+abbrev pub passes : PeerSetup → Face → PeerMoments → UpValue → PeerGate → PeerStep
+passes s face m up g = in_turn (passes_item s face m up.session) (items_of face up.body) g
+
+-- ---- events
+
+-- a datagram comes at a face: what its sessions do, and then each block that they hand up
+unfoldable pub arrives_peer : PeerSetup → Face → Result SegmentValue (ℕ × SegmentCause) → PeerMoments → PeerGate → PeerStep
+arrives_peer s face read m g =
+    and_then (does_at face g (hears_at s face g read (m.at face)))
+    (in_turn (passes s face m) ((hears_at s face g read (m.at face)).effects).ups)
+
+-- a face's sessions tick, and the pieces that waited as long as they may go
+abbrev pub ticks_face : PeerSetup → PeerMoments → Face → PeerGate → PeerStep
+ticks_face s m face g =
+    and_then (does_at face g (ticks (at_face s.keys face) (at_face g.faces face).sessions (m.at face)))
+    (due s m face)
+
+-- time passes: the old face first
+unfoldable pub ticks_peer : PeerSetup → PeerMoments → PeerGate → PeerStep
+ticks_peer s m g = and_then (ticks_face s m faces.Old g) (ticks_face s m faces.New)
+
+-- a piece that was kept from an earlier run is added
+abbrev pub adds_kept : PeerSetup → Face → Piece → PeerMoments → PeerGate → PeerStep
+adds_kept s face piece m g = adds s face m false piece g
+
+pub data PeerEvent : Type 0 where
+  a_datagram : Face → Result SegmentValue (ℕ × SegmentCause) → PeerEvent
+  a_tick : PeerEvent
+  a_kept_piece : Face → Piece → PeerEvent
+
+-- an event finds so many octets in each outbox
+abbrev pub with_outboxes : ℕ × ℕ → PeerGate → PeerGate
+with_outboxes octets g = record g {
+  faces = (record (g.faces.0) { queued = octets.0 }, record (g.faces.1) { queued = octets.1 });
+}
+
+abbrev pub does : PeerSetup → PeerEvent → PeerMoments → PeerGate → PeerStep
+does s (a_datagram face read) m g = arrives_peer s face read m g
+does s a_tick m g = ticks_peer s m g
+does s (a_kept_piece face piece) m g = adds_kept s face piece m g
+
+unfoldable pub peer_step : PeerSetup → PeerEvent → PeerMoments → ℕ × ℕ → PeerGate → PeerStep
+peer_step s event m octets g = does s event m (with_outboxes octets g)
+
+-- the gate after some events, the newest first, from a beginning
+unfoldable pub peer_gate_after : PeerSetup → PeerGate → List (PeerEvent × (PeerMoments × (ℕ × ℕ))) → PeerGate
+peer_gate_after s start [] = start
+peer_gate_after s start (event ∷ earlier) =
+    (peer_step s event.0 event.1.0 event.1.1 (peer_gate_after s start earlier)).gate

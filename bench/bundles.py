@@ -123,4 +123,5 @@ def hex_alone(bench, bundle):
               Wanted(0, times, lambda: bundle.hex().upper().encode() + b"\n"))
 
 
-main()
+if __name__ == "__main__":
+    main()

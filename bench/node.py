@@ -86,10 +86,10 @@ class Lines:
     """What the model writes for the same lines: how many, and the last one."""
 
     def __init__(self):
-        self.count, self.last = 0, b""
+        self.node, self.count, self.last = ltp_model.Node(2, 1), 0, b""
 
     def write(self, text):
-        for said in NODE.event(text.rstrip(b"\n")).lines():
+        for said in self.node.event(text.rstrip(b"\n")).lines():
             self.count, self.last = self.count + 1, said.encode() + b"\n"
 
 
@@ -100,16 +100,21 @@ def close_runs(file):
     return 2 * RUNS + 1
 
 
-bench = Bench(program_of(sys.argv[1:]))
-for name, line_at, wanted in FLOODS:
+def main():
+    bench = Bench(program_of(sys.argv[1:]))
+    for name, line_at, wanted in FLOODS:
+        for count in (QUARTER, 2 * QUARTER, 4 * QUARTER):
+            lines, last = wanted(count)
+            bench.row(name, WORDS, lambda file: write_flood(file, count, line_at), Wanted(DONE, lines, lambda: last))
     for count in (QUARTER, 2 * QUARTER, 4 * QUARTER):
-        lines, last = wanted(count)
-        bench.row(name, WORDS, lambda file: write_flood(file, count, line_at), Wanted(DONE, lines, lambda: last))
-for count in (QUARTER, 2 * QUARTER, 4 * QUARTER):
-    NODE, model = ltp_model.Node(2, 1), Lines()
-    write_any(model, count)
-    bench.row("datagrams of any octets", WORDS, lambda file: write_any(file, count),
-              Wanted(DONE, model.count, lambda: model.last))
-bench.row("sessions 1, 3, .. that are closed, up to the most runs", WORDS, close_runs,
-          Wanted(DONE, 2 * RUNS + 1, lambda: b"note HistoryFull %d\n" % (2 * RUNS + 1)))
-bench.end()
+        model = Lines()
+        write_any(model, count)
+        bench.row("datagrams of any octets", WORDS, lambda file: write_any(file, count),
+                  Wanted(DONE, model.count, lambda: model.last))
+    bench.row("sessions 1, 3, .. that are closed, up to the most runs", WORDS, close_runs,
+              Wanted(DONE, 2 * RUNS + 1, lambda: b"note HistoryFull %d\n" % (2 * RUNS + 1)))
+    bench.end()
+
+
+if __name__ == "__main__":
+    main()

@@ -51,10 +51,10 @@ def block(file, session, order):
     return last + 1
 
 
-def each_its_own(file):
-    for session in range(1, MILLION + 1):
-        file.write(segment(RED_END_BLOCK, session, 0, b"abc"))
-    return MILLION
+def each_its_own(file, count=MILLION, data=b"abc"):
+    for session in range(1, count + 1):
+        file.write(segment(RED_END_BLOCK, session, 0, data))
+    return count
 
 
 def one_repeated(file):
@@ -108,4 +108,5 @@ def main():
     bench.end()
 
 
-main()
+if __name__ == "__main__":
+    main()

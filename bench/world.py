@@ -42,9 +42,14 @@ class Model:
         return count
 
 
-bench = Bench(program_of(sys.argv[1:]))
-for count in (SENDS, 2 * SENDS, 4 * SENDS):
-    model = Model(count)
-    bench.row(f"a path, {count:,} bundles with eight events each", ["world"], model.write,
-              Wanted(DONE, model.lines, lambda: model.last.encode() + b"\n"), f"{model.size / 1e6:,.0f} MB written")
-bench.end()
+def main():
+    bench = Bench(program_of(sys.argv[1:]))
+    for count in (SENDS, 2 * SENDS, 4 * SENDS):
+        model = Model(count)
+        bench.row(f"a path, {count:,} bundles with eight events each", ["world"], model.write,
+                  Wanted(DONE, model.lines, lambda: model.last.encode() + b"\n"), f"{model.size / 1e6:,.0f} MB written")
+    bench.end()
+
+
+if __name__ == "__main__":
+    main()

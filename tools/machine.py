@@ -22,6 +22,15 @@ def processors():
     return found
 
 
+def name():
+    """What the processor calls itself."""
+    with contextlib.suppress(OSError):
+        with open("/proc/cpuinfo", encoding="utf-8") as file:
+            if found := re.search(r"^model name\s*:\s*(.+)$", file.read(), re.M):
+                return found[1]
+    return os.uname().machine
+
+
 def free_memory():
     """The free memory in bytes."""
     with open("/proc/meminfo", encoding="ascii") as file:

@@ -13,9 +13,9 @@ ghost use Rattle.gate_cases.specs.Sending.{has_sessions, sent_full, sent_records
 
 use crate::case::{BLOCK_MAX, GateCase, NUMBERS, Room, SENDING_MAX};
 use crate::face::Face;
+use crate::hop::{has_no_hop_left, passage};
 use crate::judged::Pieces;
 use crate::names::is_any_over;
-use crate::passage::{has_no_hop_left, passage};
 use bundle_meaning::{Content, Full, Shared, expiry_ms};
 use bundle6::{Block6, encode6};
 use bundle7::encode7;

@@ -1,5 +1,5 @@
 use Rattle.gate_cases.proofs.PassageLemmas.{passage-sound}
-use Rattle.gate_cases.proofs.passage.passage.Goals as goal
+use Rattle.gate_cases.proofs.hop.passage.Goals as goal
 
 pub returns-clause-sound : goal.returns-clause-sound
 returns-clause-sound c =

@@ -42,7 +42,7 @@ use Rattle.ltp_drain.proofs.DrainRun.{delivery-next, due-fires, other_other, sen
 use Rattle.ltp_drain.proofs.DrainRun.{since-ticks, tick-advances, tick-next, ticked-new}
 use Rattle.ltp_drain.proofs.DrainRun.{ticked-world, ticks-are}
 use Rattle.ltp_drain.proofs.RoomRuns.{delivery-room, room-roomy, tick-room}
-use Rattle.ltp_drain.proofs.StartLemmas.{session-gives}
+use Rattle.ltp_drain.proofs.StartLemmas.{ample-at, session-gives}
 
 -- ---- lists
 
@@ -242,17 +242,17 @@ since-arrival parties w me s = replies-since w me
     (arrives (at_end parties me) (at_end w.engines me) s w.now)
 
 delivery-goes : (parties : Party × Party) (w : World) (c : ℕ) (rank : End → ℕ → ℕ) (d : Sent)
-    → ArePeers parties → IsGoing parties w c rank
+    → ArePeers parties → AreAlike parties → IsGoing parties w c rank
     → c < length w.sent → drop c w.sent ≡ d ∷ drop (suc c) w.sent
     → GoesOn parties w rank (delivered parties w (Some d)) (c + 1)
     (deliver_effects parties w (Some d))
-delivery-goes parties w c rank d peers going low rest = record {
+delivery-goes parties w c rank d peers alike going low rest = record {
   rank' = next.rank';
   holds = subst (λ new. DrainHolds SessionFacts parties
       (record { world = arrival parties w me d.segment; new = new }) next.rank')
       (sym new-is) next.holds;
   room = delivery-room SessionFacts parties (record { world = w; new = drop c w.sent }) rank me o
-      peers going.holds going.room is;
+      peers (ample-at parties alike) going.holds going.room is;
   within = omega (
     arith,
     low,
@@ -286,7 +286,7 @@ delivery-goes parties w c rank d peers going low rest = record {
         rank
     next = (delivery-next SessionFacts session-gives parties
         (record { world = w; new = drop c w.sent }) rank me o peers going.holds
-        (room-roomy parties w going.room) is).next
+        (room-roomy parties w (ample-at parties alike) going.room) is).next
 
     sent-is : (arrival parties w (other d.from) d.segment).sent ≡ w.sent ++ since w
         (arrival parties w (other d.from) d.segment)
@@ -483,7 +483,7 @@ clean-goes parties w c rank event peers alike going clean =
         let t = taken w.sent c low in
         subst (λ (x : Option Sent). GoesOn parties w rank (delivered parties w x) (c + 1)
         (deliver_effects parties w x)) (sym t.got)
-        (delivery-goes parties w c rank t.x peers going low t.rest)
+        (delivery-goes parties w c rank t.x peers alike going low t.rest)
 
     by_clock : (now : ℕ) → length w.sent ≤ c → link_deadline w ≡ Some now → Goal (clock now)
     by_clock now over is =

@@ -316,7 +316,7 @@ pub submits-is : (p : Party) (e : Engine) (block : List ℕ) (red now : ℕ)
 unfolding submits
 submits-is p e block red now =
     by_tests (length block == 0) (nat_lt p.most (length block)) refl (nat_le (2 ^ 32) e.next)
-    (nat_le 64 (length e.senders))
+    (nat_le p.sessions (length e.senders))
   where
     by_tests : (empty large : Bool) → nat_lt p.most (length block) ≡ large → (spent busy : Bool)
         → Submits p e block red now (unless_refused

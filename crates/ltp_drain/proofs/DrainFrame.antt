@@ -323,18 +323,19 @@ own-touches F gives me you p q e f sent new rank_p rank_q o now t both linked al
     short m = shorter me you new o p.own m both is
 
 -- the receiver's session hears
-evicted-none : (e : Engine) → length e.receivers < 64 → evicted_of e ≡ None
+evicted-none : (p : Party) (e : Engine) → length e.receivers < p.sessions → evicted_of p e ≡ None
 unfolding evicted_of
-evicted-none e room = let few : nat_le 64 (length e.receivers) ≡ false =
+evicted-none p e room = let few : nat_le p.sessions (length e.receivers) ≡ false =
     grind (arith, nat_tests) in rw few refl
 
-pub opening-same : (e : Engine) (kept : Option Receiving) (c : Change Receiving)
-    → (kept ≡ None → (r : Receiving) → c ≡ keeps r → length e.receivers < 64)
-    → opening e kept c ≡ e
-opening-same e None stays room = refl
-opening-same e None (keeps r) room = ap (without_evicted e) (evicted-none e (room refl r refl))
-opening-same e None ends room = refl
-opening-same e (Some s) c room = refl
+pub opening-same : (p : Party) (e : Engine) (kept : Option Receiving) (c : Change Receiving)
+    → (kept ≡ None → (r : Receiving) → c ≡ keeps r → length e.receivers < p.sessions)
+    → opening p e kept c ≡ e
+opening-same p e None stays room = refl
+opening-same p e None (keeps r) room =
+    ap (without_evicted e) (evicted-none p e (room refl r refl))
+opening-same p e None ends room = refl
+opening-same p e (Some s) c room = refl
 
 pub find-with_receiver_other : (f : Engine) (m n : ℕ) (c : Change Receiving) → m ≢ n
     → find m (with_receiver f n c).receivers ≡ find m f.receivers
@@ -348,14 +349,15 @@ peer-touches : (F : List ℕ → ℕ → View → Type 0) → Gives F
     → ℕ) (o : Oldest) (now : ℕ) (t : StepValue Receiving)
     → AreTwo me you → Linked p q → AllStand F me you p q e f sent new rank_p rank_q
     → oldest you new ≡ Some o → (o.first.segment).originator ≡ q.own
-    → (IsComing (view_by you me q f e sent (o.first.segment).session) → length e.receivers < 64)
+    → (IsComing (view_by you me q f e sent (o.first.segment).session)
+    → length e.receivers < p.sessions)
     → (IsComing (view_by you me q f e sent (o.first.segment).session)
     → (place_of p e (o.first.segment).session).full ≡ false)
     → AreFit p.most (view_by you me q f e sent (o.first.segment).session).by_sender
     → receiver_answers p.policy (place_of p e (o.first.segment).session)
     (find (o.first.segment).session e.receivers) (o.first.segment).content now ≡ Some t
     → Touches F me you p q e f rank_p rank_q (with_receiver
-    (opening e (find (o.first.segment).session e.receivers) t.next) (o.first.segment).session
+    (opening p e (find (o.first.segment).session e.receivers) t.next) (o.first.segment).session
     t.next)
     (sent ++ sent_by me (headed_all (session_of q.own (o.first.segment).session) t.out))
     (o.others ++ sent_by me (headed_all (session_of q.own (o.first.segment).session) t.out))
@@ -372,7 +374,7 @@ peer-touches F gives me you p q e f sent new rank_p rank_q o now t both linked a
     (stands-so F (setting_by q p n) v v (said you q.own n new) (said me q.own n new) _ _
     (rank_q n) refl (sym ((short n).here origin refl)) (sym (short n).mine) (all.peer n))))
     (λ m apart.
-    let same = left-alone m apart (receiver-others me you q f e sent n m t both apart) in
+    let same = left-alone m apart (receiver-others me you q p f e sent n m t both apart) in
     stands-so F (setting_by q p m) (view_by you me q f e sent m) _ (said you q.own m new)
     (said me q.own m new) _ _ (rank_q m) same
     (new-none you q.own m sent o.others added (ap (λ (v : View). v.by_sender) same)
@@ -380,8 +382,8 @@ peer-touches F gives me you p q e f sent new rank_p rank_q o now t both linked a
     (new-none me q.own m sent o.others added (ap (λ (v : View). v.by_receiver) same)
     ∙ sym (short m).mine) (all.peer m))
     (λ m.
-    let opened = roomy-received e n t.next in
-    let same = owns-stay me you p e (with_receiver (opening e (find n e.receivers) t.next) n
+    let opened = roomy-received p e n t.next in
+    let same = owns-stay me you p e (with_receiver (opening p e (find n e.receivers) t.next) n
     t.next) f sent q.own n m t.out both (λ h. linked.apart (sym h)) opened.senders opened.next
     in
     let shortened = shorter me you new o p.own m both is in
@@ -401,12 +403,12 @@ peer-touches F gives me you p q e f sent new rank_p rank_q o now t both linked a
     added : List Sent
     added = sent_by me (headed_all (session_of q.own (o.first.segment).session) t.out)
 
-    here : view_by you me q f (with_receiver (opening e
+    here : view_by you me q f (with_receiver (opening p e
         (find (o.first.segment).session e.receivers) t.next) (o.first.segment).session t.next)
         (sent ++ sent_by me (headed_all (session_of q.own (o.first.segment).session) t.out))
         (o.first.segment).session
         ≡ receiver_moves (view_by you me q f e sent (o.first.segment).session) t
-    here = receiver-here me you q f e sent (o.first.segment).session t both
+    here = receiver-here me you q p f e sent (o.first.segment).session t both
 
     short : (m : ℕ) → Shorter me you new o q.own m
     short m = shorter me you new o q.own m both is
@@ -433,19 +435,19 @@ peer-touches F gives me you p q e f sent new rank_p rank_q o now t both linked a
             hears none next
 
     left-alone : (m : ℕ) → n ≢ m → Left (view_by you me q f e sent m)
-        (view_by you me q f (with_receiver (opening e (find n e.receivers) t.next) n t.next)
+        (view_by you me q f (with_receiver (opening p e (find n e.receivers) t.next) n t.next)
         (sent ++ added) m)
-        → view_by you me q f (with_receiver (opening e (find n e.receivers) t.next) n t.next)
+        → view_by you me q f (with_receiver (opening p e (find n e.receivers) t.next) n t.next)
         (sent ++ added) m ≡ view_by you me q f e sent m
     left-alone m apart (alone same) = same
     left-alone m apart (closed_for_room r kept same) = absurd (
-        let gone : find m (with_receiver (opening e (find n e.receivers) t.next) n
+        let gone : find m (with_receiver (opening p e (find n e.receivers) t.next) n
         t.next).receivers ≡ None = ap (λ (v : View). v.receiver) same in
-        let there : find m (with_receiver (opening e (find n e.receivers) t.next) n
+        let there : find m (with_receiver (opening p e (find n e.receivers) t.next) n
         t.next).receivers ≡ find m e.receivers =
-        find-with_receiver_other (opening e (find n e.receivers) t.next) m n t.next
+        find-with_receiver_other (opening p e (find n e.receivers) t.next) m n t.next
         (λ h. apart (sym h)) ∙ ap (λ (g : Engine). find m g.receivers)
-        (opening-same e (find n e.receivers) t.next
+        (opening-same p e (find n e.receivers) t.next
         (λ none r' next. room (coming r' none next))) in
         cc)
 
@@ -539,8 +541,8 @@ pub arrival-touches : (F : List ℕ → ℕ → View → Type 0) → Gives F
     → AreTwo me you → Linked p q → AllStand F me you p q e f sent new rank_p rank_q
     → oldest you new ≡ Some o
     → ((o.first.segment).originator ≡ p.own) ⊎ ((o.first.segment).originator ≡ q.own)
-    → ((n : ℕ) → IsComing (view_by you me q f e sent n) → (length e.receivers < 64)
-    × (closed_runs e.closed + length e.receivers < 65536))
+    → ((n : ℕ) → IsComing (view_by you me q f e sent n) → (length e.receivers < p.sessions)
+    × (closed_runs e.closed + length e.receivers < p.history))
     → ((n : ℕ) → AreFit q.most (view_by me you p e f sent n).by_sender)
     → ((n : ℕ) → AreFit p.most (view_by you me q f e sent n).by_sender)
     → ReplyTouches F me you p q e f sent rank_p rank_q o (arrives p e o.first.segment now)
@@ -598,17 +600,17 @@ arrival-touches F gives me you p q e f sent new rank_p rank_q o now both linked 
     roomy : IsComing (view_by you me q f e sent s.session) → (place_of p e s.session).full ≡ false
     roomy coming = has_place (closed_runs e.closed + length e.receivers) (room s.session coming).1
       where
-        has_place : (k : ℕ) → k < 65536 → nat_le 65536 k ≡ false
+        has_place : (k : ℕ) → k < p.history → nat_le p.history k ≡ false
         has_place k low = grind (arith, nat_tests)
 
     peer_hears : s.originator ≡ q.own → (x : Option (StepValue Receiving))
         → receiver_answers p.policy (place_of p e s.session) (find s.session e.receivers)
-        s.content now ≡ x → To (receiver_replies e s.session x)
+        s.content now ≡ x → To (receiver_replies p e s.session x)
     peer_hears peer None hears = peer-nothing F me you p q e f sent new rank_p rank_q o now both
         linked all is peer hears
     peer_hears peer (Some t) hears =
         subst (λ (w : ℕ). Touches F me you p q e f rank_p rank_q
-        (with_receiver (opening e (find s.session e.receivers) t.next) s.session t.next)
+        (with_receiver (opening p e (find s.session e.receivers) t.next) s.session t.next)
         (sent ++ sent_by me (headed_all (session_of w s.session) t.out))
         (o.others ++ sent_by me (headed_all (session_of w s.session) t.out)) s.originator
         s.session)
@@ -739,15 +741,15 @@ peer-advances : (me you : End) (p q : Party) (e f : Engine) (sent : List Sent) (
     (content : ContentValue) (now : ℕ) (t : StepValue Receiving) (r : Reply)
     → AreTwo me you → Linked p q
     → receiver_answers p.policy (place_of p e n) (find n e.receivers) content now ≡ Some t
-    → receiver_replies e n (Some t) ≡ Some r
+    → receiver_replies p e n (Some t) ≡ Some r
     → AdvancesOn me you p q e f sent q.own n r
 peer-advances me you p q e f sent n content now t r both linked hears is_r = record {
   own = λ m.
-      let opened = roomy-received e n t.next in
+      let opened = roomy-received p e n t.next in
       same-advances _ ⊥ _ _ (subst (λ (r : Reply). view_by me you p r.engine f
       (sent ++ sent_by me (headed_all (session_of q.own n) r.out)) m ≡ view_by me you p e f
       sent m) replied
-      (owns-stay me you p e (with_receiver (opening e (find n e.receivers) t.next) n t.next) f
+      (owns-stay me you p e (with_receiver (opening p e (find n e.receivers) t.next) n t.next) f
       sent q.own n m t.out both (λ h. linked.apart (sym h)) opened.senders opened.next));
   peer = λ m. subst (λ (r : Reply). Advances (view_by you me q f e sent m)
       (view_by you me q f r.engine (sent ++ sent_by me (headed_all (session_of q.own n) r.out)) m)
@@ -755,28 +757,28 @@ peer-advances me you p q e f sent n content now t r both linked hears is_r = rec
 }
   where
     replied : record {
-      engine = with_receiver (opening e (find n e.receivers) t.next) n t.next;
+      engine = with_receiver (opening p e (find n e.receivers) t.next) n t.next;
       out = t.out;
       up = t.up;
       green = t.green;
-      notes = list_of (option_map notes.Evicted (evicted_by e (find n e.receivers) t.next)) ++
+      notes = list_of (option_map notes.Evicted (evicted_by p e (find n e.receivers) t.next)) ++
           notes_of n t;
     } ≡ r
     replied = cc (is_r)
 
     To : ℕ → Type 0
     To m = Advances (view_by you me q f e sent m)
-        (view_by you me q f (with_receiver (opening e (find n e.receivers) t.next) n t.next)
+        (view_by you me q f (with_receiver (opening p e (find n e.receivers) t.next) n t.next)
         (sent ++ sent_by me (headed_all (session_of q.own n) t.out)) m)
         ⊥ ((q.own ≡ q.own) × (n ≡ m) × (is_some t.up ≡ true))
 
     here : To n
     here = record {
       sender = λ is_open. inl (subst (λ (v : View). IsOpen v.sender)
-          (sym (receiver-here me you q f e sent n t both)) is_open);
+          (sym (receiver-here me you q p f e sent n t both)) is_open);
       receiver = λ handed. by_up (hands-up-now p.policy (place_of p e n) (find n e.receivers)
           content now t hears
-          (subst (λ (v : View). IsHanded v.receiver) (receiver-here me you q f e sent n t both)
+          (subst (λ (v : View). IsHanded v.receiver) (receiver-here me you q p f e sent n t both)
           handed));
     }
       where
@@ -795,7 +797,7 @@ peer-advances me you p q e f sent n content now t r both linked hears is_r = rec
     by_test : (m : ℕ) (same : Bool) → (n == m) ≡ same → To m
     by_test m true same = subst To (eqb-true n m same) here
     by_test m false apart = left-advances _ _ _
-        (receiver-others me you q f e sent n m t both (eqb-false n m apart))
+        (receiver-others me you q p f e sent n m t both (eqb-false n m apart))
 
 pub arrival-advances : (F : List ℕ → ℕ → View → Type 0) → Gives F
     → (me you : End) (p q : Party) (e f : Engine) (sent new : List Sent) (rank_p rank_q : ℕ
@@ -840,7 +842,7 @@ arrival-advances F gives me you p q e f sent new rank_p rank_q o now both linked
     by_peer : s.originator ≡ q.own → (t : StepValue Receiving)
         → receiver_answers p.policy (place_of p e s.session) (find s.session e.receivers)
         s.content now ≡ Some t
-        → (x : Option Reply) → receiver_replies e s.session (Some t) ≡ x → To x
+        → (x : Option Reply) → receiver_replies p e s.session (Some t) ≡ x → To x
     by_peer peer t hears None is_r = tt
     by_peer peer t hears (Some r) is_r = subst
         (λ (w : ℕ). AdvancesOn me you p q e f sent w s.session r) (sym peer)
@@ -848,7 +850,7 @@ arrival-advances F gives me you p q e f sent new rank_p rank_q o now both linked
 
     peer_hears : s.originator ≡ q.own → (x : Option (StepValue Receiving))
         → receiver_answers p.policy (place_of p e s.session) (find s.session e.receivers)
-        s.content now ≡ x → To (receiver_replies e s.session x)
+        s.content now ≡ x → To (receiver_replies p e s.session x)
     peer_hears peer None hears = tt
-    peer_hears peer (Some t) hears = by_peer peer t hears (receiver_replies e s.session (Some t))
+    peer_hears peer (Some t) hears = by_peer peer t hears (receiver_replies p e s.session (Some t))
         refl

@@ -78,10 +78,10 @@ arrives-kept p e s now =
       receivers = λ ascending. ascending;
     }
 
-    peer : (x : Option (StepValue Receiving)) → ReplyKept e (receiver_replies e s.session x)
+    peer : (x : Option (StepValue Receiving)) → ReplyKept e (receiver_replies p e s.session x)
     peer None = tt
     peer (Some t) =
-        let roomy = roomy-received e s.session t.next in
+        let roomy = roomy-received p e s.session t.next in
         record {
           next = roomy.next;
           senders = λ ascending. subst (AreAscending 0)
@@ -513,9 +513,9 @@ fit-peer parties w second_end fit n = fit first_end n
 room-peer : (parties : Party × Party) (w : World) (me : End) → IsRoomy parties w → (n : ℕ)
     → IsComing (view_by (other me) me (at_end parties (other me)) (at_end w.engines (other me))
     (at_end w.engines me) w.sent n)
-    → (length (at_end w.engines me).receivers < 64)
+    → (length (at_end w.engines me).receivers < (at_end parties me).sessions)
     × (closed_runs (at_end w.engines me).closed + length (at_end w.engines me).receivers <
-    65536)
+    (at_end parties me).history)
 room-peer parties w first_end room n = room.room second_end n
 room-peer parties w second_end room n = room.room first_end n
 

@@ -65,11 +65,11 @@ receiver-replies : (p : Party) (e : Engine) (s : SegmentValue) (now : ℕ) → A
 receiver-replies p e s now = by_step (receiver_answers p.policy (place_of p e s.session) (find s.session e.receivers) s.content now) refl
   where
     by_step : (o : Option (StepValue Receiving)) → receiver_answers p.policy (place_of p e s.session) (find s.session e.receivers) s.content now ≡ o
-        → AnswerFalls e (burden s.content) (receiver_replies e s.session o)
+        → AnswerFalls e (burden s.content) (receiver_replies p e s.session o)
     by_step None is = tt
     by_step (Some t) is =
         let lighter = receiver-lighter p.policy (place_of p e s.session) (find s.session e.receivers) s.content now t is in
-        let gone : Option ℕ = evicted_by e (find s.session e.receivers) t.next in
+        let gone : Option ℕ = evicted_by p e (find s.session e.receivers) t.next in
         let same : senders_left (with_receiver (without_evicted e gone) s.session t.next).senders ≡ senders_left e.senders =
         ap senders_left (senders-with_receiver (without_evicted e gone) s.session t.next ∙ senders-without_evicted e gone) in
         omega (arith, lighter, same)

@@ -49,7 +49,7 @@ use Rattle.ltp_drain.proofs.OffsetLemmas.{begin-differ, different-more, offsets-
 use Rattle.ltp_drain.proofs.QuietClock.{quiet-clock}
 use Rattle.ltp_drain.proofs.RoomRuns.{delivery-room, room-roomy, tick-room}
 use Rattle.ltp_drain.proofs.SizeLemmas.{cuts-at}
-use Rattle.ltp_drain.proofs.StartLemmas.{session-gives}
+use Rattle.ltp_drain.proofs.StartLemmas.{ample-at, session-gives}
 
 -- ---- what a drain keeps from step to step
 
@@ -284,11 +284,11 @@ end-of parties origin (inl own) = (first_end, sym own)
 end-of parties origin (inr own) = (second_end, sym own)
 
 takes-steps : (parties : Party × Party) (w : World) (d : Draining) (rank : End → ℕ
-    → ℕ) (from : End) (x : Oldest) → ArePeers parties
+    → ℕ) (from : End) (x : Oldest) → ArePeers parties → AreAlike parties
     → Keeps parties w d rank → oldest from d.new ≡ Some x
     → Steps parties w d rank (takes_oldest from)
     (next_draining d x.others (arrival parties d.world (other from) x.first.segment))
-takes-steps parties w d rank from x peers keeps is = record {
+takes-steps parties w d rank from x peers alike keeps is = record {
   rank' = (next.next).rank';
   falls = (
     (next.next).never_up,
@@ -304,8 +304,8 @@ takes-steps parties w d rank from x peers keeps is = record {
   );
   keeps = record {
     holds = (next.next).holds;
-    room = delivery-room SessionFacts parties d rank (other from) x peers keeps.holds keeps.room
-        back;
+    room = delivery-room SessionFacts parties d rank (other from) x peers
+        (ample-at parties alike) keeps.holds keeps.room back;
     within = within-on parties w d (next_draining d x.others
         (arrival parties d.world (other from) x.first.segment)) rank (next.next).rank' keeps
         (record {
@@ -323,7 +323,7 @@ takes-steps parties w d rank from x peers keeps is = record {
         (arrival parties d.world (other from) x.first.segment)) rank x.first.segment.originator
         x.first.segment.session
     next = delivery-next SessionFacts session-gives parties d rank (other from) x peers
-        keeps.holds (room-roomy parties d.world keeps.room) back
+        keeps.holds (room-roomy parties d.world (ample-at parties alike) keeps.room) back
 
 pub ticked-grows : (parties : Party × Party) (w : World) (now : ℕ)
     → Grows w (ticks parties now second_end (ticks parties now first_end w))
@@ -664,7 +664,7 @@ step-steps : (parties : Party × Party) (w : World) (d : Draining) (rank : End �
 step-steps parties w d rank (takes_oldest from) peers alike before keeps may =
     subst (λ (x : Option Oldest). Steps parties w d rank (takes_oldest from)
     (oldest_comes parties d from x)) (sym may.1)
-    (takes-steps parties w d rank from may.0 peers keeps may.1)
+    (takes-steps parties w d rank from may.0 peers alike keeps may.1)
 step-steps parties w d rank (sets_clock now) peers alike before keeps may =
     clock-steps parties w d rank now peers keeps may
 step-steps parties w d rank (submits_block end block red) peers alike before keeps may =

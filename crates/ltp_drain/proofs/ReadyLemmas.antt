@@ -30,8 +30,9 @@ block-ready = record {
     first_cuts = omega arith;
     second_cuts = omega arith;
     first_waits = (omega arith, omega arith);
-    second_waits =
-        (omega arith, omega arith);
+    second_waits = (omega arith, omega arith);
+    first_ample = record { sessions = omega arith; history = omega arith };
+    second_ample = record { sessions = omega arith; history = omega arith };
   };
   reached = record { events = submit first_end (7 ∷ 8 ∷ []) 2 ∷ []; leads = refl };
   hopeful = record { sessions = sessions; numbers = numbers };

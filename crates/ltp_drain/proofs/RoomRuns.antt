@@ -23,7 +23,7 @@ use Rattle.ltp_laws.proofs.RunLemmas.{Linked, linked-at, two_ends}
 use Rattle.ltp_laws.proofs.WalkLemmas.{OnPiece, walk-segment}
 use Rattle.ltp_drain.specs.Calm.{IsComing}
 use Rattle.ltp_drain.specs.Draining.{Draining, Oldest, oldest}
-use Rattle.ltp_drain.specs.Hopeful.{IsOpen, HasRoom, Room, coming, is_unknown}
+use Rattle.ltp_drain.specs.Hopeful.{IsAmple, IsOpen, HasRoom, Room, coming, is_unknown}
 use Rattle.ltp_drain.specs.Standing.{DrainHolds, IsRoomy, setting_by}
 use Rattle.ltp_drain.proofs.DrainFrame.{AllStand, Begun, Shorter, is-begun, never_begun}
 use Rattle.ltp_drain.proofs.DrainFrame.{opening-same, shorter, stands-so, was_begun}
@@ -151,12 +151,12 @@ ReplyRoom e f (Some r) = HasRoom r.engine f × HasRoom f r.engine
 arrival-room : (F : List ℕ → ℕ → View → Type 0) (me you : End) (p q : Party) (e f : Engine)
     (sent new : List Sent) (rank_p rank_q : ℕ → ℕ) (o : Oldest) (now : ℕ)
     → AreTwo me you → Linked p q → AllStand F me you p q e f sent new rank_p rank_q
-    → oldest you new ≡ Some o
+    → oldest you new ≡ Some o → IsAmple p
     → AreAscending 0 e.senders → AreAscending 0 e.receivers → HasRoom e f → HasRoom f e
     → ReplyRoom e f (arrives p e o.first.segment now)
 unfolding arrives
-arrival-room F me you p q e f sent new rank_p rank_q o now both linked all is senders receivers
-    room room_peer =
+arrival-room F me you p q e f sent new rank_p rank_q o now both linked all is ample senders
+    receivers room room_peer =
     by_arms To (s.originator == p.own) _ _
     (λ own. by_arms To (is_used p e s.session) _ _
     (λ used. own_hears (sender_answers p.policy (find s.session e.senders) s.content now)
@@ -217,13 +217,14 @@ arrival-room F me you p q e f sent new rank_p rank_q o now both linked all is se
 
     peer_hears : s.originator ≡ q.own → (x : Option (StepValue Receiving))
         → receiver_answers p.policy (place_of p e s.session) (find s.session e.receivers)
-        s.content now ≡ x → To (receiver_replies e s.session x)
+        s.content now ≡ x → To (receiver_replies p e s.session x)
     peer_hears peer None hears = tt
     peer_hears peer (Some t) hears =
-        let same : opening e (find s.session e.receivers) t.next ≡ e =
-        opening-same e (find s.session e.receivers) t.next
+        let same : opening p e (find s.session e.receivers) t.next ≡ e =
+        opening-same p e (find s.session e.receivers) t.next
         (λ none r' next. omega (
           arith,
+          ample.sessions,
           room.receivers,
           some-come e f s.session
               (opens peer t hears r' none next),
@@ -238,22 +239,26 @@ arrival-room F me you p q e f sent new rank_p rank_q o now both linked all is se
 
 -- ---- worlds
 
-pub room-roomy : (parties : Party × Party) (w : World) → Room w → IsRoomy parties w
-room-roomy parties w room = record { room = by_end }
+pub room-roomy : (parties : Party × Party) (w : World)
+    → ((o : End) → IsAmple (at_end parties o)) → Room w → IsRoomy parties w
+room-roomy parties w ample room = record { room = by_end }
   where
-    by_counts : (e f : Engine) (n : ℕ) → HasRoom e f → Comes_to e f n → (length e.receivers < 64)
-        × (closed_runs e.closed + length e.receivers < 65536)
-    by_counts e f n has c = let some = some-come e f n c in
-        (omega (arith, has.receivers, some), omega (arith, has.numbers, some))
+    by_counts : (p : Party) (e f : Engine) (n : ℕ) → IsAmple p → HasRoom e f → Comes_to e f n
+        → (length e.receivers < p.sessions)
+        × (closed_runs e.closed + length e.receivers < p.history)
+    by_counts p e f n wide has c = let some = some-come e f n c in (
+      omega (arith, wide.sessions, has.receivers, some),
+      omega (arith, wide.history, has.numbers, some),
+    )
 
     by_end : (o : End) (n : ℕ) → IsComing (view parties w o n)
-        → (length (at_end w.engines (other o)).receivers < 64)
+        → (length (at_end w.engines (other o)).receivers < (at_end parties (other o)).sessions)
         × (closed_runs (at_end w.engines (other o)).closed + length
-        (at_end w.engines (other o)).receivers < 65536)
-    by_end first_end n is = by_counts w.engines.1 w.engines.0 n room.second
-        (comes second_end first_end parties.0 w.engines.1 w.engines.0 w.sent n is)
-    by_end second_end n is = by_counts w.engines.0 w.engines.1 n room.first
-        (comes first_end second_end parties.1 w.engines.0 w.engines.1 w.sent n is)
+        (at_end w.engines (other o)).receivers < (at_end parties (other o)).history)
+    by_end first_end n is = by_counts parties.1 w.engines.1 w.engines.0 n (ample second_end)
+        room.second (comes second_end first_end parties.0 w.engines.1 w.engines.0 w.sent n is)
+    by_end second_end n is = by_counts parties.0 w.engines.0 w.engines.1 n (ample first_end)
+        room.first (comes first_end second_end parties.1 w.engines.0 w.engines.1 w.sent n is)
 
 room-after : (w : World) (me : End) (r : Reply) (sent : List Sent)
     → HasRoom r.engine (at_end w.engines (other me))
@@ -269,9 +274,9 @@ room-at w second_end room = (room.second, room.first)
 
 pub delivery-room : (F : List ℕ → ℕ → View → Type 0) (parties : Party × Party) (d : Draining)
     (rank : End → ℕ → ℕ) (me : End) (o : Oldest) → ArePeers parties
-    → DrainHolds F parties d rank → Room d.world → oldest (other me) d.new ≡ Some o
-    → Room (arrival parties d.world me o.first.segment)
-delivery-room F parties d rank me o peers holds room is =
+    → ((o : End) → IsAmple (at_end parties o)) → DrainHolds F parties d rank → Room d.world
+    → oldest (other me) d.new ≡ Some o → Room (arrival parties d.world me o.first.segment)
+delivery-room F parties d rank me o peers ample holds room is =
     let has = room-at d.world me room in
     by_reply (arrives (at_end parties me) (at_end (d.world).engines me) o.first.segment
     (d.world).now)
@@ -279,7 +284,7 @@ delivery-room F parties d rank me o peers holds room is =
     (at_end (d.world).engines me) (at_end (d.world).engines (other me)) (d.world).sent d.new
     (rank me) (rank (other me)) o (d.world).now
     (two_ends me) (linked-at parties me peers) (all-stand F parties d rank me holds) is
-    (holds.senders me) (holds.receivers me) has.0 has.1)
+    (ample me) (holds.senders me) (holds.receivers me) has.0 has.1)
   where
     by_reply : (x : Option Reply) → ReplyRoom (at_end (d.world).engines me)
         (at_end (d.world).engines (other me)) x

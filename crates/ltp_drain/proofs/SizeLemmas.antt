@@ -242,7 +242,7 @@ pub accepted-length : (p : Party) (e : Engine) (block : List ℕ) (red now : ℕ
 unfolding submits
 accepted-length p e block red now r is =
     by_tests (length block == 0) (nat_lt p.most (length block)) refl (nat_le (2 ^ 32) e.next)
-    (nat_le 64 (length e.senders)) is
+    (nat_le p.sessions (length e.senders)) is
   where
     by_tests : (empty large : Bool) → nat_lt p.most (length block) ≡ large → (spent busy : Bool)
         → unless_refused (submits_unless (if empty then Some block_empty else if large

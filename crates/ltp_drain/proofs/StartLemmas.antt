@@ -31,7 +31,7 @@ use Rattle.ltp_laws.proofs.LogLemmas.{engines_are_well_formed, every_submitted}
 use Rattle.ltp_laws.proofs.SerialLemmas.{all-among}
 use Rattle.ltp_drain.specs.Calm.{AreFit, ClosesLate, Drains, HandedUpWhole, HasSerials}
 use Rattle.ltp_drain.specs.Calm.{IsPromising, WaitsOn}
-use Rattle.ltp_drain.specs.Hopeful.{AreAlike, Hopeful, IsHopeful, IsHopefulReceiver}
+use Rattle.ltp_drain.specs.Hopeful.{AreAlike, Hopeful, IsAmple, IsHopeful, IsHopefulReceiver}
 use Rattle.ltp_drain.specs.Hopeful.{IsHopefulReceiving, IsHopefulSender, IsHopefulSending}
 use Rattle.ltp_drain.specs.Hopeful.{IsReached, kept_cost, limit_at}
 use Rattle.ltp_drain.specs.Rank.{RankAtMost}
@@ -202,6 +202,11 @@ pub cuts-two : (parties : Party × Party) → AreAlike parties → (o : End)
     → 2 ≤ (at_end parties o).policy.segment
 cuts-two parties alike first_end = alike.first_cuts
 cuts-two parties alike second_end = alike.second_cuts
+
+pub ample-at : (parties : Party × Party) → AreAlike parties → (o : End)
+    → IsAmple (at_end parties o)
+ample-at parties alike first_end = alike.first_ample
+ample-at parties alike second_end = alike.second_ample
 
 -- pieces of a block that isn't longer than the greatest, each with an octet, fit
 block-fits : (block : List ℕ) (red most : ℕ) (v : View) → length block ≤ most

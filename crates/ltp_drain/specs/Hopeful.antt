@@ -22,8 +22,14 @@ use Rattle.ltp_laws.specs.View.{View, view}
 
 -- ---- two engines alike, and a world of theirs
 
+-- 64 sessions at least are sent at once and 64 received, and 65,536 runs of closed numbers at least
+-- are remembered
+pub record IsAmple (p : Party) : Type 0 where
+  pub sessions : 64 ≤ p.sessions
+  pub history : 65536 ≤ p.history
+
 -- both take blocks of the same greatest length, of 4,194,304 octets at most; both cut segments of
--- two octets at least, and wait for an answer at all
+-- two octets at least, and wait for an answer at all; and both have ample bounds
 pub record AreAlike (parties : Party × Party) : Type 0 where
   pub same_most : parties.0.most ≡ parties.1.most
   pub most : parties.0.most ≤ 2 ^ 22
@@ -31,6 +37,8 @@ pub record AreAlike (parties : Party × Party) : Type 0 where
   pub second_cuts : 2 ≤ parties.1.policy.segment
   pub first_waits : Waits parties.0.policy
   pub second_waits : Waits parties.1.policy
+  pub first_ample : IsAmple parties.0
+  pub second_ample : IsAmple parties.1
 
 -- a run leads to a world
 pub record IsReached (parties : Party × Party) (w : World) : Type 0 where

@@ -19,9 +19,9 @@ use Rattle.ltp_drain.specs.Hopeful.{sum_below}
 -- there is room for each session that is coming
 pub record IsRoomy (parties : Party × Party) (w : World) : Type 0 where
   pub room : (o : End) (n : ℕ) → IsComing (view parties w o n)
-      → (length (at_end w.engines (other o)).receivers < 64)
+      → (length (at_end w.engines (other o)).receivers < (at_end parties (other o)).sessions)
       × (closed_runs (at_end w.engines (other o)).closed + length
-      (at_end w.engines (other o)).receivers < 65536)
+      (at_end w.engines (other o)).receivers < (at_end parties (other o)).history)
 
 -- ---- what a drain keeps
 

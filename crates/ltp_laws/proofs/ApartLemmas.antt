@@ -101,35 +101,35 @@ arrives-leaves me you p q e f sent s now both linked =
         })
 
     peer_leaves : s.originator ≡ q.own → (o : Option (StepValue Receiving))
-        → Leaves (receiver_replies e s.session o)
+        → Leaves (receiver_replies p e s.session o)
     peer_leaves peer None = tt
     peer_leaves peer (Some t) =
         subst (λ o. LeavesOthers me you p q e f sent
-        (with_receiver (opening e (find s.session e.receivers) t.next) s.session t.next)
+        (with_receiver (opening p e (find s.session e.receivers) t.next) s.session t.next)
         (sent ++ sent_by me (headed_all (session_of o s.session) t.out)) o s.session)
         (sym peer) (record { own = own; peer = others })
       where
         roomy : Roomy e
-            (with_receiver (opening e (find s.session e.receivers) t.next) s.session t.next)
-        roomy = roomy-received e s.session t.next
+            (with_receiver (opening p e (find s.session e.receivers) t.next) s.session t.next)
+        roomy = roomy-received p e s.session t.next
 
         own : (n : ℕ) → (q.own ≡ p.own → s.session ≡ n → ⊥)
             → IsLeftAlone (view_by me you p e f sent n)
             (view_by me you p
-            (with_receiver (opening e (find s.session e.receivers) t.next) s.session t.next) f
+            (with_receiver (opening p e (find s.session e.receivers) t.next) s.session t.next) f
             (sent ++ sent_by me (headed_all (session_of q.own s.session) t.out)) n)
         own n away = inl
             (owns-stay me you p e
-            (with_receiver (opening e (find s.session e.receivers) t.next) s.session t.next) f sent
+            (with_receiver (opening p e (find s.session e.receivers) t.next) s.session t.next) f sent
             q.own s.session n t.out both (λ h. linked.apart (sym h)) roomy.senders roomy.next)
 
         others : (n : ℕ) → (q.own ≡ q.own → s.session ≡ n → ⊥)
             → IsLeftAlone (view_by you me q f e sent n)
             (view_by you me q f
-            (with_receiver (opening e (find s.session e.receivers) t.next) s.session t.next)
+            (with_receiver (opening p e (find s.session e.receivers) t.next) s.session t.next)
             (sent ++ sent_by me (headed_all (session_of q.own s.session) t.out)) n)
         others n away =
-            left-alone _ _ (receiver-others me you q f e sent s.session n t both (away refl))
+            left-alone _ _ (receiver-others me you q p f e sent s.session n t both (away refl))
 
 -- ---- the world
 

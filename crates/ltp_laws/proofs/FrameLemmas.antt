@@ -289,9 +289,9 @@ room-longest f (n ∷ ns) m = by_found (find n f.receivers) refl
     by_found None is = as_before refl refl
     by_found (Some r) is = room-evicts f n m r is
 
-room-evicted : (f : Engine) (m : ℕ) → Room f (without_evicted f (evicted_of f)) m
+room-evicted : (q : Party) (f : Engine) (m : ℕ) → Room f (without_evicted f (evicted_of q f)) m
 unfolding evicted_of
-room-evicted f m = by_test (nat_le 64 (length f.receivers))
+room-evicted q f m = by_test (nat_le q.sessions (length f.receivers))
   where
     by_test : (many : Bool)
         → Room f (without_evicted f
@@ -300,40 +300,40 @@ room-evicted f m = by_test (nat_le 64 (length f.receivers))
     by_test false = as_before refl refl
 
 -- an engine once there is room for what a session becomes
-abbrev pub opening : Engine → Option Receiving → Change Receiving → Engine
-opening f kept c = without_evicted f (evicted_by f kept c)
+abbrev pub opening : Party → Engine → Option Receiving → Change Receiving → Engine
+opening q f kept c = without_evicted f (evicted_by q f kept c)
 
-room-opening : (f : Engine) (kept : Option Receiving) (c : Change Receiving) (m : ℕ)
-    → Room f (opening f kept c) m
-room-opening f None stays m = as_before refl refl
-room-opening f None (keeps r) m = room-evicted f m
-room-opening f None ends m = as_before refl refl
-room-opening f (Some s) c m = as_before refl refl
+room-opening : (q : Party) (f : Engine) (kept : Option Receiving) (c : Change Receiving) (m : ℕ)
+    → Room f (opening q f kept c) m
+room-opening q f None stays m = as_before refl refl
+room-opening q f None (keeps r) m = room-evicted q f m
+room-opening q f None ends m = as_before refl refl
+room-opening q f (Some s) c m = as_before refl refl
 
 -- room is made by another session's end
-opening-here : (f : Engine) (n : ℕ) (kept : Option Receiving) (c : Change Receiving)
+opening-here : (q : Party) (f : Engine) (n : ℕ) (kept : Option Receiving) (c : Change Receiving)
     → find n f.receivers ≡ kept
-    → (find n (opening f kept c).receivers ≡ find n f.receivers)
-    × (is_closed n (opening f kept c).closed ≡ is_closed n f.closed)
-opening-here f n None stays is = (refl, refl)
-opening-here f n None ends is = (refl, refl)
-opening-here f n (Some s) c is = (refl, refl)
-opening-here f n None (keeps r) is = by_room (room-evicted f n)
+    → (find n (opening q f kept c).receivers ≡ find n f.receivers)
+    × (is_closed n (opening q f kept c).closed ≡ is_closed n f.closed)
+opening-here q f n None stays is = (refl, refl)
+opening-here q f n None ends is = (refl, refl)
+opening-here q f n (Some s) c is = (refl, refl)
+opening-here q f n None (keeps r) is = by_room (room-evicted q f n)
   where
-    by_room : Room f (without_evicted f (evicted_of f)) n
-        → (find n (without_evicted f (evicted_of f)).receivers ≡ find n f.receivers)
-        × (is_closed n (without_evicted f (evicted_of f)).closed ≡ is_closed n f.closed)
+    by_room : Room f (without_evicted f (evicted_of q f)) n
+        → (find n (without_evicted f (evicted_of q f)).receivers ≡ find n f.receivers)
+        × (is_closed n (without_evicted f (evicted_of q f)).closed ≡ is_closed n f.closed)
     by_room (as_before found closed) = (found, closed)
     by_room (made s found gone closed) = absurd (cc)
 
-pub receiver-here : (me you : End) (p : Party) (e f : Engine) (sent : List Sent) (n : ℕ)
+pub receiver-here : (me you : End) (p q : Party) (e f : Engine) (sent : List Sent) (n : ℕ)
     (t : StepValue Receiving) → AreTwo me you
-    → view_by you me p e (with_receiver (opening f (find n f.receivers) t.next) n t.next)
+    → view_by you me p e (with_receiver (opening q f (find n f.receivers) t.next) n t.next)
     (sent ++ sent_by me (headed_all (session_of p.own n) t.out)) n
     ≡ receiver_moves (view_by you me p e f sent n) t
-receiver-here me you p e f sent n t both =
-    let opened = opening-here f n (find n f.receivers) t.next refl in
-    let g : Engine = opening f (find n f.receivers) t.next in
+receiver-here me you p q e f sent n t both =
+    let opened = opening-here q f n (find n f.receivers) t.next refl in
+    let g : Engine = opening q f (find n f.receivers) t.next in
     same_view _ _ refl refl
     (find-with_receiver g n t.next ∙ ap (after t.next) opened.0)
     (closed-with_receiver g n t.next ∙ ap (closed_after t.next) opened.1)
@@ -345,16 +345,16 @@ pub data Left (v v' : View) : Type 0 where
   alone : v' ≡ v → Left v v'
   closed_for_room : (r : Receiving) → v.receiver ≡ Some r → v' ≡ evicted v → Left v v'
 
-pub receiver-others : (me you : End) (p : Party) (e f : Engine) (sent : List Sent) (n m : ℕ)
+pub receiver-others : (me you : End) (p q : Party) (e f : Engine) (sent : List Sent) (n m : ℕ)
     (t : StepValue Receiving) → AreTwo me you → n ≢ m
     → Left (view_by you me p e f sent m)
-    (view_by you me p e (with_receiver (opening f (find n f.receivers) t.next) n t.next)
+    (view_by you me p e (with_receiver (opening q f (find n f.receivers) t.next) n t.next)
     (sent ++ sent_by me (headed_all (session_of p.own n) t.out)) m)
-receiver-others me you p e f sent n m t both apart =
-    by_room (room-opening f (find n f.receivers) t.next m)
+receiver-others me you p q e f sent n m t both apart =
+    by_room (room-opening q f (find n f.receivers) t.next m)
   where
     g : Engine
-    g = opening f (find n f.receivers) t.next
+    g = opening q f (find n f.receivers) t.next
 
     away : m ≢ n
     away = λ h. apart (sym h)
@@ -368,16 +368,16 @@ receiver-others me you p e f sent n m t both apart =
         ≡ said you p.own m sent
     others = said-more you p.own m sent _ (said-by_another me you p.own m _ both.me_you)
 
-    by_room : Room f (opening f (find n f.receivers) t.next) m → Left (view_by you me p e f sent m)
-        (view_by you me p e (with_receiver (opening f (find n f.receivers) t.next) n t.next)
+    by_room : Room f (opening q f (find n f.receivers) t.next) m → Left (view_by you me p e f sent m)
+        (view_by you me p e (with_receiver (opening q f (find n f.receivers) t.next) n t.next)
         (sent ++ sent_by me (headed_all (session_of p.own n) t.out)) m)
     by_room (as_before found closed) = alone (same_view _ _ refl refl
-        (find-with_receiver_other (opening f (find n f.receivers) t.next) m n t.next away ∙ found)
-        (closed-with_receiver_other (opening f (find n f.receivers) t.next) m n t.next away
+        (find-with_receiver_other (opening q f (find n f.receivers) t.next) m n t.next away ∙ found)
+        (closed-with_receiver_other (opening q f (find n f.receivers) t.next) m n t.next away
         ∙ closed) others heard)
     by_room (made r found gone closed) = closed_for_room r found (same_view _ _ refl refl
-        (find-with_receiver_other (opening f (find n f.receivers) t.next) m n t.next away ∙ gone)
-        (closed-with_receiver_other (opening f (find n f.receivers) t.next) m n t.next away
+        (find-with_receiver_other (opening q f (find n f.receivers) t.next) m n t.next away ∙ gone)
+        (closed-with_receiver_other (opening q f (find n f.receivers) t.next) m n t.next away
         ∙ closed) others heard)
 
 -- ---- what a receiver's change leaves of the engine
@@ -418,9 +418,9 @@ roomy-longest f (n ∷ ns) = by_found (find n f.receivers)
               ascending-without n 0 f.receivers h;
         }
 
-roomy-evicted : (f : Engine) → Roomy f (without_evicted f (evicted_of f))
+roomy-evicted : (q : Party) (f : Engine) → Roomy f (without_evicted f (evicted_of q f))
 unfolding evicted_of
-roomy-evicted f = by_test (nat_le 64 (length f.receivers))
+roomy-evicted q f = by_test (nat_le q.sessions (length f.receivers))
   where
     by_test : (many : Bool)
         → Roomy f (without_evicted f
@@ -428,12 +428,12 @@ roomy-evicted f = by_test (nat_le 64 (length f.receivers))
     by_test true = roomy-longest f f.touched
     by_test false = record { senders = refl; next = refl; receivers = λ h. h }
 
-roomy-opening : (f : Engine) (kept : Option Receiving) (c : Change Receiving)
-    → Roomy f (opening f kept c)
-roomy-opening f None stays = record { senders = refl; next = refl; receivers = λ h. h }
-roomy-opening f None (keeps r) = roomy-evicted f
-roomy-opening f None ends = record { senders = refl; next = refl; receivers = λ h. h }
-roomy-opening f (Some s) c = record { senders = refl; next = refl; receivers = λ h. h }
+roomy-opening : (q : Party) (f : Engine) (kept : Option Receiving) (c : Change Receiving)
+    → Roomy f (opening q f kept c)
+roomy-opening q f None stays = record { senders = refl; next = refl; receivers = λ h. h }
+roomy-opening q f None (keeps r) = roomy-evicted q f
+roomy-opening q f None ends = record { senders = refl; next = refl; receivers = λ h. h }
+roomy-opening q f (Some s) c = record { senders = refl; next = refl; receivers = λ h. h }
 
 ascending-with_receiver : (f : Engine) (n : ℕ) (c : Change Receiving) → AreAscending 0 f.receivers
     → AreAscending 0 (with_receiver f n c).receivers
@@ -442,11 +442,11 @@ ascending-with_receiver f n stays is = is
 ascending-with_receiver f n (keeps r) is = ascending-put n 0 r f.receivers (omega arith) is
 ascending-with_receiver f n ends is = ascending-without n 0 f.receivers is
 
-pub roomy-received : (f : Engine) (n : ℕ) (c : Change Receiving)
-    → Roomy f (with_receiver (opening f (find n f.receivers) c) n c)
-roomy-received f n c =
-    let roomy = roomy-opening f (find n f.receivers) c in
-    let g : Engine = opening f (find n f.receivers) c in
+pub roomy-received : (q : Party) (f : Engine) (n : ℕ) (c : Change Receiving)
+    → Roomy f (with_receiver (opening q f (find n f.receivers) c) n c)
+roomy-received q f n c =
+    let roomy = roomy-opening q f (find n f.receivers) c in
+    let g : Engine = opening q f (find n f.receivers) c in
     record {
       senders = senders-with_receiver g n c ∙ roomy.senders;
       next = next-with_receiver g n c ∙ roomy.next;

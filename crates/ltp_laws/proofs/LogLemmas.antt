@@ -139,18 +139,18 @@ arrival-past p q e s now peer =
     by_peer : s.originator ≡ q.own → (o : Option (StepValue Receiving))
         → receiver_answers p.policy (place_of p e s.session) (find s.session e.receivers)
         s.content now ≡ o
-        → UpsRightly q e s (receiver_replies e s.session o)
+        → UpsRightly q e s (receiver_replies p e s.session o)
     by_peer own None hears body is = absurd (cc)
     by_peer own (Some t) hears body is = record {
       originator = own;
       reply = record {
-        engine = with_receiver (opening e (find s.session e.receivers) t.next)
+        engine = with_receiver (opening p e (find s.session e.receivers) t.next)
             s.session t.next;
         out = t.out;
         up = t.up;
         green = t.green;
         notes =
-            list_of (option_map notes.Evicted (evicted_by e (find s.session e.receivers) t.next))
+            list_of (option_map notes.Evicted (evicted_by p e (find s.session e.receivers) t.next))
             ++ notes_of s.session t;
       };
       is = refl;
@@ -184,16 +184,16 @@ arrival-past p q e s now peer =
         moved g ends is_moved = refl
 
         past : IsPast
-            (find s.session (with_receiver (opening e (find s.session e.receivers) t.next)
+            (find s.session (with_receiver (opening p e (find s.session e.receivers) t.next)
             s.session t.next).receivers)
-            (is_closed s.session (with_receiver (opening e (find s.session e.receivers) t.next)
+            (is_closed s.session (with_receiver (opening p e (find s.session e.receivers) t.next)
             s.session t.next).closed)
         past = rw (
-          find-with_receiver (opening e (find s.session e.receivers) t.next) s.session
+          find-with_receiver (opening p e (find s.session e.receivers) t.next) s.session
               t.next,
-          closed-with_receiver (opening e (find s.session e.receivers) t.next) s.session
+          closed-with_receiver (opening p e (find s.session e.receivers) t.next) s.session
               t.next,
-        ) (moved (opening e (find s.session e.receivers) t.next) t.next hands.kept)
+        ) (moved (opening p e (find s.session e.receivers) t.next) t.next hands.kept)
 
 up-reply : (parties : Party × Party) (w : World) (d : Sent) (body : List ℕ) → ArePeers parties
     → up_by parties w d ≡ Some body

@@ -327,7 +327,7 @@ arrival-up me you p q e f sent s now peer among held =
     by_peer : s.originator ≡ q.own → (o : Option (StepValue Receiving))
         → receiver_answers p.policy (place_of p e s.session) (find s.session e.receivers)
         s.content now ≡ o
-        → UpIsSent (said you s.originator s.session sent) (receiver_replies e s.session o)
+        → UpIsSent (said you s.originator s.session sent) (receiver_replies p e s.session o)
     by_peer own None hears body is = absurd (cc)
     by_peer own (Some t) hears body is =
         hands-up (said you s.originator s.session sent) p.policy (place_of p e s.session)

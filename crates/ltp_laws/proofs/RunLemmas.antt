@@ -180,11 +180,11 @@ receiver-arrival : (A : PolicyValue → ℕ → Type 0) (B : End → ℕ → Lis
     (sent : List Sent) (n : ℕ) (content : ContentValue) (now : ℕ) (t : StepValue Receiving)
     → AreTwo me you → A p.policy now → q.own ≢ p.own → IsIn content (said you q.own n sent)
     → receiver_answers p.policy (place_of p e n) (find n e.receivers) content now ≡ Some t
-    → KeepsAll P P me you p q e f sent (with_receiver (opening e (find n e.receivers) t.next) n
+    → KeepsAll P P me you p q e f sent (with_receiver (opening p e (find n e.receivers) t.next) n
     t.next) (sent ++ sent_by me (headed_all (session_of q.own n) t.out))
 receiver-arrival A B P inv me you p q e f sent n content now t both ok apart among hears = record {
   own = λ m good. same-holds (P me m) (view_by me you p e f sent m) _
-      (owns-stay me you p e (with_receiver (opening e (find n e.receivers) t.next) n t.next) f sent
+      (owns-stay me you p e (with_receiver (opening p e (find n e.receivers) t.next) n t.next) f sent
       q.own n m t.out both apart roomy.senders roomy.next) good;
   peer = λ m good. peer m good (n == m) refl;
   senders = λ ascending. rw roomy.senders ascending;
@@ -192,21 +192,21 @@ receiver-arrival A B P inv me you p q e f sent n content now t both ok apart amo
   next = λ low. rw roomy.next low;
 }
   where
-    roomy : Roomy e (with_receiver (opening e (find n e.receivers) t.next) n t.next)
-    roomy = roomy-received e n t.next
+    roomy : Roomy e (with_receiver (opening p e (find n e.receivers) t.next) n t.next)
+    roomy = roomy-received p e n t.next
 
     peer : (m : ℕ) → P you m (view_by you me q f e sent m) → (same : Bool) → (n == m) ≡ same
-        → P you m (view_by you me q f (with_receiver (opening e (find n e.receivers) t.next) n
+        → P you m (view_by you me q f (with_receiver (opening p e (find n e.receivers) t.next) n
         t.next) (sent ++ sent_by me (headed_all (session_of q.own n) t.out)) m)
     peer m good true is_same =
         let here : n ≡ m = eqb-true n m is_same in
         let mine : P you n (view_by you me q f e sent n) = rw here good in
-        rw (← here) (subst (P you n) (sym (receiver-here me you q f e sent n t both))
+        rw (← here) (subst (P you n) (sym (receiver-here me you q p f e sent n t both))
         (inv.receiver you n p.policy (place_of p e n) (view_by you me q f e sent n) content now t
         ok refl among hears mine))
     peer m good false is_same =
         left-holds A B P inv you m (view_by you me q f e sent m) _
-        (receiver-others me you q f e sent n m t both (eqb-false n m is_same)) good
+        (receiver-others me you q p f e sent n m t both (eqb-false n m is_same)) good
 
 -- an end's reply, or none
 abbrev ReplyKeeps : (End → ℕ → View → Type 0) → End → End → Party → Party → Engine → Engine
@@ -257,11 +257,11 @@ arrives-keeps A B P inv me you p q e f sent s now both ok linked among =
     peer_keeps : s.originator ≡ q.own → (o : Option (StepValue Receiving))
         → receiver_answers p.policy (place_of p e s.session) (find s.session e.receivers)
         s.content now ≡ o
-        → Keeps (receiver_replies e s.session o)
+        → Keeps (receiver_replies p e s.session o)
     peer_keeps peer None hears = tt
     peer_keeps peer (Some t) hears =
         subst (λ o. KeepsAll P P me you p q e f sent
-        (with_receiver (opening e (find s.session e.receivers) t.next) s.session t.next)
+        (with_receiver (opening p e (find s.session e.receivers) t.next) s.session t.next)
         (sent ++ sent_by me (headed_all (session_of o s.session) t.out))) (sym peer)
         (receiver-arrival A B P inv me you p q e f sent s.session s.content now t both ok
         (λ h. linked.apart (sym h)) (subst (λ o. IsIn s.content (said you o s.session sent))

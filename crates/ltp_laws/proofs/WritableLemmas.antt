@@ -424,7 +424,7 @@ submitted-small : (p : Party) (e : Engine) (block : List ℕ) (red now : ℕ) (r
 unfolding submits
 submitted-small p e block red now r most is =
     by_tests (length block == 0) (nat_lt p.most (length block)) refl (nat_le (2 ^ 32) e.next) refl
-    (nat_le 64 (length e.senders)) is
+    (nat_le p.sessions (length e.senders)) is
   where
     within : (a b : ℕ) → nat_lt a b ≡ false → b ≤ a
     within a b is = grind (arith, nat_tests)

@@ -171,11 +171,11 @@ peer-moved : (me you : End) (p q : Party) (e f : Engine) (s : SegmentValue) (now
     → ((n : ℕ) → view_by you me q f e sent n ≡ V you n)
     → receiver_answers p.policy (place_of p e s.session) (find s.session e.receivers) s.content
     now ≡ Some t
-    → evicted_by e (find s.session e.receivers) t.next ≡ None
+    → evicted_by p e (find s.session e.receivers) t.next ≡ None
     → (t.note ≡ Some note_history_full → IsNoted es me (notes.HistoryFull s.session))
     → (is_some t.up ≡ true → IsHandedUp es me s.session)
     → Moved me you p q e f s now es V sent
-    (with_receiver (opening e (find s.session e.receivers) t.next) s.session t.next)
+    (with_receiver (opening p e (find s.session e.receivers) t.next) s.session t.next)
     (sent ++ sent_by me (headed_all (session_of s.originator s.session) t.out))
 peer-moved me you p q e f s now es V sent t both linked peer was hears spared full handed P' on_own
     on_peer = record {
@@ -189,11 +189,11 @@ peer-moved me you p q e f s now es V sent t both linked peer was hears spared fu
     }
   where
     e' : Engine
-    e' = with_receiver (opening e (find s.session e.receivers) t.next) s.session t.next
+    e' = with_receiver (opening p e (find s.session e.receivers) t.next) s.session t.next
 
-    roomy : Roomy e (with_receiver (opening e (find s.session e.receivers) t.next) s.session
+    roomy : Roomy e (with_receiver (opening p e (find s.session e.receivers) t.next) s.session
         t.next)
-    roomy = roomy-received e s.session t.next
+    roomy = roomy-received p e s.session t.next
 
     sent' : ℕ → List Sent
     sent' o = sent ++ sent_by me (headed_all (session_of o s.session) t.out)
@@ -202,7 +202,7 @@ peer-moved me you p q e f s now es V sent t both linked peer was hears spared fu
         ≡ receiver_moves (V you s.session) t
     here = subst (λ (o : ℕ). view_by you me q f e' (sent' o) s.session
         ≡ receiver_moves (V you s.session) t) (sym peer)
-        (receiver-here me you q f e sent s.session t both
+        (receiver-here me you q p f e sent s.session t both
         ∙ ap (λ (v : View). receiver_moves v t) (was s.session))
 
     -- nobody was closed
@@ -213,7 +213,7 @@ peer-moved me you p q e f s now es V sent t both linked peer was hears spared fu
     not-closed m apart (closed_for_room r kept same) = absurd (
         let gone : find m e'.receivers ≡ None = ap (λ (v : View). v.receiver) same in
         let there : find m e'.receivers ≡ find m e.receivers =
-        find-with_receiver_other (opening e (find s.session e.receivers) t.next) m s.session t.next
+        find-with_receiver_other (opening p e (find s.session e.receivers) t.next) m s.session t.next
         (λ h. apart (sym h))
         ∙ ap (λ (x : Option ℕ). find m (without_evicted e x).receivers) spared in
         cc)
@@ -232,7 +232,7 @@ peer-moved me you p q e f s now es V sent t both linked peer was hears spared fu
         on_peer m _ (peer_apart (λ h k. eqb-false s.session m same k)
         (subst (λ (o : ℕ). view_by you me q f e' (sent' o) m ≡ V you m) (sym peer)
         (not-closed m (eqb-false s.session m same)
-        (receiver-others me you q f e sent s.session m t both (eqb-false s.session m same)) ∙ is)))
+        (receiver-others me you q p f e sent s.session m t both (eqb-false s.session m same)) ∙ is)))
 
 -- ---- a link
 
@@ -364,18 +364,19 @@ arrival-moves parties w me s P' peers formed known places each =
     }
 
     evicted_notes : StepValue Receiving → List Note
-    evicted_notes t = list_of (option_map notes.Evicted (evicted_by (at_end w.engines me)
-        (find s.session (at_end w.engines me).receivers) t.next))
+    evicted_notes t = list_of (option_map notes.Evicted (evicted_by (at_end parties me)
+        (at_end w.engines me) (find s.session (at_end w.engines me).receivers) t.next))
 
     receiver_reply : StepValue Receiving → Reply
     receiver_reply t = record {
-      engine = with_receiver (opening (at_end w.engines me)
+      engine = with_receiver (opening (at_end parties me) (at_end w.engines me)
           (find s.session (at_end w.engines me).receivers) t.next) s.session t.next;
       out = t.out;
       up = t.up;
       green = t.green;
-      notes = list_of (option_map notes.Evicted (evicted_by (at_end w.engines me)
-          (find s.session (at_end w.engines me).receivers) t.next)) ++ notes_of s.session t;
+      notes = list_of (option_map notes.Evicted (evicted_by (at_end parties me)
+          (at_end w.engines me) (find s.session (at_end w.engines me).receivers) t.next))
+          ++ notes_of s.session t;
     }
 
     unused_it : s.originator ≡ p.own → is_used p e s.session ≡ false → To None
@@ -396,7 +397,7 @@ arrival-moves parties w me s P' peers formed known places each =
 
     peer_hears_it : s.originator ≡ q.own → (x : Option (StepValue Receiving))
         → receiver_answers p.policy (place_of p e s.session) (find s.session e.receivers)
-        s.content w.now ≡ x → To (receiver_replies e s.session x)
+        s.content w.now ≡ x → To (receiver_replies p e s.session x)
     peer_hears_it peer None hears places each = nothing
         (λ n. each.0 n _ (own_apart (λ h k. linked.apart (sym h ∙ peer)) refl))
         (λ n. by_same s.session n (λ is. each.1 n _ (peer_deaf peer is
@@ -408,7 +409,7 @@ arrival-moves parties w me s P' peers formed known places each =
     peer_hears_it peer (Some t) hears places each =
         holds-at (λ o n v. v ≡ view parties w o n) P' parties w me _ _ w.now good
         (peer-moved me (other me) p q e f s w.now _ V w.sent t (two_ends me) linked peer
-        (view-peer parties w me) hears (spared (evicted_by e (find s.session e.receivers) t.next)
+        (view-peer parties w me) hears (spared (evicted_by p e (find s.session e.receivers) t.next)
         refl)
         (λ is. noted-by me (session_of s.originator s.session) (receiver_reply t)
         (notes.HistoryFull s.session)
@@ -416,8 +417,8 @@ arrival-moves parties w me s P' peers formed known places each =
         (note-there s.session t note_history_full is)))
         (λ is. handed-by me (session_of s.originator s.session) (receiver_reply t) is) P' each.0 each.1)
       where
-        spared : (x : Option ℕ) → evicted_by e (find s.session e.receivers) t.next ≡ x
-            → evicted_by e (find s.session e.receivers) t.next ≡ None
+        spared : (x : Option ℕ) → evicted_by p e (find s.session e.receivers) t.next ≡ x
+            → evicted_by p e (find s.session e.receivers) t.next ≡ None
         spared None is = is
         spared (Some m) is = absurd (places.kept m
             (noted-by me (session_of s.originator s.session) (receiver_reply t) (notes.Evicted m)

@@ -20,7 +20,7 @@ use Rattle.ltp_drain.proofs.CleanSteps.{GoesOn, IsGoing, clean-goes, drop-end, r
 use Rattle.ltp_drain.proofs.DrainLists.{same_end-true}
 use Rattle.ltp_drain.proofs.DrainRun.{arrival-next, delivery-advances, delivery-next, other_other}
 use Rattle.ltp_drain.proofs.RoomRuns.{delivery-room, room-roomy}
-use Rattle.ltp_drain.proofs.StartLemmas.{session-gives}
+use Rattle.ltp_drain.proofs.StartLemmas.{ample-at, session-gives}
 use Rattle.ltp_picks.specs.Picks.{Crossing, Placed, Turn, after_turn, clock_turn, next_turn}
 use Rattle.ltp_picks.specs.Picks.{oldest_turn, or_clock}
 use Rattle.ltp_picks.proofs.CrossingLemmas.{ArePlaced, Takes, clock-sent, delivered-sent}
@@ -111,16 +111,16 @@ pub record TurnGoes (parties : Party × Party) (d : Crossing) (rank : End → �
   pub next : (o : End) → (at_end w'.engines o).next ≡ (at_end d.world.engines o).next
 
 delivery-goes : (parties : Party × Party) (d : Crossing) (rank : End → ℕ → ℕ) (from : End)
-    (x : Sent) (left : List Placed) → ArePeers parties → Crosses parties d rank
+    (x : Sent) (left : List Placed) → ArePeers parties → AreAlike parties → Crosses parties d rank
     → oldest from (sent_of d.new) ≡ Some (record { first = x; others = sent_of left })
     → x.from ≡ from
     → TurnGoes parties d rank (delivered parties d.world (Some x)) left
     (deliver_effects parties d.world (Some x))
-delivery-goes parties d rank from x left peers crosses is mine = record {
+delivery-goes parties d rank from x left peers alike crosses is mine = record {
   rank' = next.rank';
   holds = next.holds;
-  room = delivery-room SessionFacts parties (draining_of d) rank me o peers crosses.holds
-      crosses.room found;
+  room = delivery-room SessionFacts parties (draining_of d) rank me o peers
+      (ample-at parties alike) crosses.holds crosses.room found;
   falls = next.falls;
   advances = delivery-advances SessionFacts session-gives parties (draining_of d) rank me o peers
       crosses.holds found;
@@ -144,7 +144,8 @@ delivery-goes parties d rank from x left peers crosses is mine = record {
       new = sent_of left ++ since d.world (arrival parties d.world (other x.from) x.segment);
     }) rank
     next = (delivery-next SessionFacts session-gives parties (draining_of d) rank me o peers
-        crosses.holds (room-roomy parties d.world crosses.room) found).next
+        crosses.holds (room-roomy parties d.world (ample-at parties alike) crosses.room)
+        found).next
 
 -- ---- the clock
 
@@ -224,7 +225,7 @@ turn-goes parties d rank t peers alike crosses (takes_new from takes) =
     (effects_at parties d.world event)) (sym takes.event)
     (subst (λ (x : Option Sent). TurnGoes parties d rank (delivered parties d.world x) t.left
     (deliver_effects parties d.world x)) (sym (crosses.placed takes.first takes.among))
-    (delivery-goes parties d rank from takes.first.sent t.left peers crosses takes.is
+    (delivery-goes parties d rank from takes.first.sent t.left peers alike crosses takes.is
     (same_end-true takes.first.sent.from from takes.mine))))
 turn-goes parties d rank t peers alike crosses (sets_to now none is turn) =
     subst (CrossesOn parties d rank) turn

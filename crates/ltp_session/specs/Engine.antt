@@ -18,13 +18,16 @@ use Rattle.ltp_session.specs.Receiver.{Receiving, Place, receiver_answers, recei
 use Rattle.ltp_session.specs.Table.{find, put, without, settled, ticked, ended}
 
 -- what never changes: the engine's number and its peer's, its first session's number, how it sends,
--- and the greatest length of a block
+-- and the greatest length of a block; how many sessions are sent at once and how many received; and
+-- how many runs of consecutive closed numbers are remembered
 pub record Party : Type 0 where
   pub own : ℕ
   pub peer : ℕ
   pub first : ℕ
   pub policy : PolicyValue
   pub most : ℕ
+  pub sessions : ℕ
+  pub history : ℕ
 
 -- the number of the next session; the sessions that are kept, by their numbers; the receiving ones
 -- from the longest untouched to the last touched; and the closed receiving numbers
@@ -108,24 +111,24 @@ abbrev pub longest_untouched : List ℕ → List (ℕ × Receiving) → Option �
 longest_untouched [] receivers = None
 longest_untouched (n ∷ numbers) receivers = option_map (λ r. n) (find n receivers)
 
--- the session that makes room for another: there is one where 64 are kept
-unfoldable pub evicted_of : Engine → Option ℕ
-evicted_of e =
-    if nat_le 64 (length e.receivers) then longest_untouched e.touched e.receivers else None
+-- the session that makes room for another: there is one where as many are kept as may be
+unfoldable pub evicted_of : Party → Engine → Option ℕ
+evicted_of p e =
+    if nat_le p.sessions (length e.receivers) then longest_untouched e.touched e.receivers else None
 
 -- the session that is evicted, where one that wasn't kept opens
-abbrev pub evicted_by : Engine → Option Receiving → Change Receiving → Option ℕ
-evicted_by e None (keeps r) = evicted_of e
-evicted_by e kept change = None
+abbrev pub evicted_by : Party → Engine → Option Receiving → Change Receiving → Option ℕ
+evicted_by p e None (keeps r) = evicted_of p e
+evicted_by p e kept change = None
 
 abbrev pub without_evicted : Engine → Option ℕ → Engine
 without_evicted e None = e
 without_evicted e (Some n) = with_receiver e n ends
 
-abbrev pub receiver_replies : Engine → ℕ → Option (StepValue Receiving) → Option Reply
-receiver_replies e n None = None
-receiver_replies e n (Some step) =
-    let gone : Option ℕ = evicted_by e (find n e.receivers) step.next in
+abbrev pub receiver_replies : Party → Engine → ℕ → Option (StepValue Receiving) → Option Reply
+receiver_replies p e n None = None
+receiver_replies p e n (Some step) =
+    let gone : Option ℕ = evicted_by p e (find n e.receivers) step.next in
     Some (record {
       engine = with_receiver (without_evicted e gone) n step.next;
       out = step.out;
@@ -135,13 +138,13 @@ receiver_replies e n (Some step) =
     })
 
 -- what a receiving session has to know of its engine: the record of closed numbers is full where
--- its runs and the kept receiving sessions together are 65,536 or more
+-- its runs and the kept receiving sessions together are as many as are remembered, or more
 abbrev pub place_of : Party → Engine → ℕ → Place
 place_of p e n = record {
   session = n;
   most = p.most;
   closed = is_closed n e.closed;
-  full = nat_le 65536 (closed_runs e.closed + length e.receivers);
+  full = nat_le p.history (closed_runs e.closed + length e.receivers);
 }
 
 -- ---- a segment arrives
@@ -155,7 +158,7 @@ to_sender p e s now =
 -- a segment of a session that its peer began
 abbrev pub to_receiver : Party → Engine → SegmentValue → ℕ → Option Reply
 to_receiver p e s now =
-    receiver_replies e s.session
+    receiver_replies p e s.session
     (receiver_answers p.policy (place_of p e s.session) (find s.session e.receivers) s.content now)
 
 -- a segment has no reply where it is neither an answer to a session that this engine began, nor what
@@ -170,7 +173,7 @@ arrives p e s now =
 -- ---- a block is submitted
 
 -- why a block isn't sent: it has no octet; it is longer than the greatest block; no session number
--- is left; 64 sessions are being sent
+-- is left; as many sessions are being sent as may be
 pub data SubmitFault : Type 0 where
   block_empty : SubmitFault
   block_too_large : SubmitFault
@@ -183,7 +186,7 @@ submit_fault p e block =
     if length block == 0 then Some block_empty
     else if nat_lt p.most (length block) then Some block_too_large
     else if nat_le (2 ^ 32) e.next then Some numbers_spent
-    else if nat_le 64 (length e.senders) then Some senders_busy
+    else if nat_le p.sessions (length e.senders) then Some senders_busy
     else None
 
 -- a session begins with the next number

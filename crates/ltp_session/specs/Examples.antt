@@ -16,7 +16,15 @@ abbrev pub policy : PolicyValue
 policy = record { segment = 2; timeout = 10; limit = 2; cap = 15 }
 
 abbrev pub party : ℕ → ℕ → Party
-party own peer = record { own = own; peer = peer; first = 1; policy = policy; most = 100 }
+party own peer = record {
+  own = own;
+  peer = peer;
+  first = 1;
+  policy = policy;
+  most = 100;
+  sessions = 64;
+  history = 65536;
+}
 
 -- ---- contents
 

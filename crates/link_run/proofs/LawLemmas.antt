@@ -53,6 +53,8 @@ fit policy segment timeout longest = record {
     second_cuts = segment;
     first_waits = (timeout, longest);
     second_waits = (timeout, longest);
+    first_ample = record { sessions = omega arith; history = omega arith };
+    second_ample = record { sessions = omega arith; history = omega arith };
   };
   timed = record {
     peers = peers;

@@ -89,10 +89,17 @@ end_named false = ends.Second
 
 -- ---- a link
 
--- its engines have the numbers 1 and 2, and begin with session 1
+-- its engines have the numbers 1 and 2, begin with session 1, and have the usual bounds
 abbrev pub party : ℕ → ℕ → PolicyValue → Party
-party own peer policy =
-    record { own = own; peer = peer; first = 1; policy = policy; most = BLOCK_MAX }
+party own peer policy = record {
+  own = own;
+  peer = peer;
+  first = 1;
+  policy = policy;
+  most = BLOCK_MAX;
+  sessions = 64;
+  history = 65536;
+}
 
 abbrev pub link_parties : PolicyValue → Party × Party
 link_parties policy = (party 1 2 policy, party 2 1 policy)

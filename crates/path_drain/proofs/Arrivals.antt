@@ -230,23 +230,23 @@ comes me you q e f sent n (is_open, none, unclosed) = by_sender (find n f.sender
     by_sender None is = absurd (subst IsOpen is is_open)
     by_sender (Some s) is = record { unknown = unknown; sender = s; kept = is }
 
-evicted-none : (e : Engine) → length e.receivers < 64 → evicted_of e ≡ None
+evicted-none : (p : Party) (e : Engine) → length e.receivers < p.sessions → evicted_of p e ≡ None
 unfolding evicted_of
-evicted-none e room = let few : nat_le 64 (length e.receivers) ≡ false =
+evicted-none p e room = let few : nat_le p.sessions (length e.receivers) ≡ false =
     grind (arith, nat_tests) in rw few refl
 
-nobody-evicted : (e : Engine) (kept : Option Receiving) (c : Change Receiving)
-    → (kept ≡ None → (r : Receiving) → c ≡ keeps r → length e.receivers < 64)
-    → evicted_by e kept c ≡ None
-nobody-evicted e None stays room = refl
-nobody-evicted e None (keeps r) room = evicted-none e (room refl r refl)
-nobody-evicted e None ends room = refl
-nobody-evicted e (Some s) c room = refl
+nobody-evicted : (p : Party) (e : Engine) (kept : Option Receiving) (c : Change Receiving)
+    → (kept ≡ None → (r : Receiving) → c ≡ keeps r → length e.receivers < p.sessions)
+    → evicted_by p e kept c ≡ None
+nobody-evicted p e None stays room = refl
+nobody-evicted p e None (keeps r) room = evicted-none p e (room refl r refl)
+nobody-evicted p e None ends room = refl
+nobody-evicted p e (Some s) c room = refl
 
-receives : (e : Engine) (n : ℕ) (t : StepValue Receiving)
-    → evicted_by e (find n e.receivers) t.next ≡ None
-    → receiver_replies e n (Some t) ≡ Some (received e n t)
-receives e n t nobody = rw nobody refl
+receives : (p : Party) (e : Engine) (n : ℕ) (t : StepValue Receiving)
+    → evicted_by p e (find n e.receivers) t.next ≡ None
+    → receiver_replies p e n (Some t) ≡ Some (received e n t)
+receives p e n t nobody = rw nobody refl
 
 -- the parties, engines and sessions of a link in a drain, as an end sees them to which the oldest
 -- new segment of the other comes
@@ -256,8 +256,8 @@ pub record Meets (me you : End) (p q : Party) (e f : Engine) (sent new : List Se
   pub linked : Linked p q
   pub all : AllStand SessionFacts me you p q e f sent new rank_p rank_q
   pub is : oldest you new ≡ Some o
-  pub room : (n : ℕ) → Comes_to e f n → (length e.receivers < 64)
-      × (closed_runs e.closed + length e.receivers < 65536)
+  pub room : (n : ℕ) → Comes_to e f n → (length e.receivers < p.sessions)
+      × (closed_runs e.closed + length e.receivers < p.history)
   pub unclosed : (n : ℕ) (r : Receiving) → find n e.receivers ≡ Some r → is_closed n e.closed ≡ false
 
 -- a session of the other end, to which this content comes
@@ -415,7 +415,7 @@ peer-form : (me you : End) (p q : Party) (e f : Engine) (sent new : List Sent)
     (find (o.first.segment).session e.receivers) (o.first.segment).content now ≡ Some t
     → (t.next ≡ ends → find (o.first.segment).session f.senders ≡ None)
     → Arrived e f (o.first.segment).session
-    (receiver_replies e (o.first.segment).session (Some t))
+    (receiver_replies p e (o.first.segment).session (Some t))
 unfolding Heard
 peer-form me you p q e f sent new rank_p rank_q o now t meets peer hears gone =
     by_heard (heard me you p q e f sent new rank_p rank_q o meets peer)
@@ -428,12 +428,13 @@ peer-form me you p q e f sent new rank_p rank_q o now t meets peer hears gone =
         ((o.first.segment).content ∷ said you q.own (o.first.segment).session o.others)
         (said me q.own (o.first.segment).session o.others) (rank_q (o.first.segment).session)
         → Arrived e f (o.first.segment).session
-        (receiver_replies e (o.first.segment).session (Some t))
+        (receiver_replies p e (o.first.segment).session (Some t))
     by_heard (never_begun unused nothing) = absurd
         (let empty : (o.first.segment).content ∷ said you q.own (o.first.segment).session o.others
         ≡ [] = nothing.none_s in cc)
     by_heard (was_begun used st) =
-        by_receiver t (receives e (o.first.segment).session t nobody) of_coming stays_up ups not_full
+        by_receiver t (receives p e (o.first.segment).session t nobody) of_coming stays_up ups
+        not_full
       where
         opens : (r' : Receiving) → find (o.first.segment).session e.receivers ≡ None
             → t.next ≡ keeps r' → Comes_to e f (o.first.segment).session
@@ -445,8 +446,8 @@ peer-form me you p q e f sent new rank_p rank_q o now t meets peer hears gone =
             (said me q.own (o.first.segment).session o.others) (rank_q (o.first.segment).session)
             t r' refl st.drains hears none next)
 
-        nobody : evicted_by e (find (o.first.segment).session e.receivers) t.next ≡ None
-        nobody = nobody-evicted e (find (o.first.segment).session e.receivers) t.next
+        nobody : evicted_by p e (find (o.first.segment).session e.receivers) t.next ≡ None
+        nobody = nobody-evicted p e (find (o.first.segment).session e.receivers) t.next
             (λ none r' next. (meets.room (o.first.segment).session (opens r' none next)).0)
 
         of_coming : OfComing e f (o.first.segment).session t.next
@@ -487,7 +488,7 @@ pub arrives-form : (me you : End) (p q : Party) (e f : Engine) (sent new : List 
     (rank_p rank_q : ℕ → ℕ) (o : Oldest) (now : ℕ)
     → Meets me you p q e f sent new rank_p rank_q o
     → ((t : StepValue Receiving) → arrives p e o.first.segment now
-    ≡ receiver_replies e (o.first.segment).session (Some t)
+    ≡ receiver_replies p e (o.first.segment).session (Some t)
     → t.next ≡ ends → find (o.first.segment).session f.senders ≡ None)
     → Arrived e f (o.first.segment).session (arrives p e o.first.segment now)
 unfolding arrives
@@ -512,10 +513,10 @@ arrives-form me you p q e f sent new rank_p rank_q o now meets gone =
         → receiver_answers p.policy (place_of p e (o.first.segment).session)
         (find (o.first.segment).session e.receivers) (o.first.segment).content now ≡ x
         → ((t : StepValue Receiving)
-        → receiver_replies e (o.first.segment).session x
-        ≡ receiver_replies e (o.first.segment).session (Some t)
+        → receiver_replies p e (o.first.segment).session x
+        ≡ receiver_replies p e (o.first.segment).session (Some t)
         → t.next ≡ ends → find (o.first.segment).session f.senders ≡ None)
-        → To (receiver_replies e (o.first.segment).session x)
+        → To (receiver_replies p e (o.first.segment).session x)
     peer_hears peer None hears gone = unheard refl
     peer_hears peer (Some t) hears gone =
         peer-form me you p q e f sent new rank_p rank_q o now t meets peer hears (gone t refl)
@@ -526,15 +527,15 @@ arrives-form me you p q e f sent new rank_p rank_q o now meets gone =
         → (if own then (if used then sender_replies e (o.first.segment).session
         (sender_answers p.policy (find (o.first.segment).session e.senders)
         (o.first.segment).content now) else None)
-        else if peer then receiver_replies e (o.first.segment).session
+        else if peer then receiver_replies p e (o.first.segment).session
         (receiver_answers p.policy (place_of p e (o.first.segment).session)
         (find (o.first.segment).session e.receivers) (o.first.segment).content now) else None)
-        ≡ receiver_replies e (o.first.segment).session (Some t)
+        ≡ receiver_replies p e (o.first.segment).session (Some t)
         → t.next ≡ ends → find (o.first.segment).session f.senders ≡ None)
         → To (if own then (if used then sender_replies e (o.first.segment).session
         (sender_answers p.policy (find (o.first.segment).session e.senders)
         (o.first.segment).content now) else None)
-        else if peer then receiver_replies e (o.first.segment).session
+        else if peer then receiver_replies p e (o.first.segment).session
         (receiver_answers p.policy (place_of p e (o.first.segment).session)
         (find (o.first.segment).session e.receivers) (o.first.segment).content now) else None)
     by_tests true is true peer is_peer gone = own_hears _ refl

@@ -54,6 +54,11 @@ record HasPlaces (e : Engine) (n : ℕ) : Type 0 where
   senders : length e.senders + n ≤ 64
   numbers : e.next + n ≤ 2 ^ 32
 
+-- an engine that takes blocks of the greatest length, and sends 64 sessions at least at once
+record TakesAll (p : Party) : Type 0 where
+  most : p.most ≡ BLOCK_MAX
+  places : 64 ≤ p.sessions
+
 not_zero : (n : ℕ) → 0 < n → (n == 0) ≡ false
 not_zero n is = grind (arith, nat_tests)
 
@@ -63,13 +68,13 @@ not_below a b is = grind (arith, nat_tests)
 not_up_to : (a b : ℕ) → b < a → nat_le a b ≡ false
 not_up_to a b is = grind (arith, nat_tests)
 
-no-fault : (p : Party) (e : Engine) (block : List ℕ) (n : ℕ) → p.most ≡ BLOCK_MAX → IsBlock block
+no-fault : (p : Party) (e : Engine) (block : List ℕ) (n : ℕ) → TakesAll p → IsBlock block
     → HasPlaces e (suc n) → submit_fault p e block ≡ None
-no-fault p e block n most is places = rw (
+no-fault p e block n takes is places = rw (
   not_zero (length block) is.some,
-  not_below p.most (length block) (subst (λ (m : ℕ). length block ≤ m) (sym most) is.small),
+  not_below p.most (length block) (subst (λ (m : ℕ). length block ≤ m) (sym takes.most) is.small),
   not_up_to (2 ^ 32) e.next (omega (arith, places.numbers)),
-  not_up_to 64 (length e.senders) (omega (arith, places.senders)),
+  not_up_to p.sessions (length e.senders) (omega (arith, takes.places, places.senders)),
 ) refl
 
 -- what is answered then
@@ -78,17 +83,17 @@ accepted p e block now =
     submit_step p e (Ok (begun e (begin p.policy e.next block (length block) now)))
 
 is-accepted : (s : GateSetup) (face : Face) (now : ℕ) (block : List ℕ) (g : Gate) (n : ℕ)
-    → (at_face s.parties face).most ≡ BLOCK_MAX → IsBlock block
+    → TakesAll (at_face s.parties face) → IsBlock block
     → HasPlaces (at_face g.engines face) (suc n)
     → submission_at s face now block g
     ≡ accepted (at_face s.parties face) (at_face g.engines face) block now
 unfolding submits
-is-accepted s face now block g n most is places =
+is-accepted s face now block g n takes is places =
     let p = at_face s.parties face in
     let e = at_face g.engines face in
     ap (λ (f : Option SubmitFault).
     submit_step p e (submits_unless f p e block (length block) now))
-    (no-fault p e block n most is places)
+    (no-fault p e block n takes is places)
 
 same-there : (pair : Engine × Engine) (face : Face) (e : Engine)
     → at_face (with_face pair face e) face ≡ e
@@ -112,14 +117,14 @@ places-left p e block now n places = record {
 
 -- so it is at the face of the gate after the block was submitted
 places-after : (s : GateSetup) (face : Face) (now : ℕ) (block : List ℕ) (g : Gate) (n : ℕ)
-    → (at_face s.parties face).most ≡ BLOCK_MAX → IsBlock block
+    → TakesAll (at_face s.parties face) → IsBlock block
     → HasPlaces (at_face g.engines face) (suc n)
     → HasPlaces (at_face (sends_at s face now block g).gate.engines face) n
 unfolding sends_at
-places-after s face now block g n most is places =
+places-after s face now block g n takes is places =
     let p = at_face s.parties face in
     let e = at_face g.engines face in
-    rw (is-accepted s face now block g n most is places)
+    rw (is-accepted s face now block g n takes is places)
     (subst (λ (f : Engine). HasPlaces f n)
     (sym (same-there g.engines face (with_session p e block now)))
     (places-left p e block now n places))
@@ -127,15 +132,15 @@ places-after s face now block g n most is places =
 -- ---- pieces
 
 pieces-begin : (s : GateSetup) (to : Face) (now : ℕ) (end : PathEnd) (n i : ℕ)
-    (pieces : List (List ℕ)) (g : Gate) → (at_face s.parties to).most ≡ BLOCK_MAX
+    (pieces : List (List ℕ)) (g : Gate) → TakesAll (at_face s.parties to)
     → All IsBlock pieces → HasPlaces (at_face g.engines to) (length pieces)
     → (k : ℕ) (piece : List ℕ) → slice_get pieces k ≡ Some piece
     → IsBegun (pieces_begun s to now end n i pieces g) (face_place to) piece (a_piece end n (i + k))
 unfolding pieces_begun
-pieces-begin s to now end n i [] g most blocks places k piece is = absurd (cc)
-pieces-begin s to now end n i (first ∷ pieces) g most blocks places zero piece is =
+pieces-begin s to now end n i [] g takes blocks places k piece is = absurd (cc)
+pieces-begin s to now end n i (first ∷ pieces) g takes blocks places zero piece is =
     let same : first ≡ piece = cc in
-    let begins = is-accepted s to now first g (length pieces) most
+    let begins = is-accepted s to now first g (length pieces) takes
     (All-head IsBlock first pieces blocks) places in
     record {
       session = (at_face g.engines to).next;
@@ -159,10 +164,10 @@ pieces-begin s to now end n i (first ∷ pieces) g most blocks places zero piece
         → session first i ≡ session piece (i + 0)
     as_piece first piece index same = ap (λ (b : List ℕ). session b i) same
         ∙ ap (session piece) index
-pieces-begin s to now end n i (first ∷ pieces) g most blocks places (suc k) piece is =
-    let begins = pieces-begin s to now end n (i + 1) pieces (sends_at s to now first g).gate most
+pieces-begin s to now end n i (first ∷ pieces) g takes blocks places (suc k) piece is =
+    let begins = pieces-begin s to now end n (i + 1) pieces (sends_at s to now first g).gate takes
     (All-tail IsBlock first pieces blocks)
-    (places-after s to now first g (length pieces) most (All-head IsBlock first pieces blocks)
+    (places-after s to now first g (length pieces) takes (All-head IsBlock first pieces blocks)
     places) k piece is in
     record {
       session = begins.session;
@@ -195,11 +200,11 @@ is-passed cases.Storage = stops (λ is. absurd (cc))
 is-passed cases.Passed = passes refl
 
 decided-begin : (s : GateSetup) (face : Face) (now n : ℕ) (body : List ℕ) (g : Gate)
-    → (at_face s.parties (other_of face)).most ≡ BLOCK_MAX
+    → TakesAll (at_face s.parties (other_of face))
     → (i : ℕ) (piece : List ℕ) → slice_get (judged_at s face now body g).pieces i ≡ Some piece
     → IsBegun (decided_begun s face now n (judged_at s face now body g) g)
     (face_place (other_of face)) piece (a_piece (end_of face) n i)
-decided-begin s face now n body g most i piece is = by (is-passed j.case)
+decided-begin s face now n body g takes i piece is = by (is-passed j.case)
   where
     none_plus : (k : ℕ) → 0 + k ≡ k
     none_plus k = omega arith
@@ -222,7 +227,7 @@ decided-begin s face now n body g most i piece is = by (is-passed j.case)
         → IsBegun (sent ++ reports) (face_place (other_of face)) piece (a_piece (end_of face) n i)
     begun_among room =
         let begins = pieces-begin s (other_of face) now (end_of face) n 0
-        (judged_at s face now body g).pieces g most room.blocks
+        (judged_at s face now body g).pieces g takes room.blocks
         (record { senders = room.sessions; numbers = room.numbers }) i piece is in
         record {
           session = begins.session;
@@ -248,6 +253,10 @@ decided-begin s face now n body g most i piece is = by (is-passed j.case)
 
 -- ---- an event
 
+takes-all : (s : PathSetup) → TakesBlocks s → (face : Face)
+    → TakesAll (at_face s.gate.parties face)
+takes-all s takes face = record { most = takes.each face; places = takes.places face }
+
 -- of one block at most, at a gate h whose other face is as it was in w's
 passed-begin : (s : PathSetup) (w : Path) (face : Face) (ups : List UpValue) (h : Gate)
     (up : UpValue) → TakesBlocks s → HasOneAtMost ups
@@ -264,8 +273,8 @@ passed-begin s w face (x ∷ ups) h up takes one same (inl first) i piece is =
     slice_get (judged face x.body w.now s.gate.cut (room_of e)).pieces i ≡ Some piece) (sym same)
     (subst (λ (u : UpValue).
     slice_get (judged_at s.gate face w.now u.body w.gate).pieces i ≡ Some piece) (sym first) is) in
-    let begins = decided-begin s.gate face w.now x.session x.body h (takes.each (other_of face)) i
-    piece at_h in
+    let begins = decided-begin s.gate face w.now x.session x.body h
+    (takes-all s takes (other_of face)) i piece at_h in
     record {
       session = begins.session;
       among = in-left _

@@ -72,32 +72,32 @@ RepliesRightly e n session (Some reply) = IsHanded (find n reply.engine.receiver
     → IsHanded (find n e.receivers) ⊎ HandsUpIn n session (Some reply)
 
 -- this session's step, or another's
-moves-rightly : (me you : End) (q : Party) (e f : Engine) (sent : List Sent) (n m : ℕ)
+moves-rightly : (me you : End) (p q : Party) (e f : Engine) (sent : List Sent) (n m : ℕ)
     (t : StepValue Receiving) → AreTwo me you
     → (IsHanded (after t.next (find n e.receivers))
     → IsHanded (find n e.receivers) ⊎ (is_some t.up ≡ true))
     → (same : Bool) → (n == m) ≡ same
     → IsHanded (find m
-    (with_receiver (opening e (find n e.receivers) t.next) n t.next).receivers)
+    (with_receiver (opening p e (find n e.receivers) t.next) n t.next).receivers)
     → IsHanded (find m e.receivers) ⊎ ((n ≡ m) × (is_some t.up ≡ true))
-moves-rightly me you q e f sent n m t both hands true is_same handed =
+moves-rightly me you p q e f sent n m t both hands true is_same handed =
     let here : n ≡ m = eqb-true n m is_same in
     subst (λ (k : ℕ). IsHanded (find k e.receivers) ⊎ ((n ≡ k) × (is_some t.up ≡ true))) here
     (now (hands (subst IsHanded
-    (ap (λ (v : View). v.receiver) (receiver-here me you q f e sent n t both))
+    (ap (λ (v : View). v.receiver) (receiver-here me you q p f e sent n t both))
     (subst (λ (k : ℕ). IsHanded (find k
-    (with_receiver (opening e (find n e.receivers) t.next) n t.next).receivers)) (sym here)
+    (with_receiver (opening p e (find n e.receivers) t.next) n t.next).receivers)) (sym here)
     handed))))
   where
     now : IsHanded (find n e.receivers) ⊎ (is_some t.up ≡ true)
         → IsHanded (find n e.receivers) ⊎ ((n ≡ n) × (is_some t.up ≡ true))
     now (inl was) = inl was
     now (inr up) = inr (refl, up)
-moves-rightly me you q e f sent n m t both hands false is_same handed =
-    inl (by (receiver-others me you q f e sent n m t both (eqb-false n m is_same)))
+moves-rightly me you p q e f sent n m t both hands false is_same handed =
+    inl (by (receiver-others me you q p f e sent n m t both (eqb-false n m is_same)))
   where
     v' : View
-    v' = view_by you me q f (with_receiver (opening e (find n e.receivers) t.next) n t.next)
+    v' = view_by you me q f (with_receiver (opening p e (find n e.receivers) t.next) n t.next)
         (sent ++ sent_by me (headed_all (session_of q.own n) t.out)) m
 
     by : Left (view_by you me q f e sent m) v' → IsHanded (find m e.receivers)
@@ -132,10 +132,10 @@ arrives-rightly me you p q e f sent s now n both =
     by_peer : (o : Option (StepValue Receiving))
         → receiver_answers p.policy (place_of p e s.session) (find s.session e.receivers)
         s.content now ≡ o
-        → Rightly (receiver_replies e s.session o)
+        → Rightly (receiver_replies p e s.session o)
     by_peer None hears = tt
     by_peer (Some t) hears = λ handed.
-        moves-rightly me you q e f sent s.session n t both
+        moves-rightly me you p q e f sent s.session n t both
         (hands-up-now p.policy (place_of p e s.session) (find s.session e.receivers) s.content now
         t hears) (s.session == n) refl handed
 

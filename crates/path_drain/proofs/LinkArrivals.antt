@@ -37,19 +37,19 @@ at-other pair first_end x = refl
 at-other pair second_end x = refl
 
 -- the reply of a receiver that ends closes the number
-record Closing (e : Engine) (n : ℕ) (t : StepValue Receiving) : Type 0 where
+record Closing (p : Party) (e : Engine) (n : ℕ) (t : StepValue Receiving) : Type 0 where
   reply : Reply
-  is : receiver_replies e n (Some t) ≡ Some reply
+  is : receiver_replies p e n (Some t) ≡ Some reply
   closed : t.next ≡ ends → is_closed n (reply.engine).closed ≡ true
 
-closing : (e : Engine) (n : ℕ) (t : StepValue Receiving) → Closing e n t
-closing e n t = record {
+closing : (p : Party) (e : Engine) (n : ℕ) (t : StepValue Receiving) → Closing p e n t
+closing p e n t = record {
   reply = record {
     engine = with_receiver g n t.next;
     out = t.out;
     up = t.up;
     green = t.green;
-    notes = list_of (option_map notes.Evicted (evicted_by e (find n e.receivers) t.next))
+    notes = list_of (option_map notes.Evicted (evicted_by p e (find n e.receivers) t.next))
         ++ notes_of n t;
   };
   is = refl;
@@ -58,13 +58,14 @@ closing e n t = record {
 }
   where
     g : Engine
-    g = without_evicted e (evicted_by e (find n e.receivers) t.next)
+    g = without_evicted e (evicted_by p e (find n e.receivers) t.next)
 
 -- a receiver ends only after its sender
 gone-late : (parties : Party × Party) (d : Draining) (rank : End → ℕ → ℕ) (me : End) (o : Oldest)
     → LinkDrains parties d rank → oldest (other me) d.new ≡ Some o → (t : StepValue Receiving)
     → arrives (at_end parties me) (at_end (d.world).engines me) o.first.segment (d.world).now
-    ≡ receiver_replies (at_end (d.world).engines me) (o.first.segment).session (Some t)
+    ≡ receiver_replies (at_end parties me) (at_end (d.world).engines me) (o.first.segment).session
+    (Some t)
     → t.next ≡ ends
     → find (o.first.segment).session (at_end (d.world).engines (other me)).senders ≡ None
 gone-late parties d rank me o link is t replied ended =
@@ -73,8 +74,8 @@ gone-late parties d rank me o link is t replied ended =
     n : ℕ
     n = (o.first.segment).session
 
-    c : Closing (at_end (d.world).engines me) (o.first.segment).session t
-    c = closing (at_end (d.world).engines me) (o.first.segment).session t
+    c : Closing (at_end parties me) (at_end (d.world).engines me) (o.first.segment).session t
+    c = closing (at_end parties me) (at_end (d.world).engines me) (o.first.segment).session t
 
     w' : World
     w' = arrival parties d.world me o.first.segment
@@ -128,8 +129,9 @@ is-coming e f n c =
 -- there is room for each session that comes
 room-at : (parties : Party × Party) (w : World) (me : End) → IsRoomy parties w → (n : ℕ)
     → Comes_to (at_end w.engines me) (at_end w.engines (other me)) n
-    → (length (at_end w.engines me).receivers < 64)
-    × (closed_runs (at_end w.engines me).closed + length (at_end w.engines me).receivers < 65536)
+    → (length (at_end w.engines me).receivers < (at_end parties me).sessions)
+    × (closed_runs (at_end w.engines me).closed + length (at_end w.engines me).receivers
+    < (at_end parties me).history)
 room-at parties w first_end room n c = room.room second_end n (is-coming w.engines.0 w.engines.1 n c)
 room-at parties w second_end room n c = room.room first_end n (is-coming w.engines.1 w.engines.0 n c)
 

@@ -22,6 +22,7 @@ use Rattle.ltp_drain.proofs.CleanSteps.{IsGoing, drop-end, idle-link, idle-sende
 use Rattle.ltp_drain.proofs.CompletionLemmas.{first_rank, starts-going, starts-low}
 use Rattle.ltp_drain.proofs.DrainFrame.{Begun, is-begun, never_begun, was_begun}
 use Rattle.ltp_drain.proofs.DrainRun.{used-low}
+use Rattle.ltp_drain.proofs.StartLemmas.{ample-at}
 use Rattle.gate_cases.specs.declared.face.Face.{Face}
 use Rattle.gate_cases.specs.declared.face.Face.TheVariants as faces
 use Rattle.path_laws.specs.declared.effects.NoteAt.{NoteAt}
@@ -105,6 +106,7 @@ pub path-stands : (s : PathSetup) (w0 w : Path) (c : ℕ) (rank : Face → End �
     → PathGoes s w0 w c rank → PathStands s w (new_on w c) rank
 path-stands s w0 w c rank fit goes = record {
   peers = fit.peers;
+  ample = λ face. ample-at (link_parties s face) (fit.alike face);
   reached = λ face. (goes.going face).reached;
   holds = λ face. (goes.going face).holds;
 }

@@ -87,6 +87,8 @@ fit-path gate cut policy fits = record {
       second_cuts = fits.cuts;
       first_waits = fits.waits;
       second_waits = fits.waits;
+      first_ample = record { sessions = omega arith; history = omega arith };
+      second_ample = record { sessions = omega arith; history = omega arith };
     }
     alike faces.New = record {
       same_most = refl;
@@ -95,6 +97,8 @@ fit-path gate cut policy fits = record {
       second_cuts = fits.cuts;
       first_waits = fits.waits;
       second_waits = fits.waits;
+      first_ample = record { sessions = omega arith; history = omega arith };
+      second_ample = record { sessions = omega arith; history = omega arith };
     }
 
 pub paths-fit : PathsAreFit

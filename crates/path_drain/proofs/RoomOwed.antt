@@ -148,19 +148,18 @@ begun-room s w at t owed owed' less room = record {
 -- ---- a block that is submitted where there is a place for it
 
 -- there is a place at a face for a session that is owed there
-place-at : (s : PathSetup) (w : Path) (at : Face) (owed : Face → ℕ) → 1 ≤ owed at
-    → RoomOwing s w owed
-    → (length (gate_at w at).senders < 64) × ((gate_at w at).next < 2 ^ 32)
-place-at s w at owed some room =
-    (omega (arith, (room.faces at).senders, some), omega (arith, room.numbers at, some))
+place-at : (s : PathSetup) (w : Path) (at : Face) (owed : Face → ℕ)
+    → 64 ≤ (at_face s.gate.parties at).sessions → 1 ≤ owed at → RoomOwing s w owed
+    → (length (gate_at w at).senders < (at_face s.gate.parties at).sessions)
+    × ((gate_at w at).next < 2 ^ 32)
+place-at s w at owed ample some room =
+    (omega (arith, ample, (room.faces at).senders, some), omega (arith, room.numbers at, some))
 
-pub submission-has_place : (s : PathSetup) (w : Path) (at : Face) (block : List ℕ)
-    (owed : Face → ℕ) → 1 ≤ owed at → RoomOwing s w owed
-    → Submitted (gate_at w at) (submission_at s.gate at w.now block w.gate)
-submission-has_place s w at block owed some room =
-    let place = place-at s w at owed some room in
-    submitted-is (at_face s.gate.parties at) (gate_at w at) block (length block) w.now place.0
-    place.1
+submission-is : (s : PathSetup) (w : Path) (at : Face) (block : List ℕ)
+    → Submitted (at_face s.gate.parties at) (gate_at w at)
+    (submission_at s.gate at w.now block w.gate)
+submission-is s w at block =
+    submitted-is (at_face s.gate.parties at) (gate_at w at) block (length block) w.now
 
 abbrev ok_step : EngineStep → Result EngineStep SubmitFault
 ok_step step = Ok step
@@ -178,13 +177,8 @@ ok-same x y is = cc
 pub room-submitted : SubmitsAreOwed
 unfolding sends_at
 room-submitted s w at block owed owed' less room =
-    by (submission_at s.gate at w.now block w.gate)
-    (submission-has_place s w at block owed (some at (less at)) room)
+    by (submission_at s.gate at w.now block w.gate) (submission-is s w at block)
   where
-    some : (at : Face) → owed' at + one_at at at ≤ owed at → 1 ≤ owed at
-    some faces.Old less = omega (arith, less)
-    some faces.New less = omega (arith, less)
-
     fewer : RoomOwing s w owed'
     fewer = room-fewer s w owed owed' (λ face. omega (arith, less face)) room
 
@@ -194,7 +188,8 @@ room-submitted s w at block owed owed' less room =
     begun_with step t is = subst (λ (e : Engine). RoomOwing s (with_gate w at e) owed') (sym is)
         (begun-room s w at t owed owed' less room)
 
-    by : (r : Result EngineStep SubmitFault) → Submitted (gate_at w at) r
+    by : (r : Result EngineStep SubmitFault)
+        → Submitted (at_face s.gate.parties at) (gate_at w at) r
         → RoomOwing s (gate_does w (sends_unless at w.gate r)).path owed'
     by (Err fault) submitted =
         record { nodes = fewer.nodes; faces = fewer.faces; numbers = fewer.numbers }
@@ -205,12 +200,16 @@ room-submitted s w at block owed owed' less room =
         record { nodes = left.nodes; faces = left.faces; numbers = left.numbers }
 
 pub owed-place : OwedHavePlace
-owed-place s w at block owed fault room some is =
-    by (submission-has_place s w at block owed some room)
+owed-place s w at block owed fault ample room some is = by (submission-is s w at block)
   where
-    by : Submitted (gate_at w at) (submission_at s.gate at w.now block w.gate)
+    place : (length (gate_at w at).senders < (at_face s.gate.parties at).sessions)
+        × ((gate_at w at).next < 2 ^ 32)
+    place = place-at s w at owed ample some room
+
+    by : Submitted (at_face s.gate.parties at) (gate_at w at)
+        (submission_at s.gate at w.now block w.gate)
         → (fault ≡ block_empty) ⊎ (fault ≡ block_too_large)
     by (is_refused other_fault refused why) =
         subst (λ f. (f ≡ block_empty) ⊎ (f ≡ block_too_large))
-        (sym (err-same fault other_fault (sym is ∙ refused))) why
+        (sym (err-same fault other_fault (sym is ∙ refused))) (why place.0 place.1)
     by (is_accepted t step accepted engine) = absurd (let h = sym is ∙ accepted in cc)

@@ -46,7 +46,8 @@ pub link-drains : (s : PathSetup) (w : Path) (new : Face → List Sent) (rank : 
 link-drains s w new rank owed stands room face = record {
   peers = stands.peers face;
   holds = stands.holds face;
-  room = room-roomy (link_parties s face) (link_at face w) (room-on_link s w owed room face);
+  room = room-roomy (link_parties s face) (link_at face w) (stands.ample face)
+      (room-on_link s w owed room face);
   unclosed = kept-unclosed (link_parties s face) (link_at face w) (stands.peers face)
       (stands.reached face);
 }

@@ -121,7 +121,7 @@ submit-replies : (p : Party) (e : Engine) (block : List ℕ) (red now most : ℕ
 unfolding submits
 submit-replies p e block red now most fits ascending =
     by_tests (length block == 0) (nat_lt p.most (length block)) refl (nat_le (2 ^ 32) e.next) refl
-    (nat_le 64 (length e.senders))
+    (nat_le p.sessions (length e.senders))
   where
     by_tests : (empty large : Bool) → nat_lt p.most (length block) ≡ large → (spent : Bool)
         → nat_le (2 ^ 32) e.next ≡ spent → (busy : Bool)

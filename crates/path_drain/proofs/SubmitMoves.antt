@@ -119,7 +119,7 @@ submit-is parties w me block = by_length (nat_le (length block) (length block)) 
     by_length true is = by_tests (length block == 0) refl
         (nat_lt (at_end parties me).most (length block))
         (nat_le (2 ^ 32) (at_end w.engines me).next) refl
-        (nat_le 64 (length (at_end w.engines me).senders))
+        (nat_le (at_end parties me).sessions (length (at_end w.engines me).senders))
 
 -- ---- numbers
 

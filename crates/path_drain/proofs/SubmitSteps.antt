@@ -57,37 +57,39 @@ peer-begun own own' peer peer' e f t mine yours room = record {
   numbers = omega (arith, room.numbers, comes-more f e t, yours);
 }
 
--- ---- a block that is submitted where there is a place for it
+-- ---- a block that is submitted
 
--- it is refused only for what it is; or a session begins
-pub data Submitted (e : Engine) (r : Result EngineStep SubmitFault) : Type 0 where
+-- it is refused, and where there is a place and a number only for what it is; or a session begins
+pub data Submitted (p : Party) (e : Engine) (r : Result EngineStep SubmitFault) : Type 0 where
   is_refused : (fault : SubmitFault) → r ≡ Err fault
-      → (fault ≡ block_empty) ⊎ (fault ≡ block_too_large) → Submitted e r
+      → (length e.senders < p.sessions → e.next < 2 ^ 32
+      → (fault ≡ block_empty) ⊎ (fault ≡ block_too_large)) → Submitted p e r
   is_accepted : (t : StepValue Sending) (step : EngineStep) → r ≡ Ok step
-      → step.engine ≡ with_begun e t → Submitted e r
+      → step.engine ≡ with_begun e t → Submitted p e r
 
 pub submitted-is : (p : Party) (e : Engine) (block : List ℕ) (red now : ℕ)
-    → length e.senders < 64 → e.next < 2 ^ 32
-    → Submitted e (submit_step p e (submits p e block red now))
+    → Submitted p e (submit_step p e (submits p e block red now))
 unfolding submits
-submitted-is p e block red now senders numbers =
-    by_tests (length block == 0) (nat_lt p.most (length block)) (nat_le (2 ^ 32) e.next) few_numbers
-    (nat_le 64 (length e.senders)) few_senders
+submitted-is p e block red now =
+    by_tests (length block == 0) (nat_lt p.most (length block)) (nat_le (2 ^ 32) e.next) refl
+    (nat_le p.sessions (length e.senders)) refl
   where
-    few_senders : nat_le 64 (length e.senders) ≡ false
-    few_senders = grind (arith, nat_tests)
+    below : (most n : ℕ) → nat_le most n ≡ true → n < most → ⊥
+    below most n is low = grind (arith, nat_tests)
 
-    few_numbers : nat_le (2 ^ 32) e.next ≡ false
-    few_numbers = grind (arith, nat_tests)
-
-    by_tests : (empty large spent : Bool) → spent ≡ false → (busy : Bool) → busy ≡ false
-        → Submitted e (submit_step p e
+    by_tests : (empty large spent : Bool) → nat_le (2 ^ 32) e.next ≡ spent → (busy : Bool)
+        → nat_le p.sessions (length e.senders) ≡ busy
+        → Submitted p e (submit_step p e
         (submits_unless (if empty then Some block_empty else if large
         then Some block_too_large else if spent then Some numbers_spent else if busy
         then Some senders_busy else None) p e block red now))
-    by_tests true large spent is_spent busy is_busy = is_refused block_empty refl (inl refl)
-    by_tests false true spent is_spent busy is_busy = is_refused block_too_large refl (inr refl)
-    by_tests false false true is_spent busy is_busy = absurd (cc)
-    by_tests false false false is_spent true is_busy = absurd (cc)
+    by_tests true large spent is_spent busy is_busy =
+        is_refused block_empty refl (λ place number. inl refl)
+    by_tests false true spent is_spent busy is_busy =
+        is_refused block_too_large refl (λ place number. inr refl)
+    by_tests false false true is_spent busy is_busy = is_refused numbers_spent refl
+        (λ place number. absurd (below (2 ^ 32) e.next is_spent number))
+    by_tests false false false is_spent true is_busy = is_refused senders_busy refl
+        (λ place number. absurd (below p.sessions (length e.senders) is_busy place))
     by_tests false false false is_spent false is_busy = is_accepted
         (begin p.policy e.next block red now) _ refl refl

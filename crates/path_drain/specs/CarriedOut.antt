@@ -1,7 +1,7 @@
 -- What the gate decides about a block it does, with the event that hands the block up: each piece of a
 -- bundle that passes begins a session at the other face.
 
-use Rattle.std.specs.Prelude.{◌≡◌, ℕ, List, Some, slice_get}
+use Rattle.std.specs.Prelude.{◌≡◌, ℕ, ◌≤◌, List, Some, slice_get}
 use Rattle.ltp_segment.specs.declared.session.TheConstants.{BLOCK_MAX}
 use Rattle.ltp_laws.specs.View.{IsIn}
 use Rattle.gate_cases.specs.declared.face.Face.{Face}
@@ -14,9 +14,11 @@ use Rattle.path_laws.specs.Path.{PathSetup, Path, PathEvent, path_run}
 use Rattle.path_laws.specs.Log.{Begun, Origin, a_piece, begun_at, ups_in}
 use Rattle.path_drain.specs.Completion.{IsCaseNotedIn}
 
--- the engines of the gate take blocks of up to BLOCK_MAX octets
+-- the engines of the gate take blocks of up to BLOCK_MAX octets,
+-- and send 64 sessions at once, or more
 pub record TakesBlocks (s : PathSetup) : Type 0 where
   pub each : (face : Face) → (at_face s.gate.parties face).most ≡ BLOCK_MAX
+  pub places : (face : Face) → 64 ≤ (at_face s.gate.parties face).sessions
 
 -- among these sessions is one that began at a place, with this block, which comes from there
 pub record IsBegun (begun : List Begun) (place : Place) (block : List ℕ) (origin : Origin) : Type 0

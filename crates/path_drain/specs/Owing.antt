@@ -4,7 +4,7 @@ use Rattle.std.specs.Prelude.{◌≡◌, ℕ, ◌+◌, ◌^◌, ◌≤◌, List,
 use Rattle.ltp_session.specs.Engine.{SubmitFault, block_empty, block_too_large}
 use Rattle.gate_cases.specs.declared.face.Face.{Face}
 use Rattle.gate_cases.specs.declared.face.Face.TheVariants as faces
-use Rattle.gateway_core.specs.Gate.{sends_at, submission_at}
+use Rattle.gateway_core.specs.Gate.{at_face, sends_at, submission_at}
 use Rattle.path_laws.specs.Path.{Path, PathSetup, gate_does}
 use Rattle.path_drain.specs.OnTheWay.{gate_at, node_at, will_begin}
 use Rattle.path_drain.specs.PathRoom.{HasRoomFor, PathRoom}
@@ -39,11 +39,12 @@ RoomStarts =
     (s : PathSetup) (w : Path) → PathRoom s w
     → ((face : Face) → (gate_at w face).next + 64 ≤ 2 ^ 32) → RoomOwing s w none_owed
 
--- where a session is owed at a face, a block is refused there only for what it is itself
+-- where a session is owed at a face, and its engine sends 64 sessions at once, or more, a block is
+-- refused there only for what it is itself
 abbrev pub OwedHavePlace : Type 0
 OwedHavePlace =
     (s : PathSetup) (w : Path) (at : Face) (block : List ℕ) (owed : Face → ℕ) (fault : SubmitFault)
-    → RoomOwing s w owed → 1 ≤ owed at
+    → 64 ≤ (at_face s.gate.parties at).sessions → RoomOwing s w owed → 1 ≤ owed at
     → submission_at s.gate at w.now block w.gate ≡ Err fault
     → (fault ≡ block_empty) ⊎ (fault ≡ block_too_large)
 

@@ -6,11 +6,11 @@ use Rattle.ltp_segment.specs.declared.session.Note.TheVariants as notes
 use Rattle.ltp_session.specs.Engine.{Engine, Party}
 use Rattle.ltp_session.specs.Sender.{Sending}
 use Rattle.ltp_session.specs.Table.{find}
-use Rattle.ltp_session.specs.World.{ArePeers, End, Event, Sent, World, happens, run}
+use Rattle.ltp_session.specs.World.{ArePeers, End, Event, Sent, World, at_end, happens, run}
 use Rattle.ltp_laws.specs.Facts.{SessionFacts}
 use Rattle.ltp_laws.specs.View.{IsIn}
 use Rattle.ltp_drain.specs.Draining.{Oldest, oldest}
-use Rattle.ltp_drain.specs.Hopeful.{IsReached, Room}
+use Rattle.ltp_drain.specs.Hopeful.{IsAmple, IsReached, Room}
 use Rattle.ltp_drain.specs.Standing.{DrainHolds}
 use Rattle.gate_cases.specs.declared.face.Face.{Face}
 use Rattle.gateway_core.specs.declared.note.GateNote.TheVariants as gate_notes
@@ -40,10 +40,12 @@ pub record IsRoomyPath (s : PathSetup) (w : Path) : Type 0 where
 
 -- ---- a path that drains
 
--- on each link, which a run led to, all sessions stand; of what was sent there this is new
+-- on each link, whose engines have ample bounds, and which a run led to, all sessions stand; of what
+-- was sent there this is new
 pub record PathStands (s : PathSetup) (w : Path) (new : Face → List Sent)
     (rank : Face → End → ℕ → ℕ) : Type 0 where
   pub peers : (face : Face) → ArePeers (link_parties s face)
+  pub ample : (face : Face) (o : End) → IsAmple (at_end (link_parties s face) o)
   pub reached : (face : Face) → IsReached (link_parties s face) (link_at face w)
   pub holds :
       (face : Face)

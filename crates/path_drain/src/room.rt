@@ -43,7 +43,8 @@ pub fn room_starts()
     ensures { RoomStarts }
 {}
 
-/// A block whose session was counted is refused neither for want of a place nor of a number.
+/// A block whose session was counted is refused neither for want of a place nor of a number, where
+/// the face sends 64 sessions at once, or more.
 pub fn owed_have_place()
     ensures { OwedHavePlace }
 {}

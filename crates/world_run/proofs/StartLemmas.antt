@@ -1,5 +1,5 @@
 -- What the first line of a script says, where it sets up a path.
-use Rattle.std.proofs.Common.{◌≡◌, ℕ, ◌≤◌, Bool, true, false, List, Result, Ok, Err, inl, inr, refl, sym, ap, if◌then◌else◌}
+use Rattle.std.proofs.Common.{◌≡◌, ℕ, ◌≤◌, Bool, true, false, List, Result, Ok, Err, inl, inr, refl, sym, ap, arith, if◌then◌else◌}
 use Rattle.std.proofs.lemmas.Bool.{le-leb}
 use Rattle.endpoint.specs.declared.name.Endpoint.{Endpoint}
 use Rattle.ltp_segment.specs.declared.session.TheConstants.{BLOCK_MAX}
@@ -110,11 +110,15 @@ module _ (line : List ℕ) (start : PathStart) (said : start_in line ≡ Ok star
 
   -- the gate's take blocks of the greatest length
   pub starts_takes : TakesBlocks start.setup
-  starts_takes = rw setup-is (record { each = takes })
+  starts_takes = rw setup-is (record { each = takes; places = places })
     where
       takes : (face : Face) → (at_face (path_setup says.gate says.policy says.cut).gate.parties face).most ≡ BLOCK_MAX
       takes faces.Old = refl
       takes faces.New = refl
+
+      places : (face : Face) → 64 ≤ (at_face (path_setup says.gate says.policy says.cut).gate.parties face).sessions
+      places faces.Old = omega arith
+      places faces.New = omega arith
 
   -- and every drain of the path ends
   pub starts_timed : PathsAreTimed → IsTimed start.setup BLOCK_MAX

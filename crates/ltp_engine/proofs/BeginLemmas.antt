@@ -64,7 +64,7 @@ begun-kept p next block red now senders senders' v are_live is put_in =
     put_in ∙ (ap (λ x. with_begun next x senders) is ∙ kept-begun p.own p.policy next (begin p.policy next block red now).next senders are_live (never-ends p.policy next block red now))
 
 pub begun-whole : (p : Party) (next : ℕ) (block : List ℕ) (red now : ℕ) (senders senders' : List (ℕ × SessionValue Sending)) (inbound : Inbound)
-    → AreWhole p next senders inbound → length (table_of senders) < 64 → next < 2 ^ 32 → length block ≤ p.most
+    → AreWhole p next senders inbound → length (table_of senders) < p.sessions → next < 2 ^ 32 → length block ≤ p.most
     → senders' ≡ live_all p.own p.policy (settled next (begin p.policy next block red now).next (table_of senders))
     → AreWhole p (next + 1) senders' inbound
 begun-whole p next block red now senders senders' inbound whole room few small is =
@@ -75,6 +75,8 @@ begun-whole p next block red now senders senders' inbound whole room few small i
       own = live-table p.own p.policy senders' (settled next change (table_of senders)) is;
       others = whole.others;
       sound = record {
+        some = whole.sound.some;
+        countable = whole.sound.countable;
         begun = omega (arith, whole.sound.begun);
         numbers = omega (arith, few);
         senders = rw tab (omega (arith, more, room));
@@ -150,11 +152,11 @@ not_most a b is = grind (arith, nat_tests)
 fault-spent : (p : Party) (e : Engine) (block : List ℕ) → (length block ≡ 0 → ⊥) → length block ≤ p.most → 2 ^ 32 ≤ e.next → submit_fault p e block ≡ Some numbers_spent
 fault-spent p e block some small spent = rw (ne_eqb (length block) 0 some, not_less p.most (length block) small, at_least (2 ^ 32) e.next spent) refl
 
-fault-busy : (p : Party) (e : Engine) (block : List ℕ) → (length block ≡ 0 → ⊥) → length block ≤ p.most → e.next < 2 ^ 32 → 64 ≤ length e.senders → submit_fault p e block ≡ Some senders_busy
-fault-busy p e block some small few busy = rw (ne_eqb (length block) 0 some, not_less p.most (length block) small, not_most (2 ^ 32) e.next few, at_least 64 (length e.senders) busy) refl
+fault-busy : (p : Party) (e : Engine) (block : List ℕ) → (length block ≡ 0 → ⊥) → length block ≤ p.most → e.next < 2 ^ 32 → p.sessions ≤ length e.senders → submit_fault p e block ≡ Some senders_busy
+fault-busy p e block some small few busy = rw (ne_eqb (length block) 0 some, not_less p.most (length block) small, not_most (2 ^ 32) e.next few, at_least p.sessions (length e.senders) busy) refl
 
-fault-none : (p : Party) (e : Engine) (block : List ℕ) → (length block ≡ 0 → ⊥) → length block ≤ p.most → e.next < 2 ^ 32 → length e.senders < 64 → submit_fault p e block ≡ None
-fault-none p e block some small few room = rw (ne_eqb (length block) 0 some, not_less p.most (length block) small, not_most (2 ^ 32) e.next few, not_most 64 (length e.senders) room) refl
+fault-none : (p : Party) (e : Engine) (block : List ℕ) → (length block ≡ 0 → ⊥) → length block ≤ p.most → e.next < 2 ^ 32 → length e.senders < p.sessions → submit_fault p e block ≡ None
+fault-none p e block some small few room = rw (ne_eqb (length block) 0 some, not_less p.most (length block) small, not_most (2 ^ 32) e.next few, not_most p.sessions (length e.senders) room) refl
 
 -- what is refused, and changes nothing
 abbrev pub Refuses : EngineValue → List ℕ → ℕ → ℕ → SubmitFault → Type 0
@@ -173,12 +175,12 @@ pub refuses-spent : (u v : EngineValue) (block : List ℕ) (red now : ℕ) → u
 refuses-spent u v block red now same some small spent = subst (λ x. Refuses x block red now numbers_spent) same
     (refuses u block red now numbers_spent (λ e shows. fault-spent u.party e block some small (omega (arith, shows.next, spent))))
 
-pub refuses-busy : (u v : EngineValue) (block : List ℕ) (red now : ℕ) → u ≡ v → (length block ≡ 0 → ⊥) → length block ≤ u.party.most → u.next < 2 ^ 32 → 64 ≤ length u.senders → Refuses v block red now senders_busy
+pub refuses-busy : (u v : EngineValue) (block : List ℕ) (red now : ℕ) → u ≡ v → (length block ≡ 0 → ⊥) → length block ≤ u.party.most → u.next < 2 ^ 32 → u.party.sessions ≤ length u.senders → Refuses v block red now senders_busy
 refuses-busy u v block red now same some small few busy = subst (λ x. Refuses x block red now senders_busy) same
     (refuses u block red now senders_busy (λ e shows. fault-busy u.party e block some small (omega (arith, shows.next, few)) (omega (arith, ap length shows.senders, busy))))
 
 pub submit-sent : (spent : Bool) (p : Party) (next : ℕ) (senders : List (ℕ × SessionValue Sending)) (inbound : Inbound) (v w : EngineValue) (block : List ℕ) (red now : ℕ) (effects : Effects)
-    → made_of spent p next senders inbound ≡ v → (length block ≡ 0 → ⊥) → length block ≤ p.most → next < 2 ^ 32 → length (table_of senders) < 64
+    → made_of spent p next senders inbound ≡ v → (length block ≡ 0 → ⊥) → length block ≤ p.most → next < 2 ^ 32 → length (table_of senders) < p.sessions
     → Steps (made_of false p next senders inbound) w (λ e. begun_step p e block red now) effects
     → Sends v w (λ e. submit_step v.party e (submits v.party e block red now)) effects
 submit-sent spent p next senders inbound v w block red now effects is some small few room steps =
@@ -192,7 +194,7 @@ submit-sent spent p next senders inbound v w block red now effects is some small
 
 -- a block is begun where there is no fault
 pub submit-begins : (u v : EngineValue) (block : List ℕ) (red now : ℕ)
-    → u ≡ v → (length block ≡ 0 → ⊥) → length block ≤ u.party.most → u.next < 2 ^ 32 → length u.senders < 64
+    → u ≡ v → (length block ≡ 0 → ⊥) → length block ≤ u.party.most → u.next < 2 ^ 32 → length u.senders < u.party.sessions
     → (e : Engine) → Shows v e → IsNoFault (submit_step v.party e (submits v.party e block red now))
 submit-begins u v block red now is some small few room e shows =
     subst (λ x. Shows x e → IsNoFault (submit_step x.party e (submits x.party e block red now))) is here shows where

@@ -1,6 +1,6 @@
 -- What an engine keeps as a whole.
 
-use Rattle.std.proofs.Common.{◌≡◌, ℕ, ◌+◌, ◌<◌, ◌^◌, false, List, [], length, refl, sym, ◌∙◌, ap, arith, subst}
+use Rattle.std.proofs.Common.{◌≡◌, ℕ, ◌+◌, ◌<◌, ◌≤◌, ◌^◌, false, List, [], length, refl, sym, ◌∙◌, ap, arith, subst}
 use Rattle.std.specs.List.{AllByRecursion}
 use Rattle.std.proofs.lemmas.List.{map-append}
 use Rattle.spans.proofs.Places.{length-uncovered}
@@ -29,9 +29,9 @@ use Rattle.ltp_engine.proofs.ShowLemmas.{shows-ticked}
 
 -- ---- at its beginning
 
-sound-none : IsInboundSound nothing_received
+sound-none : (p : Party) → IsInboundSound p nothing_received
 unfolding find
-sound-none = record {
+sound-none p = record {
   receivers = omega arith;
   history = omega arith;
   unclosed = λ n holds. absurd (cc);
@@ -40,17 +40,19 @@ sound-none = record {
   ascending = tt;
 }
 
-pub new-whole : (p : Party) (senders : List (ℕ × SessionValue Sending)) (inbound : Inbound) → senders ≡ [] → p.first < 2 ^ 32
+pub new-whole : (p : Party) (senders : List (ℕ × SessionValue Sending)) (inbound : Inbound) → senders ≡ [] → p.first < 2 ^ 32 → 1 ≤ p.sessions → p.history < 2 ^ 32
     → Keeps p.peer p.policy inbound nothing_received → AreWhole p p.first senders inbound
-new-whole p senders inbound none few keep = record {
+new-whole p senders inbound none few some countable keep = record {
   own = rw none refl;
   others = keep.live;
   sound = record {
+    some = some;
+    countable = countable;
     begun = omega arith;
     numbers = omega (arith, few);
     senders = rw none (omega arith);
     ascending = rw none tt;
-    inbound = subst IsInboundSound (sym keep.is) sound-none;
+    inbound = subst (IsInboundSound p) (sym keep.is) (sound-none p);
     sent = rw none tt;
     received = subst (λ i. AllByRecursion (ReceivesAtMost p.most) i.receivers) (sym keep.is) tt;
   };
@@ -64,7 +66,7 @@ new-value p senders inbound none keep = rw (none, keep.is) refl
 
 pub tick-room : (p : Party) (next : ℕ) (senders : List (ℕ × SessionValue Sending)) (inbound : Inbound) → AreWhole p next senders inbound
     → inbound.closed.runs + length (inbound_of inbound).receivers < 2 ^ 32
-tick-room p next senders inbound whole = omega (arith, whole.sound.inbound.history)
+tick-room p next senders inbound whole = omega (arith, whole.sound.inbound.history, whole.sound.countable)
 
 pub tick-whole : (p : Party) (next now : ℕ) (senders senders' : List (ℕ × SessionValue Sending)) (inbound inbound' : Inbound) → AreWhole p next senders inbound
     → senders' ≡ live_all p.own p.policy (ticked (sender_change p.policy now) (table_of senders))
@@ -76,12 +78,14 @@ tick-whole p next now senders senders' inbound inbound' whole is keep =
       own = live-table p.own p.policy senders' (ticked (sender_change p.policy now) (table_of senders)) is;
       others = keep.live;
       sound = record {
+        some = whole.sound.some;
+        countable = whole.sound.countable;
         begun = whole.sound.begun;
         numbers = whole.sound.numbers;
         senders = rw tab (omega (arith, fewer, whole.sound.senders));
         ascending = subst (λ t. AreAscending 0 t) (sym tab) (ascending-ticked (sender_change p.policy now) 0 (table_of senders) whole.sound.ascending);
-        inbound = subst IsInboundSound (sym keep.is)
-            (sound-ticked (receiver_change p.policy now) (inbound_of inbound) whole.sound.inbound);
+        inbound = subst (IsInboundSound p) (sym keep.is)
+            (sound-ticked p (receiver_change p.policy now) (inbound_of inbound) whole.sound.inbound);
         sent = subst (λ t. AllByRecursion (SendsAtMost p.most) t) (sym tab)
             (all-ticked (SendsAtMost p.most) (sender_change p.policy now) (table_of senders) (λ n s within. sender-tick-within p.most n p.policy now s within) whole.sound.sent);
         received = subst (λ i. AllByRecursion (ReceivesAtMost p.most) i.receivers) (sym keep.is)
@@ -105,7 +109,7 @@ tick-steps p next now senders senders' inbound inbound' sent told whole is keep 
         next = shows.next;
         senders = ap (λ t. ticked (sender_change p.policy now) t) shows.senders ∙ sym tab;
         inbound = subst (λ i. ShowsInbound i (tick_step p e now).engine) (sym keep.is)
-            (shows-ticked (receiver_change p.policy now) (inbound_of inbound) e (tick_step p e now).engine whole.sound.inbound shows.inbound refl refl refl);
+            (shows-ticked p (receiver_change p.policy now) (inbound_of inbound) e (tick_step p e now).engine whole.sound.inbound shows.inbound refl refl refl);
       };
       effects_are = λ e shows. told_is ∙ (rw sent_is (rw (shows.senders, shows.inbound.receivers)
           (rw (map-append segment_octets (tick_segments (sender_ticked p.policy now) p.own (table_of senders)) (tick_segments (receiver_ticked p.policy now) p.peer (inbound_of inbound).receivers)) refl)));

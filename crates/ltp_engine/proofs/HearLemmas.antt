@@ -141,6 +141,8 @@ own-whole p next n now content senders senders' inbound told whole does = by_ans
         own = live-table p.own p.policy senders' (settled n step.next (table_of senders)) does.next;
         others = whole.others;
         sound = record {
+          some = whole.sound.some;
+          countable = whole.sound.countable;
           begun = whole.sound.begun;
           numbers = whole.sound.numbers;
           senders = rw tab (omega (arith, few, whole.sound.senders));
@@ -250,11 +252,11 @@ all-room most i (Some m) all = all-settled (ReceivesAtMost most) m ends i.receiv
 
 pub peer-whole : (p : Party) (next n now : ℕ) (content : ContentValue) (senders : List (ℕ × SessionValue Sending)) (old new : Inbound) (told : Option (Option ℕ × Step))
     → p.most ≡ BLOCK_MAX → n ≤ LAST → AreWhole p next senders old
-    → ReceiverDoes p.peer p.policy n (receiver_answers p.policy (place_in (inbound_of old) BLOCK_MAX n) (find n (inbound_of old).receivers) content now) old new told
+    → ReceiverDoes p.peer p.policy p.sessions n (receiver_answers p.policy (place_in (inbound_of old) BLOCK_MAX p.history n) (find n (inbound_of old).receivers) content now) old new told
     → AreWhole p next senders new
-peer-whole p next n now content senders old new told greatest most whole does = by_answer (receiver_answers p.policy (place_in (inbound_of old) BLOCK_MAX n) (find n (inbound_of old).receivers) content now) refl told does where
-  by_answer : (answer : Option (StepValue Receiving)) → receiver_answers p.policy (place_in (inbound_of old) BLOCK_MAX n) (find n (inbound_of old).receivers) content now ≡ answer
-      → (told : Option (Option ℕ × Step)) → ReceiverDoes p.peer p.policy n answer old new told → AreWhole p next senders new
+peer-whole p next n now content senders old new told greatest most whole does = by_answer (receiver_answers p.policy (place_in (inbound_of old) BLOCK_MAX p.history n) (find n (inbound_of old).receivers) content now) refl told does where
+  by_answer : (answer : Option (StepValue Receiving)) → receiver_answers p.policy (place_in (inbound_of old) BLOCK_MAX p.history n) (find n (inbound_of old).receivers) content now ≡ answer
+      → (told : Option (Option ℕ × Step)) → ReceiverDoes p.peer p.policy p.sessions n answer old new told → AreWhole p next senders new
   by_answer None is None does = subst (λ i. AreWhole p next senders i) (sym does) whole
   by_answer None is (Some t) does = absurd does
   by_answer (Some step) is None does = absurd does
@@ -264,19 +266,21 @@ peer-whole p next n now content senders old new told greatest most whole does = 
         own = whole.own;
         others = does.next.live;
         sound = record {
+          some = whole.sound.some;
+          countable = whole.sound.countable;
           begun = whole.sound.begun;
           numbers = whole.sound.numbers;
           senders = whole.sound.senders;
           ascending = whole.sound.ascending;
-          inbound = subst IsInboundSound (sym does.next.is)
-              (sound-step (inbound_of old) n BLOCK_MAX t.0 step.next most (in-order p.peer p.policy old whole.others) whole.sound.inbound does.gone
-              (λ absent. receiver-may p.policy (place_in (inbound_of old) BLOCK_MAX n) content now step (ap (λ kept. receiver_answers p.policy (place_in (inbound_of old) BLOCK_MAX n) kept content now) (sym absent) ∙ is)));
+          inbound = subst (IsInboundSound p) (sym does.next.is)
+              (sound-step p (inbound_of old) n BLOCK_MAX t.0 step.next most whole.sound.some (in-order p.peer p.policy old whole.others) whole.sound.inbound does.gone
+              (λ absent. receiver-may p.policy (place_in (inbound_of old) BLOCK_MAX p.history n) content now step (ap (λ kept. receiver_answers p.policy (place_in (inbound_of old) BLOCK_MAX p.history n) kept content now) (sym absent) ∙ is)));
           sent = whole.sound.sent;
           received = subst (λ i. AllByRecursion (ReceivesAtMost p.most) i.receivers) (sym does.next.is)
               (all-settled (ReceivesAtMost p.most) n step.next (with_room (inbound_of old) t.0).receivers
               (all-room p.most (inbound_of old) t.0 whole.sound.received)
               (subst (λ m. IfKeeps (λ r. ReceivesAtMost m (n, r)) step.next) (sym greatest)
-              (receiver-within n p.policy (place_in (inbound_of old) BLOCK_MAX n) (find n (inbound_of old).receivers) content now step is
+              (receiver-within n p.policy (place_in (inbound_of old) BLOCK_MAX p.history n) (find n (inbound_of old).receivers) content now step is
               (subst (λ m. IfKept (λ r. ReceivesAtMost m (n, r)) (find n (inbound_of old).receivers)) greatest (all-find (ReceivesAtMost p.most) n (inbound_of old).receivers whole.sound.received)))));
         };
       }
@@ -288,29 +292,29 @@ ups-same n None = refl
 ups-same n (Some body) = refl
 
 peer-reply : (p : Party) (next n now : ℕ) (content : ContentValue) (senders : List (ℕ × SessionValue Sending)) (old : Inbound) (answer : Option (StepValue Receiving)) (e : Engine)
-    → p.most ≡ BLOCK_MAX → receiver_answers p.policy (place_in (inbound_of old) BLOCK_MAX n) (find n (inbound_of old).receivers) content now ≡ answer
+    → p.most ≡ BLOCK_MAX → receiver_answers p.policy (place_in (inbound_of old) BLOCK_MAX p.history n) (find n (inbound_of old).receivers) content now ≡ answer
     → Shows (made_of false p next senders old) e
-    → peer_step p e n content now ≡ replied_or_stranger e (record { originator = p.peer; number = n }) (receiver_replies e n answer)
+    → peer_step p e n content now ≡ replied_or_stranger e (record { originator = p.peer; number = n }) (receiver_replies p e n answer)
 peer-reply p next n now content senders old answer e greatest is shows =
-    ap (λ x. replied_or_stranger e (record { originator = p.peer; number = n }) (receiver_replies e n (receiver_answers p.policy x (find n e.receivers) content now)))
-    (same-place p (inbound_of old) e n shows.inbound ∙ ap (λ m. place_in (inbound_of old) m n) greatest)
-    ∙ (ap (λ t. replied_or_stranger e (record { originator = p.peer; number = n }) (receiver_replies e n (receiver_answers p.policy (place_in (inbound_of old) BLOCK_MAX n) (find n t) content now))) shows.inbound.receivers
-    ∙ ap (λ a. replied_or_stranger e (record { originator = p.peer; number = n }) (receiver_replies e n a)) is)
+    ap (λ x. replied_or_stranger e (record { originator = p.peer; number = n }) (receiver_replies p e n (receiver_answers p.policy x (find n e.receivers) content now)))
+    (same-place p (inbound_of old) e n shows.inbound ∙ ap (λ m. place_in (inbound_of old) m p.history n) greatest)
+    ∙ (ap (λ t. replied_or_stranger e (record { originator = p.peer; number = n }) (receiver_replies p e n (receiver_answers p.policy (place_in (inbound_of old) BLOCK_MAX p.history n) (find n t) content now))) shows.inbound.receivers
+    ∙ ap (λ a. replied_or_stranger e (record { originator = p.peer; number = n }) (receiver_replies p e n a)) is)
 
 pub peer-steps : (p : Party) (next n now : ℕ) (content : ContentValue) (senders : List (ℕ × SessionValue Sending)) (old new : Inbound) (told : Option (Option ℕ × Step)) (effects : Effects)
     → p.most ≡ BLOCK_MAX → n ≤ LAST → AreWhole p next senders old
-    → ReceiverDoes p.peer p.policy n (receiver_answers p.policy (place_in (inbound_of old) BLOCK_MAX n) (find n (inbound_of old).receivers) content now) old new told
+    → ReceiverDoes p.peer p.policy p.sessions n (receiver_answers p.policy (place_in (inbound_of old) BLOCK_MAX p.history n) (find n (inbound_of old).receivers) content now) old new told
     → effects ≡ handed_of n told
     → Steps (made_of false p next senders old) (made_of false p next senders new) (λ e. peer_step p e n content now) effects
 peer-steps p next n now content senders old new told effects greatest most whole does says =
-    by_answer (receiver_answers p.policy (place_in (inbound_of old) BLOCK_MAX n) (find n (inbound_of old).receivers) content now) refl told does says where
-      reply : (answer : Option (StepValue Receiving)) → receiver_answers p.policy (place_in (inbound_of old) BLOCK_MAX n) (find n (inbound_of old).receivers) content now ≡ answer
+    by_answer (receiver_answers p.policy (place_in (inbound_of old) BLOCK_MAX p.history n) (find n (inbound_of old).receivers) content now) refl told does says where
+      reply : (answer : Option (StepValue Receiving)) → receiver_answers p.policy (place_in (inbound_of old) BLOCK_MAX p.history n) (find n (inbound_of old).receivers) content now ≡ answer
           → (e : Engine) → Shows (made_of false p next senders old) e
-          → replied_or_stranger e (record { originator = p.peer; number = n }) (receiver_replies e n answer) ≡ peer_step p e n content now
+          → replied_or_stranger e (record { originator = p.peer; number = n }) (receiver_replies p e n answer) ≡ peer_step p e n content now
       reply answer is e shows = sym (peer-reply p next n now content senders old answer e greatest is shows)
 
-      by_answer : (answer : Option (StepValue Receiving)) → receiver_answers p.policy (place_in (inbound_of old) BLOCK_MAX n) (find n (inbound_of old).receivers) content now ≡ answer
-          → (told : Option (Option ℕ × Step)) → ReceiverDoes p.peer p.policy n answer old new told → effects ≡ handed_of n told
+      by_answer : (answer : Option (StepValue Receiving)) → receiver_answers p.policy (place_in (inbound_of old) BLOCK_MAX p.history n) (find n (inbound_of old).receivers) content now ≡ answer
+          → (told : Option (Option ℕ × Step)) → ReceiverDoes p.peer p.policy p.sessions n answer old new told → effects ≡ handed_of n told
           → Steps (made_of false p next senders old) (made_of false p next senders new) (λ e. peer_step p e n content now) effects
       by_answer None is (Some t) does says = absurd does
       by_answer (Some step) is None does says = absurd does
@@ -334,7 +338,7 @@ peer-steps p next n now content senders old new told effects greatest most whole
             (says ∙ (rw (does.says, (moves e shows).same) (rw (ups-same n step.up) refl)));
       } where
         gone_of : Engine → Option ℕ
-        gone_of e = evicted_by e (find n e.receivers) step.next
+        gone_of e = evicted_by p e (find n e.receivers) step.next
 
         next-without : (e : Engine) (gone : Option ℕ) → (without_evicted e gone).next ≡ e.next
         next-without e None = refl
@@ -346,8 +350,8 @@ peer-steps p next n now content senders old new told effects greatest most whole
 
         moves : (e : Engine) → Shows (made_of false p next senders old) e
             → StepsIn (inbound_of old) (settled_in (with_room (inbound_of old) t.0) n step.next) e (with_receiver (without_evicted e (gone_of e)) n step.next) t.0 (gone_of e)
-        moves e shows = shows-step (inbound_of old) e n BLOCK_MAX t.0 step.next most whole.sound.inbound shows.inbound does.gone
-            (λ absent. receiver-may p.policy (place_in (inbound_of old) BLOCK_MAX n) content now step (ap (λ kept. receiver_answers p.policy (place_in (inbound_of old) BLOCK_MAX n) kept content now) (sym absent) ∙ is))
+        moves e shows = shows-step p (inbound_of old) e n BLOCK_MAX t.0 step.next most whole.sound.inbound shows.inbound does.gone
+            (λ absent. receiver-may p.policy (place_in (inbound_of old) BLOCK_MAX p.history n) content now step (ap (λ kept. receiver_answers p.policy (place_in (inbound_of old) BLOCK_MAX p.history n) kept content now) (sym absent) ∙ is))
 
 -- ---- a segment of either side, or a stranger's
 

@@ -163,14 +163,30 @@ pub kept-are : (o : ℕ) (p : PolicyValue) (i : Inbound) (len : ℕ) → AreLive
     → len ≡ length i.receivers.entries → len ≡ length (inbound_of i).receivers
 kept-are o p i len are_live distinct is = is ∙ sym (length-live o p i are_live distinct)
 
-pub room-left : (o : ℕ) (p : PolicyValue) (i : Inbound) (n : ℕ) → AreLive o p i.receivers.entries → IsDistinct nat_eq (keys_of i.receivers.entries)
-    → n ≡ length i.receivers.entries → n < 64 → None ≡ evicted_in (inbound_of i)
+pub room-left : (sessions o : ℕ) (p : PolicyValue) (i : Inbound) (n : ℕ) → AreLive o p i.receivers.entries → IsDistinct nat_eq (keys_of i.receivers.entries)
+    → n ≡ length i.receivers.entries → n < sessions → None ≡ evicted_in sessions (inbound_of i)
 unfolding evicted_in
-room-left o p i n are_live distinct is low =
-    let few : nat_le 64 (length (inbound_of i).receivers) ≡ false = few_of (length (inbound_of i).receivers) (is ∙ sym (length-live o p i are_live distinct)) in
+room-left sessions o p i n are_live distinct is low =
+    let few : nat_le sessions (length (inbound_of i).receivers) ≡ false = few_of (length (inbound_of i).receivers) (is ∙ sym (length-live o p i are_live distinct)) in
     rw few refl where
-      few_of : (m : ℕ) → n ≡ m → nat_le 64 m ≡ false
+      few_of : (m : ℕ) → n ≡ m → nat_le sessions m ≡ false
       few_of m is = grind (arith, nat_tests)
+
+-- where no session stands first there is none
+pub none-first : (sessions : ℕ) (i : Inbound) → None ≡ slice_get i.receivers.entries 0 → None ≡ evicted_in sessions (inbound_of i)
+unfolding evicted_in by_number
+none-first sessions i none = by_entries i.receivers.entries none where
+  nobody : Option ℕ
+  nobody = None
+
+  by_many : (many : Bool) → nobody ≡ (if many then nobody else nobody)
+  by_many true = refl
+  by_many false = refl
+
+  by_entries : (es : List (ℕ × SessionValue Receiving)) → None ≡ slice_get es 0
+      → None ≡ (if nat_le sessions (length (by_number (table_of es))) then longest_untouched (keys_of es) (by_number (table_of es)) else None)
+  by_entries [] is = by_many (nat_le sessions 0)
+  by_entries (e ∷ es) is = absurd (cc)
 
 -- the session that is longest untouched stands first
 longest-first : (o : ℕ) (p : PolicyValue) (i : Inbound) (e : ℕ × SessionValue Receiving) → AreLive o p i.receivers.entries → slice_get i.receivers.entries 0 ≡ Some e
@@ -189,13 +205,13 @@ longest-first o p i e are_live first = by_table (table_of i.receivers.entries) a
         same : {X : Type 0} {x y : X} → Some x ≡ Some y → x ≡ y
         same is = cc
 
-pub room-made : (o : ℕ) (p : PolicyValue) (i : Inbound) (n : ℕ) (e : ℕ × SessionValue Receiving) → AreLive o p i.receivers.entries → IsDistinct nat_eq (keys_of i.receivers.entries)
-    → n ≡ length i.receivers.entries → 64 ≤ n → slice_get i.receivers.entries 0 ≡ Some e → Some e.0 ≡ evicted_in (inbound_of i)
+pub room-made : (sessions o : ℕ) (p : PolicyValue) (i : Inbound) (n : ℕ) (e : ℕ × SessionValue Receiving) → AreLive o p i.receivers.entries → IsDistinct nat_eq (keys_of i.receivers.entries)
+    → n ≡ length i.receivers.entries → sessions ≤ n → slice_get i.receivers.entries 0 ≡ Some e → Some e.0 ≡ evicted_in sessions (inbound_of i)
 unfolding evicted_in
-room-made o p i n e are_live distinct is high first =
-    let full : nat_le 64 (length (inbound_of i).receivers) ≡ true = full_of (length (inbound_of i).receivers) (is ∙ sym (length-live o p i are_live distinct)) in
+room-made sessions o p i n e are_live distinct is high first =
+    let full : nat_le sessions (length (inbound_of i).receivers) ≡ true = full_of (length (inbound_of i).receivers) (is ∙ sym (length-live o p i are_live distinct)) in
     rw full (longest-first o p i e are_live first) where
-      full_of : (m : ℕ) → n ≡ m → nat_le 64 m ≡ true
+      full_of : (m : ℕ) → n ≡ m → nat_le sessions m ≡ true
       full_of m is = grind (arith, nat_tests)
 
 pub first-gone : (o : ℕ) (p : PolicyValue) (old new : Inbound) (e : ℕ × SessionValue Receiving) → AreLive o p old.receivers.entries → IsDistinct nat_eq (keys_of old.receivers.entries)
@@ -331,14 +347,14 @@ absent-room i n (Some m) absent = by_test (nat_eq n m) refl where
     differ : {b : Bool} → b ≡ true → b ≡ false → ⊥
     differ is also = cc
 
-pub begun-live : (o : ℕ) (p : PolicyValue) (n : ℕ) (piece : PieceValue) (now : ℕ) (old mid new : Inbound) (w : SessionValue Receiving) (told : Option ℕ × Step)
+pub begun-live : (sessions o : ℕ) (p : PolicyValue) (n : ℕ) (piece : PieceValue) (now : ℕ) (old mid new : Inbound) (w : SessionValue Receiving) (told : Option ℕ × Step)
     → find n (inbound_of old).receivers ≡ None
     → w ≡ changed (new_session (record { originator = o; number = n }) p) (piece_step p (fresh n) piece now).next
     → told.1 ≡ answer_of (record { originator = o; number = n }) (piece_step p (fresh n) piece now)
-    → told.0 ≡ evicted_in (inbound_of old) → Keeps o p mid (with_room (inbound_of old) told.0)
+    → told.0 ≡ evicted_in sessions (inbound_of old) → Keeps o p mid (with_room (inbound_of old) told.0)
     → IsDistinct nat_eq (keys_of mid.receivers.entries) → new.receivers.entries ≡ insert_entry nat_eq mid.receivers.entries n w → new.closed ≡ mid.closed
-    → Takes o p n (piece_step p (fresh n) piece now) old new told
-begun-live o p n piece now old mid new w told absent to says gone room distinct inserted closed =
+    → Takes o p sessions n (piece_step p (fresh n) piece now) old new told
+begun-live sessions o p n piece now old mid new w told absent to says gone room distinct inserted closed =
     let (r, keeping) = opens n p piece now in
     let state : w ≡ live o p n r = to ∙ ap (λ c. changed (new_session (record { originator = o; number = n }) p) c) keeping in
     let unkept : find n (inbound_of mid).receivers ≡ None = subst (λ i. find n i.receivers ≡ None) (sym room.is) (absent-room (inbound_of old) n told.0 absent) in
@@ -392,44 +408,44 @@ absent-mid o p n piece now old mid takes =
     subst (λ i. find n i.receivers ≡ None) (sym keep.is) absent
 
 -- what a step did, by what was kept before it
-pub record Held (o : ℕ) (p : PolicyValue) (n : ℕ) (step : StepValue Receiving) (new : Inbound) (told : Option ℕ × Step) (i : InboundValue) : Type 0 where
-  pub gone : told.0 ≡ evicted_for i (find n i.receivers) step.next
+pub record Held (o : ℕ) (p : PolicyValue) (sessions n : ℕ) (step : StepValue Receiving) (new : Inbound) (told : Option ℕ × Step) (i : InboundValue) : Type 0 where
+  pub gone : told.0 ≡ evicted_for sessions i (find n i.receivers) step.next
   pub next : Keeps o p new (settled_in (with_room i told.0) n step.next)
   pub says : told.1 ≡ answer_of (record { originator = o; number = n }) step
 
-pub takes-first : (o : ℕ) (p : PolicyValue) (n : ℕ) (piece : PieceValue) (now most : ℕ) (old mid new : Inbound) (told : Option ℕ × Step)
+pub takes-first : (o : ℕ) (p : PolicyValue) (sessions n : ℕ) (piece : PieceValue) (now most history : ℕ) (old mid new : Inbound) (told : Option ℕ × Step)
     → (piece.service == 1) ≡ true → is_no_part most piece.offset piece.body ≡ false
-    → TakesNext o p n piece now old mid None → Takes o p n (first_piece p (place_in (inbound_of mid) most n) piece now) mid new told
-    → Takes o p n (on_piece p (place_in (inbound_of old) most n) (find n (inbound_of old).receivers) piece now) old new told
-takes-first o p n piece now most old mid new told served fits takes does =
+    → TakesNext o p n piece now old mid None → Takes o p sessions n (first_piece p (place_in (inbound_of mid) most history n) piece now) mid new told
+    → Takes o p sessions n (on_piece p (place_in (inbound_of old) most history n) (find n (inbound_of old).receivers) piece now) old new told
+takes-first o p sessions n piece now most history old mid new told served fits takes does =
     let (absent, keep) = absent-next o p n piece now old mid takes in
-    let held = subst (λ i. Held o p n (first_piece p (place_in i most n) piece now) new told i) keep.is (record { gone = does.gone; next = does.next; says = does.says }) in
-    rw (served, fits) (subst (λ kept. Takes o p n (piece_for p (place_in (inbound_of old) most n) kept piece now) old new told) (sym absent)
+    let held = subst (λ i. Held o p sessions n (first_piece p (place_in i most history n) piece now) new told i) keep.is (record { gone = does.gone; next = does.next; says = does.says }) in
+    rw (served, fits) (subst (λ kept. Takes o p sessions n (piece_for p (place_in (inbound_of old) most history n) kept piece now) old new told) (sym absent)
     (record { gone = held.gone; next = held.next; says = held.says }))
 
-pub takes-kept : (o : ℕ) (p : PolicyValue) (n : ℕ) (piece : PieceValue) (now most : ℕ) (old new : Inbound) (told : Step)
+pub takes-kept : (o : ℕ) (p : PolicyValue) (sessions n : ℕ) (piece : PieceValue) (now most history : ℕ) (old new : Inbound) (told : Step)
     → (piece.service == 1) ≡ true → is_no_part most piece.offset piece.body ≡ false → TakesNext o p n piece now old new (Some told)
-    → Takes o p n (on_piece p (place_in (inbound_of old) most n) (find n (inbound_of old).receivers) piece now) old new (None, told)
-takes-kept o p n piece now most old new told served fits takes = rw (served, fits) (go (find n (inbound_of old).receivers) refl takes) where
+    → Takes o p sessions n (on_piece p (place_in (inbound_of old) most history n) (find n (inbound_of old).receivers) piece now) old new (None, told)
+takes-kept o p sessions n piece now most history old new told served fits takes = rw (served, fits) (go (find n (inbound_of old).receivers) refl takes) where
   go : (kept : Option Receiving) → find n (inbound_of old).receivers ≡ kept → TakesKept o p n piece now old new kept (Some told)
-      → Takes o p n (piece_for p (place_in (inbound_of old) most n) kept piece now) old new (None, told)
+      → Takes o p sessions n (piece_for p (place_in (inbound_of old) most history n) kept piece now) old new (None, told)
   go None is takes = absurd takes
   go (Some r) is takes = record { gone = rw is refl; next = takes.next; says = takes.says }
 
 -- a step that changes nothing
-pub takes-nothing : (o : ℕ) (p : PolicyValue) (n : ℕ) (step : StepValue Receiving) (old : Inbound) (told : Step) → AreLive o p old.receivers.entries → step.next ≡ stays
-    → told ≡ answer_of (record { originator = o; number = n }) step → Takes o p n step old old (None, told)
-takes-nothing o p n step old told are_live unmoved says =
+pub takes-nothing : (o : ℕ) (p : PolicyValue) (sessions n : ℕ) (step : StepValue Receiving) (old : Inbound) (told : Step) → AreLive o p old.receivers.entries → step.next ≡ stays
+    → told ≡ answer_of (record { originator = o; number = n }) step → Takes o p sessions n step old old (None, told)
+takes-nothing o p sessions n step old told are_live unmoved says =
     record { gone = rw unmoved (sym (none (find n (inbound_of old).receivers))); next = rw unmoved (record { live = are_live; is = refl }); says = says } where
-      none : (kept : Option Receiving) → evicted_for (inbound_of old) kept stays ≡ None
+      none : (kept : Option Receiving) → evicted_for sessions (inbound_of old) kept stays ≡ None
       none None = refl
       none (Some r) = refl
 
 -- a step that opens no session evicts none
-pub takes-of : (o : ℕ) (p : PolicyValue) (n : ℕ) (f : Option Receiving → StepValue Receiving) (old new : Inbound) (told : Step)
+pub takes-of : (o : ℕ) (p : PolicyValue) (sessions n : ℕ) (f : Option Receiving → StepValue Receiving) (old new : Inbound) (told : Step)
     → Receives o p n (f (find n (inbound_of old).receivers)) old new told → (f None).next ≡ stays
-    → Takes o p n (f (find n (inbound_of old).receivers)) old new (None, told)
-takes-of o p n f old new told does unmoved = record { gone = none (find n (inbound_of old).receivers); next = does.next; says = does.says } where
-  none : (kept : Option Receiving) → None ≡ evicted_for (inbound_of old) kept (f kept).next
+    → Takes o p sessions n (f (find n (inbound_of old).receivers)) old new (None, told)
+takes-of o p sessions n f old new told does unmoved = record { gone = none (find n (inbound_of old).receivers); next = does.next; says = does.says } where
+  none : (kept : Option Receiving) → None ≡ evicted_for sessions (inbound_of old) kept (f kept).next
   none None = rw unmoved refl
   none (Some r) = refl

@@ -8,7 +8,7 @@ use Rattle.std.proofs.lemmas.Bool.Decides.{nat_tests}
 use Rattle.ltp_session.specs.Step.{Change, stays, keeps, ends, after}
 use Rattle.ltp_session.specs.Receiver.{Receiving, Place}
 use Rattle.ltp_session.specs.Table.{find, put, without, AreAscending, ticked, ended, then_kept, then_ended}
-use Rattle.ltp_session.specs.Engine.{is_closed, untouched_all, longest_untouched}
+use Rattle.ltp_session.specs.Engine.{Party, is_closed, untouched_all, longest_untouched}
 use Rattle.ltp_laws.proofs.TableLemmas.{self_eqb, find_below, find-put_other, find-without, find-without_other, find-ticked, after_tick, ascending-put, ascending-without, ascending-ticked}
 use Rattle.ltp_engine.specs.declared.closed.TheConstants.{LAST}
 use Rattle.ltp_engine.specs.Closed.{ClosedValue, is_among, also_closed, all_closed}
@@ -92,9 +92,9 @@ some-without n m t holds = (apart, ap (λ x. is_some x) (sym (find-without_other
     differ : {b : Bool} → b ≡ false → b ≡ true → ⊥
     differ is also = cc
 
-pub sound-put : (i : InboundValue) (n : ℕ) (r : Receiving) → IsInboundSound i → n ≤ LAST → is_among i.closed n ≡ false
-    → length (put n r i.receivers) ≤ 64 → i.closed.runs + length (put n r i.receivers) ≤ 65536 → IsInboundSound (settled_in i n (keeps r))
-sound-put i n r sound most open_is few room = record {
+pub sound-put : (p : Party) (i : InboundValue) (n : ℕ) (r : Receiving) → IsInboundSound p i → n ≤ LAST → is_among i.closed n ≡ false
+    → length (put n r i.receivers) ≤ p.sessions → i.closed.runs + length (put n r i.receivers) ≤ p.history → IsInboundSound p (settled_in i n (keeps r))
+sound-put p i n r sound most open_is few room = record {
   receivers = few;
   history = room;
   unclosed = λ m holds. some-put n m r i.receivers (λ k. is_among i.closed k ≡ false) open_is sound.unclosed holds;
@@ -103,8 +103,8 @@ sound-put i n r sound most open_is few room = record {
   ascending = ascending-put n 0 r i.receivers (omega arith) sound.ascending;
 }
 
-pub sound-ends : (i : InboundValue) (n : ℕ) → IsInboundSound i → is_some (find n i.receivers) ≡ true → IsInboundSound (settled_in i n ends)
-sound-ends i n sound found = record {
+pub sound-ends : (p : Party) (i : InboundValue) (n : ℕ) → IsInboundSound p i → is_some (find n i.receivers) ≡ true → IsInboundSound p (settled_in i n ends)
+sound-ends p i n sound found = record {
   receivers = omega (arith, fewer, sound.receivers);
   history = omega (arith, fewer, runs-grow n i.closed, sound.history);
   unclosed = λ m holds. still m (some-without n m i.receivers holds);
@@ -121,12 +121,12 @@ sound-ends i n sound found = record {
   still : (m : ℕ) → (m ≢ n) × (is_some (find m i.receivers) ≡ true) → is_among (also_closed n i.closed) m ≡ false
   still m (apart, there) = among-also n i.closed m most sound.limit ∙ rw (ne_eqb n m (λ e. apart (sym e))) (sound.unclosed m there)
 
-pub sound-kept : (i : InboundValue) (n : ℕ) (change : Change Receiving) → IsInboundSound i → is_some (find n i.receivers) ≡ true → IsInboundSound (settled_in i n change)
-sound-kept i n stays sound found = sound
-sound-kept i n (keeps r) sound found =
+pub sound-kept : (p : Party) (i : InboundValue) (n : ℕ) (change : Change Receiving) → IsInboundSound p i → is_some (find n i.receivers) ≡ true → IsInboundSound p (settled_in i n change)
+sound-kept p i n stays sound found = sound
+sound-kept p i n (keeps r) sound found =
     let few = length-put_found n 0 r i.receivers found sound.ascending in
-    sound-put i n r sound (sound.range n found) (sound.unclosed n found) (omega (arith, few, sound.receivers)) (omega (arith, few, sound.history))
-sound-kept i n ends sound found = sound-ends i n sound found
+    sound-put p i n r sound (sound.range n found) (sound.unclosed n found) (omega (arith, few, sound.receivers)) (omega (arith, few, sound.history))
+sound-kept p i n ends sound found = sound-ends p i n sound found
 
 -- ---- a session opens
 
@@ -135,10 +135,10 @@ abbrev pub IsInOrder : InboundValue → Type 0
 IsInOrder i = (n : ℕ) → list_any (λ m. m == n) i.touched ≡ is_some (find n i.receivers)
 
 -- the longest untouched of some sessions is kept
-first-kept : (i : InboundValue) → IsInOrder i → 64 ≤ length i.receivers → (n : ℕ) × (longest_untouched i.touched i.receivers ≡ Some n) × (is_some (find n i.receivers) ≡ true)
+first-kept : (i : InboundValue) → IsInOrder i → 1 ≤ length i.receivers → (n : ℕ) × (longest_untouched i.touched i.receivers ≡ Some n) × (is_some (find n i.receivers) ≡ true)
 unfolding find
 first-kept i order many = by_touched i.touched i.receivers order many where
-  by_touched : (touched : List ℕ) (t : List (ℕ × Receiving)) → ((m : ℕ) → list_any (λ k. k == m) touched ≡ is_some (find m t)) → 64 ≤ length t
+  by_touched : (touched : List ℕ) (t : List (ℕ × Receiving)) → ((m : ℕ) → list_any (λ k. k == m) touched ≡ is_some (find m t)) → 1 ≤ length t
       → (n : ℕ) × (longest_untouched touched t ≡ Some n) × (is_some (find n t) ≡ true)
   by_touched [] [] order many = absurd (omega (arith, many))
   by_touched [] (e ∷ t) order many = absurd (differ (order e.0) (rw (self_eqb e.0) refl)) where
@@ -150,44 +150,44 @@ first-kept i order many = by_touched i.touched i.receivers order many where
     by_kept (Some r) is holds = (n, ap (λ k. option_map (λ r. n) k) is, holds)
 
 -- after it was made, there is room for a session that isn't kept
-pub record HasRoom (i : InboundValue) (n : ℕ) : Type 0 where
-  pub sound : IsInboundSound i
-  pub few : length i.receivers + 1 ≤ 64
-  pub room : i.closed.runs + length i.receivers + 1 ≤ 65536
+pub record HasRoom (p : Party) (i : InboundValue) (n : ℕ) : Type 0 where
+  pub sound : IsInboundSound p i
+  pub few : length i.receivers + 1 ≤ p.sessions
+  pub room : i.closed.runs + length i.receivers + 1 ≤ p.history
   pub open_is : is_among i.closed n ≡ false
 
-pub room-for : (i : InboundValue) (n : ℕ) → IsInOrder i → IsInboundSound i → find n i.receivers ≡ None → is_among i.closed n ≡ false
-    → nat_le 65536 (i.closed.runs + length i.receivers) ≡ false → HasRoom (with_room i (evicted_in i)) n
+pub room-for : (p : Party) (i : InboundValue) (n : ℕ) → 1 ≤ p.sessions → IsInOrder i → IsInboundSound p i → find n i.receivers ≡ None → is_among i.closed n ≡ false
+    → nat_le p.history (i.closed.runs + length i.receivers) ≡ false → HasRoom p (with_room i (evicted_in p.sessions i)) n
 unfolding evicted_in
-room-for i n order sound absent open_is not_full = by_many (nat_le 64 (length i.receivers)) refl where
-  there_is : i.closed.runs + length i.receivers + 1 ≤ 65536
+room-for p i n some order sound absent open_is not_full = by_many (nat_le p.sessions (length i.receivers)) refl where
+  there_is : i.closed.runs + length i.receivers + 1 ≤ p.history
   there_is = go (i.closed.runs + length i.receivers) not_full where
-    go : (k : ℕ) → nat_le 65536 k ≡ false → k + 1 ≤ 65536
+    go : (k : ℕ) → nat_le p.history k ≡ false → k + 1 ≤ p.history
     go k is = grind (arith, nat_tests)
 
-  by_many : (many : Bool) → nat_le 64 (length i.receivers) ≡ many → HasRoom (with_room i (if many then longest_untouched i.touched i.receivers else None)) n
+  by_many : (many : Bool) → nat_le p.sessions (length i.receivers) ≡ many → HasRoom p (with_room i (if many then longest_untouched i.touched i.receivers else None)) n
   by_many false is = record { sound = sound; few = go (length i.receivers) is; room = there_is; open_is = open_is } where
-    go : (k : ℕ) → nat_le 64 k ≡ false → k + 1 ≤ 64
+    go : (k : ℕ) → nat_le p.sessions k ≡ false → k + 1 ≤ p.sessions
     go k is = grind (arith, nat_tests)
   by_many true is =
-      let (m, longest, found) = first-kept i order (go (length i.receivers) is) in
+      let (m, longest, found) = first-kept i order (omega (arith, some, go (length i.receivers) is)) in
       let fewer = length-without_found m i.receivers found in
       rw longest (record {
-        sound = sound-ends i m sound found;
+        sound = sound-ends p i m sound found;
         few = omega (arith, fewer, sound.receivers);
         room = omega (arith, fewer, runs-grow m i.closed, there_is);
         open_is = among-also m i.closed n (sound.range m found) sound.limit ∙ rw (ne_eqb m n (λ e. differ (ap (λ x. is_some x) (subst (λ k. find k i.receivers ≡ None) (sym e) absent)) found)) open_is;
       }) where
-        go : (k : ℕ) → nat_le 64 k ≡ true → 64 ≤ k
+        go : (k : ℕ) → nat_le p.sessions k ≡ true → p.sessions ≤ k
         go k is = grind (arith, nat_tests)
 
         differ : {b : Bool} → b ≡ false → b ≡ true → ⊥
         differ is also = cc
 
-pub sound-opens : (i : InboundValue) (n : ℕ) (r : Receiving) → n ≤ LAST → HasRoom i n → IsInboundSound (settled_in i n (keeps r))
-sound-opens i n r most room =
+pub sound-opens : (p : Party) (i : InboundValue) (n : ℕ) (r : Receiving) → n ≤ LAST → HasRoom p i n → IsInboundSound p (settled_in i n (keeps r))
+sound-opens p i n r most room =
     let more = length-put n r i.receivers in
-    sound-put i n r room.sound most room.open_is (omega (arith, more, room.few)) (omega (arith, more, room.room))
+    sound-put p i n r room.sound most room.open_is (omega (arith, more, room.few)) (omega (arith, more, room.room))
 
 -- what a step may be of a session that isn't kept
 abbrev pub MayOpen : Place → Change Receiving → Type 0
@@ -195,16 +195,16 @@ MayOpen place stays = Unit {0}
 MayOpen place (keeps r) = (place.closed ≡ false) × (place.full ≡ false)
 MayOpen place ends = ⊥
 
-pub sound-step : (i : InboundValue) (n most : ℕ) (gone : Option ℕ) (change : Change Receiving) → n ≤ LAST → IsInOrder i → IsInboundSound i
-    → gone ≡ evicted_for i (find n i.receivers) change → (find n i.receivers ≡ None → MayOpen (place_in i most n) change)
-    → IsInboundSound (settled_in (with_room i gone) n change)
-sound-step i n most gone change least order sound is may = subst (λ g. IsInboundSound (settled_in (with_room i g) n change)) (sym is) (by_kept (find n i.receivers) refl) where
-  by_kept : (kept : Option Receiving) → find n i.receivers ≡ kept → IsInboundSound (settled_in (with_room i (evicted_for i kept change)) n change)
-  by_kept (Some r) found = sound-kept i n change sound (ap (λ x. is_some x) found)
+pub sound-step : (p : Party) (i : InboundValue) (n most : ℕ) (gone : Option ℕ) (change : Change Receiving) → n ≤ LAST → 1 ≤ p.sessions → IsInOrder i → IsInboundSound p i
+    → gone ≡ evicted_for p.sessions i (find n i.receivers) change → (find n i.receivers ≡ None → MayOpen (place_in i most p.history n) change)
+    → IsInboundSound p (settled_in (with_room i gone) n change)
+sound-step p i n most gone change least some order sound is may = subst (λ g. IsInboundSound p (settled_in (with_room i g) n change)) (sym is) (by_kept (find n i.receivers) refl) where
+  by_kept : (kept : Option Receiving) → find n i.receivers ≡ kept → IsInboundSound p (settled_in (with_room i (evicted_for p.sessions i kept change)) n change)
+  by_kept (Some r) found = sound-kept p i n change sound (ap (λ x. is_some x) found)
   by_kept None absent = by_change change (may absent) where
-    by_change : (c : Change Receiving) → MayOpen (place_in i most n) c → IsInboundSound (settled_in (with_room i (evicted_for i None c)) n c)
+    by_change : (c : Change Receiving) → MayOpen (place_in i most p.history n) c → IsInboundSound p (settled_in (with_room i (evicted_for p.sessions i None c)) n c)
     by_change stays opens = sound
-    by_change (keeps r) opens = sound-opens (with_room i (evicted_in i)) n r least (room-for i n order sound absent opens.0 opens.1)
+    by_change (keeps r) opens = sound-opens p (with_room i (evicted_in p.sessions i)) n r least (room-for p i n some order sound absent opens.0 opens.1)
     by_change ends opens = absurd opens
 
 -- ---- all sessions tick
@@ -248,8 +248,8 @@ ticked_by change i = record {
   closed = all_closed (ended change i.receivers) i.closed;
 }
 
-pub sound-ticked : (change : Receiving → Change Receiving) (i : InboundValue) → IsInboundSound i → IsInboundSound (ticked_by change i)
-sound-ticked change i sound = record {
+pub sound-ticked : (p : Party) (change : Receiving → Change Receiving) (i : InboundValue) → IsInboundSound p i → IsInboundSound p (ticked_by change i)
+sound-ticked p change i sound = record {
   receivers = omega (arith, size, sound.receivers);
   history = omega (arith, size, runs-all over i.closed, sound.history);
   unclosed = λ m holds. (among-all over i.closed m most sound.limit).0 ∙ rw (closed-ended change m 0 i.receivers sound.ascending) (open_at m (find m i.receivers) refl (subst (λ x. is_some x ≡ true) (after_it m) holds));

@@ -241,55 +241,52 @@ elsewhere-law n m f up pieces apart known = record {
   other (Some b) body (inr none) = none
 
 -- the engine after a step of session m
-abbrev stepped : Engine → ℕ → StepValue Receiving → Engine
-stepped e m t = with_receiver (without_evicted e (evicted_by e (find m e.receivers) t.next)) m t.next
+abbrev stepped : Party → Engine → ℕ → StepValue Receiving → Engine
+stepped p e m t = with_receiver (without_evicted e (evicted_by p e (find m e.receivers) t.next)) m t.next
 
-party : Party
-party = record { own = 0; peer = 1; first = 0; policy = record { segment = 0; timeout = 0; limit = 0; cap = 0 }; most = 0 }
-
-stepped-here : (e : Engine) (n : ℕ) (t : StepValue Receiving)
-    → (find n (stepped e n t).receivers ≡ after t.next (find n e.receivers)) × (is_closed n (stepped e n t).closed ≡ closed_after t.next (is_closed n e.closed))
-stepped-here e n t =
-    let same = receiver-here first_end second_end party e e [] n t (two_ends first_end) in
+stepped-here : (p : Party) (e : Engine) (n : ℕ) (t : StepValue Receiving)
+    → (find n (stepped p e n t).receivers ≡ after t.next (find n e.receivers)) × (is_closed n (stepped p e n t).closed ≡ closed_after t.next (is_closed n e.closed))
+stepped-here p e n t =
+    let same = receiver-here first_end second_end p p e e [] n t (two_ends first_end) in
     (ap (λ (v : View). v.receiver) same, ap (λ (v : View). v.closed) same)
 
-stepped-elsewhere : (e : Engine) (n m : ℕ) (t : StepValue Receiving) (pieces : List RedPiece) → m ≢ n → Known (find n e.receivers) (is_closed n e.closed) pieces
-    → Known (find n (stepped e m t).receivers) (is_closed n (stepped e m t).closed) pieces
-stepped-elsewhere e n m t pieces apart known = by_left _ _ (receiver-others first_end second_end party e e [] m n t (two_ends first_end) apart) known where
+stepped-elsewhere : (p : Party) (e : Engine) (n m : ℕ) (t : StepValue Receiving) (pieces : List RedPiece) → m ≢ n → Known (find n e.receivers) (is_closed n e.closed) pieces
+    → Known (find n (stepped p e m t).receivers) (is_closed n (stepped p e m t).closed) pieces
+stepped-elsewhere p e n m t pieces apart known = by_left _ _ (receiver-others first_end second_end p p e e [] m n t (two_ends first_end) apart) known where
   by_left : (v v' : View) → Left v v' → Known v.receiver v.closed pieces → Known v'.receiver v'.closed pieces
   by_left v v' (alone is) was = subst (λ (x : View). Known x.receiver x.closed pieces) (sym is) was
   by_left v v' (closed_for_room r kept is) was = subst (λ (x : View). Known x.receiver x.closed pieces) (sym is) tt
 
 peer-law : (p : Party) (e : Engine) (n : ℕ) (s : SegmentValue) (now : ℕ) (pieces : List RedPiece) → IsKnown n e pieces → (answer : Option (StepValue Receiving))
     → receiver_answers p.policy (place_of p e s.session) (find s.session e.receivers) s.content now ≡ answer
-    → EngineLaw n (replied_or_stranger e (record { originator = s.originator; number = s.session }) (receiver_replies e s.session answer)).engine
-    (replied_or_stranger e (record { originator = s.originator; number = s.session }) (receiver_replies e s.session answer)).effects.ups
+    → EngineLaw n (replied_or_stranger e (record { originator = s.originator; number = s.session }) (receiver_replies p e s.session answer)).engine
+    (replied_or_stranger e (record { originator = s.originator; number = s.session }) (receiver_replies p e s.session answer)).effects.ups
     pieces (if s.session == n then with_content (place_of p e n) (find n e.receivers) s.content pieces else pieces)
 peer-law p e n s now pieces known answer is = by_same (s.session == n) refl where
   by_same : (same : Bool) → (s.session == n) ≡ same
-      → EngineLaw n (replied_or_stranger e (record { originator = s.originator; number = s.session }) (receiver_replies e s.session answer)).engine
-      (replied_or_stranger e (record { originator = s.originator; number = s.session }) (receiver_replies e s.session answer)).effects.ups
+      → EngineLaw n (replied_or_stranger e (record { originator = s.originator; number = s.session }) (receiver_replies p e s.session answer)).engine
+      (replied_or_stranger e (record { originator = s.originator; number = s.session }) (receiver_replies p e s.session answer)).effects.ups
       pieces (if same then with_content (place_of p e n) (find n e.receivers) s.content pieces else pieces)
   by_same true same = let here : s.session ≡ n = eqb-true s.session n same in at_it s.session here answer is where
     at_it : (m : ℕ) → m ≡ n → (answer : Option (StepValue Receiving)) → receiver_answers p.policy (place_of p e m) (find m e.receivers) s.content now ≡ answer
-        → EngineLaw n (replied_or_stranger e (record { originator = s.originator; number = m }) (receiver_replies e m answer)).engine
-        (replied_or_stranger e (record { originator = s.originator; number = m }) (receiver_replies e m answer)).effects.ups
+        → EngineLaw n (replied_or_stranger e (record { originator = s.originator; number = m }) (receiver_replies p e m answer)).engine
+        (replied_or_stranger e (record { originator = s.originator; number = m }) (receiver_replies p e m answer)).effects.ups
         pieces (with_content (place_of p e n) (find n e.receivers) s.content pieces)
     at_it m here None is =
         rw (unanswered p.policy (place_of p e n) (find n e.receivers) s.content now pieces (subst (λ k. receiver_answers p.policy (place_of p e k) (find k e.receivers) s.content now ≡ None) here is))
         (silent n e pieces known)
     at_it m here (Some t) is =
-        subst (λ k. EngineLaw n (stepped e k t) (list_of (option_map (λ body. up_in k body) t.up)) pieces (with_content (place_of p e n) (find n e.receivers) s.content pieces)) (sym here)
-        (here-law n e (stepped e n t) t pieces _ ((roomy-received e n t.next).receivers known.ascending) (stepped-here e n t).0 (stepped-here e n t).1
+        subst (λ k. EngineLaw n (stepped p e k t) (list_of (option_map (λ body. up_in k body) t.up)) pieces (with_content (place_of p e n) (find n e.receivers) s.content pieces)) (sym here)
+        (here-law n e (stepped p e n t) t pieces _ ((roomy-received p e n t.next).receivers known.ascending) (stepped-here p e n t).0 (stepped-here p e n t).1
         (content-lawful p.policy (place_of p e n) (find n e.receivers) s.content now t pieces
         (subst (λ k. receiver_answers p.policy (place_of p e k) (find k e.receivers) s.content now ≡ Some t) here is) known.known))
   by_same false other = elsewhere answer where
     elsewhere : (answer : Option (StepValue Receiving))
-        → EngineLaw n (replied_or_stranger e (record { originator = s.originator; number = s.session }) (receiver_replies e s.session answer)).engine
-        (replied_or_stranger e (record { originator = s.originator; number = s.session }) (receiver_replies e s.session answer)).effects.ups pieces pieces
+        → EngineLaw n (replied_or_stranger e (record { originator = s.originator; number = s.session }) (receiver_replies p e s.session answer)).engine
+        (replied_or_stranger e (record { originator = s.originator; number = s.session }) (receiver_replies p e s.session answer)).effects.ups pieces pieces
     elsewhere None = silent n e pieces known
-    elsewhere (Some t) = elsewhere-law n s.session (stepped e s.session t) t.up pieces (eqb-false s.session n other)
-        (record { ascending = (roomy-received e s.session t.next).receivers known.ascending; known = stepped-elsewhere e n s.session t pieces (eqb-false s.session n other) known.known })
+    elsewhere (Some t) = elsewhere-law n s.session (stepped p e s.session t) t.up pieces (eqb-false s.session n other)
+        (record { ascending = (roomy-received p e s.session t.next).receivers known.ascending; known = stepped-elsewhere p e n s.session t pieces (eqb-false s.session n other) known.known })
 
 segment-law : (p : Party) (e : Engine) (n : ℕ) (s : SegmentValue) (now : ℕ) (pieces : List RedPiece) → IsKnown n e pieces
     → EngineLaw n (replied_or_stranger e (record { originator = s.originator; number = s.session }) (arrives p e s now)).engine
@@ -307,7 +304,7 @@ segment-law p e n s now pieces known = by_tests (s.originator == p.own) (s.origi
 
   by_tests : (own peer used : Bool)
       → Law (if own then (if used then sender_replies e s.session (sender_answers p.policy (find s.session e.senders) s.content now) else None)
-      else if peer then receiver_replies e s.session (receiver_answers p.policy (place_of p e s.session) (find s.session e.receivers) s.content now) else None)
+      else if peer then receiver_replies p e s.session (receiver_answers p.policy (place_of p e s.session) (find s.session e.receivers) s.content now) else None)
       (if not own && (peer && (s.session == n)) then with_content (place_of p e n) (find n e.receivers) s.content pieces else pieces)
   by_tests true peer true = own_law _
   by_tests true peer false = silent n e pieces known

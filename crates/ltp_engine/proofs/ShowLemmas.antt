@@ -54,13 +54,13 @@ shows-change i e n ends shows most limit fresh = record {
 
 -- ---- eviction
 
-pub same-evicted : (i : InboundValue) (e : Engine) → ShowsInbound i e → evicted_of e ≡ evicted_in i
+pub same-evicted : (p : Party) (i : InboundValue) (e : Engine) → ShowsInbound i e → evicted_of p e ≡ evicted_in p.sessions i
 unfolding evicted_of evicted_in
-same-evicted i e shows = rw (shows.receivers, shows.touched) refl
+same-evicted p i e shows = rw (shows.receivers, shows.touched) refl
 
-evicted-kept : (i : InboundValue) (m : ℕ) → evicted_in i ≡ Some m → is_some (find m i.receivers) ≡ true
+evicted-kept : (sessions : ℕ) (i : InboundValue) (m : ℕ) → evicted_in sessions i ≡ Some m → is_some (find m i.receivers) ≡ true
 unfolding evicted_in
-evicted-kept i m is = by_many (nat_le 64 (length i.receivers)) is where
+evicted-kept sessions i m is = by_many (nat_le sessions (length i.receivers)) is where
   by_first : (touched : List ℕ) → longest_untouched touched i.receivers ≡ Some m → is_some (find m i.receivers) ≡ true
   by_first [] is = absurd (cc)
   by_first (k ∷ touched) is = by_kept (find k i.receivers) refl is where
@@ -72,15 +72,12 @@ evicted-kept i m is = by_many (nat_le 64 (length i.receivers)) is where
   by_many true is = by_first i.touched is
   by_many false is = absurd (cc)
 
-shows-room : (i : InboundValue) (e : Engine) (gone : Option ℕ) → IsInboundSound i → ShowsInbound i e → evicted_in i ≡ gone
+shows-room : (p : Party) (i : InboundValue) (e : Engine) (gone : Option ℕ) → IsInboundSound p i → ShowsInbound i e → evicted_in p.sessions i ≡ gone
     → ShowsInbound (with_room i gone) (without_evicted e gone)
-shows-room i e None sound shows is = shows
-shows-room i e (Some m) sound shows is =
-    let found = evicted-kept i m is in
+shows-room p i e None sound shows is = shows
+shows-room p i e (Some m) sound shows is =
+    let found = evicted-kept p.sessions i m is in
     shows-change i e m ends shows (sound.range m found) sound.limit (λ same. shows.closed.each m ∙ sound.unclosed m found)
-
-limit-room : (i : InboundValue) (gone : Option ℕ) → IsInboundSound (with_room i gone) → length (with_room i gone).closed.places ≡ LAST
-limit-room i gone sound = sound.limit
 
 -- ---- a step of a session of the peer's
 
@@ -88,33 +85,33 @@ pub record StepsIn (i j : InboundValue) (e f : Engine) (gone : Option ℕ) (evic
   pub shows : ShowsInbound j f
   pub same : gone ≡ evicted
 
-pub shows-step : (i : InboundValue) (e : Engine) (n most : ℕ) (gone : Option ℕ) (change : Change Receiving) → n ≤ LAST → IsInboundSound i → ShowsInbound i e
-    → gone ≡ evicted_for i (find n i.receivers) change → (find n i.receivers ≡ None → MayOpen (place_in i most n) change)
-    → StepsIn i (settled_in (with_room i gone) n change) e (with_receiver (without_evicted e (evicted_by e (find n e.receivers) change)) n change) gone (evicted_by e (find n e.receivers) change)
+pub shows-step : (p : Party) (i : InboundValue) (e : Engine) (n most : ℕ) (gone : Option ℕ) (change : Change Receiving) → n ≤ LAST → IsInboundSound p i → ShowsInbound i e
+    → gone ≡ evicted_for p.sessions i (find n i.receivers) change → (find n i.receivers ≡ None → MayOpen (place_in i most p.history n) change)
+    → StepsIn i (settled_in (with_room i gone) n change) e (with_receiver (without_evicted e (evicted_by p e (find n e.receivers) change)) n change) gone (evicted_by p e (find n e.receivers) change)
 unfolding with_receiver
-shows-step i e n most gone change least sound shows is may =
-    let same = is ∙ (evicted-for (find n i.receivers) change ∙ ap (λ t. evicted_by e (find n t) change) (sym shows.receivers)) in
+shows-step p i e n most gone change least sound shows is may =
+    let same = is ∙ (evicted-for (find n i.receivers) change ∙ ap (λ t. evicted_by p e (find n t) change) (sym shows.receivers)) in
     record {
       shows = subst (λ g. ShowsInbound (settled_in (with_room i gone) n change) (with_receiver (without_evicted e g) n change)) same
           (subst (λ g. ShowsInbound (settled_in (with_room i g) n change) (with_receiver (without_evicted e g) n change)) (sym is) (by_kept (find n i.receivers) refl));
       same = same;
     } where
-      evicted-for : (kept : Option Receiving) (c : Change Receiving) → evicted_for i kept c ≡ evicted_by e kept c
+      evicted-for : (kept : Option Receiving) (c : Change Receiving) → evicted_for p.sessions i kept c ≡ evicted_by p e kept c
       evicted-for None stays = refl
-      evicted-for None (keeps r) = sym (same-evicted i e shows)
+      evicted-for None (keeps r) = sym (same-evicted p i e shows)
       evicted-for None ends = refl
       evicted-for (Some r) c = refl
 
       by_kept : (kept : Option Receiving) → find n i.receivers ≡ kept
-          → ShowsInbound (settled_in (with_room i (evicted_for i kept change)) n change) (with_receiver (without_evicted e (evicted_for i kept change)) n change)
+          → ShowsInbound (settled_in (with_room i (evicted_for p.sessions i kept change)) n change) (with_receiver (without_evicted e (evicted_for p.sessions i kept change)) n change)
       by_kept (Some r) found = shows-change i e n change shows least sound.limit (λ same. shows.closed.each n ∙ sound.unclosed n (ap (λ x. is_some x) found))
       by_kept None absent = by_change change (may absent) where
-        by_change : (c : Change Receiving) → MayOpen (place_in i most n) c
-            → ShowsInbound (settled_in (with_room i (evicted_for i None c)) n c) (with_receiver (without_evicted e (evicted_for i None c)) n c)
+        by_change : (c : Change Receiving) → MayOpen (place_in i most p.history n) c
+            → ShowsInbound (settled_in (with_room i (evicted_for p.sessions i None c)) n c) (with_receiver (without_evicted e (evicted_for p.sessions i None c)) n c)
         by_change stays opens = shows-change i e n stays shows least sound.limit (λ same. absurd (cc))
-        by_change (keeps r) opens = kept_room (evicted_in i) refl where
-          kept_room : (g : Option ℕ) → evicted_in i ≡ g → ShowsInbound (settled_in (with_room i g) n (keeps r)) (with_receiver (without_evicted e g) n (keeps r))
-          kept_room g is = let shown = shows-room i e g sound shows is in record {
+        by_change (keeps r) opens = kept_room (evicted_in p.sessions i) refl where
+          kept_room : (g : Option ℕ) → evicted_in p.sessions i ≡ g → ShowsInbound (settled_in (with_room i g) n (keeps r)) (with_receiver (without_evicted e g) n (keeps r))
+          kept_room g is = let shown = shows-room p i e g sound shows is in record {
             receivers = rw shown.receivers refl;
             touched = rw shown.touched refl;
             closed = shown.closed;
@@ -123,10 +120,10 @@ shows-step i e n most gone change least sound shows is may =
 
 -- ---- all sessions tick
 
-pub shows-ticked : (change : Receiving → Change Receiving) (i : InboundValue) (e f : Engine) → IsInboundSound i → ShowsInbound i e
+pub shows-ticked : (p : Party) (change : Receiving → Change Receiving) (i : InboundValue) (e f : Engine) → IsInboundSound p i → ShowsInbound i e
     → f.receivers ≡ ticked change e.receivers → f.touched ≡ untouched_all (ended change e.receivers) e.touched
     → f.closed ≡ ended change e.receivers ++ e.closed → ShowsInbound (ticked_by change i) f
-shows-ticked change i e f sound shows receivers touched closed = record {
+shows-ticked p change i e f sound shows receivers touched closed = record {
   receivers = receivers ∙ rw shows.receivers refl;
   touched = touched ∙ rw (shows.receivers, shows.touched) refl;
   closed = subst (λ ns. ShowsClosed (all_closed (ended change i.receivers) i.closed) ns) (sym (closed ∙ rw shows.receivers refl)) all.shows;
@@ -138,5 +135,5 @@ shows-ticked change i e f sound shows receivers touched closed = record {
 
 -- ---- what a receiving session knows of its engine
 
-pub same-place : (p : Party) (i : InboundValue) (e : Engine) (n : ℕ) → ShowsInbound i e → place_of p e n ≡ place_in i p.most n
+pub same-place : (p : Party) (i : InboundValue) (e : Engine) (n : ℕ) → ShowsInbound i e → place_of p e n ≡ place_in i p.most p.history n
 same-place p i e n shows = rw (shows.closed.each n, shows.closed.runs, shows.receivers) refl

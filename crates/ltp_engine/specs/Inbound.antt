@@ -49,27 +49,29 @@ settled_in i n change = record {
   closed = closed_after n change i.closed;
 }
 
--- the session that makes room for another
-unfoldable pub evicted_in : InboundValue → Option ℕ
-evicted_in i =
-    if nat_le 64 (length i.receivers) then longest_untouched i.touched i.receivers else None
+-- the session that makes room for another, where so many are kept at most
+unfoldable pub evicted_in : ℕ → InboundValue → Option ℕ
+evicted_in sessions i =
+    if nat_le sessions (length i.receivers) then longest_untouched i.touched i.receivers else None
 
 abbrev pub with_room : InboundValue → Option ℕ → InboundValue
 with_room i None = i
 with_room i (Some n) = settled_in i n ends
 
 -- the session that is evicted, where one that wasn't kept opens
-abbrev pub evicted_for : InboundValue → Option Receiving → Change Receiving → Option ℕ
-evicted_for i None (keeps r) = evicted_in i
-evicted_for i kept change = None
+abbrev pub evicted_for :
+    ℕ → InboundValue → Option Receiving → Change Receiving → Option ℕ
+evicted_for sessions i None (keeps r) = evicted_in sessions i
+evicted_for sessions i kept change = None
 
--- what a receiving session has to know of its engine
-abbrev pub place_in : InboundValue → ℕ → ℕ → Place
-place_in i most n = record {
+-- what a receiving session has to know of its engine, where blocks of so many octets at most are
+-- taken, and so many runs of closed numbers are remembered
+abbrev pub place_in : InboundValue → ℕ → ℕ → ℕ → Place
+place_in i most history n = record {
   session = n;
   most = most;
   closed = is_among i.closed n;
-  full = nat_le 65536 (i.closed.runs + length i.receivers);
+  full = nat_le history (i.closed.runs + length i.receivers);
 }
 
 -- ---- a step of a session
@@ -99,10 +101,10 @@ pub record Receives (peer : ℕ) (policy : PolicyValue) (n : ℕ) (step : StepVa
   pub says : told ≡ answer_of (record { originator = peer; number = n }) step
 
 -- it did, and another was evicted where it opened
-pub record Takes (peer : ℕ) (policy : PolicyValue) (n : ℕ) (step : StepValue Receiving)
+pub record Takes (peer : ℕ) (policy : PolicyValue) (sessions n : ℕ) (step : StepValue Receiving)
     (old new : Inbound) (told : Option ℕ × Step) : Type 0 where
   pub gone : told.0
-      ≡ evicted_for (inbound_of old) (find n (inbound_of old).receivers) step.next
+      ≡ evicted_for sessions (inbound_of old) (find n (inbound_of old).receivers) step.next
   pub next : Keeps peer policy new
       (settled_in (with_room (inbound_of old) told.0) n step.next)
   pub says : told.1 ≡ answer_of (record { originator = peer; number = n }) step

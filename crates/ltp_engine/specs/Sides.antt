@@ -22,12 +22,13 @@ SenderDoes own policy n None old new (Some told) = ⊥
 SenderDoes own policy n (Some step) old new None = ⊥
 SenderDoes own policy n (Some step) old new (Some told) = Does own policy n step old new told
 
-abbrev pub ReceiverDoes : ℕ → PolicyValue → ℕ → Option (StepValue Receiving)
+abbrev pub ReceiverDoes : ℕ → PolicyValue → ℕ → ℕ → Option (StepValue Receiving)
     → Inbound → Inbound → Option (Option ℕ × Step) → Type 0
-ReceiverDoes peer policy n None old new None = new ≡ old
-ReceiverDoes peer policy n None old new (Some told) = ⊥
-ReceiverDoes peer policy n (Some step) old new None = ⊥
-ReceiverDoes peer policy n (Some step) old new (Some told) = Takes peer policy n step old new told
+ReceiverDoes peer policy sessions n None old new None = new ≡ old
+ReceiverDoes peer policy sessions n None old new (Some told) = ⊥
+ReceiverDoes peer policy sessions n (Some step) old new None = ⊥
+ReceiverDoes peer policy sessions n (Some step) old new (Some told) =
+    Takes peer policy sessions n step old new told
 
 -- what a side can be told: a piece that stops at a number, a report that can be written, or
 -- another content

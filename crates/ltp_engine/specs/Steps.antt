@@ -6,7 +6,7 @@ use Rattle.ltp_segment.specs.Policy.{PolicyValue}
 use Rattle.ltp_segment.specs.declared.session.TheConstants.{BLOCK_MAX}
 use Rattle.ltp_session.specs.Sender.{sender_deadline}
 use Rattle.ltp_session.specs.Receiver.{receiver_deadline}
-use Rattle.ltp_session.specs.Engine.{Engine, EngineStep, SubmitFault, earlier}
+use Rattle.ltp_session.specs.Engine.{Party, Engine, EngineStep, SubmitFault, earlier}
 use Rattle.ltp_session.specs.Engine.{least_deadline}
 use Rattle.ltp_engine.specs.declared.effects.Effects.{Effects}
 use Rattle.ltp_engine.specs.declared.refused.SubmitRefused.{SubmitRefused}
@@ -16,14 +16,32 @@ use Rattle.ltp_engine.specs.Effects.{effects_of}
 use Rattle.ltp_engine.specs.Values.{EngineValue, nothing_received}
 use Rattle.ltp_engine.specs.Shows.{Shows}
 
-abbrev pub new_engine : ℕ → ℕ → ℕ → PolicyValue → EngineValue
-new_engine own peer first policy = record {
+-- an engine at its beginning
+abbrev pub begun_by : Party → EngineValue
+begun_by p = record {
   spent = false;
-  party = record { own = own; peer = peer; first = first; policy = policy; most = BLOCK_MAX };
-  next = first;
+  party = p;
+  next = p.first;
   senders = [];
   inbound = nothing_received;
 }
+
+-- the party of an engine that keeps so many sessions of a direction, and so many runs of closed
+-- numbers and receiving sessions together
+abbrev pub wide_party : ℕ → ℕ → ℕ → PolicyValue → ℕ → ℕ → Party
+wide_party own peer first policy sessions history = record {
+  own = own;
+  peer = peer;
+  first = first;
+  policy = policy;
+  most = BLOCK_MAX;
+  sessions = sessions;
+  history = history;
+}
+
+-- it keeps 64 sessions of a direction, and 65,536 runs of closed numbers
+abbrev pub new_engine : ℕ → ℕ → ℕ → PolicyValue → EngineValue
+new_engine own peer first policy = begun_by (wide_party own peer first policy 64 65536)
 
 -- when a timer of the engine is due next
 abbrev pub deadline_of : EngineValue → Option ℕ

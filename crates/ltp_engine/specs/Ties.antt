@@ -45,6 +45,8 @@ party_of p = record {
   first = p.first;
   policy = policy_value p.policy;
   most = BLOCK_MAX;
+  sessions = p.sessions;
+  history = p.history;
 }
 
 abbrev pub value_of : Bool → Parts → EngineValue

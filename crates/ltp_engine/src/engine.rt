@@ -7,7 +7,8 @@ ghost use Rattle.ltp_session.specs.Engine.{starts, datagram_step, submits, submi
 ghost use Rattle.ltp_engine.specs.Sessions.{is_open, is_handed_up};
 ghost use Rattle.ltp_engine.specs.Shows.{Shows};
 ghost use Rattle.ltp_engine.specs.Bounds.{IsBounded};
-ghost use Rattle.ltp_engine.specs.Steps.{new_engine, deadline_of, is_due_at, Steps, Submits};
+ghost use Rattle.ltp_engine.specs.Steps.{begun_by, wide_party, new_engine};
+ghost use Rattle.ltp_engine.specs.Steps.{deadline_of, is_due_at, Steps, Submits};
 
 use crate::effects::Effects;
 use crate::parts::Parts;
@@ -17,8 +18,11 @@ use spans::Spans;
 use std::alloc::{AllocError, Global};
 use std::marker::Model;
 
-/// The most sending sessions that are kept.
-const MOST: usize = 64;
+/// How many sessions a new engine keeps of each direction at most.
+pub const SESSIONS: u32 = 64;
+/// How many runs of consecutive closed numbers, receiving sessions counted, a new engine remembers at
+/// most.
+pub const HISTORY: u32 = 65_536;
 /// No session that an engine begins has this number or a larger one.
 const NUMBERS: u64 = 1 << 32;
 
@@ -45,7 +49,8 @@ impl Model for Engine {
 
 impl Engine {
     /// An engine at its beginning: its own number and its peer's, the number of its first session,
-    /// and how it sends. It takes no memory.
+    /// and how it sends. It keeps [`SESSIONS`] sessions of each direction at most, and remembers
+    /// [`HISTORY`] runs of closed numbers. It takes no memory.
     pub fn new(alloc: Global, own: u64, peer: u64, first_session: u64, policy: Policy) -> Engine
         requires apart { own ≢ peer }
         requires first { 1 ≤ first_session }
@@ -55,8 +60,38 @@ impl Engine {
         ensures shows { Shows result (starts result.party) }
         ensures bounds { IsBounded result }
     {
+        Engine::wide(alloc, own, peer, first_session, policy, SESSIONS, HISTORY)
+    }
+
+    /// An engine at its beginning, with bounds of its own.
+    ///
+    /// It sends `sessions` sessions at most at once: for a further block it is [`SubmitRefused::Busy`].
+    /// It receives as many at once: where another opens, the one that is longest untouched is over,
+    /// with a note `Evicted`. So it keeps one at least. Runs of consecutive closed numbers and
+    /// receiving sessions together are `history` at most: where they are as many no session opens,
+    /// with a note `HistoryFull`; with 0 none ever does. It takes no memory.
+    pub fn wide(
+        alloc: Global,
+        own: u64,
+        peer: u64,
+        first_session: u64,
+        policy: Policy,
+        sessions: u32,
+        history: u32,
+    ) -> Engine
+        requires apart { own ≢ peer }
+        requires first { 1 ≤ first_session }
+        requires numbers { first_session < 2 ^ 32 }
+        // One session has to make room for another.
+        requires some { 1 ≤ sessions }
+        ensures value { result ≡ begun_by (wide_party own peer first_session
+            (policy_value policy) sessions history) }
+        // It stands for the engine of the definition that begins.
+        ensures shows { Shows result (starts result.party) }
+        ensures bounds { IsBounded result }
+    {
         Engine {
-            parts: Parts::new(alloc, own, peer, first_session, policy),
+            parts: Parts::new(alloc, own, peer, first_session, policy, sessions, history),
             spent: false,
         }
     }
@@ -138,6 +173,7 @@ impl Engine {
     {
         let next = self.parts.next;
         let sending = self.parts.sending();
+        let most = self.parts.sessions as usize;
         if block.is_empty() {
             return Err(SubmitRefused::Empty);
         }
@@ -147,7 +183,7 @@ impl Engine {
         if next >= NUMBERS {
             return Err(SubmitRefused::NumbersSpent);
         }
-        if sending >= MOST {
+        if sending >= most {
             return Err(SubmitRefused::Busy);
         }
         self.spent = true;

@@ -43,10 +43,6 @@ use ltp_segment::{
 };
 use std::alloc::{AllocError, Global};
 
-/// The most receiving sessions that are kept.
-const MOST: usize = 64;
-/// The most runs of closed numbers and receiving sessions together.
-const HISTORY: u64 = 65_536;
 /// The client service that there is.
 const SERVICE: u64 = 1;
 /// The reason of a cancel: there is no such client service.
@@ -194,22 +190,25 @@ impl Inbound {
         requires live { AreLive terms.now.originator (policy_value terms.now.policy)
             self.now.receivers.entries }
         requires runs { self.now.closed.runs < 2 ^ 32 }
-        ensures { result ≡ nat_le 65536
+        ensures { result ≡ nat_le terms.now.history
             (self.now.closed.runs + length (inbound_of self.now).receivers) }
     {
-        self.closed.runs() + self.receivers.len() as u64 >= HISTORY
+        self.closed.runs() + self.receivers.len() as u64 >= u64::from(terms.history)
     }
 
-    /// Makes room for another session: where 64 are kept, the longest untouched one is over.
+    /// Makes room for another session: where as many are kept as may be, the longest untouched one
+    /// is over.
     fn make_room(&mut self, terms: Terms) -> Result<Option<u64>, AllocError>
         requires live { AreLive terms.originator (policy_value terms.policy)
             self.old.receivers.entries }
         requires runs { self.old.closed.runs < 2 ^ 32 }
-        ensures gone { IfOk result (λ gone. gone ≡ evicted_in (inbound_of self.old)) }
+        ensures gone { IfOk result (λ gone. gone ≡ evicted_in terms.sessions
+            (inbound_of self.old)) }
         ensures next { IfOk result (λ gone. Keeps terms.originator (policy_value terms.policy)
             self.new (with_room (inbound_of self.old) gone)) }
     {
-        if self.receivers.len() < MOST {
+        let most = terms.sessions as usize;
+        if self.receivers.len() < most {
             return Ok(None);
         }
         let Some((gone, _session)) = self.receivers.shift_remove_index(0) else {
@@ -250,7 +249,7 @@ impl Inbound {
         requires moment { now < 2 ^ 62 }
         requires red { is_red piece.now.kind ≡ true }
         requires absent { find n (inbound_of self.old).receivers ≡ None }
-        ensures { IfOk result (Takes terms.originator (policy_value terms.policy) n
+        ensures { IfOk result (Takes terms.originator (policy_value terms.policy) terms.sessions n
             (piece_step (policy_value terms.policy) (fresh n) (piece_value piece.now) now)
             self.old self.new) }
     {
@@ -258,6 +257,7 @@ impl Inbound {
             alloc,
             originator,
             policy,
+            ..
         } = terms;
         let mut receiver = Receiver::new(alloc, originator, n, &policy);
         let step = receiver.piece(piece, now)?;
@@ -281,8 +281,9 @@ impl Inbound {
         requires fits { stop_of piece.now.offset piece.now.body.now ≤ BLOCK_MAX }
         requires moment { now < 2 ^ 62 }
         requires absent { find n (inbound_of self.old).receivers ≡ None }
-        ensures { IfOk result (Takes terms.originator (policy_value terms.policy) n
-            (first_piece (policy_value terms.policy) (place_in (inbound_of self.old) BLOCK_MAX n)
+        ensures { IfOk result (Takes terms.originator (policy_value terms.policy) terms.sessions n
+            (first_piece (policy_value terms.policy)
+            (place_in (inbound_of self.old) BLOCK_MAX terms.history n)
             (piece_value piece.now) now) self.old self.new) }
     {
         let alloc = terms.alloc;
@@ -345,8 +346,9 @@ impl Inbound {
         requires runs { self.old.closed.runs < 2 ^ 32 }
         requires range { stop_of piece.now.offset piece.now.body.now < 2 ^ 64 }
         requires moment { now < 2 ^ 62 }
-        ensures { IfOk result (Takes terms.originator (policy_value terms.policy) n
-            (on_piece (policy_value terms.policy) (place_in (inbound_of self.old) BLOCK_MAX n)
+        ensures { IfOk result (Takes terms.originator (policy_value terms.policy) terms.sessions n
+            (on_piece (policy_value terms.policy)
+            (place_in (inbound_of self.old) BLOCK_MAX terms.history n)
             (find n (inbound_of self.old).receivers) (piece_value piece.now) now)
             self.old self.new) }
     {

@@ -1,6 +1,8 @@
 //! What an engine hands up, whoever is at the other end. Each law is the contract of a function that
 //! does nothing.
 
+ghost use Rattle.std.specs.Prelude.{◌≡◌, ◌^◌};
+ghost use Rattle.ltp_engine.specs.declared.engine.TheConstants.{SESSIONS, HISTORY};
 ghost use Rattle.ltp_engine.specs.RedParts.{HandsUpRedParts, HandsUpEachOnce};
 
 /// Whatever comes to an engine, and from whomever: the red part of a session of its peer is handed
@@ -13,4 +15,10 @@ pub fn hands_up_red_parts()
 /// No number's red part is handed up twice.
 pub fn hands_up_each_once()
     ensures { HandsUpEachOnce }
+{}
+
+/// A new engine keeps 64 sessions of each direction, and remembers 65,536 runs of closed numbers.
+pub fn new_engine_bounds()
+    ensures sessions { SESSIONS ≡ 64 }
+    ensures history { HISTORY ≡ 2 ^ 16 }
 {}

@@ -28,5 +28,5 @@ mod terms;
 mod touched;
 
 pub use effects::{Effects, Greens, Notes, Up, Ups};
-pub use engine::Engine;
+pub use engine::{Engine, HISTORY, SESSIONS};
 pub use refused::SubmitRefused;

@@ -12,7 +12,7 @@ ghost use Rattle.ltp_engine.specs.Sides.{IsFit};
 ghost use Rattle.ltp_engine.specs.Ties.{own_step, peer_step, begun_step};
 ghost use Rattle.ltp_engine.specs.Ties.{sent_of, handed_of};
 ghost use Rattle.ltp_session.specs.Engine.{datagram_step, tick_step};
-ghost use Rattle.ltp_engine.specs.Steps.{new_engine, deadline_of, is_due_at, Steps};
+ghost use Rattle.ltp_engine.specs.Steps.{begun_by, wide_party, deadline_of, is_due_at, Steps};
 ghost use Rattle.ltp_engine.specs.Effects.{nothing_done};
 
 use crate::deadlines::earlier;
@@ -35,6 +35,10 @@ pub(crate) struct Parts {
     /// The number of the first session.
     first: u64,
     policy: Policy,
+    /// How many sessions of a direction are kept at most.
+    pub sessions: u32,
+    /// How many runs of closed numbers and receiving sessions together are kept at most.
+    history: u32,
     /// The number of the next session.
     pub next: u64,
     senders: Senders,
@@ -45,10 +49,20 @@ impl Parts {
     ghost use Rattle.ltp_engine.specs.Ties.{party_of, value_of, IsWhole};
 
     /// An engine at its beginning.
-    pub fn new(alloc: Global, own: u64, peer: u64, first: u64, policy: Policy) -> Parts
+    pub fn new(
+        alloc: Global,
+        own: u64,
+        peer: u64,
+        first: u64,
+        policy: Policy,
+        sessions: u32,
+        history: u32,
+    ) -> Parts
         requires numbers { first < 2 ^ 32 }
+        requires some { 1 ≤ sessions }
         ensures whole { IsWhole result }
-        ensures value { value_of false result ≡ new_engine own peer first (policy_value policy) }
+        ensures value { value_of false result ≡ begun_by (wide_party own peer first
+            (policy_value policy) sessions history) }
     {
         Parts {
             alloc,
@@ -56,6 +70,8 @@ impl Parts {
             peer,
             first,
             policy,
+            sessions,
+            history,
             next: first,
             senders: BTreeMap::new(alloc),
             inbound: Inbound::new(alloc),
@@ -132,16 +148,16 @@ impl Parts {
             (λ e. tick_step (party_of self.old) e now)) }
     {
         let alloc = self.alloc;
-        let policy = self.policy;
         let own = Terms {
             alloc,
             originator: self.own,
-            policy,
+            policy: self.policy,
+            sessions: self.sessions,
+            history: self.history,
         };
         let peer = Terms {
-            alloc,
             originator: self.peer,
-            policy,
+            ..own
         };
         let nothing = Effects::none(alloc);
         let sent = outbound::tick(&mut self.senders, own, now, nothing)?;
@@ -155,7 +171,7 @@ impl Parts {
         requires red { red ≤ length block.now }
         requires moment { now < 2 ^ 62 }
         requires most { length block.now ≤ BLOCK_MAX }
-        requires room { length (value_of false self.old).senders < 64 }
+        requires room { length (value_of false self.old).senders < self.old.sessions }
         requires numbers { self.old.next < 2 ^ 32 }
         ensures whole { OnOk result (IsWhole self.new) }
         ensures done { IfOk result (Steps (value_of false self.old) (value_of false self.new)
@@ -215,6 +231,8 @@ impl Parts {
             alloc,
             originator: self.own,
             policy: self.policy,
+            sessions: self.sessions,
+            history: self.history,
         };
         let told = to_sender(&mut self.senders, terms, n, content, now)?;
         let effects = sent(alloc, n, told)?;
@@ -235,6 +253,8 @@ impl Parts {
             alloc,
             originator: self.peer,
             policy: self.policy,
+            sessions: self.sessions,
+            history: self.history,
         };
         let told = to_receiver(&mut self.inbound, terms, n, content, now)?;
         let effects = handed(alloc, n, told)?;
@@ -273,12 +293,16 @@ impl Parts {
           alloc = self.now.alloc;
           originator = self.now.own;
           policy = self.now.policy;
+          sessions = self.now.sessions;
+          history = self.now.history;
         } }
     {
         Terms {
             alloc: self.alloc,
             originator: self.own,
             policy: self.policy,
+            sessions: self.sessions,
+            history: self.history,
         }
     }
 
@@ -288,12 +312,16 @@ impl Parts {
           alloc = self.now.alloc;
           originator = self.now.peer;
           policy = self.now.policy;
+          sessions = self.now.sessions;
+          history = self.now.history;
         } }
     {
         Terms {
             alloc: self.alloc,
             originator: self.peer,
             policy: self.policy,
+            sessions: self.sessions,
+            history: self.history,
         }
     }
 }

@@ -18,7 +18,7 @@ pub enum SubmitRefused {
     /// The next session's number would be 2^32.
     #[error("NumbersSpent")]
     NumbersSpent,
-    /// 64 sessions are being sent, those that are cancelling counted.
+    /// As many sessions are being sent as the engine keeps, those that are cancelling counted.
     #[error("Busy")]
     Busy,
     /// There is no memory. The engine may then only be dropped.

@@ -72,9 +72,9 @@ pub(crate) fn to_receiver(
     requires runs { inbound.old.closed.runs < 2 ^ 32 }
     requires legal { IsFit (content_value content) }
     requires moment { now < 2 ^ 62 }
-    ensures { IfOk result (ReceiverDoes terms.originator (policy_value terms.policy) n
-        (receiver_answers (policy_value terms.policy)
-        (place_in (inbound_of inbound.old) BLOCK_MAX n)
+    ensures { IfOk result (ReceiverDoes terms.originator (policy_value terms.policy)
+        terms.sessions n (receiver_answers (policy_value terms.policy)
+        (place_in (inbound_of inbound.old) BLOCK_MAX terms.history n)
         (find n (inbound_of inbound.old).receivers) (content_value content.entry) now)
         inbound.old inbound.new) }
 {

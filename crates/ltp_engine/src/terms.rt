@@ -12,4 +12,8 @@ pub(crate) struct Terms {
     pub originator: u64,
     /// How they send.
     pub policy: Policy,
+    /// How many of them are kept at most.
+    pub sessions: u32,
+    /// How many runs of closed numbers are remembered at most, sessions that are kept counted.
+    pub history: u32,
 }

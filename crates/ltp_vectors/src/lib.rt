@@ -1,6 +1,7 @@
 //! The tables of tests of LTP: of one sender and of one receiver, exchanges that are audited, and what
-//! an engine records of its own; of worlds of one link, what each event has the ends do, and drains;
-//! of a link that is open in windows; and of a whole path, drains event by event.
+//! an engine records of its own; of engines with bounds of their own; of worlds of one link, what each
+//! event has the ends do, and drains; of a link that is open in windows; and of a whole path, drains
+//! event by event.
 //!
 //! A row of a session has a moment, the datagram that comes then or none, and what the session
 //! answers: the datagrams that it sends, in hex, what it hands up, its note, and when its timer is
@@ -14,6 +15,8 @@
 
 #[cfg(test)]
 mod answers;
+#[cfg(test)]
+mod bounds;
 #[cfg(test)]
 mod copies;
 #[cfg(test)]

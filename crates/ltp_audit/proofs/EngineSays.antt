@@ -98,7 +98,7 @@ module _ (p : Party) (party : IsParty p) (e : Engine) (datagram : List ℕ) (his
   peer-well : s.originator ≡ p.peer → (o : Option (StepValue Receiving))
       → receiver_answers p.policy (place_of p e s.session) (find s.session e.receivers) s.content now ≡ o
       → GoesWell p (came datagram ∷ history)
-      (replied_or_stranger e (record { originator = s.originator; number = s.session }) (receiver_replies e s.session o))
+      (replied_or_stranger e (record { originator = s.originator; number = s.session }) (receiver_replies p e s.session o))
   peer-well peer None answers = record { rules = tt; knows = knows-came p e datagram history knows }
   peer-well peer (Some t) answers =
       let by_sender = hears-side p.policy (place_of p e s.session) (find s.session e.receivers) s.content now t answers in
@@ -111,7 +111,7 @@ module _ (p : Party) (party : IsParty p) (e : Engine) (datagram : List ℕ) (his
       let replies = receiver-hears p party s.session few (came datagram ∷ history) p.policy (place_of p e s.session) (find s.session e.receivers)
       s.content now t (said_in p.own p.peer history p.peer s.session) more (before.receivers s.session) told answers in
       subst (λ (o : ℕ). GoesWell p (came datagram ∷ history)
-      (replied_or_stranger e (record { originator = o; number = s.session }) (receiver_replies e s.session (Some t)))) (sym peer)
+      (replied_or_stranger e (record { originator = o; number = s.session }) (receiver_replies p e s.session (Some t)))) (sym peer)
       (record {
         rules = replies.said.rules;
         knows = knows-receiver p party e (came datagram ∷ history) before s.session t replies.said replies.known;
@@ -238,7 +238,7 @@ pub submit-well : (p : Party) (e : Engine) (block : List ℕ) (red now : ℕ) (h
     → submit_step p e (submits p e block red now) ≡ Ok step → GoesWell p history step
 unfolding submits
 submit-well p e block red now history step party knows is =
-    by (length block == 0) (nat_lt p.most (length block)) refl (nat_le (2 ^ 32) e.next) refl (nat_le 64 (length e.senders)) is
+    by (length block == 0) (nat_lt p.most (length block)) refl (nat_le (2 ^ 32) e.next) refl (nat_le p.sessions (length e.senders)) is
   where
     within : (a b : ℕ) → nat_lt a b ≡ false → b ≤ a
     within a b is = grind (arith, nat_tests)

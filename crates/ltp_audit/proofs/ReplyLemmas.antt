@@ -201,19 +201,19 @@ room-kept P f (Some k) m is = by (m == k) refl where
       subst (λ (j : ℕ). IfKept P (find j (with_receiver f k ends).receivers)) (sym same) (subst (IfKept P) (sym (find-with_receiver f k ends)) tt)
   by false h = subst (IfKept P) (sym (found-other f m k ends (eqb-false m k h))) is
 
-opened-kept : (P : Receiving → Type 0) (f : Engine) (n : ℕ) (kept : Option Receiving) (c : Change Receiving) → IfKept P (after c (find n f.receivers))
-    → IfKept P (after c (find n (opening f kept c).receivers))
-opened-kept P f n None stays is = is
-opened-kept P f n (Some r) stays is = is
-opened-kept P f n kept (keeps r) is = is
-opened-kept P f n kept ends is = tt
+opened-kept : (P : Receiving → Type 0) (q : Party) (f : Engine) (n : ℕ) (kept : Option Receiving) (c : Change Receiving) → IfKept P (after c (find n f.receivers))
+    → IfKept P (after c (find n (opening q f kept c).receivers))
+opened-kept P q f n None stays is = is
+opened-kept P q f n (Some r) stays is = is
+opened-kept P q f n kept (keeps r) is = is
+opened-kept P q f n kept ends is = tt
 
 module _ (p : Party) (party : IsParty p) (e : Engine) (history : List Entry) (knows : Knows p e history) (n : ℕ) where
   pub knows-receiver : (t : StepValue Receiving) → Says p.own p.peer (record { originator = p.peer; number = n }) t.out history
       → IfKept (Receives n (followed_by (said_in p.own p.peer history p.peer n) t.out)) (after t.next (find n e.receivers))
-      → Knows p (with_receiver (opening e (find n e.receivers) t.next) n t.next) (followed_by history (entries (record { originator = p.peer; number = n }) t.out))
+      → Knows p (with_receiver (opening p e (find n e.receivers) t.next) n t.next) (followed_by history (entries (record { originator = p.peer; number = n }) t.out))
   knows-receiver t said kept =
-      let roomy = roomy-received e n t.next in
+      let roomy = roomy-received p e n t.next in
       record {
         senders = λ m.
             let here = said.there p.own m (own-apart m) in
@@ -236,23 +236,23 @@ module _ (p : Party) (party : IsParty p) (e : Engine) (history : List Entry) (kn
       own-apart m = let apart : (p.peer == p.own) ≡ false = ne_eqb p.peer p.own (λ h. party.apart (sym h)) in rw apart refl
 
       receivers : (m : ℕ) → IfKept (Receives m (said_in p.own p.peer (followed_by history (entries (record { originator = p.peer; number = n }) t.out)) p.peer m))
-          (find m (with_receiver (opening e (find n e.receivers) t.next) n t.next).receivers)
+          (find m (with_receiver (opening p e (find n e.receivers) t.next) n t.next).receivers)
       receivers m = by (m == n) refl where
         by : (same : Bool) → (m == n) ≡ same
             → IfKept (Receives m (said_in p.own p.peer (followed_by history (entries (record { originator = p.peer; number = n }) t.out)) p.peer m))
-            (find m (with_receiver (opening e (find n e.receivers) t.next) n t.next).receivers)
+            (find m (with_receiver (opening p e (find n e.receivers) t.next) n t.next).receivers)
         by true is =
             let same : n ≡ m = sym (eqb-true m n is) in
             subst (λ (k : ℕ). IfKept (Receives k (said_in p.own p.peer (followed_by history (entries (record { originator = p.peer; number = n }) t.out)) p.peer k))
-            (find k (with_receiver (opening e (find n e.receivers) t.next) n t.next).receivers)) same
+            (find k (with_receiver (opening p e (find n e.receivers) t.next) n t.next).receivers)) same
             (subst (IfKept (Receives n (said_in p.own p.peer (followed_by history (entries (record { originator = p.peer; number = n }) t.out)) p.peer n)))
-            (sym (find-with_receiver (opening e (find n e.receivers) t.next) n t.next))
-            (subst (λ (s : List ContentValue). IfKept (Receives n s) (after t.next (find n (opening e (find n e.receivers) t.next).receivers))) (sym said.here)
-            (opened-kept (Receives n (followed_by (said_in p.own p.peer history p.peer n) t.out)) e n (find n e.receivers) t.next kept)))
+            (sym (find-with_receiver (opening p e (find n e.receivers) t.next) n t.next))
+            (subst (λ (s : List ContentValue). IfKept (Receives n s) (after t.next (find n (opening p e (find n e.receivers) t.next).receivers))) (sym said.here)
+            (opened-kept (Receives n (followed_by (said_in p.own p.peer history p.peer n) t.out)) p e n (find n e.receivers) t.next kept)))
         by false is =
             let apart : m ≢ n = eqb-false m n is in
             let here = said.there p.peer m (other-number p.peer n m (λ h. apart (sym h))) in
             subst (IfKept (Receives m (said_in p.own p.peer (followed_by history (entries (record { originator = p.peer; number = n }) t.out)) p.peer m)))
-            (sym (found-other (opening e (find n e.receivers) t.next) m n t.next apart))
-            (room-kept _ e (evicted_by e (find n e.receivers) t.next) m
+            (sym (found-other (opening p e (find n e.receivers) t.next) m n t.next apart))
+            (room-kept _ e (evicted_by p e (find n e.receivers) t.next) m
             (subst (λ (s : List ContentValue). IfKept (Receives m s) (find m e.receivers)) (sym here) (knows.receivers m)))

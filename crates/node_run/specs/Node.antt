@@ -77,10 +77,17 @@ node_rules = record {
   finish = λ node. record { text = []; ends = Some statuses.Done };
 }
 
--- the two ends of the link: this one and its peer, by their engines' numbers
+-- the two ends of the link: this one and its peer, by their engines' numbers; with the usual bounds
 abbrev pub node_party : ℕ → ℕ → Party
-node_party own peer =
-    record { own = own; peer = peer; first = 1; policy = default_policy; most = BLOCK_MAX }
+node_party own peer = record {
+  own = own;
+  peer = peer;
+  first = 1;
+  policy = default_policy;
+  most = BLOCK_MAX;
+  sessions = 64;
+  history = 65536;
+}
 
 -- the first session of a node has number 1, whoever is at the other end
 abbrev pub BeginsWithFirst : Type 0

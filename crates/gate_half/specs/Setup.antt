@@ -42,6 +42,8 @@ party_in c reserved wall = record {
   first = first_in c reserved wall;
   policy = policy_in c;
   most = BLOCK_MAX;
+  sessions = 64;
+  history = 65536;
 }
 
 -- ---- the gateway

@@ -275,10 +275,10 @@ ahead-sender p e c s now waits low ahead = by_step (sender_answers p.policy (fin
 ahead-receiver : (p : Party) (e : Engine) (c : ℕ) (s : SegmentValue) (now : ℕ) → Waits p.policy → c ≤ now → IsAhead c e → IsAhead c (engine_left e (to_receiver p e s now))
 ahead-receiver p e c s now waits low ahead = by_step (receiver_answers p.policy (place_of p e s.session) (find s.session e.receivers) s.content now) refl where
   by_step : (step : Option (StepValue Receiving)) → receiver_answers p.policy (place_of p e s.session) (find s.session e.receivers) s.content now ≡ step
-      → IsAhead c (engine_left e (receiver_replies e s.session step))
+      → IsAhead c (engine_left e (receiver_replies p e s.session step))
   by_step None is = ahead
   by_step (Some step) is =
-      let gone : Option ℕ = evicted_by e (find s.session e.receivers) step.next in
+      let gone : Option ℕ = evicted_by p e (find s.session e.receivers) step.next in
       with-receiver c (without_evicted e gone) s.session step.next
       (receiver-ahead p.policy (place_of p e s.session) c (find s.session e.receivers) s.content now step waits low (hold-find (ReceiverAhead c) s.session e.receivers ahead.receivers) is)
       (without-evicted c e gone ahead)

@@ -182,12 +182,12 @@ not_below a b is = grind (arith, nat_tests)
 not_up_to : (a b : ℕ) → b < a → nat_le a b ≡ false
 not_up_to a b is = grind (arith, nat_tests)
 
-no-fault : (p : Party) (e : Engine) (block : List ℕ) (k : ℕ) → p.most ≡ BLOCK_MAX → IsBlock block → HasRoom e (suc k) → submit_fault p e block ≡ None
+no-fault : (p : Party) (e : Engine) (block : List ℕ) (k : ℕ) → (p.most ≡ BLOCK_MAX) × (p.sessions ≡ 64) → IsBlock block → HasRoom e (suc k) → submit_fault p e block ≡ None
 no-fault p e block k most is room = rw (
   not_zero (length block) is.some,
-  not_below p.most (length block) (subst (λ n. length block ≤ n) (sym most) is.small),
+  not_below p.most (length block) (subst (λ n. length block ≤ n) (sym most.0) is.small),
   not_up_to (2 ^ 32) e.next (less e.next (2 ^ 32) room.numbers),
-  not_up_to 64 (length e.senders) (less (length e.senders) 64 room.sessions),
+  not_up_to p.sessions (length e.senders) (subst (λ n. length e.senders < n) (sym most.1) (less (length e.senders) 64 room.sessions)),
 ) refl where
   less : (a b : ℕ) → a + suc k ≤ b → a < b
   less a b is = omega (arith, is)
@@ -204,7 +204,7 @@ joined at n g h k first more one two =
     (gains-then n (at_face g.engines at) (at_face h.engines at) (at_face k.engines at) (count_begun at n first) (count_begun at n more) one two)
 
 abbrev pub MostAre : GateSetup → Type 0
-MostAre s = (face : Face) → (at_face s.parties face).most ≡ BLOCK_MAX
+MostAre s = (face : Face) → ((at_face s.parties face).most ≡ BLOCK_MAX) × ((at_face s.parties face).sessions ≡ 64)
 
 sent-is : (s : GateSetup) (face : Face) (now : ℕ) (block : List ℕ) (g : Gate) → submit_fault (at_face s.parties face) (at_face g.engines face) block ≡ None
     → (sends_at s face now block g).gate ≡ record g { engines = with_face g.engines face (begun_engine (at_face s.parties face) (at_face g.engines face) block now) }
@@ -351,10 +351,10 @@ next-arrived p e s now = by_own (s.originator == p.own) (is_used p e s.session) 
   by_sender None = refl
   by_sender (Some step) = refl
 
-  by_receiver : (step : Option (StepValue Receiving)) → next_left e (receiver_replies e s.session step) ≡ e.next
+  by_receiver : (step : Option (StepValue Receiving)) → next_left e (receiver_replies p e s.session step) ≡ e.next
   by_receiver None = refl
   by_receiver (Some step) =
-      let gone : Option ℕ = evicted_by e (find s.session e.receivers) step.next in
+      let gone : Option ℕ = evicted_by p e (find s.session e.receivers) step.next in
       next-received (without_evicted e gone) s.session step.next ∙ next-evicted e gone
 
   by_own : (own used peer : Bool)

@@ -183,10 +183,10 @@ ends-sender p e n s now = by_content s.content where
 
 ends-receiver : (p : Party) (e : Engine) (n : ℕ) (s : SegmentValue) (now : ℕ) → EndsBy n e (to_receiver p e s now)
 ends-receiver p e n s now = by_step (receiver_answers p.policy (place_of p e s.session) (find s.session e.receivers) s.content now) where
-  by_step : (step : Option (StepValue Receiving)) → EndsBy n e (receiver_replies e s.session step)
+  by_step : (step : Option (StepValue Receiving)) → EndsBy n e (receiver_replies p e s.session step)
   by_step None = ends-same n e e [] refl
   by_step (Some step) =
-      let gone : Option ℕ = evicted_by e (find s.session e.receivers) step.next in
+      let gone : Option ℕ = evicted_by p e (find s.session e.receivers) step.next in
       ends-same n e (with_receiver (without_evicted e gone) s.session step.next) (list_of (option_map engine.Evicted gone) ++ notes_of s.session step)
       (received (without_evicted e gone) s.session step.next ∙ evicted e gone)
 

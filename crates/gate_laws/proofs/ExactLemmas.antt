@@ -355,8 +355,8 @@ fits-run laws r legal keeps fits =
     })
 
 most-are : (r : Run) → MostAre (setup_of r)
-most-are r faces.Old = refl
-most-are r faces.New = refl
+most-are r faces.Old = (refl, refl)
+most-are r faces.New = (refl, refl)
 
 is-exact : Laws → (r : Run) → IsEndpoint ((r.file).gateway).endpoint → KeepsBlocks r.kept → ComeAsOctets r.comes → IsExact (setup_of r) (core (stands_at r)) (events_of r)
 is-exact laws r legal keeps fits =

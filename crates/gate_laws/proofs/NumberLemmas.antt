@@ -88,7 +88,7 @@ rises-sent : (s : GateSetup) (at face : Face) (now : ℕ) (block : List ℕ) (g 
 unfolding sends_at submits
 rises-sent s at face now block g = by_fault (submit_fault (at_face s.parties face) (at_face g.engines face) block) face refl where
   left : (face : Face) → submit_fault (at_face s.parties face) (at_face g.engines face) block ≡ None → nat_le NUMBERS (next_at face g) ≡ false
-  left face is = not-spent (length block == 0) (nat_lt (at_face s.parties face).most (length block)) (nat_le NUMBERS (next_at face g)) (nat_le 64 (length (at_face g.engines face).senders)) is
+  left face is = not-spent (length block == 0) (nat_lt (at_face s.parties face).most (length block)) (nat_le NUMBERS (next_at face g)) (nat_le (at_face s.parties face).sessions (length (at_face g.engines face).senders)) is
 
   by_fault : (fault : Option SubmitFault) (face : Face) → submit_fault (at_face s.parties face) (at_face g.engines face) block ≡ fault → Rises at g
       (sends_unless face g (submit_step (at_face s.parties face) (at_face g.engines face)

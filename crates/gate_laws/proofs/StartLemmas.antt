@@ -231,10 +231,10 @@ still-arrived p e s now fits = by_own (s.originator == p.own) (is_used p e s.ses
   by_content (a_receiver_cancel reason) fits = absurd fits
   by_content a_receiver_cancel_ack fits = absurd fits
 
-  by_receiver : (step : Option (StepValue Receiving)) → senders_left e (receiver_replies e s.session step) ≡ e.senders
+  by_receiver : (step : Option (StepValue Receiving)) → senders_left e (receiver_replies p e s.session step) ≡ e.senders
   by_receiver None = refl
   by_receiver (Some step) =
-      let gone : Option ℕ = evicted_by e (find s.session e.receivers) step.next in
+      let gone : Option ℕ = evicted_by p e (find s.session e.receivers) step.next in
       received (without_evicted e gone) s.session step.next ∙ evicted e gone
 
   by_own : (own used peer : Bool)

@@ -105,6 +105,8 @@ whole-counted a face now whole can = record {
   new_face = whole.new_face;
   old_most = whole.old_most;
   new_most = whole.new_most;
+  old_sessions = whole.old_sessions;
+  new_sessions = whole.new_sessions;
   config = whole.config;
   bounds = record {
     old_face = whole.bounds.old_face;
@@ -240,8 +242,8 @@ pieces-fit a face to room j whole to_is room_is fits (inr none) = (
   no_blocks = All-nil IsBlock
 
   bounded : (f : Face) → HasRoom (engine_at a f) 0
-  bounded faces.Old = record { sending = omega (arith, whole.bounds.old_face.senders); numbers = omega (arith, whole.bounds.old_face.numbers) }
-  bounded faces.New = record { sending = omega (arith, whole.bounds.new_face.senders); numbers = omega (arith, whole.bounds.new_face.numbers) }
+  bounded faces.Old = record { sending = omega (arith, whole.old_sessions, whole.bounds.old_face.senders); numbers = omega (arith, whole.bounds.old_face.numbers) }
+  bounded faces.New = record { sending = omega (arith, whole.new_sessions, whole.bounds.new_face.senders); numbers = omega (arith, whole.bounds.new_face.numbers) }
 
 -- ---- a datagram came
 

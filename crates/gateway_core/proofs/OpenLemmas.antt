@@ -139,10 +139,10 @@ rests-sender p e n s now = by_content s.content where
 
 rests-receiver : (p : Party) (e : Engine) (n : ℕ) (s : SegmentValue) (now : ℕ) → Rests n e (engine_left e (to_receiver p e s now))
 rests-receiver p e n s now = by_step (receiver_answers p.policy (place_of p e s.session) (find s.session e.receivers) s.content now) where
-  by_step : (step : Option (StepValue Receiving)) → Rests n e (engine_left e (receiver_replies e s.session step))
+  by_step : (step : Option (StepValue Receiving)) → Rests n e (engine_left e (receiver_replies p e s.session step))
   by_step None = rests-same n e e refl
   by_step (Some step) =
-      let gone : Option ℕ = evicted_by e (find s.session e.receivers) step.next in
+      let gone : Option ℕ = evicted_by p e (find s.session e.receivers) step.next in
       rests-same n e (with_receiver (without_evicted e gone) s.session step.next) (received (without_evicted e gone) s.session step.next ∙ evicted e gone)
 
 rests-arrived : (p : Party) (e : Engine) (n : ℕ) (s : SegmentValue) (now : ℕ) → Rests n e (engine_left e (arrives p e s now))

@@ -38,12 +38,13 @@ not_below a b is = grind (arith, nat_tests)
 not_up_to : (a b : ℕ) → b < a → nat_le a b ≡ false
 not_up_to a b is = grind (arith, nat_tests)
 
-no-fault : (v : EngineValue) (e : Engine) (block : List ℕ) → v.party.most ≡ BLOCK_MAX → IsBlock block → HasRoom v 1 → Shows v e → submit_fault v.party e block ≡ None
-no-fault v e block most is room shows = rw (
+no-fault : (v : EngineValue) (e : Engine) (block : List ℕ) → v.party.most ≡ BLOCK_MAX → v.party.sessions ≡ 64 → IsBlock block → HasRoom v 1 → Shows v e → submit_fault v.party e block ≡ None
+no-fault v e block most usual is room shows = rw (
   not_zero (length block) is.some,
   not_below v.party.most (length block) (subst (λ n. length block ≤ n) (sym most) is.small),
   not_up_to (2 ^ 32) e.next (subst (λ n. n < 2 ^ 32) (sym shows.next) (less v.next (2 ^ 32) room.numbers)),
-  not_up_to 64 (length e.senders) (subst (λ s. length s < 64) (sym shows.senders) (less (length v.senders) 64 room.sending)),
+  not_up_to v.party.sessions (length e.senders) (subst (λ n. length e.senders < n) (sym usual)
+      (subst (λ s. length s < 64) (sym shows.senders) (less (length v.senders) 64 room.sending))),
 ) refl where
   less : (a b : ℕ) → a + 1 ≤ b → a < b
   less a b is = omega (arith, is)
@@ -55,17 +56,17 @@ never-fault v e block red now refused none fault = subst (λ f. IsFault refused 
 
 pub unrefused : (v w : EngineValue) (block : List ℕ) (now : ℕ) (r : Result Effects SubmitRefused)
     → Submits v w (λ e. submit_step v.party e (submits v.party e block (length block) now)) r
-    → v.party.most ≡ BLOCK_MAX → IsBlock block → HasRoom v 1 → (e : Engine) → Shows v e → IsUnrefused r
-unrefused v w block now (Ok told) does most is room e shows = tt
-unrefused v w block now (Err causes.Memory) does most is room e shows = tt
-unrefused v w block now (Err causes.Empty) does most is room e shows =
-    never-fault v e block (length block) now causes.Empty (no-fault v e block most is room shows) (does.1 e shows)
-unrefused v w block now (Err causes.TooLarge) does most is room e shows =
-    never-fault v e block (length block) now causes.TooLarge (no-fault v e block most is room shows) (does.1 e shows)
-unrefused v w block now (Err causes.NumbersSpent) does most is room e shows =
-    never-fault v e block (length block) now causes.NumbersSpent (no-fault v e block most is room shows) (does.1 e shows)
-unrefused v w block now (Err causes.Busy) does most is room e shows =
-    never-fault v e block (length block) now causes.Busy (no-fault v e block most is room shows) (does.1 e shows)
+    → v.party.most ≡ BLOCK_MAX → v.party.sessions ≡ 64 → IsBlock block → HasRoom v 1 → (e : Engine) → Shows v e → IsUnrefused r
+unrefused v w block now (Ok told) does most usual is room e shows = tt
+unrefused v w block now (Err causes.Memory) does most usual is room e shows = tt
+unrefused v w block now (Err causes.Empty) does most usual is room e shows =
+    never-fault v e block (length block) now causes.Empty (no-fault v e block most usual is room shows) (does.1 e shows)
+unrefused v w block now (Err causes.TooLarge) does most usual is room e shows =
+    never-fault v e block (length block) now causes.TooLarge (no-fault v e block most usual is room shows) (does.1 e shows)
+unrefused v w block now (Err causes.NumbersSpent) does most usual is room e shows =
+    never-fault v e block (length block) now causes.NumbersSpent (no-fault v e block most usual is room shows) (does.1 e shows)
+unrefused v w block now (Err causes.Busy) does most usual is room e shows =
+    never-fault v e block (length block) now causes.Busy (no-fault v e block most usual is room shows) (does.1 e shows)
 
 -- ---- one session more
 
@@ -175,9 +176,9 @@ SubmitsAt face a b block now submitted =
 pub unrefused-at : (at face : Face) (a b : Parts) (block : List ℕ) (now : ℕ) (submitted : Result Effects SubmitRefused) → at ≡ face → SubmitsAt face a b block now submitted
     → IsWhole a → IsBlock block → HasRoom (engine_at a at) 1 → IsUnrefused submitted
 unrefused-at at faces.Old a b block now submitted is does whole block_is room =
-    unrefused a.old_face b.old_face block now submitted does whole.old_most block_is (subst (λ f. HasRoom (engine_at a f) 1) is room) whole.gate.engines.0 whole.shows.old_face
+    unrefused a.old_face b.old_face block now submitted does whole.old_most whole.old_sessions block_is (subst (λ f. HasRoom (engine_at a f) 1) is room) whole.gate.engines.0 whole.shows.old_face
 unrefused-at at faces.New a b block now submitted is does whole block_is room =
-    unrefused a.new_face b.new_face block now submitted does whole.new_most block_is (subst (λ f. HasRoom (engine_at a f) 1) is room) whole.gate.engines.1 whole.shows.new_face
+    unrefused a.new_face b.new_face block now submitted does whole.new_most whole.new_sessions block_is (subst (λ f. HasRoom (engine_at a f) 1) is room) whole.gate.engines.1 whole.shows.new_face
 
 pub submitted-at : (at face : Face) (a b : Parts) (block : List ℕ) (now : ℕ) (submitted : Result Effects SubmitRefused) (r : Result Effects AllocError) → at ≡ face
     → SubmitsAt face a b block now submitted → OnOk submitted (IsBounded (engine_at b face)) → IfOk r (λ told. submitted ≡ Ok told) → IsWhole a → SameBut face a b

@@ -16,7 +16,8 @@ pub record IsGateConfig (gate : Endpoint) (cut : ℕ) : Type 0 where
   pub cut_least : 1 ≤ cut
   pub cut_most : cut ≤ 4000000
 
--- who is at a face of the code: blocks have any length that a session carries
+-- who is at a face of the code: blocks have any length that a session carries, and the bounds are
+-- the usual ones
 abbrev pub party_value : FaceParty → Party
 party_value p = record {
   own = p.own;
@@ -24,12 +25,16 @@ party_value p = record {
   first = p.first_session;
   policy = policy_value p.policy;
   most = BLOCK_MAX;
+  sessions = 64;
+  history = 65536;
 }
 
--- who is at a face: two numbers; the number of the first session, 1 to 2^32 - 1; and blocks of any
--- length that a session carries
+-- who is at a face: two numbers; the number of the first session, 1 to 2^32 - 1; blocks of any
+-- length that a session carries; 64 sessions of each direction; and 65,536 runs of closed numbers
 pub record IsFaceParty (p : Party) : Type 0 where
   pub apart : p.own ≢ p.peer
   pub first : 1 ≤ p.first
   pub numbers : p.first < 2 ^ 32
   pub most : p.most ≡ BLOCK_MAX
+  pub sessions : p.sessions ≡ 64
+  pub history : p.history ≡ 65536

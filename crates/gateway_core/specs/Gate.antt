@@ -54,10 +54,17 @@ pub record Gate : Type 0 where
   pub engines : Engine × Engine
   pub counter : ℕ
 
--- an engine whose first session has the number 1
+-- an engine whose first session has the number 1, with the usual bounds
 abbrev pub party_of : ℕ → ℕ → PolicyValue → Party
-party_of own peer policy =
-    record { own = own; peer = peer; first = 1; policy = policy; most = BLOCK_MAX }
+party_of own peer policy = record {
+  own = own;
+  peer = peer;
+  first = 1;
+  policy = policy;
+  most = BLOCK_MAX;
+  sessions = 64;
+  history = 65536;
+}
 
 -- the engines of the path have the numbers 1 to 4: the old node, the old face, the new face, the new
 -- node

@@ -45,6 +45,8 @@ pub record IsWhole (p : Parts) : Type 0 where
   pub new_face : p.new_face.spent ≡ false
   pub old_most : p.old_face.party.most ≡ BLOCK_MAX
   pub new_most : p.new_face.party.most ≡ BLOCK_MAX
+  pub old_sessions : p.old_face.party.sessions ≡ 64
+  pub new_sessions : p.new_face.party.sessions ≡ 64
   pub config : IsGateConfig p.gate p.cut
   pub bounds : IsGateBounded (live p)
   pub gate : Gate

@@ -80,10 +80,10 @@ sender-keeps : (e : Engine) (name : SessionName) (n : ℕ) (step : Option (StepV
 sender-keeps e name n None = refl
 sender-keeps e name n (Some step) = refl
 
-receiver-keeps : (e : Engine) (name : SessionName) (n : ℕ) (step : Option (StepValue Receiving)) → Keeps e name (receiver_replies e n step)
-receiver-keeps e name n None = refl
-receiver-keeps e name n (Some step) =
-    next-with_receiver (without_evicted e (evicted_by e (find n e.receivers) step.next)) n step.next ∙ by (evicted_by e (find n e.receivers) step.next)
+receiver-keeps : (p : Party) (e : Engine) (name : SessionName) (n : ℕ) (step : Option (StepValue Receiving)) → Keeps e name (receiver_replies p e n step)
+receiver-keeps p e name n None = refl
+receiver-keeps p e name n (Some step) =
+    next-with_receiver (without_evicted e (evicted_by p e (find n e.receivers) step.next)) n step.next ∙ by (evicted_by p e (find n e.receivers) step.next)
   where
     by : (gone : Option ℕ) → (without_evicted e gone).next ≡ e.next
     by None = refl
@@ -96,7 +96,7 @@ hearing-keeps p e (Ok s) now =
     both_arms (Keeps e name) (s.originator == p.own) (if is_used p e s.session then to_sender p e s now else None) (if s.originator == p.peer then to_receiver p e s now else None)
     (both_arms (Keeps e name) (is_used p e s.session) (to_sender p e s now) None (sender-keeps e name s.session (sender_answers p.policy (find s.session e.senders) s.content now)) refl)
     (both_arms (Keeps e name) (s.originator == p.peer) (to_receiver p e s now) None
-    (receiver-keeps e name s.session (receiver_answers p.policy (place_of p e s.session) (find s.session e.receivers) s.content now)) refl)
+    (receiver-keeps p e name s.session (receiver_answers p.policy (place_of p e s.session) (find s.session e.receivers) s.content now)) refl)
   where
     name : SessionName
     name = record { originator = s.originator; number = s.session }

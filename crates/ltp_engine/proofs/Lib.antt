@@ -3,15 +3,17 @@ mod TableLemmas
 mod OrderLemmas
 mod KeptLemmas
 mod ChangeLemmas
-mod InboundLemmas
+pub mod InboundLemmas
 mod SoundLemmas
 mod BlockLemmas
 mod RunsLemmas
-mod KeepLemmas
-mod ShowLemmas
+pub mod KeepLemmas
+pub mod ShowLemmas
 mod EngineLemmas
-mod HearLemmas
+pub mod HearLemmas
 pub mod LegalLemmas
 mod BeginLemmas
 mod QuietLemmas
+pub mod ElsewhereLemmas
+mod OctetLemmas
 mod RedPartLemmas

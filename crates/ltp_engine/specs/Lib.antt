@@ -7,6 +7,7 @@ pub mod Sessions
 pub mod Shows
 pub mod Bounds
 pub mod Steps
+pub mod Elsewhere
 -- what an engine hands up, whoever is at the other end
 pub mod RedParts
 -- what ties the code to it

@@ -1,10 +1,11 @@
 //! The numbers of sessions that are over.
 
-ghost use Rattle.std.specs.Prelude.{◌==◌, ◌||◌, ◌≡◌, ◌+◌, ◌<◌, ◌^◌, false, OnOk, OnErr};
+ghost use Rattle.std.specs.Prelude.{◌==◌, ◌||◌, ◌≡◌, ◌+◌, ◌<◌, ◌^◌, ◌++◌, false, IfOk, OnOk, OnErr};
 ghost use Rattle.ltp_engine.specs.Closed.{is_among, none_closed, also_closed, begins_run};
 ghost use Rattle.ltp_engine.specs.Closed.{runs_with, with_place};
+ghost use Rattle.ltp_engine.specs.Elsewhere.{numbers_in, last_number, closed_numbers};
 
-use spans::Spans;
+use spans::{Run, Spans};
 use std::alloc::{AllocError, Global};
 use std::marker::Model;
 
@@ -130,4 +131,39 @@ impl Closed {
         self.runs = runs;
         Ok(())
     }
+
+    /// The closed numbers, in ascending order.
+    #[tactic(auto, unfolding(crate::specs::Elsewhere::closed_numbers))]
+    pub fn numbers(&self, alloc: Global) -> Result<Vec<u64>, AllocError>
+        ensures { IfOk result (λ numbers. numbers.items ≡ closed_numbers self.now) }
+    {
+        let mut numbers = Vec::new(alloc);
+        'runs: for run in self.places.runs() {
+            add_run(&mut numbers, run)?;
+        }
+        add_last(&mut numbers, self.last)?;
+        Ok(numbers)
+    }
+}
+
+/// Adds the numbers of a run.
+fn add_run(numbers: &mut Vec<u64>, run: Run) -> Result<(), AllocError>
+    ensures { OnOk result (numbers.new.items ≡ numbers.old.items ++ numbers_in run) }
+{
+    let mut n = run.from;
+    'adding: while n < run.to {
+        numbers.push(n)?;
+        n += 1;
+    }
+    Ok(())
+}
+
+/// Adds the last number that a session may have, where it is closed.
+fn add_last(numbers: &mut Vec<u64>, last: bool) -> Result<(), AllocError>
+    ensures { OnOk result (numbers.new.items ≡ numbers.old.items ++ last_number last) }
+{
+    if last {
+        numbers.push(LAST)?;
+    }
+    Ok(())
 }

@@ -1,11 +1,16 @@
 //! The engine of one end of a link.
 
-ghost use Rattle.std.specs.Prelude.{◌≡◌, ◌≢◌, ◌-◌, ◌<◌, ◌≤◌, ◌^◌, false, true, length, IfOk, OnOk, OnErr};
+ghost use Rattle.std.specs.Prelude.{◌≡◌, ◌≢◌, ◌-◌, ◌<◌, ◌≤◌, ◌^◌, ℕ, false, true, length, Ok, IfOk, OnOk, OnErr};
 ghost use Rattle.ltp_segment.specs.PolicyViews.{policy_value};
 ghost use Rattle.ltp_segment.specs.Reading.{segment_of};
+ghost use Rattle.ltp_segment.specs.Views.{content_value, segment_value};
 ghost use Rattle.ltp_session.specs.Engine.{starts, datagram_step, submits, submit_step, tick_step};
-ghost use Rattle.ltp_engine.specs.Sessions.{is_open, is_handed_up};
-ghost use Rattle.ltp_engine.specs.Shows.{Shows};
+ghost use Rattle.ltp_session.specs.Engine.{is_closed, longest_untouched};
+ghost use Rattle.ltp_engine.specs.Closed.{is_among};
+ghost use Rattle.ltp_engine.specs.Sides.{IsFit};
+ghost use Rattle.ltp_engine.specs.Elsewhere.{released, reopened, closed_numbers};
+ghost use Rattle.ltp_engine.specs.Sessions.{is_open, is_handed_up, is_receiving, IsTouchOrder, cells_in};
+ghost use Rattle.ltp_engine.specs.Shows.{Shows, AreDistinct};
 ghost use Rattle.ltp_engine.specs.Bounds.{IsBounded};
 ghost use Rattle.ltp_engine.specs.Steps.{begun_by, wide_party, new_engine};
 ghost use Rattle.ltp_engine.specs.Steps.{deadline_of, is_due_at, Steps, Submits};
@@ -13,7 +18,7 @@ ghost use Rattle.ltp_engine.specs.Steps.{deadline_of, is_due_at, Steps, Submits}
 use crate::effects::Effects;
 use crate::parts::Parts;
 use crate::refused::SubmitRefused;
-use ltp_segment::{BLOCK_MAX, Policy};
+use ltp_segment::{BLOCK_MAX, Policy, Segment};
 use spans::Spans;
 use std::alloc::{AllocError, Global};
 use std::marker::Model;
@@ -134,6 +139,37 @@ impl Engine {
         self.parts.is_handed_up(session)
     }
 
+    /// Whether a session that the peer began is kept. It takes no memory.
+    pub fn is_receiving(&self, session: u64) -> bool
+        requires { self.now.spent ≡ false }
+        ensures { result ≡ is_receiving session self.now.inbound.receivers }
+    {
+        let _ = self.spent;
+        self.parts.is_receiving(session)
+    }
+
+    /// The receiving session that nothing touched for the longest time, where there is one. It takes
+    /// no memory.
+    pub fn longest_untouched(&self) -> Option<u64>
+        requires { self.now.spent ≡ false }
+        ensures first { result ≡ longest_untouched self.now.inbound.touched
+            self.now.inbound.receivers }
+        // That is the first of the order in which they were touched.
+        ensures order { IsTouchOrder self.now.inbound.touched self.now.inbound.receivers }
+    {
+        let _ = self.spent;
+        self.parts.longest_untouched()
+    }
+
+    /// How many red octets are kept of all receiving sessions. It takes no memory.
+    pub fn octets(&self) -> u64
+        requires { self.now.spent ≡ false }
+        ensures { result ≡ cells_in self.now.inbound.receivers }
+    {
+        let _ = self.spent;
+        self.parts.octets()
+    }
+
     /// The number of the next session; 2^32 where none is left. It takes no memory.
     pub fn next_session(&self) -> u64
         ensures { result ≡ self.now.next }
@@ -205,6 +241,56 @@ impl Engine {
         let effects = self.parts.arrive(datagram, now)?;
         self.spent = false;
         Ok(effects)
+    }
+
+    /// A segment comes that [`ltp_segment::decode`] read: what [`Engine::arrive`] does about its
+    /// datagram.
+    pub fn hear(&mut self, segment: Segment<'_>, now: u64) -> Result<Effects, AllocError>
+        requires whole { self.old.spent ≡ false }
+        requires fit { IsFit (content_value segment.content) }
+        requires moment { now < 2 ^ 62 }
+        ensures done { IfOk result (Steps self.old self.new
+            (λ e. datagram_step self.old.party e (Ok (segment_value segment.entry)) now)) }
+        ensures bounds { OnOk result (IsBounded self.new) }
+        ensures err { OnErr result (self.new.spent ≡ true) }
+    {
+        self.spent = true;
+        let effects = self.parts.hear(segment, now)?;
+        self.spent = false;
+        Ok(effects)
+    }
+
+    /// The numbers of the receiving sessions that are over, in ascending order. The engine forgets
+    /// them, so that the caller remembers them in its place. Where memory is wanted nothing changes.
+    pub fn take_closed(&mut self) -> Result<Vec<u64>, AllocError>
+        requires { self.old.spent ≡ false }
+        ensures numbers { IfOk result (λ numbers. numbers.items
+            ≡ closed_numbers self.old.inbound.closed) }
+        // Each number that was closed is one of them, once, and no other.
+        ensures each { IfOk result (λ numbers. (n : ℕ) → is_closed n numbers.items
+            ≡ is_among self.old.inbound.closed n) }
+        ensures once { IfOk result (λ numbers. AreDistinct numbers.items) }
+        ensures value { OnOk result (self.new ≡ record self.old {
+          inbound = reopened self.old.inbound;
+        }) }
+        ensures err { OnErr result (self.new ≡ self.old) }
+        ensures bounds { IsBounded self.new }
+    {
+        let _ = self.spent;
+        self.parts.take_closed()
+    }
+
+    /// A receiving session is over, and the caller remembers its number in the engine's place, which
+    /// keeps nothing of it. Where it isn't kept nothing changes. It takes no memory.
+    pub fn release(&mut self, session: u64)
+        requires { self.old.spent ≡ false }
+        ensures value { self.new ≡ record self.old {
+          inbound = released session self.old.inbound;
+        } }
+        ensures bounds { IsBounded self.new }
+    {
+        let _ = self.spent;
+        self.parts.release(session);
     }
 
     /// Time has passed: the sending sessions tick in ascending order, then the receiving ones.

@@ -1,6 +1,8 @@
 //! A receiving session on the heap, so that a change of the order moves its address alone.
 
 ghost use Rattle.std.specs.Prelude.{◌≡◌, ◌<◌, ◌≤◌, ◌^◌, false, not, is_some, length, IfOk, OnOk};
+ghost use Rattle.std.specs.List.{count_by};
+ghost use Rattle.spans.specs.Places.{covered_count};
 ghost use Rattle.ltp_segment.specs.declared.session.TheConstants.{BLOCK_MAX};
 ghost use Rattle.ltp_segment.specs.Views.{piece_value};
 ghost use Rattle.ltp_session.specs.Cells.{stop_of};
@@ -8,10 +10,11 @@ ghost use Rattle.ltp_session.specs.Receiver.{on_report_ack, on_receiver_cancel_a
 ghost use Rattle.ltp_session.specs.Receiver.{on_receiver_tick};
 ghost use Rattle.ltp_session.specs.Views.{changed, answer_of};
 ghost use Rattle.ltp_receiver.specs.Receiver.{on_open_piece, is_kept_cancelling, deadline_of, IsOpen};
-ghost use Rattle.ltp_receiver.specs.Receiver.{is_kept_handed_up};
+ghost use Rattle.ltp_receiver.specs.Receiver.{is_kept_handed_up, cells_of};
 
 use ltp_receiver::Receiver;
 use ltp_segment::{PieceView, Step};
+use spans::Spans;
 use std::alloc::{AllocError, Global};
 use std::marker::Model;
 
@@ -107,4 +110,24 @@ impl Held {
     {
         self.receiver.is_handed_up()
     }
+
+    /// How many red octets came.
+    pub fn octets(&self) -> u64
+        requires whole { self.now.spent ≡ false }
+        ensures { result ≡ count_by is_some (cells_of self.now.kept) }
+    {
+        covered(self.receiver.filled())
+    }
+}
+
+/// How many places are covered.
+fn covered(places: &Spans) -> u64
+    requires { length places.now ≡ BLOCK_MAX }
+    ensures { result ≡ covered_count places.now }
+{
+    let mut count = 0;
+    'runs: for run in places.runs() {
+        count += run.to.saturating_sub(run.from);
+    }
+    count
 }

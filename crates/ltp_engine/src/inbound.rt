@@ -3,6 +3,7 @@
 ghost use Rattle.std.specs.Prelude.{◌≡◌, ℕ, ◌<◌, ◌≤◌, ◌^◌, ◌∷◌, [], None, Some, false, length};
 ghost use Rattle.std.specs.Prelude.{IfOk, OnOk};
 ghost use Rattle.std.specs.Prelude.{◌+◌, ◌++◌, nat_eq, nat_le, true, if◌then◌else◌};
+ghost use Rattle.std.specs.List.{AllByRecursion};
 ghost use Rattle.std.specs.Map.{keys_of, remove_entry};
 ghost use Rattle.indexmap.specs.IndexMap.{insert_entry, IsUnique};
 ghost use Rattle.ltp_segment.specs.declared.session.Note.TheVariants as notes;
@@ -20,9 +21,11 @@ ghost use Rattle.ltp_session.specs.Receiver.{piece_step, fresh, green_of, ends_b
 ghost use Rattle.ltp_session.specs.Receiver.{on_receiver_tick, receiver_deadline};
 ghost use Rattle.ltp_session.specs.Step.{unreachable};
 ghost use Rattle.ltp_session.specs.Engine.{tick_segments, tick_remarks, least_deadline};
+ghost use Rattle.ltp_session.specs.Engine.{longest_untouched};
 ghost use Rattle.ltp_session.specs.Views.{datagrams_of, green_view};
+ghost use Rattle.ltp_engine.specs.Bounds.{ReceivesAtMost};
 ghost use Rattle.ltp_engine.specs.Notes.{is_taken};
-ghost use Rattle.ltp_engine.specs.Sessions.{is_handed_up};
+ghost use Rattle.ltp_engine.specs.Sessions.{is_handed_up, is_receiving, IsTouchOrder, cells_in};
 ghost use Rattle.ltp_engine.specs.Tables.{table_of, AreLive, by_number, is_ended};
 ghost use Rattle.ltp_engine.specs.Closed.{all_closed};
 ghost use Rattle.ltp_engine.specs.Inbound.{moved, Turns};
@@ -74,6 +77,7 @@ impl Inbound {
     ghost use Rattle.ltp_engine.specs.Inbound.{inbound_of, Keeps, closed_if, Receives};
     ghost use Rattle.ltp_engine.specs.Inbound.{Takes, TakesNext, evicted_in, with_room, place_in};
     ghost use Rattle.ltp_engine.specs.Inbound.{ticked_in};
+    ghost use Rattle.ltp_engine.specs.Elsewhere.{released};
 
     /// Nothing was received. It takes no memory.
     pub fn new(alloc: Global) -> Inbound
@@ -183,6 +187,65 @@ impl Inbound {
             None => false,
             Some(receiver) => receiver.is_handed_up(),
         }
+    }
+
+    /// Whether a session is kept.
+    pub fn is_receiving(&self, terms: &Terms, n: u64) -> bool
+        requires { AreLive terms.now.originator (policy_value terms.now.policy)
+            self.now.receivers.entries }
+        ensures { result ≡ is_receiving n (inbound_of self.now).receivers }
+    {
+        let _ = terms;
+        self.receivers.contains_key(&n)
+    }
+
+    /// The session that nothing touched for the longest time.
+    pub fn longest_untouched(&self, terms: &Terms) -> Option<u64>
+        requires { AreLive terms.now.originator (policy_value terms.now.policy)
+            self.now.receivers.entries }
+        ensures first { result ≡ longest_untouched (inbound_of self.now).touched
+            (inbound_of self.now).receivers }
+        ensures order { IsTouchOrder (inbound_of self.now).touched
+            (inbound_of self.now).receivers }
+    {
+        let _ = terms;
+        // The contract of `len` tells that no number stands twice.
+        let _kept = self.receivers.len();
+        match self.receivers.first() {
+            None => None,
+            Some((n, _session)) => Some(*n),
+        }
+    }
+
+    /// How many red octets are kept of all sessions.
+    pub fn octets(&self, terms: &Terms) -> u64
+        requires live { AreLive terms.now.originator (policy_value terms.now.policy)
+            self.now.receivers.entries }
+        requires few { length (inbound_of self.now).receivers < 2 ^ 32 }
+        requires received { AllByRecursion (ReceivesAtMost BLOCK_MAX) (inbound_of self.now).receivers }
+        ensures { result ≡ cells_in (inbound_of self.now).receivers }
+    {
+        let _ = terms;
+        // The contract of `len` tells that no number stands twice.
+        let _kept = self.receivers.len();
+        let mut octets = 0;
+        'sessions: for receiver in self.receivers.values() {
+            octets += receiver.octets();
+        }
+        octets
+    }
+
+    /// A session is kept no more, and its number isn't closed by that.
+    pub fn release(&mut self, terms: &Terms, n: u64)
+        requires { AreLive terms.now.originator (policy_value terms.now.policy)
+            self.old.receivers.entries }
+        ensures { Keeps terms.now.originator (policy_value terms.now.policy) self.new
+            (released n (inbound_of self.old)) }
+    {
+        let _ = terms;
+        // The contract of `len` tells that no number stands twice.
+        let _kept = self.receivers.len();
+        self.receivers.shift_remove(&n);
     }
 
     /// Whether there is no room for a new session in the record of earlier ones.

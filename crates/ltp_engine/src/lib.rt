@@ -9,6 +9,9 @@
 //! sessions are kept by ascending numbers, receiving ones from the longest untouched to the last
 //! touched. Numbers of sessions that are over are kept as ranges.
 //!
+//! A caller may remember the numbers of closed sessions in the engine's place: it takes them out after
+//! each step, and lets sessions go of its own accord.
+//!
 //! A new engine shows the definition's engine at its beginning, so each later value shows what the
 //! steps make of that. [`laws`] says what an engine hands up, whoever is at the other end.
 #![tactic(auto)]

@@ -1,20 +1,24 @@
 //! What an engine keeps: both sides, and what never changes.
 
-ghost use Rattle.std.specs.Prelude.{◌≡◌, ◌<◌, ◌≤◌, ◌^◌, false, length, Ok, IfOk, OnOk};
-ghost use Rattle.std.specs.Prelude.{◌==◌, None, Some, if◌then◌else◌};
+ghost use Rattle.std.specs.Prelude.{◌≡◌, ℕ, ◌<◌, ◌≤◌, ◌^◌, false, length, Ok, IfOk, OnOk};
+ghost use Rattle.std.specs.Prelude.{◌==◌, None, Some, OnErr, if◌then◌else◌};
 ghost use Rattle.ltp_segment.specs.PolicyViews.{policy_value};
 ghost use Rattle.ltp_segment.specs.declared.session.Note.TheVariants as notes;
 ghost use Rattle.ltp_segment.specs.declared.session.TheConstants.{BLOCK_MAX};
 ghost use Rattle.ltp_segment.specs.Reading.{segment_of};
 ghost use Rattle.ltp_segment.specs.Views.{content_value, segment_value};
-ghost use Rattle.ltp_engine.specs.Sessions.{is_open, is_handed_up};
+ghost use Rattle.ltp_engine.specs.Sessions.{is_open, is_handed_up, is_receiving, IsTouchOrder, cells_in};
+ghost use Rattle.ltp_engine.specs.Elsewhere.{released, reopened, closed_numbers};
+ghost use Rattle.ltp_engine.specs.Shows.{AreDistinct};
 ghost use Rattle.ltp_engine.specs.Sides.{IsFit};
 ghost use Rattle.ltp_engine.specs.Ties.{own_step, peer_step, begun_step};
 ghost use Rattle.ltp_engine.specs.Ties.{sent_of, handed_of};
-ghost use Rattle.ltp_session.specs.Engine.{datagram_step, tick_step};
+ghost use Rattle.ltp_session.specs.Engine.{datagram_step, tick_step, longest_untouched, is_closed};
+ghost use Rattle.ltp_engine.specs.Closed.{is_among};
 ghost use Rattle.ltp_engine.specs.Steps.{begun_by, wide_party, deadline_of, is_due_at, Steps};
 ghost use Rattle.ltp_engine.specs.Effects.{nothing_done};
 
+use crate::closed::Closed;
 use crate::deadlines::earlier;
 use crate::effects::Effects;
 use crate::inbound::Inbound;
@@ -108,6 +112,64 @@ impl Parts {
         ensures { result ≡ is_handed_up n (value_of false self.now).inbound.receivers }
     {
         self.inbound.is_handed_up(&self.peer_terms(), n)
+    }
+
+    /// Whether a session that the peer began is kept.
+    pub fn is_receiving(&self, n: u64) -> bool
+        requires { IsWhole self.now }
+        ensures { result ≡ is_receiving n (value_of false self.now).inbound.receivers }
+    {
+        self.inbound.is_receiving(&self.peer_terms(), n)
+    }
+
+    /// The receiving session that nothing touched for the longest time.
+    pub fn longest_untouched(&self) -> Option<u64>
+        requires { IsWhole self.now }
+        ensures first { result ≡ longest_untouched (value_of false self.now).inbound.touched
+            (value_of false self.now).inbound.receivers }
+        ensures order { IsTouchOrder (value_of false self.now).inbound.touched
+            (value_of false self.now).inbound.receivers }
+    {
+        self.inbound.longest_untouched(&self.peer_terms())
+    }
+
+    /// How many red octets are kept of all receiving sessions.
+    pub fn octets(&self) -> u64
+        requires { IsWhole self.now }
+        ensures { result ≡ cells_in (value_of false self.now).inbound.receivers }
+    {
+        self.inbound.octets(&self.peer_terms())
+    }
+
+    /// A receiving session is kept no more, and its number isn't closed by that.
+    pub fn release(&mut self, n: u64)
+        requires { IsWhole self.old }
+        ensures whole { IsWhole self.new }
+        ensures value { value_of false self.new ≡ record (value_of false self.old) {
+          inbound = released n (value_of false self.old).inbound;
+        } }
+    {
+        let terms = self.peer_terms();
+        self.inbound.release(&terms, n);
+    }
+
+    /// The closed numbers, in ascending order. No number is closed any more.
+    pub fn take_closed(&mut self) -> Result<Vec<u64>, AllocError>
+        requires { IsWhole self.old }
+        ensures whole { IsWhole self.new }
+        ensures numbers { IfOk result (λ numbers. numbers.items
+            ≡ closed_numbers (value_of false self.old).inbound.closed) }
+        ensures each { IfOk result (λ numbers. (n : ℕ) → is_closed n numbers.items
+            ≡ is_among (value_of false self.old).inbound.closed n) }
+        ensures once { IfOk result (λ numbers. AreDistinct numbers.items) }
+        ensures value { OnOk result (value_of false self.new ≡ record (value_of false self.old) {
+          inbound = reopened (value_of false self.old).inbound;
+        }) }
+        ensures err { OnErr result (value_of false self.new ≡ value_of false self.old) }
+    {
+        let numbers = self.inbound.closed.numbers(self.alloc)?;
+        self.inbound.closed = Closed::new(self.alloc);
+        Ok(numbers)
     }
 
     /// The least deadline of all sessions.
@@ -262,7 +324,7 @@ impl Parts {
     }
 
     /// A segment comes: to a session of either side, or from a stranger.
-    fn hear(&mut self, segment: Segment<'_>, now: u64) -> Result<Effects, AllocError>
+    pub fn hear(&mut self, segment: Segment<'_>, now: u64) -> Result<Effects, AllocError>
         requires whole { IsWhole self.old }
         requires fit { IsFit (content_value segment.content) }
         requires moment { now < 2 ^ 62 }

@@ -1,16 +1,19 @@
 -- What the gate decides about a block it does.
 
 use Rattle.std.proofs.Common.{◌≡◌, ◌≢◌, ℕ, zero, suc, ◌+◌, ◌^◌, ◌<◌, ◌≤◌, Bool, true, false, ◌==◌}
-use Rattle.std.proofs.Common.{nat_lt, if◌then◌else◌}
+use Rattle.std.proofs.Common.{◌||◌, nat_lt, if◌then◌else◌}
 use Rattle.std.proofs.Common.{nat_le, List, [], ◌∷◌, ◌++◌, map, length, Option, None, Some, Result}
 use Rattle.std.proofs.Common.{Ok, Err, ◌⊎◌, inl, inr, refl, sym, ◌∙◌, ap, subst, arith}
 use Rattle.std.proofs.lemmas.Bool.Decides.{nat_tests}
 use Rattle.std.proofs.lemmas.List.{append-nil}
 use Rattle.std.proofs.lemmas.List.Elements.{All-head, All-tail}
-use Rattle.std.specs.List.{All, slice_get}
+use Rattle.std.specs.List.{All, AllByRecursion, slice_get}
+use Rattle.endpoint.specs.Endpoints.{IsEndpoint}
+use Rattle.wire_fields.specs.Reading.{IsOctets}
+use Rattle.ltp_segment.specs.declared.session.Note.{Note}
 use Rattle.ltp_segment.specs.declared.session.TheConstants.{BLOCK_MAX}
 use Rattle.ltp_segment.specs.Values.{SegmentValue}
-use Rattle.ltp_session.specs.Engine.{Engine, EngineStep, Party, Reply, SubmitFault, UpValue, begun}
+use Rattle.ltp_session.specs.Engine.{Engine, EngineStep, Party, SubmitFault, UpValue, begun}
 use Rattle.ltp_session.specs.Engine.{submit_fault, submit_step, submits, submits_unless}
 use Rattle.ltp_session.specs.Sender.{begin}
 use Rattle.ltp_laws.specs.View.{IsIn}
@@ -19,33 +22,43 @@ use Rattle.gate_cases.specs.declared.case.GateCase.TheVariants as cases
 use Rattle.gate_cases.specs.declared.face.Face.{Face}
 use Rattle.gate_cases.specs.declared.face.Face.TheVariants as faces
 use Rattle.gate_cases.specs.declared.judged.Judged.{Judged}
+use Rattle.gate_cases.specs.declared.report.AskedReport.{AskedReport}
+use Rattle.gate_cases.specs.Bundles.{status_bundle}
 use Rattle.gate_cases.specs.Cases.{judged}
 use Rattle.gate_cases.specs.Faces.{other_of}
 use Rattle.gate_cases.specs.Promises.{HaveRoom, IsBlock}
 use Rattle.gate_cases.proofs.PromiseLemmas.{pieces-have-room}
+use Rattle.gateway_core.specs.declared.effects.FaceNote.{FaceNote}
 use Rattle.gateway_core.specs.declared.effects.FaceUp.{FaceUp}
-use Rattle.gateway_core.specs.Gate.{Gate, GateSetup, and_then, arrives_in, at_face, does_at, hears_at}
-use Rattle.gateway_core.specs.Gate.{in_turn, judged_at, passes_at, room_of, sends_at, submission_at}
-use Rattle.gateway_core.specs.Gate.{up_at, with_face}
+use Rattle.gateway_core.specs.declared.note.GateNote.{GateNote}
+use Rattle.gateway_core.specs.declared.note.GateNote.TheVariants as notes
+use Rattle.gateway_core.specs.Gate.{Gate, GateSetup, GateStep, and_then, answers_at, answers_in}
+use Rattle.gateway_core.specs.Gate.{arrives_at, arrives_in, at_face, case_note, decides_in, does_at}
+use Rattle.gateway_core.specs.Gate.{engine_note_at, hears_at, in_turn, is_unreported, judged_at}
+use Rattle.gateway_core.specs.Gate.{note_at, noted_at, passes_at, reports_at, room_of, sends_at}
+use Rattle.gateway_core.specs.Gate.{sends_unless, submission_at, up_at, with_face}
+use Rattle.path_laws.specs.declared.effects.NoteAt.{NoteAt}
 use Rattle.path_laws.specs.declared.effects.UpAt.{UpAt}
 use Rattle.path_laws.specs.declared.places.PathEnd.{PathEnd}
-use Rattle.path_laws.specs.declared.places.Place.{Place}
 use Rattle.path_laws.specs.Places.{Stand, across, at_gate, at_node, end_of, face_place, stand_of}
-use Rattle.path_laws.specs.Path.{Path, PathEvent, PathSetup, SentFrom, all_tick, clock_shows}
-use Rattle.path_laws.specs.Path.{comes_to, delivers, delivers_if, gate_up, nothing_done, path_run}
+use Rattle.path_laws.specs.Path.{Path, PathEvent, PathSetup, PathStep, SentFrom, all_tick}
+use Rattle.path_laws.specs.Path.{clock_shows, comes_to, delivers, delivers_if, gate_note, gate_up}
+use Rattle.path_laws.specs.Path.{nothing_done, path_run}
 use Rattle.path_laws.specs.Path.{path_step, sends, sends_block, sent_unless, up_from}
-use Rattle.path_laws.specs.Log.{Begun, Origin, a_piece, begun_at, begun_by, begun_unless, come_begun}
-use Rattle.path_laws.specs.Log.{decided_begun, delivered_begun, passed_begun, pieces_begun}
-use Rattle.path_laws.specs.Log.{report_begun}
-use Rattle.path_laws.proofs.LogLemmas.{in-left, in-right, made-in}
+use Rattle.path_laws.specs.Log.{Begun, a_piece, a_report, begun_at, begun_by}
+use Rattle.path_laws.specs.Log.{come_begun, decided_begun, delivered_begun, passed_begun}
+use Rattle.path_laws.specs.Log.{pieces_begun, report_begun}
+use Rattle.path_laws.proofs.LogLemmas.{all-in, all-more, in-left, in-right, made-in}
+use Rattle.path_drain.proofs.AdvanceLemmas.{in-either}
+use Rattle.path_drain.proofs.AskedLemmas.{asked-block}
 use Rattle.path_drain.proofs.CaseNotes.{HasOneAtMost, all-up_none, heard-one, none-at, other-stays}
 use Rattle.path_drain.proofs.CaseNotes.{path-notes, same-face, tick-up_none}
+use Rattle.path_drain.proofs.PathNotes.{pieces-counter}
 use Rattle.path_drain.proofs.PieceCounts.{pieces-counted}
 use Rattle.path_drain.proofs.SubmitSteps.{length-more}
-use Rattle.path_drain.specs.Completion.{IsCaseNotedIn}
 use Rattle.path_drain.proofs.CompletionLemmas.{cases-noted}
-use Rattle.path_drain.specs.CarriedOut.{DecisionsAreCarriedOut, IsBegun, PiecesBegin}
-use Rattle.path_drain.specs.CarriedOut.{TakesBlocks}
+use Rattle.path_drain.specs.CarriedOut.{DecisionsAreCarriedOut, IsBegun, IsReportBegun}
+use Rattle.path_drain.specs.CarriedOut.{IsReportNoted, PiecesBegin, ReportBegins, TakesBlocks}
 
 -- ---- a block that is submitted where there is room
 
@@ -291,18 +304,270 @@ passed-begin s w face (x ∷ ups) h up takes one same (inl first) i piece is =
 passed-begin s w face (x ∷ ups) h up takes one same (inr among) i piece is =
     absurd (subst (λ (us : List UpValue). IsIn up us) one among)
 
--- with what comes to a place
-come-begin : (s : PathSetup) (w : Path) (stand : Stand) (segment : SegmentValue) (face : Face)
-    (up : UpAt) → TakesBlocks s → IsIn up (comes_to s w stand segment).effects.ups
-    → up.place ≡ face_place face
-    → (i : ℕ) (piece : List ℕ)
-    → slice_get (judged_at s.gate face w.now up.body w.gate).pieces i ≡ Some piece
-    → IsBegun (come_begun s w stand segment) (face_place (other_of face)) piece
-    (a_piece (end_of face) up.session i)
+-- ---- a report
+
+-- a note that says of no report that it was made
+abbrev IsOther : GateNote → Type 0
+IsOther (notes.Engine note) = Unit {0}
+IsOther (notes.BadBundle session at cause) = Unit {0}
+IsOther (notes.Untranslated session cause) = Unit {0}
+IsOther (notes.Expired session) = Unit {0}
+IsOther (notes.HopLimit session) = Unit {0}
+IsOther (notes.Storage session) = Unit {0}
+IsOther (notes.Passed session pieces) = Unit {0}
+IsOther (notes.Reported session) = ⊥
+IsOther (notes.Unreported session) = Unit {0}
+
+abbrev AreOther : List FaceNote → Type 0
+AreOther noted = AllByRecursion (λ (x : FaceNote). IsOther x.note) noted
+
+engine-other : (face : Face) (noted : List Note) → AreOther (map (engine_note_at face) noted)
+engine-other face [] = tt
+engine-other face (note ∷ noted) = (tt, engine-other face noted)
+
+sends-other : (s : GateSetup) (face : Face) (now : ℕ) (block : List ℕ) (g : Gate)
+    → AreOther (sends_at s face now block g).effects.notes
+unfolding sends_at
+sends-other s face now block g = by (submission_at s face now block g)
+  where
+    by : (r : Result EngineStep SubmitFault) → AreOther (sends_unless face g r).effects.notes
+    by (Ok step) = engine-other face step.effects.notes
+    by (Err fault) = tt
+
+pieces-other : (s : GateSetup) (face : Face) (now : ℕ) (pieces : List (List ℕ)) (g : Gate)
+    → AreOther (in_turn (sends_at s face now) pieces g).effects.notes
+unfolding in_turn and_then
+pieces-other s face now [] g = tt
+pieces-other s face now (piece ∷ pieces) g =
+    all-more (λ (x : FaceNote). IsOther x.note) _ _ (sends-other s face now piece g)
+    (pieces-other s face now pieces (sends_at s face now piece g).gate)
+
+case-other : (session pieces : ℕ) (case : GateCase) → IsOther (case_note session pieces case)
+case-other session pieces (cases.BadBundle at cause) = tt
+case-other session pieces (cases.Untranslated cause) = tt
+case-other session pieces cases.Expired = tt
+case-other session pieces cases.HopLimit = tt
+case-other session pieces cases.Storage = tt
+case-other session pieces cases.Passed = tt
+
+none-other : (noted : List FaceNote) (x : FaceNote) (n : ℕ) → AreOther noted → IsIn x noted
+    → x.note ≡ notes.Reported n → ⊥
+none-other noted x n all among is =
+    subst IsOther is (all-in (λ (x : FaceNote). IsOther x.note) noted all x among)
+
+-- a report is asked for, and can be made
+record IsMade (face : Face) (now : ℕ) (report : Option AskedReport) (g : Gate) : Type 0 where
+  asked : AskedReport
+  asks : report ≡ Some asked
+  can : is_unreported face now g ≡ false
+
+answers-made : (s : GateSetup) (face : Face) (now session : ℕ) (report : Option AskedReport)
+    (g : Gate) (x : FaceNote) (n : ℕ)
+    → IsIn x (answers_at s face now session report g).effects.notes → x.note ≡ notes.Reported n
+    → IsMade face now report g
+unfolding answers_in and_then
+answers-made s face now session None g x n among is = absurd among
+answers-made s face now session (Some asked) g x n among is =
+    by (is_unreported face now g) refl among
+  where
+    by : (t : Bool) → is_unreported face now g ≡ t
+        → IsIn x (if t then noted_at face (notes.Unreported session) g
+        else reports_at s face now session asked g).effects.notes
+        → IsMade face now (Some asked) g
+    by true cannot (inl same) =
+        let other : notes.Unreported session ≡ notes.Reported n =
+        ap (λ (y : FaceNote). y.note) same ∙ is in
+        absurd (cc)
+    by true cannot (inr none) = absurd none
+    by false can there = record { asked = asked; asks = refl; can = can }
+
+-- where the gate stands once the pieces are sent
+abbrev after_pieces : GateSetup → Face → ℕ → List ℕ → Gate → GateStep
+after_pieces s face now body g =
+    in_turn (sends_at s (other_of face) now) (judged_at s face now body g).pieces g
+
+passes-made : (s : GateSetup) (face : Face) (now : ℕ) (up : UpValue) (g : Gate) (x : FaceNote)
+    (n : ℕ) → IsIn x (passes_at s face now up g).effects.notes → x.note ≡ notes.Reported n
+    → IsMade face now (judged_at s face now up.body g).report
+    (after_pieces s face now up.body g).gate
+unfolding decides_in and_then
+passes-made s face now up g x n among is = by (in-either x sent.effects.notes later among)
+  where
+    sent : GateStep
+    sent = after_pieces s face now up.body g
+
+    case : GateNote
+    case = case_note up.session (length (judged_at s face now up.body g).pieces)
+        (judged_at s face now up.body g).case
+
+    later : List FaceNote
+    later = note_at face case
+        ∷ (answers_at s face now up.session (judged_at s face now up.body g).report
+        (after_pieces s face now up.body g).gate).effects.notes
+
+    by : IsIn x sent.effects.notes ⊎ IsIn x later
+        → IsMade face now (judged_at s face now up.body g).report
+        (after_pieces s face now up.body g).gate
+    by (inl there) = absurd (none-other sent.effects.notes x n
+        (pieces-other s (other_of face) now (judged_at s face now up.body g).pieces g) there is)
+    by (inr (inl same)) = absurd (subst IsOther (ap (λ (y : FaceNote). y.note) same ∙ is)
+        (case-other up.session (length (judged_at s face now up.body g).pieces)
+        (judged_at s face now up.body g).case))
+    by (inr (inr there)) = answers-made s face now up.session
+        (judged_at s face now up.body g).report (after_pieces s face now up.body g).gate x n there
+        is
+
+-- then there is a place and a number for it
+made-places : (face : Face) (now : ℕ) (g : Gate) → is_unreported face now g ≡ false
+    → HasPlaces (at_face g.engines face) 1
+made-places face now g can =
+    let parts = neither (nat_le 64 (length (at_face g.engines face).senders))
+    (nat_le (2 ^ 32) (at_face g.engines face).next) (nat_lt now 1000)
+    (nat_le (2 ^ 32) g.counter) can in
+    record {
+      senders = omega (arith, under 64 (length (at_face g.engines face).senders) parts.0);
+      numbers = omega (arith, under (2 ^ 32) (at_face g.engines face).next parts.1);
+    }
+  where
+    neither : (a b c d : Bool) → (a || b || c || d) ≡ false → (a ≡ false) × (b ≡ false)
+    neither true b c d is = absurd (cc)
+    neither false true c d is = absurd (cc)
+    neither false false c d is = (refl, refl)
+
+    under : (most n : ℕ) → nat_le most n ≡ false → n < most
+    under most n is = grind (arith, nat_tests, is)
+
+made-begins : (s : GateSetup) (face : Face) (now : ℕ) (end : PathEnd) (n : ℕ)
+    (report : Option AskedReport) (g : Gate) → TakesAll (at_face s.parties face)
+    → (made : IsMade face now report g) → IsBlock (status_bundle s.gate g.counter now made.asked)
+    → IsBegun (report_begun s face now end n report g) (face_place face)
+    (status_bundle s.gate g.counter now made.asked) (a_report end n)
+made-begins s face now end n report g takes made is =
+    subst (λ (r : Option AskedReport). IsBegun (report_begun s face now end n r g)
+    (face_place face) block (a_report end n)) (sym made.asks)
+    (by (is_unreported face now g) made.can)
+  where
+    block : List ℕ
+    block = status_bundle s.gate g.counter now made.asked
+
+    counted : Gate
+    counted = record g { counter = g.counter + 1 }
+
+    by : (t : Bool) → t ≡ false
+        → IsBegun (if t then [] else begun_by s face now block (a_report end n) counted)
+        (face_place face) block (a_report end n)
+    by true can = absurd (cc)
+    by false can =
+        let begins = is-accepted s face now block counted 0 takes is
+        (made-places face now g made.can) in
+        record { session = (at_face g.engines face).next; among = rw begins (inl refl) }
+
+decided-report : (s : GateSetup) (face : Face) (now n : ℕ) (body : List ℕ) (g : Gate)
+    → TakesAll (at_face s.parties face) → IsEndpoint s.gate → IsOctets body
+    → (made : IsMade face now (judged_at s face now body g).report
+    (after_pieces s face now body g).gate)
+    → IsBegun (decided_begun s face now n (judged_at s face now body g) g) (face_place face)
+    (status_bundle s.gate (after_pieces s face now body g).gate.counter now made.asked)
+    (a_report (end_of face) n)
+decided-report s face now n body g takes legal fits made =
+    let begins = made-begins s face now (end_of face) n (judged_at s face now body g).report sent
+    takes made (asked-block s.gate sent.counter face body now s.cut
+    (room_of (at_face g.engines (other_of face))) made.asked legal fits made.asks) in
+    record {
+      session = begins.session;
+      among = in-right _
+          (pieces_begun s (other_of face) now (end_of face) n 0 (judged_at s face now body g).pieces
+          g)
+          (report_begun s face now (end_of face) n (judged_at s face now body g).report sent)
+          begins.among;
+    }
+  where
+    sent : Gate
+    sent = (after_pieces s face now body g).gate
+
+-- of one block at most, at a gate h that is as w's was but for the face at which the block came
+passed-report : (s : PathSetup) (w : Path) (face : Face) (ups : List UpValue) (h : Gate)
+    (up : UpValue) (x : FaceNote) (n : ℕ) → TakesBlocks s → HasOneAtMost ups
+    → at_face h.engines (other_of face) ≡ at_face w.gate.engines (other_of face)
+    → h.counter ≡ w.gate.counter → IsIn up ups → IsEndpoint s.gate.gate → IsOctets up.body
+    → IsIn x (in_turn (passes_at s.gate face w.now) ups h).effects.notes
+    → x.note ≡ notes.Reported n
+    → IsReportBegun s w (passed_begun s.gate face w.now ups h) face (up_from (face_place face) up)
+unfolding passed_begun in_turn and_then
+passed-report s w face [] h up x n takes one room counter among legal fits noted is = absurd among
+passed-report s w face (y ∷ ups) h up x n takes one room counter (inr among) legal fits noted is =
+    absurd (subst (λ (us : List UpValue). IsIn up us) one among)
+passed-report s w face (y ∷ ups) h up x n takes one room counter (inl first) legal fits noted is =
+    subst (λ (u : UpValue). IsReportBegun s w (passed_begun s.gate face w.now (y ∷ ups) h) face
+    (up_from (face_place face) u)) first
+    (by (in-either x (passes_at s.gate face w.now y h).effects.notes later noted))
+  where
+    later : List FaceNote
+    later = (in_turn (passes_at s.gate face w.now) ups
+        (passes_at s.gate face w.now y h).gate).effects.notes
+
+    y_fits : IsOctets y.body
+    y_fits = subst (λ (u : UpValue). IsOctets u.body) (sym first) fits
+
+    same : judged_at s.gate face w.now y.body h ≡ judged_at s.gate face w.now y.body w.gate
+    same = ap (λ (e : Engine). judged face y.body w.now s.gate.cut (room_of e)) room
+
+    number : (after_pieces s.gate face w.now y.body h).gate.counter ≡ w.gate.counter
+    number = pieces-counter s.gate (other_of face) w.now
+        (judged_at s.gate face w.now y.body h).pieces h ∙ counter
+
+    begun : List Begun
+    begun = passed_begun s.gate face w.now (y ∷ ups) h
+
+    from : IsMade face w.now (judged_at s.gate face w.now y.body h).report
+        (after_pieces s.gate face w.now y.body h).gate
+        → IsReportBegun s w begun face (up_from (face_place face) y)
+    from made =
+        let begins = decided-report s.gate face w.now y.session y.body h
+        (takes-all s takes face) legal y_fits made in
+        record {
+          asked = made.asked;
+          asks = subst (λ (j : Judged). j.report ≡ Some made.asked) same made.asks;
+          begins = subst (λ (k : ℕ). IsBegun begun (face_place face)
+              (status_bundle s.gate.gate k w.now made.asked) (a_report (end_of face) y.session))
+              number (record {
+                session = begins.session;
+                among = in-left _
+                    (decided_begun s.gate face w.now y.session
+                    (judged_at s.gate face w.now y.body h) h)
+                    (passed_begun s.gate face w.now ups (passes_at s.gate face w.now y h).gate)
+                    begins.among;
+              });
+        }
+
+    by : IsIn x (passes_at s.gate face w.now y h).effects.notes ⊎ IsIn x later
+        → IsReportBegun s w begun face (up_from (face_place face) y)
+    by (inl there) = from (passes-made s.gate face w.now y h x n there is)
+    by (inr there) = absurd (subst (λ (us : List UpValue). IsIn x
+        (in_turn (passes_at s.gate face w.now) us
+        (passes_at s.gate face w.now y h).gate).effects.notes) one there)
+
+-- ---- an event that hands a block up
+
+-- a segment comes to a face, whose engine hands the block up
+record IsHeardAt (s : PathSetup) (w : Path) (face : Face) (segment : SegmentValue) (up : UpAt)
+    : Type 0 where
+  value : UpValue
+  among : IsIn value (hears_at s.gate face w.gate (Ok segment) w.now).effects.ups
+  is : up_from (face_place face) value ≡ up
+
+-- to that of one place
+record IsHeardThere (s : PathSetup) (w : Path) (stand : Stand) (segment : SegmentValue)
+    (face : Face) (up : UpAt) : Type 0 where
+  stands : stand ≡ at_gate face
+  heard : IsHeardAt s w face segment up
+
+come-heard : (s : PathSetup) (w : Path) (stand : Stand) (segment : SegmentValue) (face : Face)
+    (up : UpAt) → IsIn up (comes_to s w stand segment).effects.ups
+    → up.place ≡ face_place face → IsHeardThere s w stand segment face up
 unfolding arrives_in and_then
-come-begin s w (at_node end) segment face up takes among at i piece is =
-    absurd (none-at end _ face up among at)
-come-begin s w (at_gate arrived) segment face up takes among at i piece is =
+come-heard s w (at_node end) segment face up among at = absurd (none-at end _ face up among at)
+come-heard s w (at_gate arrived) segment face up among at =
     let heard = hears_at s.gate arrived w.gate (Ok segment) w.now in
     let h = (does_at arrived w.gate heard).gate in
     let none : map (up_at arrived) heard.effects.ups
@@ -317,55 +582,114 @@ come-begin s w (at_gate arrived) segment face up takes among at i piece is =
     let up_is : up_from (face_place arrived) k.x ≡ up = ap gate_up k.is ∙ m.is in
     let face_is : arrived ≡ face =
     same-face arrived face (ap (λ (u : UpAt). u.place) up_is ∙ at) in
-    as_came face_is up_is
-    (passed-begin s w arrived heard.effects.ups h k.x takes
-    (heard-one (at_face s.gate.parties arrived) (at_face w.gate.engines arrived) (Ok segment) w.now)
-    (other-stays w.gate.engines arrived heard.engine) k.among i piece) is
+    subst (λ (f : Face). IsHeardThere s w (at_gate arrived) segment f up) face_is (record {
+      stands = refl;
+      heard = record { value = k.x; among = k.among; is = up_is };
+    })
+
+-- an event is that
+record IsComing (s : PathSetup) (w : Path) (event : PathEvent) (face : Face) (up : UpAt) : Type 0
   where
-    Begins : Face → UpAt → Type 0
-    Begins f u = slice_get (judged_at s.gate f w.now u.body w.gate).pieces i ≡ Some piece
-        → IsBegun (come_begun s w (at_gate arrived) segment) (face_place (other_of f)) piece
-        (a_piece (end_of f) u.session i)
+    segment : SegmentValue
+    heard : IsHeardAt s w face segment up
+    does : path_step s w event ≡ comes_to s w (at_gate face) segment
+    begins : begun_at s w event ≡ come_begun s w (at_gate face) segment
 
-    as_came : {up' : UpAt} → arrived ≡ face → up' ≡ up → Begins arrived up' → Begins face up
-    as_came {up' = up'} face_is up_is begins =
-        subst (λ (f : Face). Begins f up) face_is (subst (λ (u : UpAt). Begins arrived u) up_is begins)
-
-step-begins : (s : PathSetup) (w : Path) (event : PathEvent) (face : Face) (up : UpAt)
-    → TakesBlocks s → IsIn up (path_step s w event).effects.ups → up.place ≡ face_place face
-    → PiecesBegin s w event face up
+step-heard : (s : PathSetup) (w : Path) (event : PathEvent) (face : Face) (up : UpAt)
+    → IsIn up (path_step s w event).effects.ups → up.place ≡ face_place face
+    → IsComing s w event face up
 unfolding path_step
-step-begins s w (sends end block) face up takes among at i piece is =
-    by (sends_block s w end block) among
+step-heard s w (sends end block) face up among at = by (sends_block s w end block) among
   where
     by : (r : Result EngineStep SubmitFault) → IsIn up (sent_unless end w r).effects.ups
-        → IsBegun (begun_at s w (sends end block)) (face_place (other_of face)) piece
-        (a_piece (end_of face) up.session i)
+        → IsComing s w (sends end block) face up
     by (Ok step) among = absurd (none-at end step.effects.ups face up among at)
     by (Err fault) among = absurd among
-step-begins s w (delivers k) face up takes among at i piece is = by (slice_get w.sent k) among
+step-heard s w (delivers k) face up among at = by (slice_get w.sent k) refl among
   where
-    by : (got : Option SentFrom) → IsIn up (delivers_if s w got).effects.ups
-        → IsBegun (delivered_begun s w got) (face_place (other_of face)) piece
-        (a_piece (end_of face) up.session i)
-    by None among = absurd among
-    by (Some d) among =
-        come-begin s w (stand_of (across d.from)) d.segment face up takes among at i piece is
-step-begins s w (clock_shows now) face up takes among at i piece is = by (nat_lt now w.now) among
+    by : (got : Option SentFrom) → slice_get w.sent k ≡ got
+        → IsIn up (delivers_if s w got).effects.ups → IsComing s w (delivers k) face up
+    by None is among = absurd among
+    by (Some d) is among =
+        let there = come-heard s w (stand_of (across d.from)) d.segment face up among at in
+        record {
+          segment = d.segment;
+          heard = there.heard;
+          does = ap (delivers_if s w) is
+              ∙ ap (λ (stand : Stand). comes_to s w stand d.segment) there.stands;
+          begins = ap (delivered_begun s w) is
+              ∙ ap (λ (stand : Stand). come_begun s w stand d.segment) there.stands;
+        }
+step-heard s w (clock_shows now) face up among at = by (nat_lt now w.now) among
   where
     by : (t : Bool) → IsIn up (if t then record { path = w; effects = nothing_done }
-        else all_tick s now w).effects.ups
-        → IsBegun [] (face_place (other_of face)) piece (a_piece (end_of face) up.session i)
+        else all_tick s now w).effects.ups → IsComing s w (clock_shows now) face up
     by true among = absurd among
     by false among =
         absurd (subst (λ (us : List UpAt). IsIn up us) (tick-up_none s w now) among)
+
+coming-pieces : (s : PathSetup) (w : Path) (event : PathEvent) (face : Face) (up : UpAt)
+    → TakesBlocks s → IsComing s w event face up → PiecesBegin s w event face up
+coming-pieces s w event face up takes coming =
+    subst (λ (u : UpAt). PiecesBegin s w event face u) heard.is (λ i piece is.
+    subst (λ (begun : List Begun). IsBegun begun (face_place (other_of face)) piece
+    (a_piece (end_of face) (heard.value).session i)) (sym coming.begins)
+    (passed-begin s w face step.effects.ups (does_at face w.gate step).gate heard.value takes
+    (heard-one (at_face s.gate.parties face) (at_face w.gate.engines face) (Ok coming.segment)
+    w.now) (other-stays w.gate.engines face step.engine) heard.among i piece is))
+  where
+    heard : IsHeardAt s w face coming.segment up
+    heard = coming.heard
+
+    step : EngineStep
+    step = hears_at s.gate face w.gate (Ok coming.segment) w.now
+
+coming-report : (s : PathSetup) (w : Path) (event : PathEvent) (face : Face) (up : UpAt)
+    → TakesBlocks s → IsComing s w event face up → ReportBegins s w event face up
+unfolding arrives_in and_then
+coming-report s w event face up takes coming = λ legal fits noted.
+    let m = made-in gate_note
+    (arrives_at s.gate face (Ok coming.segment) w.now w.gate).effects.notes
+    (record { place = face_place face; note = notes.Reported up.session })
+    (subst (λ (step : PathStep). IsReportNoted step.effects.notes face up) coming.does noted) in
+    subst (λ (u : UpAt). IsReportBegun s w (begun_at s w event) face u) heard.is
+    (subst (λ (begun : List Begun). IsReportBegun s w begun face
+    (up_from (face_place face) heard.value)) (sym coming.begins)
+    (by m.x (ap (λ (y : NoteAt). y.note) m.is)
+    (subst (λ (u : UpAt). IsOctets u.body) (sym heard.is) fits) legal
+    (in-either m.x (does_at face w.gate step).effects.notes later m.among)))
+  where
+    heard : IsHeardAt s w face coming.segment up
+    heard = coming.heard
+
+    step : EngineStep
+    step = hears_at s.gate face w.gate (Ok coming.segment) w.now
+
+    later : List FaceNote
+    later = (in_turn (passes_at s.gate face w.now) step.effects.ups
+        (does_at face w.gate step).gate).effects.notes
+
+    by : (x : FaceNote) → x.note ≡ notes.Reported up.session → IsOctets (heard.value).body
+        → IsEndpoint s.gate.gate
+        → IsIn x (does_at face w.gate step).effects.notes ⊎ IsIn x later
+        → IsReportBegun s w (come_begun s w (at_gate face) coming.segment) face
+        (up_from (face_place face) heard.value)
+    by x is fits legal (inl there) = absurd (none-other (does_at face w.gate step).effects.notes x
+        up.session (engine-other face step.effects.notes) there is)
+    by x is fits legal (inr there) = passed-report s w face step.effects.ups
+        (does_at face w.gate step).gate heard.value x up.session takes
+        (heard-one (at_face s.gate.parties face) (at_face w.gate.engines face) (Ok coming.segment)
+        w.now)
+        (other-stays w.gate.engines face step.engine) refl heard.among legal fits there is
 
 -- ---- a run
 
 pub carried-out : DecisionsAreCarriedOut
 carried-out s w events face up takes among at =
     let case = cases-noted path-notes s w events face up among at in
+    let coming = step-heard s (path_run s w case.earlier) case.event face up case.hands_up at in
     record {
       case = case;
-      pieces = step-begins s (path_run s w case.earlier) case.event face up takes case.hands_up at;
+      pieces = coming-pieces s (path_run s w case.earlier) case.event face up takes coming;
+      report = coming-report s (path_run s w case.earlier) case.event face up takes coming;
     }

@@ -35,6 +35,7 @@ pub mod ReadyExamples
 pub mod HandedUps
 pub mod RunLemmas
 pub mod DecidedLemmas
+pub mod AskedLemmas
 pub mod CarriedLemmas
 pub mod ArrivalLemmas
 pub mod WholeRuns

@@ -37,8 +37,9 @@ pub fn begun_are_decided()
 {}
 
 /// What the gate decides about a block it does, with the event that hands the block up and notes its
-/// case: each piece of a bundle that passes begins a session at the other face. No piece is refused
-/// there, whatever happened before.
+/// case: each piece of a bundle that passes begins a session at the other face, and a report that is
+/// noted as made begins one at the face at which its subject came. No piece is refused there, whatever
+/// happened before; and no report, where the gate's name has a text and the subject is of octets.
 pub fn decisions_are_carried_out()
     ensures { DecisionsAreCarriedOut }
 {}

@@ -198,9 +198,10 @@ DrainCompletes false s start events made = Unit {0}
 -- each is the whole block of the session of that number that was begun across the link; no two came
 -- at one place in one session; and at either end each is a piece of what becomes of one bundle that
 -- the other end sent, or a report on one that it sent itself, different ones from different origins.
--- Each block that came whole to the gate has its case noted with it, as the gate decided then, and each
--- of the pieces of one that passes began a session at the other face with it; and each session that the
--- gate began is a piece of such a block, or a report on it, as it decided then.
+-- Each block that came whole to the gate has its case noted with it, as the gate decided then; each of
+-- the pieces of one that passes began a session at the other face with it, and so did a report that was
+-- noted, at its own face; and each session that the gate began is a piece of such a block, or a report on
+-- it, as it decided then.
 -- And from a path that is hopeful and has room a drain completes the sessions, and what passes in it
 -- arrives.
 pub record PlaysScript

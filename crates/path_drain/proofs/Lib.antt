@@ -40,6 +40,7 @@ pub mod CarriedLemmas
 pub mod ArrivalLemmas
 pub mod WholeRuns
 pub mod DrainedExamples
+pub mod BundleExamples
 pub mod CameLemmas
 pub mod SubmitLemmas
 pub mod LinkLeft

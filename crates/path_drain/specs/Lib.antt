@@ -30,3 +30,4 @@ pub mod Drained
 -- for examples
 pub mod ReadyExamples
 pub mod DrainedExamples
+pub mod BundleExamples

@@ -1,6 +1,6 @@
 //! Paths on which room is counted, from which a drain completes, and whole runs of them, computed.
 
-ghost use Rattle.std.specs.Prelude.{◌+◌, ◌∷◌, ◌≡◌, ◌≤◌, None, Some, [], length, ℕ};
+ghost use Rattle.std.specs.Prelude.{◌+◌, ◌∷◌, ◌≡◌, ◌≤◌, None, Ok, Some, [], length, ℕ};
 ghost use Rattle.path_laws.specs.Path.{PathSetup, clock_shows, note_from, path_run, path_setup};
 ghost use Rattle.path_laws.specs.Path.{starts_path};
 ghost use Rattle.path_drain.specs.PathRoom.{PathRoom};
@@ -17,8 +17,13 @@ ghost use Rattle.ltp_segment.specs.declared.session.Note.TheVariants as notes;
 ghost use Rattle.gate_cases.specs.declared.cause.BadCause.TheVariants.{Six};
 ghost use Rattle.gateway_core.specs.declared.note.GateNote.TheVariants as gate_notes;
 ghost use Rattle.path_laws.specs.declared.places.Place.TheVariants as places;
-ghost use Rattle.path_laws.specs.Log.{ups_in};
+ghost use Rattle.path_laws.specs.declared.places.PathEnd.TheVariants as ends;
+ghost use Rattle.path_laws.specs.Log.{a_piece, begun_in, ups_in};
+ghost use Rattle.ltp_segment.specs.Policy.{policy_of};
 ghost use Rattle.path_drain.specs.Effects.{notes_in};
+ghost use Rattle.path_drain.specs.BundleExamples.{bundle_drained, bundle_lost, bundle_policy};
+ghost use Rattle.path_drain.specs.BundleExamples.{bundle_setup, bundle_start, drains_bundle};
+ghost use Rattle.path_drain.specs.BundleExamples.{new_bundle, old_bundle, sends_bundle};
 ghost use Rattle.path_drain.specs.DrainedExamples.{drains_one_block, drains_one_report};
 ghost use Rattle.path_drain.specs.DrainedExamples.{hands_up_no_bundle, sends_no_bundle};
 ghost use Rattle.path_drain.specs.Runs.{run_path, run_ups};
@@ -107,4 +112,30 @@ pub fn a_block_that_came_is_drained()
         ≡ record { place = places.OldFace; session = 1; body = 7 ∷ 8 ∷ [] } ∷ [] }
     ensures complete { (gate : Endpoint) (cut : ℕ)
         → IsRunComplete (path_setup gate policy cut) 0 hands_up_no_bundle drains_one_report }
+{}
+
+/// The policy is one that a script can give. The old node sent a bundle of version 6 in one segment,
+/// which is lost. The path is ready, and seven events drain it: the gate notes that the bundle
+/// passes, and begins one session for it at its new face; the new node is handed the bundle in
+/// version 7; and both senders note that their blocks were sent.
+pub fn a_bundle_is_drained()
+    ensures policy { policy_of 1024 10000 10 10000 ≡ Ok bundle_policy }
+    ensures ready { IsPathReady bundle_setup bundle_lost }
+    ensures clean { AreCleanOnPathFrom bundle_setup bundle_lost drains_bundle }
+    ensures over { path_clean_event bundle_drained
+        (path_passed (length bundle_lost.sent) drains_bundle) ≡ None }
+    ensures noted { notes_in bundle_setup bundle_lost drains_bundle
+        ≡ record { place = places.OldFace; note = gate_notes.Passed 1 1 }
+        ∷ note_from places.OldNode (notes.Sent 1) ∷ note_from places.NewFace (notes.Sent 1) ∷ [] }
+    ensures begins { begun_in bundle_setup bundle_lost drains_bundle
+        ≡ record {
+          place = places.NewFace;
+          session = 1;
+          block = new_bundle;
+          origin = a_piece ends.Old 1 0;
+        } ∷ [] }
+    ensures comes { ups_in bundle_setup bundle_lost drains_bundle
+        ≡ record { place = places.OldFace; session = 1; body = old_bundle }
+        ∷ record { place = places.NewNode; session = 1; body = new_bundle } ∷ [] }
+    ensures complete { IsRunComplete bundle_setup bundle_start sends_bundle drains_bundle }
 {}

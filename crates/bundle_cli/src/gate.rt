@@ -30,7 +30,8 @@ const BESIDE_METRICS: &str = ".tmp";
 
 const BESIDE_JOURNAL: &str = ".new";
 
-/// Runs the gateway that a file configures, until a line can't be written or memory runs out.
+/// Runs the gateway that a file configures, until a line can't be written, memory runs out, or its journal
+/// can't be kept.
 pub fn run_file(rt: &HostRuntime, words: &[Word], name: &str) -> ExitCode {
     match file_at(rt, words, name) {
         Ok(file) => run(rt, words, &file),

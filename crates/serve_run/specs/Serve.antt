@@ -34,7 +34,7 @@ serving_rules = record {
 abbrev pub setup_named : Endpoint → GateSetup
 setup_named gate = record { parties = gate_parties default_policy; gate = gate; cut = 65536 }
 
--- no fragment of a payload has more than 64 KiB of it
+-- payloads are cut at 64 KiB
 abbrev pub CutsAt64KiB : Type 0
 CutsAt64KiB = (gate : Endpoint) → (setup_named gate).cut ≡ 64 * 1024
 

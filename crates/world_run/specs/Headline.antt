@@ -118,9 +118,9 @@ abbrev pub RefusesNext : Bool → ℕ → List (List ℕ) → List ℕ → Type 
 RefusesNext drained n [] closing = ⊥
 RefusesNext drained n (line ∷ left) closing = RefusesLine drained n line closing
 
--- How the text ends after what happens, by how the run ends: where it is done, the input has been looked
--- at whole, all lines were answered, and nothing more is written; at a limit that one is passed with the
--- next line, line n, or by the input, and nothing more is written either; and else the next line is
+-- How the text ends after what happens, by how the run ends. Where it is done, the input has been looked
+-- at whole, all lines were answered, and nothing more is written. Where it ends at a limit, the next line,
+-- line n, or the length of the input passes that limit, and nothing more is written. Else the next line is
 -- refused.
 abbrev pub ClosesAs : Bool → PathSetup → Path → Status → Bool → ℕ → List (List ℕ) → List ℕ → Type 0
 ClosesAs longer s w statuses.Done drained n left closing = (longer ≡ false) × (left ≡ []) × (closing ≡ [])

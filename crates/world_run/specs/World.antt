@@ -94,7 +94,7 @@ octets_sent (d ∷ sent) = length (segment_octets d.segment) + octets_sent sent
 abbrev pub most_sent : ℕ
 most_sent = 2 ^ 28
 
--- all datagrams of a path have 256 MiB at most
+-- the limit on the octets of a path's datagrams is 256 MiB
 abbrev pub Sends256MiB : Type 0
 Sends256MiB = most_sent ≡ 256 * 1024 * 1024
 

@@ -25,7 +25,7 @@ pub fn worlds_keep_headline()
     path_drain::whole_runs::what_passes_arrives();
 }
 
-/// The datagrams of a path have 256 MiB of octets at most.
+/// The number that limits the octets of a path's datagrams is 256 MiB.
 pub fn worlds_send_256_mib()
     ensures { Sends256MiB }
 {}

@@ -13,3 +13,5 @@ pub mod LawLemmas
 pub mod ConvertLemmas
 pub mod KeepingLemmas
 pub mod ReadingLemmas
+pub mod SpelledLemmas
+pub mod ThereAndBackLemmas

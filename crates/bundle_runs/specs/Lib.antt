@@ -7,6 +7,7 @@ pub mod Fragments
 pub mod Answering
 pub mod Laws
 pub mod Keeping
+pub mod ThereAndBack
 -- what only ties code to these
 pub mod Legal
 pub mod Given

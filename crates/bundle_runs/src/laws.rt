@@ -2,6 +2,7 @@
 ghost use Rattle.bundle_runs.specs.Answering.{settles};
 ghost use Rattle.bundle_runs.specs.Laws.{TakesBundle6, TakesBundle7, StopsAt6, StopsAt7, EndsInside6, EndsInside7, StopsAtVersion, EndsAfterLast, EarliestOctetDecides};
 ghost use Rattle.bundle_runs.specs.Keeping.{SameWithoutRefusals, WritesMore, DoneOnlyTogether};
+ghost use Rattle.bundle_runs.specs.ThereAndBack.{ThereAndBack6, ThereAndBack7, LateStaysThere, RunsThereAndBack6, RunsThereAndBack7};
 ghost use Rattle.bundle_runs.specs.declared.commands.command.Command.{Command};
 
 /// Where a bundle stands at the front of the octets that are left, the answer to them is what the
@@ -34,4 +35,21 @@ pub fn keeps_going_after_refusals()
     ensures same { SameWithoutRefusals }
     ensures more { WritesMore }
     ensures done { DoneOnlyTogether }
+{}
+
+/// What `convert` writes of a bundle's octets is one whole bundle of the other version, of which it writes
+/// the octets of the first one's normal form, and of these what it wrote first. A bundle of version 7
+/// without blocks of the gateway's own comes back octet for octet. A lifetime of version 7 that reaches
+/// 2^64 once it is lengthened to whole seconds goes there and is refused on the way back.
+pub fn converts_there_and_back()
+    ensures six { ThereAndBack6 }
+    ensures seven { ThereAndBack7 }
+    ensures late { LateStaysThere }
+{}
+
+/// The same of whole runs: one over exactly a bundle's octets, one over exactly the octets that the first
+/// wrote, and one over those that the second wrote are done, and the third writes what the first did.
+pub fn runs_there_and_back()
+    ensures six { RunsThereAndBack6 }
+    ensures seven { RunsThereAndBack7 }
 {}

@@ -39,5 +39,8 @@ pub use bundle_reader::BundleReader;
 pub use commands::bundles::bundles;
 pub use commands::command::Command;
 pub use front::{Bundle, Cause};
-pub use laws::{answers_bundle_by_bundle, earliest_place_decides, keeps_going_after_refusals};
+pub use laws::{
+    answers_bundle_by_bundle, converts_there_and_back, earliest_place_decides,
+    keeps_going_after_refusals, runs_there_and_back,
+};
 pub use show_reader::ShowReader;

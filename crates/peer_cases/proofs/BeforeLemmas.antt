@@ -26,7 +26,8 @@ use Rattle.bundle_rows.proofs.RowLemmas.{reads_as_one, row_is_spelled}
 use Rattle.face_room.specs.Loads.{has_room}
 use Rattle.peer_cases.specs.declared.settings.PeerSettings.{PeerSettings}
 use Rattle.peer_cases.specs.Pieces.{greatest_size}
-use Rattle.peer_cases.specs.Cases.{FaceRoom, stops, case_of, decision_in, decided}
+use Rattle.peer_cases.specs.declared.room.FaceRoom.{FaceRoom}
+use Rattle.peer_cases.specs.Cases.{stops, case_of, decision_in, decided}
 use Rattle.peer_cases.specs.Rows.{a_bundle, came_in, items_from, items_in, items_of}
 use Rattle.peer_cases.specs.Laws.{IsPlain, IsAlone, HasOctets, room_as_before, judgement_of, DecidedAsBefore}
 use Rattle.peer_cases.proofs.PlainLemmas.{plainly, old-one, new-one, sizes-plain, pieces-plain, short-is}

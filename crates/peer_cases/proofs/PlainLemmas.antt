@@ -32,7 +32,7 @@ use Rattle.face_room.proofs.RoomLemmas.{alone_each}
 use Rattle.peer_cases.specs.declared.settings.PeerSettings.{PeerSettings}
 use Rattle.peer_cases.specs.Arrivals.{Came, came_as, came6, came7}
 use Rattle.peer_cases.specs.Pieces.{wire_octets, oldest, greatest_size, piece_of}
-use Rattle.peer_cases.specs.Cases.{FaceRoom}
+use Rattle.peer_cases.specs.declared.room.FaceRoom.{FaceRoom}
 use Rattle.peer_cases.specs.Laws.{IsPlain, IsAlone, room_as_before, octets_of_piece}
 
 -- ---- a bundle that came

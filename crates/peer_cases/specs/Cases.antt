@@ -1,33 +1,25 @@
 -- What is decided about a bundle among other implementations: the cases of `gate_cases`, with the room of a
 -- face within its bounds.
 
-use Rattle.std.specs.Prelude.{ℕ, Bool, not, ◌||◌, nat_lt, nat_le, List, [], ◌∷◌, ◌++◌, map, Option, None}
+use Rattle.std.specs.Prelude.{ℕ, Bool, not, ◌||◌, nat_lt, nat_le, List, [], ◌∷◌, ◌++◌, map, None}
 use Rattle.std.specs.List.{list_all}
 use Rattle.bundle_meaning.specs.declared.full.Full.{Full}
 use Rattle.translate.specs.declared.refused.Refused.TheVariants.{TooManyBlocks}
 use Rattle.translate.specs.Refusals.{first_that_holds}
-use Rattle.block_types.specs.declared.losing.LeftOut.{LeftOut}
 use Rattle.gate_cases.specs.declared.case.GateCase.{GateCase}
 use Rattle.gate_cases.specs.declared.case.GateCase.TheVariants.{BadBundle, Untranslated, Expired, HopLimit, Storage, Passed}
 use Rattle.gate_cases.specs.declared.case.TheConstants.{NUMBERS}
 use Rattle.gate_cases.specs.declared.face.Face.{Face}
-use Rattle.gate_cases.specs.declared.report.AskedReport.{AskedReport}
 use Rattle.gate_cases.specs.Faces.{other_of, fits_at}
 use Rattle.gate_cases.specs.Passage.{has_no_hop_left}
 use Rattle.gate_cases.specs.Cases.{untranslated, records_of, or_passed}
 use Rattle.gate_cases.specs.Reports.{asked}
-use Rattle.face_room.specs.declared.bounds.Bounds.{Bounds}
-use Rattle.face_room.specs.declared.load.Load.{Load}
 use Rattle.face_room.specs.Loads.{has_room}
+use Rattle.peer_cases.specs.declared.decision.Decision.{Decision}
+use Rattle.peer_cases.specs.declared.room.FaceRoom.{FaceRoom}
 use Rattle.peer_cases.specs.declared.settings.PeerSettings.{PeerSettings}
-use Rattle.peer_cases.specs.declared.pieces.SizedPiece.{SizedPiece}
 use Rattle.peer_cases.specs.Arrivals.{Came}
 use Rattle.peer_cases.specs.Pieces.{greatest_size, piece_of}
-
--- a face's bounds, and what it has to send
-pub record FaceRoom : Type 0 where
-  pub bounds : Bounds
-  pub load : Load
 
 -- ---- the cases
 
@@ -52,13 +44,6 @@ unfoldable pub case_of : PeerSettings → Face → Came → ℕ → ℕ → Face
 case_of s to came now cut room = or_passed (first_that_holds (stops s to came now cut room))
 
 -- ---- what is decided
-
--- the case; the pieces that go on, in order; the report that is asked for; and what the pieces lack
-pub record Decision : Type 0 where
-  pub case : GateCase
-  pub pieces : List SizedPiece
-  pub report : Option AskedReport
-  pub left : Option LeftOut
 
 -- something of a bundle that goes on; and else nothing of it
 abbrev pub if_passed : {X : Type 0} → GateCase → X → X → X

@@ -18,7 +18,9 @@ use Rattle.peer_cases.specs.declared.settings.PeerSettings.{PeerSettings}
 use Rattle.peer_cases.specs.declared.pieces.SizedPiece.{SizedPiece}
 use Rattle.peer_cases.specs.Arrivals.{Came}
 use Rattle.peer_cases.specs.Pieces.{greatest_size}
-use Rattle.peer_cases.specs.Cases.{FaceRoom, Decision, decided}
+use Rattle.peer_cases.specs.declared.decision.Decision.{Decision}
+use Rattle.peer_cases.specs.declared.room.FaceRoom.{FaceRoom}
+use Rattle.peer_cases.specs.Cases.{decided}
 use Rattle.peer_cases.specs.Rows.{Item, a_bundle, an_end, came_in, bundles_in, items_of}
 
 -- ---- a row is its bundles in turn

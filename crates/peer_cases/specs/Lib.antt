@@ -4,3 +4,6 @@ pub mod Pieces
 pub mod Cases
 pub mod Rows
 pub mod Laws
+pub mod Promises
+-- what only ties code to it
+pub mod Items

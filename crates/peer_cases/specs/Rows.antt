@@ -13,8 +13,11 @@ use Rattle.gate_cases.specs.declared.face.Face.{Face}
 use Rattle.gate_cases.specs.declared.face.Face.TheVariants.{Old, New}
 use Rattle.bundle_rows.specs.declared.next.End.{End}
 use Rattle.bundle_rows.specs.Rows.{Row, octets_in, row_of}
+use Rattle.peer_cases.specs.declared.decision.Decision.{Decision}
+use Rattle.peer_cases.specs.declared.room.FaceRoom.{FaceRoom}
 use Rattle.peer_cases.specs.declared.settings.PeerSettings.{PeerSettings}
 use Rattle.peer_cases.specs.Arrivals.{Came, came6, came7}
+use Rattle.peer_cases.specs.Cases.{decided}
 
 -- ---- a bundle
 
@@ -26,6 +29,11 @@ came_in s New octets = option_map (λ (x : Bundle7 × ℕ). came7 s x.0) (result
 -- the octets of each bundle of a block
 abbrev pub bundles_in : Face → List ℕ → List (List ℕ)
 bundles_in face block = map (octets_in block) (row_of face block).bundles
+
+-- what is decided about it
+unfoldable pub decided_in : PeerSettings → Face → List ℕ → ℕ → ℕ → FaceRoom → Option Decision
+decided_in s face octets now cut room =
+    option_map (λ (came : Came). decided s face came now cut room) (came_in s face octets)
 
 -- ---- items
 

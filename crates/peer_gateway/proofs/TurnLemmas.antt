@@ -11,7 +11,8 @@ use Rattle.bundle_rows.specs.declared.next.End.{End}
 use Rattle.bundle_rows.specs.Rows.{row_of}
 use Rattle.gateway_core.specs.Gate.{RoutedValue, at_face}
 use Rattle.peer_cases.specs.Arrivals.{Came}
-use Rattle.peer_cases.specs.Cases.{Decision, is_unreported}
+use Rattle.peer_cases.specs.declared.decision.Decision.{Decision}
+use Rattle.peer_cases.specs.Cases.{is_unreported}
 use Rattle.peer_cases.specs.Rows.{Item, a_bundle, an_end, came_in, bundles_in, items_of}
 use Rattle.peer_cases.specs.Laws.{placeless, end_items}
 use Rattle.peer_cases.proofs.RowLemmas.{row_in_turn}

@@ -16,7 +16,7 @@ use Rattle.block_types.specs.declared.losing.LeftOut.{LeftOut}
 use Rattle.bundle_rows.specs.declared.next.End.{End}
 use Rattle.face_room.specs.Faces.{load_of}
 use Rattle.gateway_core.specs.Gate.{RoutedValue, segment_at}
-use Rattle.peer_cases.specs.Cases.{FaceRoom}
+use Rattle.peer_cases.specs.declared.room.FaceRoom.{FaceRoom}
 use Rattle.peer_gateway.specs.Keys.{FaceKeys, PeerSetup, gathers_from}
 use Rattle.peer_gateway.specs.Sessions.{Sessions, starts_sessions}
 

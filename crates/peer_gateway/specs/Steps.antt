@@ -15,7 +15,8 @@ use Rattle.block_types.specs.declared.losing.LeftOut.{LeftOut}
 use Rattle.gateway_core.specs.Gate.{at_face, with_face}
 use Rattle.peer_cases.specs.declared.pieces.SizedPiece.{SizedPiece}
 use Rattle.peer_cases.specs.Arrivals.{Came}
-use Rattle.peer_cases.specs.Cases.{Decision, decided, is_unreported}
+use Rattle.peer_cases.specs.declared.decision.Decision.{Decision}
+use Rattle.peer_cases.specs.Cases.{decided, is_unreported}
 use Rattle.peer_cases.specs.Rows.{Item, a_bundle, an_end, came_in, items_of}
 use Rattle.peer_gateway.specs.Keys.{PeerSetup}
 use Rattle.peer_gateway.specs.Sessions.{SessionsStep, hears, ticks}

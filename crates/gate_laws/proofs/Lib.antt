@@ -20,3 +20,8 @@ pub mod NumberLemmas
 pub mod PieceLemmas
 pub mod MarkLemmas
 pub mod ResumeLemmas
+pub mod AgainLemmas
+pub mod ReportLemmas
+pub mod ShutLemmas
+pub mod ClosingLemmas
+pub mod CloseLemmas

@@ -170,13 +170,13 @@ follow-hears face came s =
     (follow-join (pending_of new.journal) (pending_of ticked.journal) (pending_of came_all.journal) (step_at (a_tick_in (moments_value new.moments)) new)
     (arriving_steps face came.datagrams ticked) (follow-happens (a_tick_in (moments_value new.moments)) new) (follow-arrives face came.datagrams ticked)))
 
-reserving-apart : (face : Face) (next reserved : ℕ) (rest : List RecordValue) → AreApart rest → AreApart (reserving face next reserved ++ rest)
+pub reserving-apart : (face : Face) (next reserved : ℕ) (rest : List RecordValue) → AreApart rest → AreApart (reserving face next reserved ++ rest)
 reserving-apart face next reserved rest are = by_test (nat_lt reserved next) where
   by_test : (t : Bool) → AreApart ((if t then a_reserved face (Rattle.gate_records.specs.Keeping.reserve_to next) ∷ [] else []) ++ rest)
   by_test true = are
   by_test false = are
 
-last-apart : (face : Face) (next reserved : ℕ) → AreApart (reserving face next reserved)
+pub last-apart : (face : Face) (next reserved : ℕ) → AreApart (reserving face next reserved)
 last-apart face next reserved = by_test (nat_lt reserved next) where
   by_test : (t : Bool) → AreApart (if t then a_reserved face (Rattle.gate_records.specs.Keeping.reserve_to next) ∷ [] else [])
   by_test true = tt

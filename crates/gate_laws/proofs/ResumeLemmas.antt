@@ -29,7 +29,7 @@ abbrev named_of : Option Journalled → List Named
 named_of None = []
 named_of (Some j) = ((j.recorded).keeping).named
 
-abbrev is_named : ℕ → List Named → Bool
+abbrev pub is_named : ℕ → List Named → Bool
 is_named id named = list_any (has_id id) named
 
 record Next (journal : Option Journalled) (p : Pending) : Type 0 where

@@ -9,3 +9,4 @@ pub mod Keeps
 pub mod Pieces
 pub mod Marks
 pub mod Resumes
+pub mod Closed

@@ -1,18 +1,23 @@
--- What a half begins of earlier runs: blocks that are pending, each once, and without a record.
+-- What a run begins of earlier runs: in each half blocks that are pending, without a record; and over all
+-- of its halves each of them once.
 
-use Rattle.std.specs.Prelude.{◌≡◌, ℕ, zero, suc, false, ◌==◌, List, [], ◌∷◌, ◌++◌, map, Option, None, Some}
-use Rattle.std.specs.List.{AllByRecursion}
+use Rattle.std.specs.Prelude.{◌≡◌, ℕ, zero, suc, Bool, false, ◌==◌, List, [], ◌∷◌, ◌++◌, map, Option, None, Some, IfSome}
+use Rattle.std.specs.List.{AllByRecursion, filter}
 use Rattle.gate_cases.specs.declared.face.Face.{Face}
 use Rattle.gate_cases.specs.declared.face.Face.TheVariants.{Old, New}
+use Rattle.gate_cases.specs.Faces.{other_of}
 use Rattle.journal_file.specs.declared.kept.Pending.{Pending}
 use Rattle.journal_file.specs.Values.{KeptValue}
+use Rattle.journal_file.specs.Keeping.{same_face}
+use Rattle.journal_file.specs.Legal.{IsLegal}
 use Rattle.gateway_core.specs.Gate.{a_block_in}
 use Rattle.gateway_core.specs.Moments.{moments_value}
-use Rattle.gate_half.specs.Journals.{kept_in, records_in}
+use Rattle.gate_records.specs.Keeping.{waiting_at}
+use Rattle.gate_half.specs.Journals.{Journalled, kept_in, records_in}
 use Rattle.gate_half.specs.Standing.{Standing}
 use Rattle.gate_half.specs.Parts.{next_resumed, reads, resumed, resumes_within, where_some}
-use Rattle.gate_half.specs.Half.{Came}
-use Rattle.gate_laws.specs.Runs.{Run, resumed_within, stands_at}
+use Rattle.gate_half.specs.Half.{Came, half}
+use Rattle.gate_laws.specs.Runs.{Run, begins_at, resumed_within, stands_at}
 use Rattle.gate_laws.specs.Pieces.{IsAmong}
 
 -- the blocks that are begun at a face, at most so many
@@ -50,3 +55,42 @@ pub record BeginsAgain (n : ℕ) (s : Standing) : Type 0 where
 abbrev pub ResumesWhatIsKept : Type 0
 ResumesWhatIsKept =
     (r : Run) (came : Came) → BeginsAgain 64 (reads came.reading (stands_at r))
+
+-- ---- over a whole run
+
+-- the blocks that some halves begin, in order
+unfoldable pub begun_over : (board : Bool) → Face → List Came → Standing → List Pending
+begun_over board face [] s = []
+begun_over board face (came ∷ more) s =
+    begun_again 64 (reads came.reading s)
+    ++ begun_over board (other_of face) more (half board face came s).standing
+
+-- all that a run begins
+abbrev pub begun_in : Run → List Pending
+begun_in r = begun_over r.board Old r.comes (begins_at r)
+
+-- of some blocks those of a face
+abbrev pub of_face : Face → List Pending → List Pending
+of_face at blocks = filter (λ p. same_face p.face at) blocks
+
+-- what was pending when it began, where a journal is kept
+abbrev pub pending_before : Option KeptValue → List Pending
+pending_before None = []
+pending_before (Some kept) = kept.pending
+
+-- what waits at a face: blocks that are pending, of whose ids no session has one
+abbrev pub still_waits : Face → Option Journalled → List Pending
+still_waits at None = []
+still_waits at (Some j) = waiting_at at (j.recorded).keeping
+
+-- at each face, what a run begins of earlier runs, and after it what still waits, is what was pending
+-- there when the run began, in order
+abbrev pub BeginsAgainInOrder : Type 0
+BeginsAgainInOrder =
+    (r : Run) → IfSome r.kept IsLegal → (at : Face)
+    → of_face at (begun_in r) ++ still_waits at (stands_at r).journal
+    ≡ of_face at (pending_before r.kept)
+
+-- so each is begun once: no two that the run begins have an id
+abbrev pub BeginsAgainOnce : Type 0
+BeginsAgainOnce = (r : Run) → IfSome r.kept IsLegal → AreOnce (begun_in r)

@@ -12,7 +12,8 @@ ghost use Rattle.gate_laws.specs.Serves.{ServesAlike};
 ghost use Rattle.gate_laws.specs.Keeps.{KeepsBeforeItSends, NumbersAreKept, NumbersGoOn};
 ghost use Rattle.gate_laws.specs.Pieces.{PiecesAreKept};
 ghost use Rattle.gate_laws.specs.Marks.{MarksAreKept};
-ghost use Rattle.gate_laws.specs.Resumes.{ResumesWhatIsKept};
+ghost use Rattle.gate_laws.specs.Closed.{MarkedStayClosed};
+ghost use Rattle.gate_laws.specs.Resumes.{BeginsAgainInOrder, BeginsAgainOnce, ResumesWhatIsKept};
 
 /// The gate of a run is what its ticks, its datagrams and the blocks of earlier runs make of a gate at its
 /// beginning.
@@ -183,3 +184,19 @@ pub fn marks_are_kept()
 pub fn resumes_what_is_kept()
     ensures { ResumesWhatIsKept }
 {}
+
+/// At each face a run begins the blocks that earlier runs kept in the order of their ids, each once, and
+/// what it hasn't begun still waits. What earlier runs kept is legal, as what is read of a journal is.
+pub fn begins_again_once()
+    ensures in_order { BeginsAgainInOrder }
+    ensures once { BeginsAgainOnce }
+{}
+
+/// A session that is marked when a run begins stays closed in it: no report on it goes out at its face, and
+/// its block isn't handed up. What earlier runs kept is legal, as what is read of a journal is.
+pub fn marked_stay_closed()
+    ensures { MarkedStayClosed }
+{
+    outbox::laws::goes_out_in_order();
+    gate_records::laws::recovers_what_is_legal();
+}

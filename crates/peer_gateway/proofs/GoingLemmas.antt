@@ -8,7 +8,7 @@ use Rattle.gateway_core.specs.Gate.{at_face}
 use Rattle.peer_gateway.specs.Keys.{PeerSetup}
 use Rattle.peer_gateway.specs.Gate.{PeerMoments, PeerGate, stays_so, and_then}
 use Rattle.peer_gateway.specs.Going.{go, go_where, is_too_long, waits_too, is_enough, adds, due}
-use Rattle.peer_gateway.specs.Sessions.{ticks}
+use Rattle.peer_sessions.specs.Sessions.{ticks}
 use Rattle.peer_gateway.specs.Steps.{does_at}
 use Rattle.peer_gateway.specs.Laws.{waiting_after, FewWait, NoneWaitsLate}
 

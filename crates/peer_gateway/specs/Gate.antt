@@ -17,8 +17,9 @@ use Rattle.bundle_rows.specs.declared.next.End.{End}
 use Rattle.face_room.specs.Faces.{load_of}
 use Rattle.gateway_core.specs.Gate.{RoutedValue, segment_at}
 use Rattle.peer_cases.specs.declared.room.FaceRoom.{FaceRoom}
-use Rattle.peer_gateway.specs.Keys.{FaceKeys, PeerSetup, gathers_from}
-use Rattle.peer_gateway.specs.Sessions.{Sessions, starts_sessions}
+use Rattle.peer_sessions.specs.Keys.{FaceKeys}
+use Rattle.peer_gateway.specs.Keys.{PeerSetup, gathers_from}
+use Rattle.peer_sessions.specs.Sessions.{Sessions, starts_sessions}
 
 -- ---- moments
 

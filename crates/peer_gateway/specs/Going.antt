@@ -17,7 +17,8 @@ use Rattle.peer_cases.specs.declared.pieces.SizedPiece.{SizedPiece}
 use Rattle.peer_cases.specs.Arrivals.{Came}
 use Rattle.peer_cases.specs.Pieces.{wire_octets}
 use Rattle.peer_cases.specs.Rows.{came_in}
-use Rattle.peer_gateway.specs.Keys.{FaceKeys, PeerSetup}
+use Rattle.peer_sessions.specs.Keys.{FaceKeys}
+use Rattle.peer_gateway.specs.Keys.{PeerSetup}
 use Rattle.peer_gateway.specs.Gate.{PeerMoments, PeerFace, PeerGate, PeerStep, FaceTold, no_effects, stays_so, and_then, routed_at, octets_out, told_began}
 
 -- ---- ages

@@ -1,6 +1,5 @@
 -- what a reader must believe, in this order
 pub mod Keys
-pub mod Sessions
 pub mod Gate
 pub mod Going
 pub mod Steps

@@ -19,7 +19,7 @@ use Rattle.peer_cases.specs.declared.decision.Decision.{Decision}
 use Rattle.peer_cases.specs.Cases.{decided, is_unreported}
 use Rattle.peer_cases.specs.Rows.{Item, a_bundle, an_end, came_in, items_of}
 use Rattle.peer_gateway.specs.Keys.{PeerSetup}
-use Rattle.peer_gateway.specs.Sessions.{SessionsStep, hears, ticks}
+use Rattle.peer_sessions.specs.Sessions.{SessionsStep, hears, ticks}
 use Rattle.peer_gateway.specs.Gate.{PeerMoments, PeerGate, PeerStep, Told, FaceTold, no_effects, stays_so, and_then, in_turn, tells, room_at, routed_at, octets_out}
 use Rattle.peer_gateway.specs.Gate.{told_engine, told_forgotten, told_green, told_case, told_left, told_reported, told_unreported, told_end}
 use Rattle.peer_gateway.specs.Going.{adds, piece_at, due, gathers}

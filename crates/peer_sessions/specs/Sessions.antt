@@ -3,7 +3,7 @@
 -- time (own rule; RFC 5326, section 6, leaves it open for how long).
 
 use Rattle.std.specs.Prelude.{ℕ, ◌-◌, ◌==◌, Bool, true, false, not, ◌&&◌, nat_lt, nat_le, if◌then◌else◌, List, [], ◌∷◌, ◌++◌, map, length, Option, Some, None, is_some, Result, Ok, Err}
-use Rattle.std.specs.List.{filter, count_by, sum_by}
+use Rattle.std.specs.List.{filter}
 use Rattle.std.specs.Option.{option_map}
 use Rattle.ltp_segment.specs.declared.fault.SegmentCause.{SegmentCause}
 use Rattle.ltp_segment.specs.declared.session.Note.{Note}
@@ -17,7 +17,8 @@ use Rattle.ltp_session.specs.Table.{find, without}
 use Rattle.ltp_session.specs.Engine.{Engine, Reply, EffectsValue, EngineStep, list_of, notes_of, is_used, with_receiver, without_evicted, longest_untouched, to_sender, replied_or_stranger, noted, tick_step, starts}
 use Rattle.session_memory.specs.Memory.{Memory, is_remembered, passed, with_place, forgotten_by, closed, touched, forgotten_at}
 use Rattle.face_room.specs.Bounds.{half}
-use Rattle.peer_gateway.specs.Keys.{FaceKeys, remembers_from}
+use Rattle.ltp_engine.specs.Sessions.{cells_in}
+use Rattle.peer_sessions.specs.Keys.{FaceKeys, remembers_from}
 
 -- The engine's own list of closed numbers is empty between steps: with a step it gets those that the step
 -- closes, and they are remembered. And the moment at which each receiving session was last touched, the
@@ -183,10 +184,6 @@ moments_met k s segment now =
     else s.moments
 
 -- ---- too many octets
-
--- the red octets that are kept of all receiving sessions
-abbrev pub cells_in : List (ℕ × Receiving) → ℕ
-cells_in receivers = sum_by (λ (entry : ℕ × Receiving). count_by is_some entry.1.cells) receivers
 
 -- the sessions that are closed for want of memory: from the longest untouched on, while the others have
 -- more octets than half the memory

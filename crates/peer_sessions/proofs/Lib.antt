@@ -1,0 +1,5 @@
+pub mod MemoryLemmas
+pub mod StepLemmas
+pub mod SettleLemmas
+pub mod StartLemmas
+pub mod DoesLemmas

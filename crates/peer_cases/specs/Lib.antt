@@ -6,4 +6,5 @@ pub mod Rows
 pub mod Laws
 pub mod Promises
 -- what only ties code to it
+pub mod Sending
 pub mod Items

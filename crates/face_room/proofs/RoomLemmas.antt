@@ -1,6 +1,6 @@
 -- Whether there is room.
 
-use Rattle.std.proofs.Common.{◌≡◌, ℕ, ◌+◌, ◌*◌, ◌/◌, ◌<◌, ◌≤◌, Bool, true, false, ◌&&◌, nat_le, List, [], ◌∷◌, ◌++◌, ◌^◌, length, take, drop, get_or, refl, sym, ap, ◌∙◌, arith, length-append}
+use Rattle.std.proofs.Common.{◌≡◌, ℕ, ◌+◌, ◌*◌, ◌/◌, ◌<◌, ◌≤◌, Bool, true, false, nat_le, List, [], ◌∷◌, ◌++◌, ◌^◌, length, take, drop, get_or, refl, sym, ap, ◌∙◌, arith, length-append}
 use Rattle.std.specs.List.{list_all, sum_by}
 use Rattle.std.proofs.lemmas.Bool.{and_parts, le-leb, lt-leb, leb-true}
 use Rattle.std.proofs.lemmas.Nat.{le-div}
@@ -24,26 +24,22 @@ use Rattle.face_room.proofs.BlockLemmas.{blocks_with, sizes-append, blocks-rise,
 -- ---- parts
 
 pub record IsWithin (b : Bounds) (l : Load) : Type 0 where
-  pub sessions : l.sending + l.waiting.blocks ≤ b.sessions
   pub numbers : l.next_session + l.waiting.blocks ≤ NUMBERS
   pub kept : l.kept ≤ for_pieces b
 
 pub within-parts : (b : Bounds) (l : Load) → is_within b l ≡ true → IsWithin b l
 unfolding is_within
 within-parts b l is =
-    let first = and_parts (nat_le (l.sending + l.waiting.blocks) b.sessions) (nat_le (l.next_session + l.waiting.blocks) NUMBERS && nat_le l.kept (for_pieces b)) is in
-    let second = and_parts (nat_le (l.next_session + l.waiting.blocks) NUMBERS) (nat_le l.kept (for_pieces b)) first.1 in
+    let both = and_parts (nat_le (l.next_session + l.waiting.blocks) NUMBERS) (nat_le l.kept (for_pieces b)) is in
     record {
-      sessions = leb-true (l.sending + l.waiting.blocks) b.sessions first.0;
-      numbers = leb-true (l.next_session + l.waiting.blocks) NUMBERS second.0;
-      kept = leb-true l.kept (for_pieces b) second.1;
+      numbers = leb-true (l.next_session + l.waiting.blocks) NUMBERS both.0;
+      kept = leb-true l.kept (for_pieces b) both.1;
     }
 
 pub within-is : (b : Bounds) (l : Load) → IsWithin b l → is_within b l ≡ true
 unfolding is_within
 within-is b l within =
     rw (
-      le-leb (l.sending + l.waiting.blocks) b.sessions within.sessions,
       le-leb (l.next_session + l.waiting.blocks) NUMBERS within.numbers,
       le-leb l.kept (for_pieces b) within.kept,
     ) refl
@@ -66,7 +62,7 @@ room-is b l sizes all within = rw (all, within-is b (with_pieces b l sizes) with
 -- ---- an idle face
 
 pub idle_has_room : IdleHasRoom
-idle_has_room b l size memory segment some idle fits =
+idle_has_room b l size memory segment idle fits =
     let half : 16777216 ≤ b.memory / 2 = le-div 16777216 b.memory 2 (omega arith) (omega (arith, memory)) in
     let room : 15728640 ≤ for_pieces b = le-div 15728640 (b.memory / 2 * 15) 16 (omega arith) (omega (arith, half)) in
     let needs = need-within size b.segment segment fits in
@@ -74,7 +70,6 @@ idle_has_room b l size memory segment some idle fits =
     let one : blocks_with b.wanted l.waiting (size ∷ []) ≡ 1 =
     ap (λ w. blocks_with b.wanted w (size ∷ [])) idle.waiting ∙ one-block b.wanted size in
     room-is b l (size ∷ []) (rw (le-leb size BLOCK_MAX fits) refl) (record {
-      sessions = omega (arith, one, some, idle.sending);
       numbers = omega (arith, one, idle.number);
       kept = omega (arith, room, needs, sum, idle.kept);
     })
@@ -90,7 +85,6 @@ fewer_have_room b l first more room =
     let rise = blocks-rise b.wanted (with_sizes b.wanted l.waiting first) more in
     let sum = sum_by-append (need b.segment) first more in
     room-is b l first all.0 (record {
-      sessions = omega (arith, parts.1.sessions, blocks, rise);
       numbers = omega (arith, parts.1.numbers, blocks, rise);
       kept = omega (arith, parts.1.kept, sum);
     })
@@ -120,7 +114,6 @@ waits b face pieces room =
     ≡ sum_by (need b.segment) (sizes_of face.pieces) + sum_by (need b.segment) (sizes_of pieces) =
     ap (sum_by (need b.segment)) all ∙ sum_by-append (need b.segment) (sizes_of face.pieces) (sizes_of pieces) in
     within-is b (load_of b (with_waiting face pieces)) (record {
-      sessions = omega (arith, parts.1.sessions, blocks);
       numbers = omega (arith, parts.1.numbers, blocks);
       kept = omega (arith, parts.1.kept, sum);
     })
@@ -166,10 +159,9 @@ goes b face size sent bounds is going =
     let second : total (face.outbox ++ sent) ≡ total face.outbox + total sent = sum_by-append (λ (n : ℕ). n) face.outbox sent in
     let count : length (face.blocks ++ size ∷ []) ≡ length face.blocks + 1 = length-append face.blocks (size ∷ []) in
     record {
-      session = omega (arith, within.sessions, blocks);
+      sessions = omega (arith, going.free, count);
       number = omega (arith, within.numbers, blocks);
       within = within-is b (load_of b (with_gone b face size sent)) (record {
-        sessions = omega (arith, within.sessions, blocks, count);
         numbers = omega (arith, within.numbers, blocks);
         kept = omega (arith, within.kept, needs, less, keeps, first, second);
       });

@@ -1,6 +1,6 @@
 -- A face's load, told of the blocks, the datagrams and the pieces that are there.
 
-use Rattle.std.specs.Prelude.{ℕ, ◌+◌, List, [], ◌∷◌, ◌++◌, length, drop, map}
+use Rattle.std.specs.Prelude.{ℕ, ◌+◌, List, [], ◌∷◌, ◌++◌, drop, map}
 use Rattle.std.specs.List.{sum_by}
 use Rattle.piece_gathering.specs.declared.piece.Piece.{Piece}
 use Rattle.piece_gathering.specs.Gathered.{front_of}
@@ -29,7 +29,6 @@ kept_at segment face = total face.blocks + total face.outbox + sum_by (need segm
 
 abbrev pub load_of : Bounds → FaceValue → Load
 load_of b face = record {
-  sending = length face.blocks;
   next_session = face.next_session;
   kept = kept_at b.segment face;
   waiting = with_sizes b.wanted no_blocks (sizes_of face.pieces);

@@ -14,9 +14,8 @@ use Rattle.face_room.specs.Faces.{FaceValue, total, sizes_of, load_of, with_wait
 
 -- ---- an idle face
 
--- nothing is sent, kept or waiting, and a number is left
+-- nothing is kept or waits, and a number is left
 pub record IsIdle (l : Load) : Type 0 where
-  pub sending : l.sending ≡ 0
   pub kept : l.kept ≡ 0
   pub waiting : l.waiting ≡ no_blocks
   pub number : l.next_session < NUMBERS
@@ -24,8 +23,8 @@ pub record IsIdle (l : Load) : Type 0 where
 -- with 32 MiB of memory or more, and segments of 512 octets or more, there is room for each piece that a
 -- session carries
 abbrev pub IdleHasRoom : Type 0
-IdleHasRoom = (b : Bounds) (l : Load) (size : ℕ) → 33554432 ≤ b.memory → 512 ≤ b.segment → 0 < b.sessions
-    → IsIdle l → size ≤ BLOCK_MAX → has_room b l (size ∷ []) ≡ true
+IdleHasRoom = (b : Bounds) (l : Load) (size : ℕ) → 33554432 ≤ b.memory → 512 ≤ b.segment → IsIdle l
+    → size ≤ BLOCK_MAX → has_room b l (size ∷ []) ≡ true
 
 -- ---- fewer pieces
 
@@ -35,15 +34,14 @@ FewerHaveRoom = (b : Bounds) (l : Load) (first more : List ℕ) → has_room b l
 
 -- ---- pieces alone
 
--- Where no piece waits, and each has as many octets as are wanted, each needs a session of its own. Where
--- none is wanted, that is so of all pieces.
+-- Where no piece waits, and each has as many octets as are wanted, each needs the number of a session of its
+-- own. Where none is wanted, that is so of all pieces.
 abbrev pub AloneEach : Type 0
 AloneEach = (b : Bounds) (l : Load) (sizes : List ℕ) → l.waiting ≡ no_blocks → All (λ (n : ℕ). b.wanted ≤ n) sizes
     → has_room b l sizes
     ≡ (list_all (λ size. nat_le size BLOCK_MAX) sizes
-    && (nat_le (l.sending + length sizes) b.sessions
     && (nat_le (l.next_session + length sizes) NUMBERS
-    && nat_le (l.kept + sum_by (need b.segment) sizes) (for_pieces b))))
+    && nat_le (l.kept + sum_by (need b.segment) sizes) (for_pieces b)))
 
 -- ---- blocks are fronts
 
@@ -55,20 +53,22 @@ FrontsAreBlocks = (wanted : ℕ) (pieces : List Piece) → 0 < length pieces
 
 -- ---- what has room goes
 
--- a block has at most as many octets as its pieces may have, and its datagrams have a head each
+-- A session is free. A block has at most as many octets as its pieces may have, and its datagrams have a
+-- head each.
 pub record IsSent (b : Bounds) (face : FaceValue) (size : ℕ) (sent : List ℕ) : Type 0 where
   pub some : 0 < length face.pieces
+  pub free : length face.blocks < b.sessions
   pub block : size ≤ (front_of b.wanted face.pieces).size
   pub datagrams : total sent ≤ size + HEADER_MAX * div_ceil size b.segment
 
--- the block isn't refused, and the face stays within its bounds
+-- a number is left for the block, and the face stays within its bounds
 pub record GoesOn (b : Bounds) (face after : FaceValue) : Type 0 where
-  pub session : length face.blocks < b.sessions
+  pub sessions : length after.blocks ≤ b.sessions
   pub number : face.next_session < NUMBERS
   pub within : is_within b (load_of b after) ≡ true
 
 -- Pieces for which there is room wait within the face's bounds. Of a face within them the pieces in front
--- go.
+-- go as soon as a session is free.
 pub record AreSent (b : Bounds) (face : FaceValue) : Type 0 where
   pub waits : (pieces : List Piece) → has_room b (load_of b face) (sizes_of pieces) ≡ true
       → is_within b (load_of b (with_waiting face pieces)) ≡ true

@@ -32,18 +32,16 @@ with_sizes wanted w (size ∷ sizes) = with_sizes wanted (with_size wanted w siz
 -- pieces of these sizes wait too
 abbrev pub with_pieces : Bounds → Load → List ℕ → Load
 with_pieces b l sizes = record {
-  sending = l.sending;
   next_session = l.next_session;
   kept = l.kept + sum_by (need b.segment) sizes;
   waiting = with_sizes b.wanted l.waiting sizes;
 }
 
--- There is a session, and a number for it, for each block that waits; and what is kept is at most what
--- pieces may fill.
+-- There is a number for the session of each block that waits, and what is kept is at most what pieces may
+-- fill. A block waits until a session is free, so it needs none yet.
 unfoldable pub is_within : Bounds → Load → Bool
 is_within b l =
-    nat_le (l.sending + l.waiting.blocks) b.sessions
-    && (nat_le (l.next_session + l.waiting.blocks) NUMBERS && nat_le l.kept (for_pieces b))
+    nat_le (l.next_session + l.waiting.blocks) NUMBERS && nat_le l.kept (for_pieces b)
 
 -- ---- room
 

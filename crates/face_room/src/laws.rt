@@ -18,7 +18,7 @@ pub fn fewer_have_room()
     ensures { FewerHaveRoom }
 {}
 
-/// Where no piece waits, and each has as many octets as are wanted, each needs a session of its own.
+/// Where no piece waits, and each has as many octets as are wanted, each needs a number of its own.
 pub fn alone_each()
     ensures { AloneEach }
 {}
@@ -28,7 +28,7 @@ pub fn fronts_are_blocks()
     ensures { FrontsAreBlocks }
 {}
 
-/// What has room waits, and goes without being refused; and the face stays within its bounds.
+/// What has room waits, and goes once a session is free; and the face stays within its bounds.
 pub fn goes_within()
     ensures { GoesWithin }
 {}

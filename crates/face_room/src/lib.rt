@@ -1,15 +1,16 @@
-//! Whether a face of the gateway has room for pieces: sessions, session numbers, and octets.
+//! Whether a face of the gateway has room for pieces: octets, and session numbers.
 //!
-//! A face sends a bounded number of sessions at once, and keeps a bounded number of octets for them (own
-//! rule): [`Bounds`]. Half of its memory is for what it sends, so that a node that takes nothing can't stop
-//! what comes from it. What it keeps is the blocks that are being sent, the datagrams in its outbox, and of
-//! each piece that waits what it will [`need`]: itself and no less than its datagrams. Pieces may wait to go
-//! together ([`piece_gathering`]), so they need as many sessions as they make blocks.
+//! A face keeps a bounded number of octets for what it sends, and sends a bounded number of sessions at once
+//! (own rule): [`Bounds`]. Half of its memory is for what it sends, so that a node that takes nothing can't
+//! stop what comes from it. What it keeps is the blocks that are being sent, the datagrams in its outbox, and
+//! of each piece that waits what it will [`need`]: itself and no less than its datagrams. Pieces wait until a
+//! session is free for them ([`piece_gathering`]), so room asks for none; but each block that they make will
+//! have a number.
 //!
 //! [`has_room`] decides for some pieces at once, from the face's [`Load`] in numbers, and takes no memory. An
-//! idle face has room for each piece ([`idle_has_room`]); what has room goes without being refused, and
+//! idle face has room for each piece ([`idle_has_room`]); what has room goes as soon as a session is free, and
 //! leaves the face within its bounds ([`goes_within`]); and pieces that have as many octets as are wanted
-//! take a session of their own each ([`alone_each`]).
+//! take a number of their own each ([`alone_each`]).
 #![tactic(auto)]
 
 mod bounds;

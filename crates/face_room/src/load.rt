@@ -19,8 +19,6 @@ pub struct Waiting {
 /// What a face has to send.
 #[derive(Clone, Copy, Debug, PartialEq, Eq)]
 pub struct Load {
-    /// How many sessions it is sending.
-    pub sending: u64,
     /// The number of its next session.
     pub next_session: u64,
     /// How many octets it keeps: those of the blocks that it is sending and of the datagrams in its outbox,
@@ -59,22 +57,19 @@ pub fn with_piece(bounds: Bounds, load: Load, size: u64) -> Load
     ensures { result ≡ with_pieces bounds load (size ∷ []) }
 {
     Load {
-        sending: load.sending,
         next_session: load.next_session,
         kept: load.kept + need(bounds.segment, size),
         waiting: with_size(bounds.wanted, load.waiting, size),
     }
 }
 
-/// Whether a face is within its bounds, where each block that waits will need a session.
+/// Whether a face is within its bounds, where each block that waits will need the number of a session.
 #[tactic(auto, unfolding(crate::specs::Loads::is_within))]
 pub fn is_within(bounds: Bounds, load: Load) -> bool
     requires { AreBounds bounds }
     ensures { result ≡ is_within bounds load }
 {
-    load.sending <= bounds.sessions
-        && load.waiting.blocks <= bounds.sessions - load.sending
-        && load.next_session <= NUMBERS
+    load.next_session <= NUMBERS
         && load.waiting.blocks <= NUMBERS - load.next_session
         && load.kept <= bounds.for_pieces()
 }

@@ -128,10 +128,11 @@ any-large (piece ∷ pieces) =
     by true b = refl
     by false b = refl
 
-pub short-is : (room : FaceRoom) (pieces : List (List ℕ)) → IsAlone room
+pub short-is : (sending : ℕ) (room : FaceRoom) (pieces : List (List ℕ)) → IsAlone room
     → (room.load).kept + sum_by (need (room.bounds).segment) (lengths pieces) ≤ for_pieces room.bounds
-    → not (has_room room.bounds room.load (lengths pieces)) ≡ is_short (room_as_before room) pieces
-short-is room pieces alone octets =
+    → sending + length pieces ≤ before.SENDING_MAX
+    → not (has_room room.bounds room.load (lengths pieces)) ≡ is_short (room_as_before sending room) pieces
+short-is sending room pieces alone octets sessions =
     let count : length (lengths pieces) ≡ length pieces = length-map pieces (λ (piece : List ℕ). length piece) in
     let each = alone_each room.bounds room.load (lengths pieces) alone.waiting (λ k d inside. omega (arith, alone.wanted)) in
     let kept : nat_le ((room.load).kept + sum_by (need (room.bounds).segment) (lengths pieces)) (for_pieces room.bounds) ≡ true =
@@ -140,16 +141,12 @@ short-is room pieces alone octets =
       each,
       kept,
       count,
-      alone.sessions,
-      not-le ((room.load).sending + length pieces) before.SENDING_MAX,
+      le-ltb before.SENDING_MAX (sending + length pieces) sessions,
       any-large pieces,
       not-le ((room.load).next_session + length pieces) before.NUMBERS,
-    ) (by (list_all (λ (n : ℕ). nat_le n BLOCK_MAX) (lengths pieces)) (nat_le ((room.load).sending + length pieces) before.SENDING_MAX)
-    (nat_le ((room.load).next_session + length pieces) NUMBERS))
+    ) (by (list_all (λ (n : ℕ). nat_le n BLOCK_MAX) (lengths pieces)) (nat_le ((room.load).next_session + length pieces) NUMBERS))
   where
-    by : (all sessions numbers : Bool) → not (all && (sessions && (numbers && true))) ≡ (not sessions || not all || not numbers)
-    by true true true = refl
-    by true true false = refl
-    by true false numbers = refl
-    by false true numbers = refl
-    by false false numbers = refl
+    by : (all numbers : Bool) → not (all && (numbers && true)) ≡ (not all || not numbers)
+    by true true = refl
+    by true false = refl
+    by false numbers = refl

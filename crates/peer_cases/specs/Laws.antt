@@ -53,10 +53,9 @@ pub record IsPlain (s : PeerSettings) : Type 0 where
   pub whole : s.bare ≡ false
   pub ageless : s.raises ≡ false
 
--- pieces go alone, and as many sessions are sent at once as before
+-- pieces go alone, and none waits
 pub record IsAlone (room : FaceRoom) : Type 0 where
   pub wanted : (room.bounds).wanted ≡ 0
-  pub sessions : (room.bounds).sessions ≡ SENDING_MAX
   pub waiting : (room.load).waiting ≡ no_blocks
 
 -- the octets of a bundle's pieces are no matter
@@ -65,8 +64,13 @@ HasOctets s to came cut room =
     (room.load).kept + sum_by (need (room.bounds).segment) (map (greatest_size s to) (records_of came.onward cut))
     ≤ for_pieces room.bounds
 
-abbrev pub room_as_before : FaceRoom → Room
-room_as_before room = record { sending = (room.load).sending; next_session = (room.load).next_session }
+-- Where so many sessions are being sent, each piece has a session at once. Before, a bundle without them
+-- was turned away; now its pieces wait for them.
+abbrev pub HasSessions : Came → ℕ → ℕ → Type 0
+HasSessions came cut sending = sending + length (records_of came.onward cut) ≤ SENDING_MAX
+
+abbrev pub room_as_before : ℕ → FaceRoom → Room
+room_as_before sending room = record { sending = sending; next_session = (room.load).next_session }
 
 -- a decision says nothing more than a judgement
 abbrev pub octets_of_piece : SizedPiece → List ℕ
@@ -76,22 +80,22 @@ abbrev pub judgement_of : Decision → Judgement
 judgement_of d = record { case = d.case; pieces = map octets_of_piece d.pieces; report = d.report }
 
 -- of a bundle that is the whole block
-pub record DecidesAsBefore (s : PeerSettings) (face : Face) (block : List ℕ) (now cut : ℕ) (room : FaceRoom) (came : Came) : Type 0 where
+pub record DecidesAsBefore (s : PeerSettings) (face : Face) (block : List ℕ) (now cut : ℕ) (room : FaceRoom) (sending : ℕ) (came : Came) : Type 0 where
   pub reads : came_in s face block ≡ Some came
-  pub decides : HasOctets s (other_of face) came cut room
-      → judgement_of (decided s face came now cut room) ≡ judged face block now cut (room_as_before room)
+  pub decides : HasOctets s (other_of face) came cut room → HasSessions came cut sending
+      → judgement_of (decided s face came now cut room) ≡ judged face block now cut (room_as_before sending room)
   pub left : (decided s face came now cut room).left ≡ None
 
--- a block that is one bundle, without an end, or none
-pub record IsAsBefore (s : PeerSettings) (face : Face) (block : List ℕ) (now cut : ℕ) (room : FaceRoom) : Type 0 where
+-- a block that is one bundle, without an end, or none; where so many sessions are being sent
+pub record IsAsBefore (s : PeerSettings) (face : Face) (block : List ℕ) (now cut : ℕ) (room : FaceRoom) (sending : ℕ) : Type 0 where
   pub one : (extent : Extent) → row_of face block ≡ record { bundles = extent ∷ []; end = None }
       → (items_of face block ≡ a_bundle None block ∷ [])
-      × ((came : Came) × DecidesAsBefore s face block now cut room came)
+      × ((came : Came) × DecidesAsBefore s face block now cut room sending came)
   pub none : (end : End) → row_of face block ≡ record { bundles = []; end = Some end }
       → (items_of face block ≡ an_end None end ∷ [])
-      × (judged face block now cut (room_as_before room) ≡ record { case = BadBundle end.at end.cause; pieces = []; report = None })
+      × (judged face block now cut (room_as_before sending room) ≡ record { case = BadBundle end.at end.cause; pieces = []; report = None })
 
 -- About a block that is one bundle, or none, it is decided as before there were rows.
 abbrev pub DecidedAsBefore : Type 0
-DecidedAsBefore = (s : PeerSettings) (face : Face) (block : List ℕ) (now cut : ℕ) (room : FaceRoom) → IsPlain s → IsAlone room
-    → IsOctets block → 0 < length block → IsAsBefore s face block now cut room
+DecidedAsBefore = (s : PeerSettings) (face : Face) (block : List ℕ) (now cut : ℕ) (room : FaceRoom) (sending : ℕ) → IsPlain s
+    → IsAlone room → IsOctets block → 0 < length block → IsAsBefore s face block now cut room sending

@@ -9,8 +9,8 @@ pub fn row_in_turn()
     ensures { RowInTurn }
 {}
 
-/// With settings that change nothing, where pieces go alone, as many sessions are sent as before and octets
-/// are no matter: a block of one bundle without an end, or of none, has the judgement that it had before.
+/// With settings that change nothing, where pieces go alone, none waits, 64 sessions suffice and octets are no
+/// matter: a block of one bundle without an end, or of none, has the judgement that it had before.
 pub fn decided_as_before()
     ensures { DecidedAsBefore }
 {}

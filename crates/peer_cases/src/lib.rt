@@ -33,3 +33,4 @@ pub use laws::{decided_as_before, decided_is_sendable, row_in_turn};
 pub use pieces::{SizedPiece, SizedPieces};
 pub use room::{FaceRoom, is_unreported};
 pub use settings::PeerSettings;
+pub use wire::wire_octets;

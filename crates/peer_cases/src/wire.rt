@@ -20,7 +20,7 @@ use translate::{view6, view6_is_legal, view7};
 
 /// The octets of the bundle that stands for a record, in the version of the face, with the types of the
 /// wire.
-pub(crate) fn wire_octets(
+pub fn wire_octets(
     alloc: Global,
     settings: PeerSettings,
     to: Face,

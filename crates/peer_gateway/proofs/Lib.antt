@@ -1,2 +1,10 @@
 pub mod GoingLemmas
 pub mod TurnLemmas
+pub mod StepLemmas
+pub mod OrderLemmas
+pub mod BlockLemmas
+pub mod HeadLemmas
+pub mod AgeLemmas
+pub mod LengthLemmas
+pub mod SizeLemmas
+pub mod StayLemmas

@@ -1,17 +1,18 @@
 -- A gate among other implementations: a face at each of two links, a counter of its reports, and what it
 -- tells of a step.
 
-use Rattle.std.specs.Prelude.{ℕ, Bool, List, [], ◌∷◌, ◌++◌, map, length, Option}
+use Rattle.std.specs.Prelude.{ℕ, Bool, true, false, List, [], ◌∷◌, ◌++◌, map, length, Option}
 use Rattle.std.specs.List.{sum_by}
 use Rattle.ltp_segment.specs.declared.session.Note.{Note}
 use Rattle.ltp_segment.specs.declared.session.Green.{Green}
 use Rattle.ltp_segment.specs.Spelling.{segment_octets}
-use Rattle.ltp_segment.specs.Values.{SegmentValue}
-use Rattle.ltp_session.specs.Sender.{Sending}
+use Rattle.ltp_segment.specs.Values.{SegmentValue, a_receiver_cancel}
+use Rattle.ltp_session.specs.Step.{by_system}
 use Rattle.piece_gathering.specs.declared.piece.Piece.{Piece}
 use Rattle.piece_gathering.specs.Gathered.{GatheringValue}
 use Rattle.gate_cases.specs.declared.case.GateCase.{GateCase}
 use Rattle.gate_cases.specs.declared.face.Face.{Face}
+use Rattle.gate_cases.specs.declared.face.Face.TheVariants as faces
 use Rattle.block_types.specs.declared.losing.LeftOut.{LeftOut}
 use Rattle.bundle_rows.specs.declared.next.End.{End}
 use Rattle.face_room.specs.Faces.{load_of}
@@ -19,7 +20,7 @@ use Rattle.gateway_core.specs.Gate.{RoutedValue, segment_at}
 use Rattle.peer_cases.specs.declared.room.FaceRoom.{FaceRoom}
 use Rattle.peer_sessions.specs.Keys.{FaceKeys}
 use Rattle.peer_gateway.specs.Keys.{PeerSetup, gathers_from}
-use Rattle.peer_sessions.specs.Sessions.{Sessions, starts_sessions}
+use Rattle.peer_sessions.specs.Sessions.{Sessions, starts_sessions, blocks_in}
 
 -- ---- moments
 
@@ -29,6 +30,12 @@ pub record PeerMoments : Type 0 where
   pub wall : ℕ
   pub at : Face → ℕ
   pub leaves : Face → ℕ
+
+-- ---- datagrams
+
+-- how many octets segments have as datagrams
+abbrev pub octets_out : List SegmentValue → ℕ
+octets_out segments = sum_by (λ (segment : SegmentValue). length (segment_octets segment)) segments
 
 -- ---- a gate
 
@@ -42,10 +49,22 @@ pub record PeerGate : Type 0 where
   pub faces : PeerFace × PeerFace
   pub counter : ℕ
 
--- at a moment of the face, with the sessions of the peer that were acknowledged in an earlier run
+-- sessions of the peer that were acknowledged in an earlier run can't be handed up in this one: each is
+-- cancelled once at the start, in order, and the cancels wait in the outbox
+abbrev pub cancel_of : FaceKeys → ℕ → SegmentValue
+cancel_of k mark =
+    record { originator = (k.party).peer; session = mark; content = a_receiver_cancel by_system }
+
+abbrev pub starts_out : FaceKeys → List ℕ → List SegmentValue
+starts_out k marks = map (cancel_of k) marks
+
+-- at a moment of the face, with such sessions
 abbrev pub starts_face : FaceKeys → ℕ → List ℕ → PeerFace
-starts_face k now marks =
-    record { sessions = starts_sessions k now marks; gathering = gathers_from k; queued = 0 }
+starts_face k now marks = record {
+  sessions = starts_sessions k now marks;
+  gathering = gathers_from k;
+  queued = octets_out (starts_out k marks);
+}
 
 abbrev pub starts_peer_gate : PeerSetup → ℕ × ℕ → List ℕ × List ℕ → PeerGate
 starts_peer_gate s now marks = record {
@@ -58,7 +77,7 @@ abbrev pub room_at : FaceKeys → PeerFace → FaceRoom
 room_at k f = record {
   bounds = k.bounds;
   load = load_of k.bounds (record {
-    blocks = map (λ (entry : ℕ × Sending). length entry.1.block) ((f.sessions).engine).senders;
+    blocks = blocks_in ((f.sessions).engine).senders;
     outbox = f.queued ∷ [];
     pieces = (f.gathering).waiting;
     next_session = ((f.sessions).engine).next;
@@ -100,6 +119,13 @@ pub record BegunAt : Type 0 where
   pub session : ℕ
   pub block : List ℕ
   pub pieces : ℕ
+
+-- something is at a face
+abbrev pub is_at : Face → Face → Bool
+is_at faces.Old faces.Old = true
+is_at faces.Old faces.New = false
+is_at faces.New faces.Old = false
+is_at faces.New faces.New = true
 
 -- segments that are to be sent, what is told, and what a journal has to know, each in its order
 pub record PeerEffects : Type 0 where
@@ -145,11 +171,7 @@ tells face told g = record {
   effects = record no_effects { told = record { face = face; told = told } ∷ [] };
 }
 
--- ---- datagrams
+-- ---- out at a face
 
 abbrev pub routed_at : Face → List SegmentValue → List RoutedValue
 routed_at face segments = map (segment_at face) segments
-
--- how many octets segments have as datagrams
-abbrev pub octets_out : List SegmentValue → ℕ
-octets_out segments = sum_by (λ (segment : SegmentValue). length (segment_octets segment)) segments

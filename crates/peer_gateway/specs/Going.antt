@@ -1,23 +1,23 @@
--- Pieces wait at a face until they go together as one block.
+-- Pieces wait at a face until a session is free, and go in blocks.
 
-use Rattle.std.specs.Prelude.{ℕ, ◌+◌, ◌-◌, ◌==◌, Bool, true, false, ◌&&◌, not, nat_lt, nat_le, if◌then◌else◌, List, [], ◌∷◌, length, Option, Some, None}
+use Rattle.std.specs.Prelude.{ℕ, zero, suc, ◌+◌, ◌-◌, ◌^◌, ◌==◌, Bool, true, false, ◌&&◌, not, nat_lt, if◌then◌else◌, List, [], ◌∷◌, length, Option, Some, None}
 use Rattle.std.specs.List.{flat_map}
 use Rattle.std.specs.Option.{is_none}
-use Rattle.ltp_session.specs.Sender.{begin}
-use Rattle.ltp_session.specs.Engine.{Engine, EngineStep, begun, replied}
+use Rattle.ltp_session.specs.Engine.{EngineStep}
 use Rattle.translate.specs.Refusals.{first_that_holds}
 use Rattle.bundle_age.specs.Raised.{raised_by, has_age}
 use Rattle.piece_gathering.specs.declared.piece.Piece.{Piece}
-use Rattle.piece_gathering.specs.declared.piece.TheConstants.{BLOCK_MAX}
-use Rattle.piece_gathering.specs.Gathered.{GatheringValue, sizes, is_late, added_to}
+use Rattle.piece_gathering.specs.Gathered.{ready, added_to, going, gone_from}
 use Rattle.gate_cases.specs.declared.face.Face.{Face}
 use Rattle.gateway_core.specs.Gate.{at_face, with_face}
+use Rattle.face_room.specs.declared.bounds.TheConstants.{NUMBERS}
 use Rattle.peer_cases.specs.declared.settings.PeerSettings.{PeerSettings}
 use Rattle.peer_cases.specs.declared.pieces.SizedPiece.{SizedPiece}
 use Rattle.peer_cases.specs.Arrivals.{Came}
 use Rattle.peer_cases.specs.Pieces.{wire_octets}
 use Rattle.peer_cases.specs.Rows.{came_in}
 use Rattle.peer_sessions.specs.Keys.{FaceKeys}
+use Rattle.peer_sessions.specs.Sessions.{block_begins, with_begun}
 use Rattle.peer_gateway.specs.Keys.{PeerSetup}
 use Rattle.peer_gateway.specs.Gate.{PeerMoments, PeerFace, PeerGate, PeerStep, FaceTold, no_effects, stays_so, and_then, routed_at, octets_out, told_began}
 
@@ -35,26 +35,38 @@ raised_octets s face stay octets (Some came) =
     then wire_octets s face (raised_by stay (came.arrival).full)
     else octets
 
+-- after a stay
+abbrev pub stayed_octets : PeerSettings → Face → ℕ → List ℕ → List ℕ
+stayed_octets s face stay octets =
+    if s.raises then raised_octets s face stay octets (came_in s face octets) else octets
+
 -- as it goes
 abbrev pub going_octets : PeerSettings → Face → ℕ → Piece → List ℕ
-going_octets s face leaves piece =
-    if s.raises then raised_octets s face (stay_of leaves piece) piece.octets (came_in s face piece.octets)
-    else piece.octets
+going_octets s face leaves piece = stayed_octets s face (stay_of leaves piece) piece.octets
 
--- ---- all that wait go
+-- how many octets it has after the longest stay that can be said
+abbrev pub stayed_size : PeerSettings → Face → List ℕ → ℕ
+stayed_size s face octets = length (stayed_octets s face (2 ^ 64 - 1) octets)
 
--- as one block, all red, in the next session
-abbrev pub block_of : PeerSetup → Face → PeerMoments → PeerFace → List ℕ
-block_of s face m f = flat_map (going_octets s.settings face (m.leaves face)) (f.gathering).waiting
+-- ---- the pieces in front go
 
-abbrev pub block_begins : FaceKeys → Engine → List ℕ → ℕ → EngineStep
-block_begins k e block now =
-    replied (record { originator = (k.party).own; number = e.next }) (begun e (begin (k.party).policy e.next block (length block) now))
+-- a session is free: fewer are being sent than may be, and a number is left
+abbrev pub is_free : FaceKeys → PeerFace → Bool
+is_free k f =
+    nat_lt (length ((f.sessions).engine).senders) (k.bounds).sessions && nat_lt ((f.sessions).engine).next NUMBERS
 
-abbrev pub with_begun : PeerFace → EngineStep → PeerFace
-with_begun f step = record f {
-  sessions = record (f.sessions) { engine = step.engine };
-  gathering = record (f.gathering) { waiting = [] };
+-- how many pieces go next in one block, where those go that are ready at a moment
+abbrev pub next_count : FaceKeys → ℕ → PeerFace → ℕ
+next_count k until f = if is_free k f then ready f.gathering until else 0
+
+-- all red, in the next session
+abbrev pub block_of : PeerSetup → Face → PeerMoments → ℕ → PeerFace → List ℕ
+block_of s face m until f = flat_map (going_octets s.settings face (m.leaves face)) (going f.gathering until)
+
+abbrev pub after_block : PeerFace → ℕ → EngineStep → PeerFace
+after_block f until step = record {
+  sessions = with_begun f.sessions step;
+  gathering = gone_from f.gathering until;
   queued = f.queued + octets_out (step.effects).out;
 }
 
@@ -67,55 +79,60 @@ told_if true face pieces octets session =
 abbrev pub gathers : FaceKeys → Bool
 gathers k = not ((k.bounds).wanted == 0)
 
-abbrev pub block_goes : PeerSetup → Face → PeerMoments → PeerGate → List ℕ → PeerFace → EngineStep → PeerStep
-block_goes s face m g block f step = record {
-  gate = record g { faces = with_face g.faces face (with_begun f step) };
+abbrev pub block_goes : PeerSetup → Face → ℕ → PeerGate → List ℕ → PeerFace → EngineStep → PeerStep
+block_goes s face until g block f step = record {
+  gate = record g { faces = with_face g.faces face (after_block f until step) };
   effects = record {
     out = routed_at face (step.effects).out;
-    told = told_if (gathers (at_face s.keys face)) face (length (f.gathering).waiting) (length block) ((f.sessions).engine).next;
+    told = told_if (gathers (at_face s.keys face)) face (ready f.gathering until) (length block)
+        ((f.sessions).engine).next;
     added = [];
     begun = record {
       face = face;
       session = ((f.sessions).engine).next;
       block = block;
-      pieces = length (f.gathering).waiting;
+      pieces = ready f.gathering until;
     } ∷ [];
   };
 }
 
-unfoldable pub go : PeerSetup → Face → PeerMoments → PeerGate → PeerStep
-go s face m g =
-    block_goes s face m g (block_of s face m (at_face g.faces face)) (at_face g.faces face)
-    (block_begins (at_face s.keys face) (((at_face g.faces face).sessions).engine) (block_of s face m (at_face g.faces face)) (m.at face))
+unfoldable pub go : PeerSetup → Face → PeerMoments → ℕ → PeerGate → PeerStep
+go s face m until g =
+    block_goes s face until g (block_of s face m until (at_face g.faces face)) (at_face g.faces face)
+    (block_begins (at_face s.keys face) (((at_face g.faces face).sessions).engine)
+    (block_of s face m until (at_face g.faces face)) (m.at face))
 
--- they go where something holds of what waits
-unfoldable pub go_where : PeerSetup → Face → PeerMoments → (GatheringValue → Bool) → PeerGate → PeerStep
-go_where s face m holds g = if holds (at_face g.faces face).gathering then go s face m g else stays_so g
+-- blocks go, so many at most, as long as some pieces go next
+unfoldable pub go_on : PeerSetup → Face → PeerMoments → ℕ → ℕ → PeerGate → PeerStep
+go_on s face m until zero g = stays_so g
+go_on s face m until (suc n) g =
+    if next_count (at_face s.keys face) until (at_face g.faces face) == 0 then stays_so g
+    else and_then (go s face m until g) (go_on s face m until n)
+
+-- as many as can: there is a piece in each
+abbrev pub go_all : PeerSetup → Face → PeerMoments → ℕ → PeerGate → PeerStep
+go_all s face m until g = go_on s face m until (length ((at_face g.faces face).gathering).waiting) g
 
 -- ---- a piece is added
 
--- pieces wait, with which it would be longer than a session carries
-abbrev pub is_too_long : ℕ → GatheringValue → Bool
-is_too_long size waits = nat_lt 0 (length waits.waiting) && nat_lt BLOCK_MAX (sizes waits.waiting + size)
-
--- as many octets wait as are wanted
-abbrev pub is_enough : GatheringValue → Bool
-is_enough waits = nat_le waits.wanted (sizes waits.waiting)
+-- The moment at which no piece has waited yet. What is ready then is complete: it has as many octets as are
+-- wanted, or the next piece doesn't go with it.
+abbrev pub no_time : ℕ
+no_time = 0
 
 abbrev pub waits_too : Face → Piece → Bool → PeerGate → PeerStep
 waits_too face piece is_report g = record {
   gate = record g {
-    faces = with_face g.faces face (record (at_face g.faces face) { gathering = added_to (at_face g.faces face).gathering piece });
+    faces = with_face g.faces face (record (at_face g.faces face) {
+      gathering = added_to (at_face g.faces face).gathering piece;
+    });
   };
   effects = record no_effects { added = record { face = face; piece = piece; is_report = is_report } ∷ [] };
 }
 
--- those that wait go, where it would be too long with them; then it waits; and where enough octets wait, they
--- go
+-- it waits after the others, and what is complete goes while a session is free
 unfoldable pub adds : PeerSetup → Face → PeerMoments → Bool → Piece → PeerGate → PeerStep
-adds s face m is_report piece g =
-    and_then (go_where s face m (is_too_long piece.size) g) (λ h.
-    and_then (waits_too face piece is_report h) (go_where s face m is_enough))
+adds s face m is_report piece g = and_then (waits_too face piece is_report g) (go_all s face m no_time)
 
 -- a piece that was made now
 abbrev pub piece_at : PeerMoments → Face → SizedPiece → Piece
@@ -123,6 +140,6 @@ piece_at m face piece = record { octets = piece.octets; size = piece.size; came 
 
 -- ---- time
 
--- where the first piece has waited as long as it may, all go
+-- what is ready goes, also what has waited as long as it may, while a session is free
 abbrev pub due : PeerSetup → PeerMoments → Face → PeerGate → PeerStep
-due s m face g = go_where s face m (λ (waits : GatheringValue). is_late waits.wait_ms (m.at face) waits.waiting) g
+due s m face g = go_all s face m (m.at face) g

@@ -1,7 +1,7 @@
 -- What a gate among other implementations does when a datagram comes, when time passes, and about a piece
 -- that was kept from an earlier run.
 
-use Rattle.std.specs.Prelude.{ℕ, ◌+◌, true, false, if◌then◌else◌, List, [], ◌∷◌, ◌++◌, map, length, Option, Some, None, Result}
+use Rattle.std.specs.Prelude.{ℕ, ◌+◌, Bool, true, false, nat_lt, if◌then◌else◌, List, [], ◌∷◌, ◌++◌, map, length, Option, Some, None, Result}
 use Rattle.ltp_segment.specs.declared.fault.SegmentCause.{SegmentCause}
 use Rattle.ltp_segment.specs.Values.{SegmentValue}
 use Rattle.ltp_session.specs.Engine.{UpValue}
@@ -16,24 +16,29 @@ use Rattle.gateway_core.specs.Gate.{at_face, with_face}
 use Rattle.peer_cases.specs.declared.pieces.SizedPiece.{SizedPiece}
 use Rattle.peer_cases.specs.Arrivals.{Came}
 use Rattle.peer_cases.specs.declared.decision.Decision.{Decision}
+use Rattle.face_room.specs.Loads.{has_room}
+use Rattle.peer_cases.specs.declared.room.FaceRoom.{FaceRoom}
 use Rattle.peer_cases.specs.Cases.{decided, is_unreported}
 use Rattle.peer_cases.specs.Rows.{Item, a_bundle, an_end, came_in, items_of}
 use Rattle.peer_gateway.specs.Keys.{PeerSetup}
-use Rattle.peer_sessions.specs.Sessions.{SessionsStep, hears, ticks}
+use Rattle.peer_sessions.specs.Sessions.{Sessions, SessionsStep, evictions, hears, ticks}
 use Rattle.peer_gateway.specs.Gate.{PeerMoments, PeerGate, PeerStep, Told, FaceTold, no_effects, stays_so, and_then, in_turn, tells, room_at, routed_at, octets_out}
 use Rattle.peer_gateway.specs.Gate.{told_engine, told_forgotten, told_green, told_case, told_left, told_reported, told_unreported, told_end}
-use Rattle.peer_gateway.specs.Going.{adds, piece_at, due, gathers}
+use Rattle.peer_gateway.specs.Going.{adds, piece_at, due, gathers, stayed_size}
 
 -- ---- a face's sessions
 
--- what is told of a step of its sessions: forgotten runs, the engine's notes, and green pieces
+-- what is told of a step of its sessions, in order: those that were closed since nothing touched them,
+-- forgotten runs, the engine's notes, and green pieces
 abbrev pub forgotten_told : Option ℕ → List Told
 forgotten_told None = []
 forgotten_told (Some runs) = told_forgotten runs ∷ []
 
 abbrev pub told_of : SessionsStep → List Told
 told_of step =
-    forgotten_told step.forgotten ++ (map told_engine (step.effects).notes ++ map told_green (step.effects).greens)
+    map told_engine (evictions step.gone)
+    ++ (forgotten_told step.forgotten
+    ++ (map told_engine (step.effects).notes ++ map told_green (step.effects).greens))
 
 abbrev pub told_at : Face → Told → FaceTold
 told_at face told = record { face = face; told = told }
@@ -62,10 +67,12 @@ hears_at s face g read now = hears (at_face s.keys face) (at_face g.faces face).
 abbrev pub adds_all : PeerSetup → Face → PeerMoments → List SizedPiece → PeerGate → PeerStep
 adds_all s to m pieces g = in_turn (λ (piece : SizedPiece). adds s to m false (piece_at m to piece)) pieces g
 
--- the session of what goes next at a face, where each piece has one of its own
+-- The session that a piece will have which is added next at a face, where each has one of its own: those
+-- that wait there go before it.
 abbrev pub next_if : PeerSetup → Face → PeerGate → Option ℕ
 next_if s face g =
-    if gathers (at_face s.keys face) then None else Some (((at_face g.faces face).sessions).engine).next
+    if gathers (at_face s.keys face) then None
+    else Some ((((at_face g.faces face).sessions).engine).next + length ((at_face g.faces face).gathering).waiting)
 
 -- what the pieces lack is told, where they lack something
 abbrev pub tells_left : Face → Option ℕ → ℕ → Option LeftOut → PeerGate → PeerStep
@@ -125,13 +132,26 @@ passes s face m up g = in_turn (passes_item s face m up.session) (items_of face 
 
 -- ---- events
 
--- a datagram comes at a face: what its sessions do, and then each block that they hand up
-unfoldable pub arrives_peer : PeerSetup → Face → Result SegmentValue (ℕ × SegmentCause) → PeerMoments → PeerGate → PeerStep
-arrives_peer s face read m g =
-    and_then (does_at face g (hears_at s face g read (m.at face)))
-    (in_turn (passes s face m) ((hears_at s face g read (m.at face)).effects).ups)
+-- a session that was being sent is over
+abbrev pub has_ended : Sessions → SessionsStep → Bool
+has_ended before step = nat_lt (length ((step.sessions).engine).senders) (length (before.engine).senders)
 
--- a face's sessions tick, and the pieces that waited as long as they may go
+-- then one is free, and what is ready goes
+abbrev pub due_if : Bool → PeerSetup → PeerMoments → Face → PeerGate → PeerStep
+due_if ended s m face g = if ended then due s m face g else stays_so g
+
+-- a datagram comes at a face: what its sessions do; then each block that they hand up; and what is ready
+-- goes, where a session ended
+abbrev pub arrives_with : PeerSetup → Face → PeerMoments → PeerGate → SessionsStep → PeerStep
+arrives_with s face m g step =
+    and_then (does_at face g step) (λ h.
+    and_then (in_turn (passes s face m) (step.effects).ups h)
+    (due_if (has_ended (at_face g.faces face).sessions step) s m face))
+
+unfoldable pub arrives_peer : PeerSetup → Face → Result SegmentValue (ℕ × SegmentCause) → PeerMoments → PeerGate → PeerStep
+arrives_peer s face read m g = arrives_with s face m g (hears_at s face g read (m.at face))
+
+-- a face's sessions tick, and what is ready goes
 abbrev pub ticks_face : PeerSetup → PeerMoments → Face → PeerGate → PeerStep
 ticks_face s m face g =
     and_then (does_at face g (ticks (at_face s.keys face) (at_face g.faces face).sessions (m.at face)))
@@ -141,14 +161,36 @@ ticks_face s m face g =
 unfoldable pub ticks_peer : PeerSetup → PeerMoments → PeerGate → PeerStep
 ticks_peer s m g = and_then (ticks_face s m faces.Old g) (ticks_face s m faces.New)
 
--- a piece that was kept from an earlier run is added
+-- Where a record says when a piece came, that was it. An older record says nothing, and its piece came now:
+-- the stay in earlier runs isn't known, so none of it is in the age.
+abbrev pub came_or : ℕ → Option ℕ → ℕ
+came_or now None = now
+came_or now (Some came) = came
+
+-- A piece that a journal kept, by its octets and what its record says of when it came. It has as many octets
+-- at most as after the longest stay, and it is added now.
+abbrev pub kept_piece : PeerSetup → Face → List ℕ → Option ℕ → PeerMoments → Piece
+kept_piece s face octets came m = record {
+  octets = octets;
+  size = stayed_size s.settings face octets;
+  came = came_or m.wall came;
+  added = m.at face;
+}
+
+abbrev pub has_room_at : FaceRoom → ℕ → Bool
+has_room_at room size = has_room room.bounds room.load (size ∷ [])
+
+-- a piece is added that was kept from an earlier run, where there is room for it; else nothing is done, and
+-- the journal keeps it
 abbrev pub adds_kept : PeerSetup → Face → Piece → PeerMoments → PeerGate → PeerStep
-adds_kept s face piece m g = adds s face m false piece g
+adds_kept s face piece m g =
+    if has_room_at (room_at (at_face s.keys face) (at_face g.faces face)) piece.size
+    then adds s face m false piece g else stays_so g
 
 pub data PeerEvent : Type 0 where
   a_datagram : Face → Result SegmentValue (ℕ × SegmentCause) → PeerEvent
   a_tick : PeerEvent
-  a_kept_piece : Face → Piece → PeerEvent
+  a_kept_piece : Face → List ℕ → Option ℕ → PeerEvent
 
 -- an event finds so many octets in each outbox
 abbrev pub with_outboxes : ℕ × ℕ → PeerGate → PeerGate
@@ -159,7 +201,7 @@ with_outboxes octets g = record g {
 abbrev pub does : PeerSetup → PeerEvent → PeerMoments → PeerGate → PeerStep
 does s (a_datagram face read) m g = arrives_peer s face read m g
 does s a_tick m g = ticks_peer s m g
-does s (a_kept_piece face piece) m g = adds_kept s face piece m g
+does s (a_kept_piece face octets came) m g = adds_kept s face (kept_piece s face octets came m) m g
 
 unfoldable pub peer_step : PeerSetup → PeerEvent → PeerMoments → ℕ × ℕ → PeerGate → PeerStep
 peer_step s event m octets g = does s event m (with_outboxes octets g)

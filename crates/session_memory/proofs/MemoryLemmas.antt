@@ -1,12 +1,15 @@
 -- Runs of a memory.
 
-use Rattle.std.proofs.Common.{◌≡◌, ℕ, ◌+◌, ◌-◌, ◌<◌, ◌≤◌, ◌==◌, Bool, true, false, ◌||◌, if◌then◌else◌, List, [], ◌∷◌, Some, None, ◌⊎◌, inl, inr, refl, sym, ◌∙◌, arith, eqb-true}
-use Rattle.std.proofs.lemmas.Bool.{leb-true}
-use Rattle.session_memory.specs.Numbers.{has, runs_in}
+use Rattle.std.proofs.Common.{◌≡◌, ℕ, ◌+◌, ◌-◌, ◌<◌, ◌≤◌, ◌==◌, Bool, true, false, ◌||◌, if◌then◌else◌, List, [], ◌∷◌, Some, None, ◌⊎◌, inl, inr, refl, sym, ◌∙◌, subst, arith, eqb-true}
+use Rattle.std.proofs.lemmas.Bool.{leb-true, leb-false}
+use Rattle.std.proofs.lemmas.Bool.Decides.{nat_tests}
+use Rattle.spans.proofs.Places.{length-uncovered}
+use Rattle.session_memory.specs.declared.numbers.TheConstants.{LAST}
+use Rattle.session_memory.specs.Numbers.{NumberSet, has, with_number, runs_in}
 use Rattle.session_memory.specs.Memory.{Memory, is_remembered, turned, is_due, passed, is_full, with_place, forgotten, forgotten_by, closed, is_old}
-use Rattle.session_memory.specs.Events.{Event, passes, places, closes, touches, after_event, forgets, after_events, ComeBetween, ForgetNothing}
-use Rattle.session_memory.specs.Laws.{KeptForATime, ForgetsByTheSecondTurn}
-use Rattle.session_memory.proofs.NumberLemmas.{none-among, number-stays, runless}
+use Rattle.session_memory.specs.Events.{Event, passes, places, closes, touches, after_event, forgets, after_events, ComeBetween, ForgetNothing, HasPlace}
+use Rattle.session_memory.specs.Laws.{IsSet64, KeptForATime, TouchedAnew, IsWithin, RunsStayWithin, ForgetsByTheSecondTurn}
+use Rattle.session_memory.proofs.NumberLemmas.{none-among, number-stays, runless, length-with, no-runs, runs-few, numbers_have}
 
 pub forgets_by_the_second_turn : ForgetsByTheSecondTurn
 unfolding turned
@@ -124,3 +127,81 @@ kept-newer m n from there = inl there
 pub kept_for_a_time : KeptForATime
 kept_for_a_time m n from events there before between nothing =
     kept-events events m n from m.keep_ms refl (kept-newer m n from there) between nothing
+
+-- ---- a number that is touched
+
+number-there : (numbers : NumberSet) (n : ℕ) → IsSet64 numbers → n ≤ LAST → has (with_number n numbers) n ≡ true
+number-there numbers n set most = numbers_have.added numbers n n set most ∙ by (has numbers n) (n == n) (grind (arith, nat_tests))
+  where
+    by : (a b : Bool) → b ≡ true → (a || b) ≡ true
+    by true b is = refl
+    by false b is = is
+
+set-with : (n : ℕ) (numbers : NumberSet) → IsSet64 numbers → n ≤ LAST → IsSet64 (with_number n numbers)
+unfolding with_number
+set-with n numbers set most = length-with n numbers.places set most
+
+place-since : (m : Memory) (now receiving : ℕ) → m.since ≤ now → (with_place now receiving m).since ≤ now
+unfolding turned
+place-since m now receiving before = by (is_full m receiving)
+  where
+    by : (t : Bool) → (if t then turned now m else m).since ≤ now
+    by true = omega arith
+    by false = before
+
+place-set : (m : Memory) (now receiving : ℕ) → IsSet64 m.newer → IsSet64 (with_place now receiving m).newer
+unfolding turned
+place-set m now receiving set = by (is_full m receiving)
+  where
+    by : (t : Bool) → IsSet64 (if t then turned now m else m).newer
+    by true = length-uncovered LAST
+    by false = set
+
+pub touched_anew : TouchedAnew
+touched_anew m n now receiving events set most old before between nothing =
+    rw old (kept_for_a_time (closed n (with_place now receiving m)) n now events
+    (number-there (with_place now receiving m).newer n (place-set m now receiving set) most)
+    (place-since m now receiving before)
+    (rw (place-time now receiving m) between)
+    (rw old at nothing))
+
+-- ---- runs
+
+within-turned : (now : ℕ) (m : Memory) → IsWithin m → IsWithin (turned now m)
+unfolding turned
+within-turned now m within = record { newer = subst (λ n. n ≤ m.most) (sym no-runs) (omega arith); older = within.newer; set = length-uncovered LAST }
+
+within-if : (t : Bool) (now : ℕ) (m : Memory) → IsWithin m → IsWithin (if t then turned now m else m)
+within-if true now m within = within-turned now m within
+within-if false now m within = within
+
+within-closed : (n : ℕ) (m : Memory) → n ≤ LAST → runs_in m.newer < m.most → IsWithin m → IsWithin (closed n m)
+within-closed n m most place within = record {
+  newer = let few = runs-few m.newer n within.set most in omega (arith, few, place);
+  older = within.older;
+  set = set-with n m.newer within.set most;
+}
+
+-- there is a place after one was made
+place-made : (now receiving : ℕ) (m : Memory) → receiving < m.most → runs_in (with_place now receiving m).newer < (with_place now receiving m).most
+unfolding turned
+place-made now receiving m few = by (is_full m receiving) refl
+  where
+    by : (t : Bool) → is_full m receiving ≡ t → runs_in (if t then turned now m else m).newer < (if t then turned now m else m).most
+    by true full = subst (λ n. n < m.most) (sym no-runs) (omega (arith, few))
+    by false room = let small = leb-false m.most (runs_in m.newer + receiving) room in omega (arith, small)
+
+within-event : (event : Event) (now : ℕ) (m : Memory) → IsWithin m → HasPlace event m → IsWithin (after_event now event m)
+within-event passes now m within place = within-if (is_due m now) now m within
+within-event (places receiving) now m within place = within-if (is_full m receiving) now m within
+within-event (closes n) now m within place = within-closed n m place.0 place.1 within
+within-event (touches n receiving) now m within place = by (is_old m n)
+  where
+    by : (t : Bool) → IsWithin (if t then closed n (with_place now receiving m) else m)
+    by true = within-closed n (with_place now receiving m) place.0 (place-made now receiving m place.1) (within-if (is_full m receiving) now m within)
+    by false = within
+
+pub runs_stay_within : RunsStayWithin
+runs_stay_within m [] within have = within
+runs_stay_within m (event ∷ events) within have =
+    runs_stay_within (after_event event.0 event.1 m) events (within-event event.1 event.0 m within have.0) have.1

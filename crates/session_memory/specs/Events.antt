@@ -1,6 +1,8 @@
 -- Runs of a memory: events, each with its moment.
 
 use Rattle.std.specs.Prelude.{◌≡◌, ℕ, ◌<◌, ◌≤◌, List, [], ◌∷◌, Option, None}
+use Rattle.session_memory.specs.declared.numbers.TheConstants.{LAST}
+use Rattle.session_memory.specs.Numbers.{runs_in}
 use Rattle.session_memory.specs.Memory.{Memory, passed, with_place, forgotten_by, closed, touched, forgotten_at}
 
 -- time passes; a place is made, where so many sessions are received; a session is over; a red piece of one
@@ -29,6 +31,18 @@ forgets (touches n receiving) m = forgotten_at m n receiving
 abbrev pub after_events : List (ℕ × Event) → Memory → Memory
 after_events [] m = m
 after_events (event ∷ events) m = after_events events (after_event event.0 event.1 m)
+
+-- There is a place for each number that comes in: where a session is over one was made, and where a red piece
+-- of one comes fewer sessions are received than a list has runs.
+abbrev pub HasPlace : Event → Memory → Type 0
+HasPlace passes m = Unit {0}
+HasPlace (places receiving) m = Unit {0}
+HasPlace (closes n) m = (n ≤ LAST) × (runs_in m.newer < m.most)
+HasPlace (touches n receiving) m = (n ≤ LAST) × (receiving < m.most)
+
+abbrev pub HavePlaces : List (ℕ × Event) → Memory → Type 0
+HavePlaces [] m = Unit {0}
+HavePlaces (event ∷ events) m = HasPlace event.1 m × HavePlaces events (after_event event.0 event.1 m)
 
 -- each comes from one moment on and before another
 abbrev pub ComeBetween : ℕ → ℕ → List (ℕ × Event) → Type 0

@@ -3,8 +3,8 @@
 use Rattle.std.specs.Prelude.{◌≡◌, ℕ, ◌+◌, ◌≤◌, true, false, ◌==◌, ◌||◌, List, length}
 use Rattle.session_memory.specs.declared.numbers.TheConstants.{LAST}
 use Rattle.session_memory.specs.Numbers.{NumberSet, has, no_numbers, with_number, runs_in}
-use Rattle.session_memory.specs.Memory.{Memory, is_remembered, turned}
-use Rattle.session_memory.specs.Events.{Event, after_events, ComeBetween, ForgetNothing}
+use Rattle.session_memory.specs.Memory.{Memory, is_remembered, is_old, turned, touched}
+use Rattle.session_memory.specs.Events.{Event, after_events, ComeBetween, ForgetNothing, HavePlaces}
 
 -- numbers up to 2^64 - 1, of which each below the last has its place
 abbrev pub IsSet64 : NumberSet → Type 0
@@ -30,6 +30,25 @@ abbrev pub KeptForATime : Type 0
 KeptForATime = (m : Memory) (n from : ℕ) (events : List (ℕ × Event))
     → has m.newer n ≡ true → m.since ≤ from → ComeBetween from (from + m.keep_ms) events → ForgetNothing events m
     → is_remembered (after_events events m) n ≡ true
+
+-- A number that is among the older ones alone, and of which a red piece comes, is remembered for the time
+-- after that moment, whatever happens, unless runs are forgotten before their time.
+abbrev pub TouchedAnew : Type 0
+TouchedAnew = (m : Memory) (n now receiving : ℕ) (events : List (ℕ × Event))
+    → IsSet64 m.newer → n ≤ LAST → is_old m n ≡ true → m.since ≤ now
+    → ComeBetween now (now + m.keep_ms) events → ForgetNothing events (touched n now receiving m)
+    → is_remembered (after_events events (touched n now receiving m)) n ≡ true
+
+-- neither list has more runs than it may
+pub record IsWithin (m : Memory) : Type 0 where
+  pub newer : runs_in m.newer ≤ m.most
+  pub older : runs_in m.older ≤ m.most
+  pub set : IsSet64 m.newer
+
+-- it stays so, where there is a place for each number that comes in
+abbrev pub RunsStayWithin : Type 0
+RunsStayWithin = (m : Memory) (events : List (ℕ × Event)) → IsWithin m → HavePlaces events m
+    → IsWithin (after_events events m)
 
 -- a number that isn't marked, and isn't added after that, is forgotten by the second turn
 abbrev pub ForgetsByTheSecondTurn : Type 0

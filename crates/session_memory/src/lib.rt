@@ -18,5 +18,8 @@ mod laws;
 mod memory;
 mod numbers;
 
-pub use laws::{adds_one_run, forgets_by_the_second_turn, kept_for_a_time, numbers_have};
+pub use laws::{
+    adds_one_run, forgets_by_the_second_turn, kept_for_a_time, numbers_have, runs_stay_within,
+    touched_anew,
+};
 pub use memory::SessionMemory;

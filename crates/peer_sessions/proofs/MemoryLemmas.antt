@@ -1,7 +1,7 @@
 -- Numbers of sessions that are over go into the memory.
 
-use Rattle.std.proofs.Common.{◌≡◌, ℕ, suc, take, get_or, ◌^◌, ◌+◌, ◌<◌, ◌≤◌, Bool, true, false, List, [], ◌∷◌, ◌++◌, length, ◌==◌, ◌&&◌, ◌||◌, refl, sym, ◌∙◌, ap, subst, arith, inl, inr, if◌then◌else◌}
-use Rattle.std.proofs.lemmas.Bool.{cases_lt, ne_eqb}
+use Rattle.std.proofs.Common.{◌≡◌, ℕ, suc, take, get_or, ◌^◌, ◌+◌, ◌<◌, ◌≤◌, Bool, true, false, List, [], ◌∷◌, ◌++◌, length, ◌==◌, ◌||◌, refl, sym, ◌∙◌, ap, subst, arith, inl, inr, if◌then◌else◌}
+use Rattle.std.proofs.lemmas.Bool.{cases_lt}
 use Rattle.std.proofs.lemmas.Bool.Decides.{nat_tests}
 use Rattle.std.proofs.lemmas.List.{ext_get_or, get_or_past, length-append}
 use Rattle.spans.specs.Places.{is_covered}
@@ -134,6 +134,12 @@ same-set a b first second each = by_parts a.places b.places a.last b.last places
 
   by_parts : (p q : List Bool) (u v : Bool) → p ≡ q → u ≡ v → set_of p u ≡ set_of q v
   by_parts p q u v one two = rw (one, two) refl
+
+-- the same numbers are the same places
+pub same-places : (p q : List Bool) (u v : Bool) → length p ≡ LAST → length q ≡ LAST → ((k : ℕ) → has (set_of p u) k ≡ has (set_of q v) k) → (p ≡ q) × (u ≡ v)
+same-places p q u v first second each = (ap (λ (s : NumberSet). s.places) both, ap (λ (s : NumberSet). s.last) both) where
+  both : set_of p u ≡ set_of q v
+  both = same-set (set_of p u) (set_of q v) first second each
 
 -- the others stay
 others : (numbers : List ℕ) (m : Memory) → with_closed numbers m ≡ record m { newer = (with_closed numbers m).newer }

@@ -1,7 +1,7 @@
 -- What an engine did is put into the sessions of a face.
 
-use Rattle.std.proofs.Common.{◌≡◌, ℕ, suc, ◌+◌, ◌<◌, ◌≤◌, ◌/◌, Bool, true, false, nat_eq, List, [], ◌∷◌, ◌++◌, length, Option, None, Some, is_some, ◌==◌, ◌&&◌, ◌||◌, refl, sym, ◌∙◌, ap, subst, arith, inl, inr}
-use Rattle.std.specs.List.{AllByRecursion, IsDistinct}
+use Rattle.std.proofs.Common.{◌≡◌, ℕ, ◌+◌, ◌<◌, ◌≤◌, ◌/◌, Bool, true, false, nat_eq, List, [], ◌++◌, length, is_some, ◌&&◌, ◌||◌, refl, sym, ◌∙◌, ap, subst, arith, inl, inr}
+use Rattle.std.specs.List.{IsDistinct}
 use Rattle.std.specs.Map.{keys_of}
 use Rattle.std.proofs.lemmas.Bool.{cases_lt, ne_eqb}
 use Rattle.std.proofs.lemmas.List.{append-nil, get_or_past}
@@ -10,26 +10,29 @@ use Rattle.session_memory.specs.Numbers.{runs_in}
 use Rattle.session_memory.specs.Memory.{Memory}
 use Rattle.session_memory.specs.Laws.{IsSet64}
 use Rattle.ltp_session.specs.Receiver.{Receiving}
-use Rattle.ltp_session.specs.Table.{find, ticked, ended}
+use Rattle.ltp_session.specs.Table.{find, ended, AreAscending}
 use Rattle.ltp_session.specs.Engine.{Party, Engine, EngineStep, is_closed, closed_runs, tick_engine, tick_step, receiver_changes}
 use Rattle.ltp_engine.specs.declared.effects.Effects.{Effects}
 use Rattle.ltp_engine.specs.Values.{EngineValue}
 use Rattle.ltp_engine.specs.Bounds.{IsBounded}
 use Rattle.ltp_engine.specs.Closed.{ClosedValue, is_among, none_closed}
-use Rattle.ltp_engine.specs.Shows.{Shows, ShowsInbound, ShowsClosed, AreDistinct}
+use Rattle.ltp_engine.specs.Shows.{Shows, ShowsClosed, AreDistinct}
 use Rattle.ltp_engine.specs.Effects.{effects_of}
 use Rattle.ltp_engine.specs.Steps.{Steps}
 use Rattle.ltp_engine.specs.Elsewhere.{reopened, closed_numbers}
+use Rattle.ltp_laws.proofs.TableLemmas.{ascending-ticked}
+use Rattle.ltp_engine.specs.Sessions.{cells_in}
 use Rattle.ltp_engine.proofs.KeepLemmas.{length-ticked}
 use Rattle.spans.proofs.PlaceLaws.{nothing_is_covered}
 use Rattle.ltp_engine.proofs.ElsewhereLemmas.{closed-each}
 use Rattle.peer_sessions.specs.declared.keys.Keys.{Keys}
-use Rattle.peer_sessions.specs.declared.parts.Parts.{Parts}
 use Rattle.peer_sessions.specs.Sessions.{Sessions, with_closed, still_kept, left_by}
-use Rattle.peer_sessions.specs.Views.{AreFit, face_keys, engine_of, sessions_of, IsOfKept, AreWhole}
-use Rattle.peer_sessions.specs.Ties.{HasPlaces, Settles}
+use Rattle.peer_sessions.specs.Views.{AreFit, face_keys, engine_of, sessions_of, AreWhole}
+use Rattle.peer_sessions.specs.Ties.{HasPlaces}
 use Rattle.peer_sessions.proofs.MemoryLemmas.{closed-same, remembers, Remembers, AreNumbers, no_more}
 use Rattle.peer_sessions.proofs.StepLemmas.{kept-still, once-filter}
+use Rattle.peer_sessions.proofs.AnswerLemmas.{tick-octets}
+use Rattle.peer_sessions.proofs.CellLemmas.{cells-ticked}
 
 shows-none : ShowsClosed none_closed []
 unfolding closed_runs
@@ -73,11 +76,11 @@ pub record Settled (k : Keys) (v : EngineValue) (m : Memory) (moments : List (�
   pub is : sessions_of v m moments ≡ state
 
 pub settled : (k : Keys) (v last : EngineValue) (e : Engine) (m kept : Memory) (moments left : List (ℕ × ℕ)) → AreFit k → v.spent ≡ false → v.party ≡ (face_keys k).party
-    → Shows v e → AreNumbers e.closed → last ≡ record v { inbound = reopened v.inbound } → IsBounded last
+    → Shows v e → AreNumbers e.closed → last ≡ record v { inbound = reopened v.inbound } → IsBounded last → AreAscending 0 e.receivers
     → m.most ≡ k.remember / 2 → m.keep_ms ≡ k.remember_ms → IsSet64 m.newer → runs_in m.newer + (length e.closed + length e.receivers) ≤ m.most
     → kept ≡ with_closed e.closed m → IsDistinct nat_eq (keys_of moments) → left ≡ still_kept (v.inbound).receivers moments
     → Settled k last kept left (left_by e m moments)
-settled k v last e m kept moments left fit whole party shows numbers is bounded most keep set places memory once left_is =
+settled k v last e m kept moments left fit whole party shows numbers is bounded up most keep set places memory once left_is =
     subst (λ (l : List (ℕ × ℕ)). Settled k last kept l (left_by e m moments)) (sym left_is)
     (subst (λ (c : Memory). Settled k last c (still_kept (v.inbound).receivers moments) (left_by e m moments)) (sym memory)
     (subst (λ (w : EngineValue). Settled k w (with_closed e.closed m) (still_kept (v.inbound).receivers moments) (left_by e m moments)) (sym is)
@@ -88,6 +91,7 @@ settled k v last e m kept moments left fit whole party shows numbers is bounded 
         party = party;
         none = refl;
         bounded = subst IsBounded is bounded;
+        ascending = subst (λ (t : List (ℕ × Receiving)). AreAscending 0 t) (shows.inbound).receivers up;
         most = remembered.most ∙ most;
         keep = remembered.keep ∙ keep;
         set = remembered.set;
@@ -109,6 +113,11 @@ settled k v last e m kept moments left fit whole party shows numbers is bounded 
             → f ≡ record { next = v.next; senders = v.senders; receivers = (v.inbound).receivers; touched = (v.inbound).touched; closed = f.closed }
         parts f one two three four = rw (sym one, sym two, sym three, sym four) refl
 
+-- what settles changes no session
+pub settled-cells : (v last : EngineValue) (before now : ℕ) → last ≡ record v { inbound = reopened v.inbound } → now ≡ before → cells_in (v.inbound).receivers ≤ before
+    → cells_in (last.inbound).receivers ≤ now
+settled-cells v last before now is same few = subst (λ (w : EngineValue). cells_in (w.inbound).receivers ≤ now) (sym is) (subst (λ n. cells_in (v.inbound).receivers ≤ n) (sym same) few)
+
 -- ---- all sessions tick
 
 -- each session that is over by it had its place
@@ -123,12 +132,12 @@ ticked-places p e now runs most none places =
 -- ---- after a step of the engine
 
 pub settled-from : (k : Keys) (v last : EngineValue) (e : Engine) (m kept : Memory) (moments left : List (ℕ × ℕ)) → AreFit k → v.spent ≡ false → v.party ≡ (face_keys k).party → Shows v e
-    → length ((v.inbound).closed).places ≡ LAST → last ≡ record v { inbound = reopened v.inbound } → IsBounded last
+    → length ((v.inbound).closed).places ≡ LAST → last ≡ record v { inbound = reopened v.inbound } → IsBounded last → AreAscending 0 e.receivers
     → m.most ≡ k.remember / 2 → m.keep_ms ≡ k.remember_ms → IsSet64 m.newer → runs_in m.newer + (length e.closed + length e.receivers) ≤ m.most
     → kept ≡ with_closed (closed_numbers (v.inbound).closed) m → IsDistinct nat_eq (keys_of moments) → left ≡ still_kept (v.inbound).receivers moments
     → Settled k last kept left (left_by e m moments)
-settled-from k v last e m kept moments left fit whole party shows limit is bounded most keep set places memory once left_is =
-    settled k v last e m kept moments left fit whole party shows (are-numbers (v.inbound).closed e.closed limit (λ n. ((shows.inbound).closed).each n)) is bounded most keep set places
+settled-from k v last e m kept moments left fit whole party shows limit is bounded up most keep set places memory once left_is =
+    settled k v last e m kept moments left fit whole party shows (are-numbers (v.inbound).closed e.closed limit (λ n. ((shows.inbound).closed).each n)) is bounded up most keep set places
     (memory ∙ closed-same (closed_numbers (v.inbound).closed) e.closed m set
     (are-numbers (v.inbound).closed (closed_numbers (v.inbound).closed) limit (λ n. closed-each (v.inbound).closed n))
     (λ n. closed-each (v.inbound).closed n ∙ sym (((shows.inbound).closed).each n)))
@@ -158,6 +167,18 @@ tick-places : (k : Keys) (v : EngineValue) (m : Memory) (moments : List (ℕ × 
 unfolding tick_step
 tick-places k v m moments now whole = ticked-places (face_keys k).party (engine_of v) now (runs_in m.newer) m.most refl whole.places
 
+tick-ascending : (k : Keys) (v : EngineValue) (m : Memory) (moments : List (ℕ × ℕ)) (now : ℕ) → AreWhole k v m moments → AreAscending 0 ((tick_step (face_keys k).party (engine_of v) now).engine).receivers
+unfolding tick_step
+tick-ascending k v m moments now whole = ascending-ticked (receiver_changes (face_keys k).party now) 0 (v.inbound).receivers whole.ascending
+
+-- they keep no more octets
+pub tick-cells : (k : Keys) (v later : EngineValue) (m : Memory) (moments : List (ℕ × ℕ)) (now : ℕ) (effects : Effects) → AreWhole k v m moments → Steps v later (λ e. tick_step v.party e now) effects
+    → cells_in (later.inbound).receivers ≤ cells_in (v.inbound).receivers
+unfolding tick_step
+tick-cells k v later m moments now effects whole steps =
+    subst (λ (t : List (ℕ × Receiving)). cells_in t ≤ cells_in (v.inbound).receivers) ((tick-shows k v later m moments now effects whole steps).inbound).receivers
+    (cells-ticked (receiver_changes (face_keys k).party now) (v.inbound).receivers (λ r s is. tick-octets ((face_keys k).party).policy r s now is))
+
 pub tick-room : (k : Keys) (v later : EngineValue) (m : Memory) (moments : List (ℕ × ℕ)) (now : ℕ) (effects : Effects) → AreWhole k v m moments → Steps v later (λ e. tick_step v.party e now) effects
     → HasPlaces later m
 tick-room k v later m moments now effects whole steps =
@@ -169,4 +190,4 @@ pub tick-settled : (k : Keys) (v later last : EngineValue) (m kept : Memory) (mo
     → Settled k last kept left (left_by (tick_step (face_keys k).party (engine_of v) now).engine m moments)
 tick-settled k v later last m kept moments left now effects whole steps limit is bounded memory left_is =
     settled-from k later last (tick_step (face_keys k).party (engine_of v) now).engine m kept moments left whole.fit steps.whole (steps.party ∙ whole.party)
-    (tick-shows k v later m moments now effects whole steps) limit is bounded whole.most whole.keep whole.set (tick-places k v m moments now whole) memory whole.once left_is
+    (tick-shows k v later m moments now effects whole steps) limit is bounded (tick-ascending k v m moments now whole) whole.most whole.keep whole.set (tick-places k v m moments now whole) memory whole.once left_is

@@ -1,11 +1,10 @@
 -- A face at its beginning.
 
-use Rattle.std.proofs.Common.{◌≡◌, ℕ, ◌+◌, ◌<◌, ◌≤◌, ◌^◌, ◌/◌, nat_eq, List, [], ◌∷◌, length, false, refl, sym, ◌∙◌, ap, subst, arith}
-use Rattle.std.specs.List.{AllByRecursion, IsDistinct}
-use Rattle.std.specs.Map.{keys_of}
+use Rattle.std.proofs.Common.{◌≡◌, ℕ, ◌+◌, ◌≤◌, ◌^◌, ◌/◌, List, [], ◌∷◌, length, refl, sym, ◌∙◌, ap, subst, arith}
+use Rattle.std.specs.List.{IsDistinct}
 use Rattle.spans.proofs.Places.{length-uncovered}
 use Rattle.peer_sessions.proofs.MemoryLemmas.{LAST}
-use Rattle.session_memory.specs.Numbers.{runs_in, no_numbers}
+use Rattle.session_memory.specs.Numbers.{runs_in}
 use Rattle.session_memory.specs.Memory.{Memory, nothing_remembered}
 use Rattle.session_memory.specs.Laws.{IsSet64}
 use Rattle.session_memory.proofs.NumberLemmas.{no-runs}
@@ -13,7 +12,10 @@ use Rattle.ltp_engine.specs.Values.{EngineValue}
 use Rattle.ltp_engine.specs.Bounds.{IsBounded}
 use Rattle.ltp_engine.specs.Steps.{begun_by}
 use Rattle.peer_sessions.specs.declared.keys.Keys.{Keys}
-use Rattle.peer_sessions.specs.Keys.{with_marked, remembers_from}
+use Rattle.ltp_engine.specs.Sessions.{cells_in}
+use Rattle.peer_sessions.specs.declared.blocks.Block.{Block}
+use Rattle.peer_sessions.specs.Blocks.{AreBlocks}
+use Rattle.peer_sessions.specs.Keys.{FaceKeys, with_marked}
 use Rattle.peer_sessions.specs.Sessions.{starts_sessions}
 use Rattle.peer_sessions.specs.Views.{face_keys, AreFit, sessions_of, AreWhole}
 
@@ -47,6 +49,7 @@ start-whole k v m moments marks now fit engine bounded memory none =
       party = refl;
       none = refl;
       bounded = subst IsBounded engine bounded;
+      ascending = tt;
       most = same.most;
       keep = same.keep;
       set = subst IsSet64 (sym same.newer) (length-uncovered LAST);
@@ -58,6 +61,12 @@ start-whole k v m moments marks now fit engine bounded memory none =
     }))) where
       same : Marked marks (nothing_remembered (k.remember / 2) k.remember_ms now)
       same = marked marks (nothing_remembered (k.remember / 2) k.remember_ms now)
+
+pub start-cells : (k : FaceKeys) (v : EngineValue) → v ≡ begun_by k.party → cells_in (v.inbound).receivers ≤ 0
+start-cells k v is = subst (λ (w : EngineValue). cells_in (w.inbound).receivers ≤ 0) (sym is) (omega arith)
+
+pub start-blocks : (k : FaceKeys) (v : EngineValue) (blocks : List Block) → v ≡ begun_by k.party → blocks ≡ [] → AreBlocks v blocks
+start-blocks k v blocks is none = subst (λ (w : EngineValue). AreBlocks w blocks) (sym is) (record { are = none; ascending = tt; below = tt })
 
 pub start-state : (k : Keys) (v : EngineValue) (m : Memory) (moments : List (ℕ × ℕ)) (marks : List ℕ) (now : ℕ) → v ≡ begun_by (face_keys k).party
     → m ≡ with_marked marks (nothing_remembered (k.remember / 2) k.remember_ms now) → moments ≡ [] → sessions_of v m moments ≡ starts_sessions (face_keys k) now marks

@@ -1,32 +1,31 @@
 -- What the parts of a face keep through its steps.
 
-use Rattle.std.proofs.Common.{◌≡◌, ◌≢◌, ℕ, suc, ◌+◌, ◌<◌, ◌≤◌, Bool, true, false, nat_eq, nat_le, ◌-◌, List, [], ◌∷◌, ◌++◌, length, map, Option, None, Some, is_some, ◌==◌, ◌&&◌, ◌||◌, not, refl, sym, ◌∙◌, ap, subst, arith, inl, inr, if◌then◌else◌}
+use Rattle.std.proofs.Common.{◌≡◌, ◌≢◌, ℕ, ◌<◌, ◌≤◌, Bool, true, false, nat_eq, nat_le, ◌-◌, List, [], ◌∷◌, length, map, is_some, ◌==◌, ◌||◌, not, refl, sym, ◌∙◌, ap, subst, arith, if◌then◌else◌}
 use Rattle.std.proofs.lemmas.Bool.Decides.{nat_tests}
 use Rattle.std.specs.List.{AllByRecursion, IsDistinct, filter}
 use Rattle.std.specs.Map.{keys_of}
 use Rattle.peer_sessions.proofs.MemoryLemmas.{LAST}
-use Rattle.session_memory.specs.Numbers.{runs_in, no_numbers}
+use Rattle.session_memory.specs.Numbers.{runs_in}
 use Rattle.session_memory.specs.Memory.{Memory, closed, turned, passed, is_due}
-use Rattle.session_memory.specs.Laws.{IsSet64}
 use Rattle.spans.proofs.Places.{length-uncovered}
 use Rattle.session_memory.proofs.NumberLemmas.{no-runs}
 use Rattle.ltp_session.specs.Step.{ends}
 use Rattle.ltp_session.specs.Receiver.{Receiving}
 use Rattle.ltp_session.specs.Table.{find, without}
-use Rattle.ltp_session.specs.Engine.{Engine, is_closed, with_receiver}
-use Rattle.ltp_laws.proofs.TableLemmas.{find-without_other}
+use Rattle.ltp_session.specs.Engine.{is_closed, with_receiver}
+use Rattle.ltp_laws.proofs.TableLemmas.{find-without_other, ascending-without}
 use Rattle.ltp_engine.specs.Values.{EngineValue}
 use Rattle.ltp_engine.specs.Bounds.{IsBounded}
-use Rattle.ltp_engine.specs.Closed.{is_among}
-use Rattle.ltp_engine.specs.Shows.{Shows, AreDistinct}
-use Rattle.ltp_engine.specs.Sessions.{is_receiving}
-use Rattle.ltp_engine.specs.Elsewhere.{released, reopened}
+use Rattle.ltp_engine.specs.Shows.{AreDistinct}
+use Rattle.ltp_engine.specs.Sessions.{is_receiving, cells_in}
+use Rattle.peer_sessions.proofs.CellLemmas.{cells-without}
+use Rattle.ltp_engine.specs.Elsewhere.{released}
 use Rattle.ltp_engine.proofs.KeepLemmas.{length-without_found}
 use Rattle.peer_sessions.specs.declared.keys.Keys.{Keys}
 use Rattle.peer_sessions.specs.Sessions.{Sessions, with_closed, still_kept, left_by, closes}
 use Rattle.peer_sessions.specs.Moments.{stale_in}
-use Rattle.peer_sessions.specs.Views.{face_keys, engine_of, sessions_of, IsOfKept, AreWhole}
-use Rattle.peer_sessions.proofs.MemoryLemmas.{set-closed, runs-closed, closed-same, remembers, Remembers, AreNumbers, no_more}
+use Rattle.peer_sessions.specs.Views.{engine_of, sessions_of, IsOfKept, AreWhole}
+use Rattle.peer_sessions.proofs.MemoryLemmas.{set-closed, runs-closed}
 
 -- ---- moments
 
@@ -86,6 +85,7 @@ let-go k n v now m kept moments left most whole is engine bounded memory moments
         party = whole.party;
         none = whole.none;
         bounded = subst IsBounded engine bounded;
+        ascending = ascending-without n 0 (v.inbound).receivers whole.ascending;
         most = whole.most;
         keep = whole.keep;
         set = set-closed n m whole.set most;
@@ -98,6 +98,9 @@ let-go k n v now m kept moments left most whole is engine bounded memory moments
       };
       state = refl;
     })))
+
+pub let-go-cells : (n : ℕ) (v now : EngineValue) (most : ℕ) → now ≡ record v { inbound = released n v.inbound } → cells_in (v.inbound).receivers ≤ most → cells_in (now.inbound).receivers ≤ most
+let-go-cells n v now most is few = subst (λ (w : EngineValue). cells_in (w.inbound).receivers ≤ most) (sym is) (let fewer = cells-without n (v.inbound).receivers in omega (arith, fewer, few))
 
 pub let-go-room : (k : Keys) (n : ℕ) (v : EngineValue) (m : Memory) (moments : List (ℕ × ℕ)) → AreWhole k v m moments → is_receiving n (v.inbound).receivers ≡ true → runs_in m.newer < m.most
 let-go-room k n v m moments whole is = let fewer = length-without_found n (v.inbound).receivers is in omega (arith, fewer, whole.places)
@@ -176,7 +179,7 @@ stale-once keep_ms now (e ∷ moments) once = by_test (nat_le keep_ms (now - e.1
   by_test true rest = (apart-stale keep_ms now e.0 moments once.0, rest)
   by_test false rest = rest
 
-few-kept : (k : Keys) (v : EngineValue) (m : Memory) (moments : List (ℕ × ℕ)) → AreWhole k v m moments → length (v.inbound).receivers < m.most
+pub few-kept : (k : Keys) (v : EngineValue) (m : Memory) (moments : List (ℕ × ℕ)) → AreWhole k v m moments → length (v.inbound).receivers < m.most
 few-kept k v m moments whole =
     let party : v.party.sessions ≡ (k.bounds).sessions = ap (λ p. p.sessions) whole.party in
     omega (arith, party, (whole.bounded).receivers, (whole.fit).places, whole.most)
@@ -193,6 +196,7 @@ passed-whole k v m moments now whole = by_due (is_due m now) where
     party = whole.party;
     none = whole.none;
     bounded = whole.bounded;
+    ascending = whole.ascending;
     most = whole.most;
     keep = whole.keep;
     set = length-uncovered LAST;

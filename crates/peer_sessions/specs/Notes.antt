@@ -4,7 +4,6 @@ use Rattle.std.specs.Prelude.{ℕ, List, ◌++◌}
 use Rattle.ltp_engine.specs.declared.effects.Effects.{Effects}
 use Rattle.peer_sessions.specs.Sessions.{evictions}
 
--- sessions were closed before a step, and others after it
-abbrev pub noted_around : List ℕ → Effects → List ℕ → Effects
-noted_around gone e trimmed =
-    record e { notes = evictions gone ++ (e.notes ++ evictions trimmed) }
+-- sessions were closed after a step
+abbrev pub then_evicted : Effects → List ℕ → Effects
+then_evicted e numbers = record e { notes = e.notes ++ evictions numbers }

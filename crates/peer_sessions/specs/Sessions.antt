@@ -12,9 +12,10 @@ use Rattle.ltp_segment.specs.Kinds.{is_red}
 use Rattle.ltp_segment.specs.Values.{ContentValue, SegmentValue, a_piece, a_report, a_report_ack, a_sender_cancel, a_sender_cancel_ack, a_receiver_cancel, a_receiver_cancel_ack}
 use Rattle.ltp_session.specs.Cells.{is_no_part}
 use Rattle.ltp_session.specs.Step.{Change, stays, keeps, ends, StepValue}
+use Rattle.ltp_session.specs.Sender.{Sending, begin}
 use Rattle.ltp_session.specs.Receiver.{Receiving, Place, receiver_answers}
 use Rattle.ltp_session.specs.Table.{find, without}
-use Rattle.ltp_session.specs.Engine.{Engine, Reply, EffectsValue, EngineStep, list_of, notes_of, is_used, with_receiver, without_evicted, longest_untouched, to_sender, replied_or_stranger, noted, tick_step, starts}
+use Rattle.ltp_session.specs.Engine.{Engine, Reply, EffectsValue, EngineStep, list_of, notes_of, is_used, with_receiver, without_evicted, longest_untouched, to_sender, replied, replied_or_stranger, noted, begun, tick_step, starts}
 use Rattle.session_memory.specs.Memory.{Memory, is_remembered, passed, with_place, forgotten_by, closed, touched, forgotten_at}
 use Rattle.face_room.specs.Bounds.{half}
 use Rattle.ltp_engine.specs.Sessions.{cells_in}
@@ -28,11 +29,14 @@ pub record Sessions : Type 0 where
   pub memory : Memory
   pub moments : List (ℕ × ℕ)
 
--- sessions after a step, what the engine did, and of how many runs the face forgot before their time
+-- Sessions after a step. And what it tells, in this order: the sessions that were closed since nothing
+-- touched them; of how many runs the face forgot before their time; and what the engine did, with a note of
+-- each session that was closed after that.
 pub record SessionsStep : Type 0 where
   pub sessions : Sessions
-  pub effects : EffectsValue
+  pub gone : List ℕ
   pub forgotten : Option ℕ
+  pub effects : EffectsValue
 
 abbrev pub starts_sessions : FaceKeys → ℕ → List ℕ → Sessions
 starts_sessions k now marks =
@@ -64,9 +68,6 @@ closes (n ∷ numbers) s = closes numbers (left_by (with_receiver s.engine n end
 
 abbrev pub evictions : List ℕ → List Note
 evictions numbers = map notes.Evicted numbers
-
-abbrev pub only_notes : List Note → EffectsValue
-only_notes remarks = record { out = []; ups = []; greens = []; notes = remarks }
 
 -- ---- before each arrival and each tick
 
@@ -114,9 +115,9 @@ makes_room k e false = None
 makes_room k e true =
     if nat_le (k.bounds).sessions (length e.receivers) then longest_untouched e.touched e.receivers else None
 
-abbrev pub receiver_replies : FaceKeys → Engine → ℕ → Option (StepValue Receiving) → Option Reply
-receiver_replies k e n None = None
-receiver_replies k e n (Some step) =
+abbrev pub peer_replies : FaceKeys → Engine → ℕ → Option (StepValue Receiving) → Option Reply
+peer_replies k e n None = None
+peer_replies k e n (Some step) =
     let gone : Option ℕ = makes_room k e (is_opened (find n e.receivers) step.next) in
     Some (record {
       engine = with_receiver (without_evicted e gone) n step.next;
@@ -132,33 +133,37 @@ answer_to k s segment now =
     segment.content now
 
 -- the other segments are those of a stranger
-unfoldable pub arrives : FaceKeys → Sessions → SegmentValue → ℕ → Option Reply
-arrives k s segment now =
+unfoldable pub replies : FaceKeys → Sessions → SegmentValue → ℕ → Option Reply
+replies k s segment now =
     if segment.originator == (k.party).own
     then (if is_used k.party s.engine segment.session then to_sender k.party s.engine segment now else None)
     else if segment.originator == (k.party).peer
-    then receiver_replies k s.engine segment.session (answer_to k s segment now)
+    then peer_replies k s.engine segment.session (answer_to k s segment now)
     else None
 
 -- ---- what is remembered then
 
--- a red piece of the bundle service, which may be one of a block
-abbrev pub may_open : FaceKeys → ContentValue → Bool
-may_open k (a_piece piece) =
-    is_red piece.kind && (piece.service == 1 && not (is_no_part (k.party).most piece.offset piece.body))
-may_open k (a_report report) = false
-may_open k (a_report_ack serial) = false
-may_open k (a_sender_cancel reason) = false
-may_open k a_sender_cancel_ack = false
-may_open k (a_receiver_cancel reason) = false
-may_open k a_receiver_cancel_ack = false
+-- a red piece of the bundle service, which may be one of a block of so many octets at most
+abbrev pub may_open : ℕ → ContentValue → Bool
+may_open most (a_piece piece) =
+    is_red piece.kind && (piece.service == 1 && not (is_no_part most piece.offset piece.body))
+may_open most (a_report report) = false
+may_open most (a_report_ack serial) = false
+may_open most (a_sender_cancel reason) = false
+may_open most a_sender_cancel_ack = false
+may_open most (a_receiver_cancel reason) = false
+may_open most a_receiver_cancel_ack = false
+
+-- the peer began the session
+abbrev pub is_of_peer : FaceKeys → ℕ → Bool
+is_of_peer k originator = originator == (k.party).peer && not (originator == (k.party).own)
 
 -- a red piece came of a session of the peer that isn't kept: one that is remembered is touched, and for
 -- another a place is made
 abbrev pub met : FaceKeys → Sessions → SegmentValue → Bool
 met k s segment =
-    segment.originator == (k.party).peer && not (segment.originator == (k.party).own)
-    && not (is_some (find segment.session (s.engine).receivers)) && may_open k segment.content
+    is_of_peer k segment.originator
+    && (not (is_some (find segment.session (s.engine).receivers)) && may_open (k.party).most segment.content)
 
 abbrev pub memory_met : FaceKeys → Sessions → SegmentValue → ℕ → Memory
 memory_met k s segment now =
@@ -179,7 +184,7 @@ forgotten_met k s segment now =
 -- a session that is kept by a step was touched by it
 abbrev pub moments_met : FaceKeys → Sessions → SegmentValue → ℕ → List (ℕ × ℕ)
 moments_met k s segment now =
-    if segment.originator == (k.party).peer && not (segment.originator == (k.party).own) && is_touched (answer_to k s segment now)
+    if is_of_peer k segment.originator && is_touched (answer_to k s segment now)
     then without segment.session s.moments ++ (segment.session, now) ∷ []
     else s.moments
 
@@ -197,16 +202,16 @@ to_trim k s = trimmed (half k.bounds) (s.engine).touched (s.engine).receivers
 
 -- ---- steps
 
--- what came before, what the engine does, and what follows
-abbrev pub with_notes : List Note → EffectsValue → List Note → EffectsValue
-with_notes before e after = record e { notes = before ++ (e.notes ++ after) }
+-- what the engine does, and notes of sessions that were closed after that
+abbrev pub then_noted : EffectsValue → List Note → EffectsValue
+then_noted e remarks = record e { notes = e.notes ++ remarks }
 
 -- a datagram comes: a segment, or refused at a place for a cause
 abbrev pub answers : FaceKeys → Sessions → Result SegmentValue (ℕ × SegmentCause) → ℕ → EngineStep
 answers k s (Err refusal) now = noted s.engine (notes.BadSegment refusal.0 refusal.1)
 answers k s (Ok segment) now =
     replied_or_stranger s.engine (record { originator = segment.originator; number = segment.session })
-    (arrives k s segment now)
+    (replies k s segment now)
 
 abbrev pub answered : FaceKeys → Sessions → Result SegmentValue (ℕ × SegmentCause) → ℕ → Sessions
 answered k s (Err refusal) now = s
@@ -221,8 +226,9 @@ forgets k s (Ok segment) now = forgotten_met k s segment now
 abbrev pub hears_after : FaceKeys → List ℕ → Sessions → Result SegmentValue (ℕ × SegmentCause) → ℕ → SessionsStep
 hears_after k gone s read now = record {
   sessions = closes (to_trim k (answered k s read now)) (answered k s read now);
-  effects = with_notes (evictions gone) (answers k s read now).effects (evictions (to_trim k (answered k s read now)));
+  gone = gone;
   forgotten = forgets k s read now;
+  effects = then_noted (answers k s read now).effects (evictions (to_trim k (answered k s read now)));
 }
 
 unfoldable pub hears : FaceKeys → Sessions → Result SegmentValue (ℕ × SegmentCause) → ℕ → SessionsStep
@@ -232,9 +238,25 @@ hears k s read now = hears_after k (stale k now s) (passes k now s) read now
 abbrev pub ticks_after : FaceKeys → List ℕ → Sessions → ℕ → SessionsStep
 ticks_after k gone s now = record {
   sessions = left_by (tick_step k.party s.engine now).engine s.memory s.moments;
-  effects = with_notes (evictions gone) (tick_step k.party s.engine now).effects [];
+  gone = gone;
   forgotten = None;
+  effects = (tick_step k.party s.engine now).effects;
 }
 
 unfoldable pub ticks : FaceKeys → Sessions → ℕ → SessionsStep
 ticks k s now = ticks_after k (stale k now s) (passes k now s) now
+
+-- ---- a block begins
+
+-- in the next session, all of it red
+abbrev pub block_begins : FaceKeys → Engine → List ℕ → ℕ → EngineStep
+block_begins k e block now =
+    replied (record { originator = (k.party).own; number = e.next })
+    (begun e (begin (k.party).policy e.next block (length block) now))
+
+abbrev pub with_begun : Sessions → EngineStep → Sessions
+with_begun s step = record s { engine = step.engine }
+
+-- the octets of each block that is being sent
+abbrev pub blocks_in : List (ℕ × Sending) → List ℕ
+blocks_in senders = map (λ (entry : ℕ × Sending). length entry.1.block) senders

@@ -4,14 +4,12 @@ use Rattle.std.specs.Prelude.{◌≡◌, ◌≢◌, ℕ, ◌+◌, ◌/◌, ◌<�
 use Rattle.std.specs.List.{AllByRecursion, IsDistinct}
 use Rattle.std.specs.Map.{keys_of}
 use Rattle.ltp_segment.specs.PolicyViews.{policy_value}
-use Rattle.ltp_segment.specs.declared.session.TheConstants.{BLOCK_MAX}
 use Rattle.ltp_session.specs.Receiver.{Receiving}
+use Rattle.ltp_session.specs.Table.{AreAscending}
 use Rattle.ltp_session.specs.Engine.{Engine}
-use Rattle.ltp_engine.specs.declared.effects.Effects.{Effects}
 use Rattle.ltp_engine.specs.Closed.{none_closed}
 use Rattle.ltp_engine.specs.Values.{EngineValue}
 use Rattle.ltp_engine.specs.Bounds.{IsBounded}
-use Rattle.ltp_engine.specs.Effects.{effects_of}
 use Rattle.ltp_engine.specs.Sessions.{is_receiving}
 use Rattle.ltp_engine.specs.Steps.{wide_party}
 use Rattle.session_memory.specs.Numbers.{runs_in}
@@ -20,7 +18,7 @@ use Rattle.session_memory.specs.Laws.{IsSet64}
 use Rattle.peer_sessions.specs.declared.keys.Keys.{Keys}
 use Rattle.peer_sessions.specs.declared.keys.TheConstants.{HISTORY}
 use Rattle.peer_sessions.specs.Keys.{FaceKeys}
-use Rattle.peer_sessions.specs.Sessions.{Sessions, SessionsStep}
+use Rattle.peer_sessions.specs.Sessions.{Sessions}
 
 -- ---- keys
 
@@ -73,6 +71,7 @@ pub record AreWhole (k : Keys) (v : EngineValue) (m : Memory) (moments : List (�
   pub party : v.party ≡ (face_keys k).party
   pub none : (v.inbound).closed ≡ none_closed
   pub bounded : IsBounded v
+  pub ascending : AreAscending 0 (v.inbound).receivers
   pub most : m.most ≡ k.remember / 2
   pub keep : m.keep_ms ≡ k.remember_ms
   pub set : IsSet64 m.newer

@@ -9,16 +9,22 @@
 //! untouched.
 //!
 //! Its contracts cite `specs/Sessions.antt`, which says what a face's sessions do. Moments are those of the
-//! face, which stand still while its link is closed. So far the code begins a face and lets its time pass:
-//! what it does about a datagram is defined there, and isn't written yet.
+//! face, which stand still while its link is closed. A face is told of each datagram
+//! ([`PeerSessions::hear`]) and that time has passed ([`PeerSessions::tick`]), and is given the blocks that it
+//! is to send ([`PeerSessions::submit`]).
 #![tactic(auto)]
 
+mod blocks;
+mod contents;
+mod hearing;
 mod keys;
+pub mod laws;
 mod moments;
 mod notes;
 mod parts;
 mod remembering;
 mod sessions;
+mod trimming;
 
 pub use keys::Keys;
 pub use sessions::{PeerSessions, Told};

@@ -4,7 +4,7 @@ ghost use Rattle.std.specs.Prelude.{◌≡◌, ◌++◌, ◌∷◌, ◌==◌, �
 ghost use Rattle.ltp_session.specs.Table.{without};
 ghost use Rattle.ltp_engine.specs.Sessions.{is_receiving};
 ghost use Rattle.peer_sessions.specs.Sessions.{still_kept};
-ghost use Rattle.peer_sessions.specs.Moments.{stale_in, added_if};
+ghost use Rattle.peer_sessions.specs.Moments.{stale_in, added_if, moments_if};
 
 use ltp_engine::Engine;
 use std::alloc::{AllocError, Global};
@@ -35,8 +35,18 @@ impl Moments {
         }
     }
 
+    /// A session was touched, if it was.
+    pub fn touch_if(&mut self, n: u64, now: u64, touched: bool) -> Result<(), AllocError>
+        ensures { OnOk result (self.new ≡ moments_if n now touched self.old) }
+    {
+        if touched {
+            self.touch(n, now)?;
+        }
+        Ok(())
+    }
+
     /// A session was touched: it is the last one now.
-    pub fn touch(&mut self, n: u64, now: u64) -> Result<(), AllocError>
+    fn touch(&mut self, n: u64, now: u64) -> Result<(), AllocError>
         ensures { OnOk result (self.new ≡ without n self.old ++ (n, now) ∷ []) }
     {
         self.touches.retain(|touch| is_other(n, touch));

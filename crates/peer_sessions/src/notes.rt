@@ -1,21 +1,31 @@
-//! Notes of sessions that were closed.
+//! Notes beside those of the engine.
 
 ghost use Rattle.std.specs.Prelude.{◌≡◌, ◌++◌, IfOk, OnOk};
+ghost use Rattle.ltp_engine.specs.Effects.{only_noted};
 ghost use Rattle.peer_sessions.specs.Sessions.{evictions};
-ghost use Rattle.peer_sessions.specs.Notes.{noted_around};
+ghost use Rattle.peer_sessions.specs.Notes.{then_evicted};
 
-use ltp_engine::{Effects, Notes};
-use ltp_segment::Note;
+use ltp_engine::{Effects, Greens, Notes, Ups};
+use ltp_segment::{Note, Outs};
 use std::alloc::{AllocError, Global};
 
-/// The effects, with notes of sessions that were closed before them, and of those that were after them.
-pub(crate) fn noted_around(
-    alloc: Global,
-    gone: &[u64],
-    effects: Effects,
-    trimmed: &[u64],
-) -> Result<Effects, AllocError>
-    ensures { IfOk result (λ around. around ≡ noted_around gone.now effects trimmed.now) }
+/// Nothing is done but a note.
+pub(crate) fn noted(alloc: Global, note: Note) -> Result<Effects, AllocError>
+    ensures { IfOk result (λ effects. effects ≡ only_noted note) }
+{
+    let mut notes = Vec::new(alloc);
+    notes.push(note)?;
+    Ok(Effects {
+        out: Outs::new(alloc),
+        ups: Ups::from_vec(Vec::new(alloc)),
+        greens: Greens::from_vec(Vec::new(alloc)),
+        notes: Notes::from_vec(notes),
+    })
+}
+
+/// The effects, with notes of sessions that were closed after them.
+pub(crate) fn then_evicted(effects: Effects, numbers: &[u64]) -> Result<Effects, AllocError>
+    ensures { IfOk result (λ more. more ≡ then_evicted effects numbers.now) }
 {
     let Effects {
         out,
@@ -23,11 +33,8 @@ pub(crate) fn noted_around(
         greens,
         notes,
     } = effects;
-    let mut told = Vec::new(alloc);
-    add_evicted(&mut told, gone)?;
-    let mut between = notes.into_vec();
-    told.append(&mut between)?;
-    add_evicted(&mut told, trimmed)?;
+    let mut told = notes.into_vec();
+    add_evicted(&mut told, numbers)?;
     Ok(Effects {
         out,
         ups,

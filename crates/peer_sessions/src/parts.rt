@@ -1,6 +1,7 @@
 //! What a face keeps of its sessions.
 
-ghost use Rattle.std.specs.Prelude.{◌≡◌, ◌<◌, ◌^◌, true, false, IfOk, OnOk};
+ghost use Rattle.std.specs.Prelude.{◌≡◌, ◌<◌, ◌≤◌, ◌^◌, true, false, length, IfOk, OnOk};
+ghost use Rattle.ltp_segment.specs.declared.session.TheConstants.{BLOCK_MAX};
 ghost use Rattle.std.specs.List.{AllByRecursion};
 ghost use Rattle.ltp_session.specs.Step.{ends};
 ghost use Rattle.ltp_session.specs.Engine.{with_receiver, tick_step};
@@ -10,9 +11,11 @@ ghost use Rattle.ltp_engine.specs.Effects.{effects_of};
 ghost use Rattle.ltp_engine.specs.Sessions.{is_receiving};
 ghost use Rattle.ltp_engine.specs.Shows.{AreDistinct};
 ghost use Rattle.session_memory.specs.Laws.{IsSet64};
-ghost use Rattle.peer_sessions.specs.Sessions.{closes, left_by, stale, passes, starts_sessions};
+ghost use Rattle.peer_sessions.specs.Sessions.{closes, left_by, stale, passes, starts_sessions, block_begins, with_begun, blocks_in};
+ghost use Rattle.face_room.specs.Faces.{total};
 ghost use Rattle.peer_sessions.specs.Views.{face_keys, AreFit};
 
+use crate::blocks::{Blocks, Event};
 use crate::keys::{HISTORY, Keys};
 use crate::moments::Moments;
 use crate::remembering::{mark_all, remember_all};
@@ -23,11 +26,14 @@ use std::alloc::{AllocError, Global};
 /// A face's sessions.
 #[derive(Debug, Drop)]
 pub(crate) struct Parts {
-    alloc: Global,
+    pub alloc: Global,
     pub keys: Keys,
     pub engine: Engine,
-    memory: SessionMemory,
-    moments: Moments,
+    pub memory: SessionMemory,
+    pub moments: Moments,
+    pub blocks: Blocks,
+    /// All receiving sessions together have no more red octets than these.
+    pub at_most: u64,
 }
 
 impl Parts {
@@ -49,13 +55,25 @@ impl Parts {
             engine: engine(alloc, &keys),
             memory,
             moments: Moments::new(alloc),
+            blocks: Blocks::new(alloc),
+            at_most: 0,
         })
+    }
+
+    /// How many octets the blocks have that are being sent.
+    pub fn block_octets(&self) -> u64
+        requires { IsWhole self.now }
+        ensures { result ≡ total (blocks_in (state_of self.now).engine.senders) }
+    {
+        // The contract of `sending` tells how many there may be.
+        let _ = self.engine.sending();
+        self.blocks.octets()
     }
 
     // ---- sessions that are over
 
     /// A receiving session is over.
-    fn let_go(&mut self, n: u64) -> Result<(), AllocError>
+    pub fn let_go(&mut self, n: u64) -> Result<(), AllocError>
         requires whole { IsWhole self.old }
         requires kept { is_receiving n self.old.engine.inbound.receivers ≡ true }
         ensures { OnOk result (AreAfter self.old self.new (left_by
@@ -95,7 +113,7 @@ impl Parts {
     }
 
     /// What the engine closed is remembered.
-    fn settle(&mut self) -> Result<(), AllocError>
+    pub fn settle(&mut self) -> Result<(), AllocError>
         requires whole { self.old.engine.spent ≡ false }
         requires set { IsSet64 self.old.memory.newer }
         requires places { HasPlaces self.old.engine self.old.memory }
@@ -107,6 +125,31 @@ impl Parts {
         remember_all(&mut self.memory, numbers)?;
         self.moments.keep_received(&self.engine);
         Ok(())
+    }
+
+    // ---- a block begins
+
+    /// A block begins in the next session, all of it red.
+    pub fn submit(&mut self, block: &[u8], now: u64) -> Result<Effects, AllocError>
+        requires whole { IsWhole self.old }
+        requires some { 0 < length block.now }
+        requires most { length block.now ≤ BLOCK_MAX }
+        requires free { length self.old.engine.senders < self.old.keys.bounds.sessions }
+        requires numbers { self.old.engine.next < 2 ^ 32 }
+        requires moment { now < 2 ^ 62 }
+        ensures effects { IfOk result (λ effects. effects ≡ effects_of
+            (block_begins (keys_in self.old) (state_of self.old).engine block.now now).effects) }
+        ensures after { OnOk result (AreAfter self.old self.new (with_begun (state_of self.old)
+            (block_begins (keys_in self.old) (state_of self.old).engine block.now now))) }
+    {
+        let n = self.engine.next_session();
+        let Ok(effects) = self.engine.submit(block, block.len() as u64, now) else {
+            return Err(AllocError);
+        };
+        // The contract of `closed` tells which numbers there may be.
+        let _closed = self.engine.closed();
+        self.blocks.begin(n, block.len() as u64)?;
+        Ok(effects)
     }
 
     // ---- time
@@ -122,6 +165,13 @@ impl Parts {
             (state_of self.old).memory (state_of self.old).moments)) }
     {
         let effects = self.engine.tick(now)?;
+        self.blocks.follow(
+            self.alloc,
+            &self.engine,
+            Event::Ticked,
+            &self.keys.policy,
+            now,
+        )?;
         self.settle()?;
         Ok(effects)
     }

@@ -1,6 +1,5 @@
-use Rattle.std.proofs.Common.{◌≡◌, ◌≤◌, ◌<◌, ◌+◌, ◌-◌, ◌^◌, ℕ, get_or, take, length, arith, sym, subst}
+use Rattle.std.proofs.Common.{◌≡◌, ◌≤◌, ◌<◌, ◌+◌, ◌-◌, ℕ, get_or, take, length, arith, sym, subst}
 use Rattle.std.proofs.lemmas.Grind.{get_or_default_zero}
-use Rattle.session_memory.specs.Numbers.{runs_in}
 use Rattle.peer_sessions.specs.Keys.{with_marked}
 use Rattle.peer_sessions.proofs.MemoryLemmas.{LAST, marking-step, marking-end}
 use Rattle.peer_sessions.proofs.remembering.mark_all.Goals as goal

@@ -11,6 +11,8 @@ pub returns : goal.returns
 returns c = record {
   limit = subst (λ (ps : List Bool). length ps ≡ 2 ^ 64 - 1) c.closed-closed.ensures.are (c.closed-closed.ensures.limit c.requires.whole);
   keys = refl;
+  at_most = refl;
+  blocks = refl;
   engine = c.in_ok-numbers.ensures.value;
   bounded = c.in_ok-numbers.ensures.bounds;
   memory = c.in_ok-remember_all.ensures ∙ ap (λ (ns : List ℕ). with_closed ns c.args.self.now.memory) c.in_ok-numbers.ensures.numbers;

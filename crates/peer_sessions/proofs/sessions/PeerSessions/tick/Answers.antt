@@ -1,8 +1,7 @@
-use Rattle.std.proofs.Common.{◌≡◌, ℕ, List, [], None, false, refl, sym, ◌∙◌, ap, subst}
+use Rattle.std.proofs.Common.{false, None, refl, ap, subst, ◌∙◌}
 use Rattle.ltp_session.specs.Engine.{tick_step}
 use Rattle.ltp_engine.specs.Effects.{effects_of}
 use Rattle.peer_sessions.specs.Sessions.{ticks, left_by}
-use Rattle.peer_sessions.specs.Notes.{noted_around}
 use Rattle.peer_sessions.specs.Views.{face_keys, PeerSessionsValue}
 use Rattle.peer_sessions.specs.Ties.{Does, state_of, keys_in}
 use Rattle.peer_sessions.proofs.DoesLemmas.{does-tick}
@@ -12,10 +11,9 @@ pub returns-clause-done : goal.returns-clause-done
 returns-clause-done c =
     let passed = c.in_ok-gone.ensures.after in
     let ticked = c.in_ok-effects.ensures.after in
-    subst (λ (old : PeerSessionsValue). Does old (record { spent = false; keys = keys_in c.tick.new.self; sessions = state_of c.tick.new.self }) (ticks old.keys old.sessions c.args.now) (record { effects = c.in_ok-effects-2.effects; forgotten = None })) c.self.view_is
+    subst (λ (old : PeerSessionsValue). Does old (record { spent = false; keys = keys_in c.tick.new.self; sessions = state_of c.tick.new.self }) (ticks old.keys old.sessions c.args.now) (record { gone = c.in_ok-gone.gone; forgotten = None; effects = c.in_ok-effects.effects })) c.self.view_is
     (does-tick (record { spent = c.self.inside.spent; keys = keys_in c.self.inside.parts; sessions = state_of c.self.inside.parts })
-    (record { spent = false; keys = keys_in c.tick.new.self; sessions = state_of c.tick.new.self }) (state_of c.pass.new.self) (state_of c.tick.new.self) c.args.now c.in_ok-gone.gone.items c.in_ok-effects.effects
-    c.in_ok-effects-2.effects refl (ap face_keys (ticked.keys ∙ passed.keys)) c.in_ok-gone.ensures.gone passed.is
+    (record { spent = false; keys = keys_in c.tick.new.self; sessions = state_of c.tick.new.self }) (state_of c.pass.new.self) c.args.now _
+    refl (ap face_keys (ticked.keys ∙ passed.keys)) passed.is c.in_ok-gone.ensures.gone refl
     (c.in_ok-effects.ensures.effects ∙ ap (λ k. effects_of (tick_step (face_keys k).party (state_of c.pass.new.self).engine c.args.now).effects) passed.keys)
-    (ticked.is ∙ ap (λ k. left_by (tick_step (face_keys k).party (state_of c.pass.new.self).engine c.args.now).engine (state_of c.pass.new.self).memory (state_of c.pass.new.self).moments) passed.keys)
-    refl (c.in_ok-effects-2.ensures ∙ ap (λ (ns : List ℕ). noted_around ns c.in_ok-effects.effects []) c.as_slice.ensures.value))
+    (ticked.is ∙ ap (λ k. left_by (tick_step (face_keys k).party (state_of c.pass.new.self).engine c.args.now).engine (state_of c.pass.new.self).memory (state_of c.pass.new.self).moments) passed.keys))

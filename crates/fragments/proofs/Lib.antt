@@ -9,3 +9,5 @@ pub mod AgainLemmas
 pub mod BegunLemmas
 pub mod SmallLemmas
 pub mod CutterLemmas
+pub mod PayloadLemmas
+pub mod NameLemmas

@@ -4,6 +4,7 @@ pub mod Ends
 pub mod Cells
 pub mod Joining
 pub mod Again
+pub mod Payload
 pub mod Word
 -- What ties code to it.
 pub mod Laid

@@ -2,6 +2,7 @@
 
 ghost use Rattle.fragments.specs.Ends.{LieEndToEnd};
 ghost use Rattle.fragments.specs.Again.{PiecesJoinAgain, WholeWhenAllCame, TotalsAreSmall};
+ghost use Rattle.fragments.specs.Payload.{FragmentsGiveTheWhole, NamesStandAlone};
 
 /// The octets of a record's pieces, one after another, are those of its payload.
 pub fn pieces_lie_end_to_end()
@@ -13,6 +14,18 @@ pub fn pieces_lie_end_to_end()
 /// that isn't said.
 pub fn pieces_join_again()
     ensures { PiecesJoinAgain }
+{}
+
+/// Whichever records came before, fragments of any size, overlapping ones, the same ones again, and others'
+/// between them: where each that has the name of a record is a fragment of it, one more that is answered
+/// with a whole is answered with that record.
+pub fn fragments_give_the_whole()
+    ensures { FragmentsGiveTheWhole }
+{}
+
+/// A record of another name changes nothing of what is open under a name, whichever records came before.
+pub fn names_stand_alone()
+    ensures { NamesStandAlone }
 {}
 
 /// Whichever records came before: with a fragment that is taken the whole is there if and only if each

@@ -52,6 +52,7 @@ use Rattle.bundle_runs.specs.Convert.{converted, converted6, converted7}
 use Rattle.bundle_runs.specs.ThereAndBack.{WritesLine, RunConverts, ThereAndBack6, ThereAndBack7, LateStaysThere, RunsThereAndBack6, RunsThereAndBack7}
 use Rattle.bundle_runs.proofs.FrontsLemmas.{settles-none}
 use Rattle.bundle_runs.proofs.LawLemmas.{takes_bundle6, takes_bundle7}
+use Rattle.bundle_runs.proofs.ViewOctetLemmas.{full6-octets, full7-octets, view6-octets, view7-octets}
 use Rattle.bundle_runs.proofs.SpelledLemmas.{spelled-octets6, spelled-octets7, canon-sized, octets7-sized}
 
 -- ---- a line is written of what isn't refused
@@ -172,10 +173,13 @@ comes_back6 octets b line fits spells written =
     let said = says6 b line written in
     let is = translatable6 octets b fits spells said.0 in
     let goes = goes6 b is in
+    let hold = full6-octets b is.octets in
     record {
       hex = said.1;
+      there_octets = view7-octets (full6_of b) goes.sound hold;
       there = octets7-spell (full6_of b) goes.sound goes.room7;
       back = view7-writes (full6_of b) goes;
+      normal_octets = view6-octets (full6_of b) goes.sound hold;
       normal = canon-spells (full6_of b) goes.sound goes.room6;
       again = view6-writes (full6_of b) goes ∙ ap (λ (t : List ℕ). says t (tt {0})) (sym said.1);
       plain = plain_is_normal.0 b is;
@@ -186,10 +190,13 @@ comes_back7 octets b line fits spells written low =
     let said = says7 b line written in
     let is = translatable7 octets b fits spells said.0 low in
     let goes = goes7 b is in
+    let hold = full7-octets b is.octets in
     record {
       hex = said.1;
+      there_octets = view6-octets (full7_of b) goes.sound hold;
       there = canon-spells (full7_of b) goes.sound goes.room6;
       back = view6-writes (full7_of b) goes;
+      normal_octets = view7-octets (full7_of b) goes.sound hold;
       normal = octets7-spell (full7_of b) goes.sound goes.room7;
       again = view7-writes (full7_of b) goes ∙ ap (λ (t : List ℕ). says t (tt {0})) (sym said.1);
       plain = λ plain. ap octets7 (plain_is_normal.1 b is plain) ∙ sym (bundle-spelled 64 octets b spells).1;
@@ -202,9 +209,11 @@ late_stays_there octets b line fits spells written large =
     let legal = (bundle-spelled 64 octets b spells).0 fits in
     let hold = spelled-octets7 octets b fits spells in
     let late = late_is_refused b legal hold said.0 large in
+    let sound = sound7 b legal hold (unrefused-read7 b said.0) in
     record {
       hex = said.1;
-      there = canon-spells (full7_of b) (sound7 b legal hold (unrefused-read7 b said.0)) (room (refusals7 b) (fits6 (full7_of b)) said.0);
+      there_octets = view6-octets (full7_of b) sound (full7-octets b hold);
+      there = canon-spells (full7_of b) sound (room (refusals7 b) (fits6 (full7_of b)) said.0);
       late = ap (λ (r : Option Refused). unless_refused r (says (hex_line (octets7 (there6 (there7 b)))) (tt {0}))) late;
     }
 
@@ -255,6 +264,8 @@ runs_back6 octets b line fits spells written low small =
     let same = ap (λ (t : List ℕ). says t (tt {0})) comes.hex in
     record {
       one = run6 octets there b spells (written ∙ same) low;
+      there_octets = comes.there_octets;
+      back_octets = comes.normal_octets;
       two = run7 there back (there6 b) (comes.there (counted there small)) comes.back small;
       three = λ less. run6 back there (norm6_of b) (comes.normal (counted back less)) (comes.again ∙ same) less;
     }
@@ -267,6 +278,8 @@ runs_back7 octets b line fits spells written lasts low small =
     let same = ap (λ (t : List ℕ). says t (tt {0})) comes.hex in
     record {
       one = run7 octets there b spells (written ∙ same) low;
+      there_octets = comes.there_octets;
+      back_octets = comes.normal_octets;
       two = run6 there back (there7 b) (comes.there (counted there small)) comes.back small;
       three = λ less. run7 back there (norm7_of b) (comes.normal (counted back less)) (comes.again ∙ same) less;
     }

@@ -32,12 +32,14 @@ WritesLine bundle line = converted bundle ≡ says line tt
 
 -- the line of a bundle, and the lines of what stands in it
 pub record ComesBack6 (b : Bundle6) (line : List ℕ) : Type 0 where
-  -- it is, in hex, the octets of the bundle of version 7 that the bundle becomes
+  -- it is, in hex, the octets of the bundle of version 7 that the bundle becomes, each below 256
   pub hex : line ≡ hex_line (octets7 (there6 b))
+  pub there_octets : IsOctets (octets7 (there6 b))
   -- and these spell that bundle, where a number says how many they are, as of all that is written
   pub there : length (octets7 (there6 b)) < 2 ^ 64 → Spells7 (there6 b) (octets7 (there6 b))
   -- of which the line is the canonical octets of the normal form
   pub back : WritesLine (bundles.Seven (there6 b)) (hex_line (canon6 (norm6_of b)))
+  pub normal_octets : IsOctets (canon6 (norm6_of b))
   -- and these spell the normal form
   pub normal : length (canon6 (norm6_of b)) < 2 ^ 64 → Spells6 (norm6_of b) (canon6 (norm6_of b))
   -- of which the line is the first one again
@@ -54,8 +56,10 @@ ThereAndBack6 = (octets : List ℕ) (b : Bundle6) (line : List ℕ) → IsOctets
 -- the same of a bundle of version 7 with these octets
 pub record ComesBack7 (octets : List ℕ) (b : Bundle7) (line : List ℕ) : Type 0 where
   pub hex : line ≡ hex_line (canon6 (there7 b))
+  pub there_octets : IsOctets (canon6 (there7 b))
   pub there : length (canon6 (there7 b)) < 2 ^ 64 → Spells6 (there7 b) (canon6 (there7 b))
   pub back : WritesLine (bundles.Six (there7 b)) (hex_line (octets7 (norm7_of b)))
+  pub normal_octets : IsOctets (octets7 (norm7_of b))
   pub normal : length (octets7 (norm7_of b)) < 2 ^ 64 → Spells7 (norm7_of b) (octets7 (norm7_of b))
   pub again : WritesLine (bundles.Seven (norm7_of b)) line
   -- one without blocks of the gateway's own comes back octet for octet
@@ -70,6 +74,7 @@ ThereAndBack7 = (octets : List ℕ) (b : Bundle7) (line : List ℕ) → IsOctets
 -- else the octets in its line spell a bundle that `convert` refuses
 pub record StaysThere7 (b : Bundle7) (line : List ℕ) : Type 0 where
   pub hex : line ≡ hex_line (canon6 (there7 b))
+  pub there_octets : IsOctets (canon6 (there7 b))
   pub there : length (canon6 (there7 b)) < 2 ^ 64 → Spells6 (there7 b) (canon6 (there7 b))
   pub late : converted (bundles.Six (there7 b)) ≡ refuses (word_of TimeTooLarge)
 
@@ -88,7 +93,9 @@ RunConverts octets others =
 -- a run over the first octets, a run over those that it wrote, and one over those that this wrote
 pub record RunsBack (first there back : List ℕ) : Type 0 where
   pub one : RunConverts first there
+  pub there_octets : IsOctets there
   pub two : RunConverts there back
+  pub back_octets : IsOctets back
   pub three : length back ≤ most_input → RunConverts back there
 
 -- no input is longer than the limit

@@ -1,5 +1,6 @@
 -- What a run writes, by the events that its lines say.
-use Rattle.std.proofs.Common.{◌≡◌, ℕ, ◌+◌, Bool, true, false, ◌||◌, nat_lt, List, [], ◌∷◌, ◌++◌, length, map, take, reverse, Some, Result, Ok, Err, refl, sym, ap, ◌∙◌, append_assoc, inl, inr, arith, if◌then◌else◌}
+use Rattle.std.proofs.Common.{◌≡◌, ℕ, ◌+◌, ◌<◌, Bool, true, false, ◌||◌, nat_lt, List, [], ◌∷◌, ◌++◌, length, map, take, drop, reverse, Some, Result, Ok, Err, refl, sym, ap, ◌∙◌, append_assoc, subst, inl, inr, arith, if◌then◌else◌}
+use Rattle.std.proofs.lemmas.Bool.Decides.{nat_tests}
 use Rattle.std.proofs.lemmas.List.{map-append, reverse-append, length-append}
 use Rattle.edge_traits.specs.declared.status.Status.{Status}
 use Rattle.edge_traits.specs.declared.status.Status.TheVariants as statuses
@@ -15,17 +16,24 @@ use Rattle.replay_script.specs.declared.fault.LineFault.{LineFault}
 use Rattle.replay_script.specs.Events.{node_event_of}
 use Rattle.node_run.specs.WrittenLines.{refusal_line}
 use Rattle.node_run.specs.Node.{NodeState, node_rules, node_turn, happens, answers, is_late, at_moment, moment_of, begins, node_party, settles}
-use Rattle.node_run.specs.RedParts.{node_after, after_event, done_at, answer_text, text_after, IsClosing, AnswersLines}
+use Rattle.node_run.specs.RedParts.{node_after, after_event, done_at, answer_text, text_after, PassesLimit, ClosesAs, IsAnswered}
 
 -- what is settled after some lines, and the text before it, are the answers to events
-record Answers (p : Party) (before lines : List (List ℕ)) (so_far : List ℕ) (settled : Settled) : Type 0 where
+record Answers (longer : Bool) (p : Party) (before lines : List (List ℕ)) (so_far : List ℕ) (settled : Settled) : Type 0 where
   events : List NodeEvent
   closing : List ℕ
   said : map node_event_of (take (length events) (before ++ lines)) ≡ map Ok (reverse events)
   written : so_far ++ settled.text ≡ text_after p events ++ closing
-  closes : IsClosing closing
   status : Status
+  closes : ClosesAs longer status (1 + length events) (drop (length events) (before ++ lines)) closing
   ends : settled.ends ≡ Some status
+
+dropped_before : (before lines : List (List ℕ)) (n : ℕ) → length before ≡ n → drop n (before ++ lines) ≡ lines
+dropped_before before lines n is = rw (sym is) (dropped_all before)
+  where
+    dropped_all : (front : List (List ℕ)) → drop (length front) (front ++ lines) ≡ lines
+    dropped_all [] = refl
+    dropped_all (line ∷ front) = dropped_all front
 
 -- some lines say some events, the newest first
 record Said (before : List (List ℕ)) (earlier : List NodeEvent) : Type 0 where
@@ -39,17 +47,19 @@ taken_before before lines n is = rw (sym is) (taken_all before)
     taken_all [] = refl
     taken_all (line ∷ front) = ap (λ ls. line ∷ ls) (taken_all front)
 
-module _ (p : Party) (before lines : List (List ℕ)) (earlier : List NodeEvent) (says : Said before earlier) where
+module _ (longer : Bool) (p : Party) (before lines : List (List ℕ)) (earlier : List NodeEvent) (says : Said before earlier) where
   -- the run ends with these lines unanswered
-  stops : (closing : List ℕ) (status : Status) → IsClosing closing
-      → Answers p before lines (text_after p earlier) (record { text = closing; ends = Some status })
+  stops : (closing : List ℕ) (status : Status) → ClosesAs longer status (1 + length before) lines closing
+      → Answers longer p before lines (text_after p earlier) (record { text = closing; ends = Some status })
   stops closing status closes = record {
     events = earlier;
     closing = closing;
     said = ap (λ ls. map node_event_of ls) (taken_before before lines (length earlier) says.many) ∙ says.said;
     written = refl;
-    closes = closes;
     status = status;
+    closes = subst (λ (n : ℕ). ClosesAs longer status (1 + n) (drop (length earlier) (before ++ lines)) closing) says.many
+        (subst (λ (ls : List (List ℕ)). ClosesAs longer status (1 + length before) ls closing)
+        (sym (dropped_before before lines (length earlier) says.many)) closes);
     ends = refl;
   }
 
@@ -66,11 +76,11 @@ more-said before earlier line event is says = record {
       ∙ (sym (map-append Ok (reverse earlier) (event ∷ [])) ∙ ap (λ es. map Ok es) (sym (reverse-append (event ∷ []) earlier)))));
 }
 
-module _ (p : Party) (before lines : List (List ℕ)) (line : List ℕ) (earlier : List NodeEvent) (event : NodeEvent) where
+module _ (longer : Bool) (p : Party) (before lines : List (List ℕ)) (line : List ℕ) (earlier : List NodeEvent) (event : NodeEvent) where
   -- what comes after an answered line, with the line before it
   goes_on : (text : List ℕ) (later : Settled) → text ≡ answer_text (done_at (node_after p earlier) event)
-      → Answers p (before ++ line ∷ []) lines (text_after p (event ∷ earlier)) later
-      → Answers p before (line ∷ lines) (text_after p earlier) (record { text = text ++ later.text; ends = later.ends })
+      → Answers longer p (before ++ line ∷ []) lines (text_after p (event ∷ earlier)) later
+      → Answers longer p before (line ∷ lines) (text_after p earlier) (record { text = text ++ later.text; ends = later.ends })
   unfolding text_after
   goes_on text later is rest = record {
     events = rest.events;
@@ -79,102 +89,116 @@ module _ (p : Party) (before lines : List (List ℕ)) (line : List ℕ) (earlier
     written =
         ap (λ t. text_after p earlier ++ (t ++ later.text)) is
         ∙ (sym (append_assoc (text_after p earlier) (answer_text (done_at (node_after p earlier) event)) later.text) ∙ rest.written);
-    closes = rest.closes;
     status = rest.status;
+    closes = subst (λ (ls : List (List ℕ)). ClosesAs longer rest.status (1 + length rest.events) (drop (length rest.events) ls) rest.closing)
+        (append_assoc before (line ∷ []) lines) rest.closes;
     ends = rest.ends;
   }
+
+-- ---- limits
+
+less : (a b : ℕ) → nat_lt a b ≡ true → a < b
+less a b is = grind (arith, nat_tests, is)
+
+past-limits : (n : ℕ) (line : List ℕ) → (nat_lt node_rules.lines n || nat_lt node_rules.octets (length line)) ≡ true → PassesLimit n line
+past-limits n line = by (nat_lt node_rules.lines n) refl
+  where
+    by : (many : Bool) → nat_lt node_rules.lines n ≡ many → (many || nat_lt node_rules.octets (length line)) ≡ true → PassesLimit n line
+    by true many past = inl (less node_rules.lines n many)
+    by false few past = inr (inl (less node_rules.octets (length line) past))
 
 -- ---- a turn
 
 -- the line is answered, where it isn't refused and passes no limit; `settle` is what the lines after
 -- it settle
-module _ (p : Party) (before lines : List (List ℕ)) (line : List ℕ) (earlier : List NodeEvent) (says : Said before earlier) (settle : NodeState → Settled) where
+module _ (longer : Bool) (p : Party) (before lines : List (List ℕ)) (line : List ℕ) (earlier : List NodeEvent) (says : Said before earlier) (settle : NodeState → Settled) where
   answered : (event : NodeEvent) (did : Result EngineStep SubmitFault) → did ≡ done_at (node_after p earlier) event
-      → Answers p (before ++ line ∷ []) lines (text_after p (event ∷ earlier))
+      → Answers longer p (before ++ line ∷ []) lines (text_after p (event ∷ earlier))
       (settle (record (at_moment (node_after p earlier) (moment_of (node_after p earlier).now event)) { engine = unless_faulty (node_after p earlier).engine did }))
-      → Answers p before (line ∷ lines) (text_after p earlier)
+      → Answers longer p before (line ∷ lines) (text_after p earlier)
       (after_turn (answers (at_moment (node_after p earlier) (moment_of (node_after p earlier).now event)) did) settle)
-  answered event (Ok step) is later = goes_on p before lines line earlier event (answer_text (Ok step)) _ (ap answer_text is) later
-  answered event (Err fault) is later = goes_on p before lines line earlier event (answer_text (Err fault)) _ (ap answer_text is) later
+  answered event (Ok step) is later = goes_on longer p before lines line earlier event (answer_text (Ok step)) _ (ap answer_text is) later
+  answered event (Err fault) is later = goes_on longer p before lines line earlier event (answer_text (Err fault)) _ (ap answer_text is) later
 
-  happened : (event : NodeEvent)
-      → Answers p (before ++ line ∷ []) lines (text_after p (event ∷ earlier)) (settle (after_event (node_after p earlier) event))
-      → Answers p before (line ∷ lines) (text_after p earlier) (after_turn (happens (node_after p earlier) event) settle)
-  happened event later = by_late (is_late event)
+  happened : (event : NodeEvent) → node_event_of line ≡ Ok event
+      → Answers longer p (before ++ line ∷ []) lines (text_after p (event ∷ earlier)) (settle (after_event (node_after p earlier) event))
+      → Answers longer p before (line ∷ lines) (text_after p earlier) (after_turn (happens (node_after p earlier) event) settle)
+  happened event said later = by_late (is_late event) refl
     where
-      by_late : (t : Bool) → Answers p before (line ∷ lines) (text_after p earlier)
+      by_late : (t : Bool) → is_late event ≡ t → Answers longer p before (line ∷ lines) (text_after p earlier)
           (after_turn (if t then ends_run [] statuses.Limit
           else answers (at_moment (node_after p earlier) (moment_of (node_after p earlier).now event)) (done_at (node_after p earlier) event)) settle)
-      by_late true = stops p before (line ∷ lines) earlier says [] statuses.Limit (inl refl)
-      by_late false = answered event (done_at (node_after p earlier) event) refl later
+      by_late true late = stops longer p before (line ∷ lines) earlier says [] statuses.Limit (inr (inr (event, said, late)), refl)
+      by_late false early = answered event (done_at (node_after p earlier) event) refl later
 
-  turned : (n : ℕ) (said : Result NodeEvent LineFault) → node_event_of line ≡ said
+  turned : (n : ℕ) → n ≡ 1 + length before → (said : Result NodeEvent LineFault) → node_event_of line ≡ said
       → ((event : NodeEvent) → node_event_of line ≡ Ok event
-      → Answers p (before ++ line ∷ []) lines (text_after p (event ∷ earlier)) (settle (after_event (node_after p earlier) event)))
-      → Answers p before (line ∷ lines) (text_after p earlier) (after_turn (node_turn n (node_after p earlier) said) settle)
+      → Answers longer p (before ++ line ∷ []) lines (text_after p (event ∷ earlier)) (settle (after_event (node_after p earlier) event)))
+      → Answers longer p before (line ∷ lines) (text_after p earlier) (after_turn (node_turn n (node_after p earlier) said) settle)
   unfolding node_turn
-  turned n (Ok event) is later = happened event (later event is)
-  turned n (Err fault) is later =
-      stops p before (line ∷ lines) earlier says (refusal_line n fault) statuses.Refused (inr (n, fault, refl))
+  turned n number (Ok event) is later = happened event is (later event is)
+  turned n number (Err fault) is later =
+      stops longer p before (line ∷ lines) earlier says (refusal_line n fault) statuses.Refused
+      (fault, is, ap (λ (k : ℕ). refusal_line k fault) number)
 
-  line_turned : (n : ℕ)
+  line_turned : (n : ℕ) → n ≡ 1 + length before
       → ((event : NodeEvent) → node_event_of line ≡ Ok event
-      → Answers p (before ++ line ∷ []) lines (text_after p (event ∷ earlier)) (settle (after_event (node_after p earlier) event)))
-      → Answers p before (line ∷ lines) (text_after p earlier) (after_turn (turn_at node_rules n (node_after p earlier) line) settle)
+      → Answers longer p (before ++ line ∷ []) lines (text_after p (event ∷ earlier)) (settle (after_event (node_after p earlier) event)))
+      → Answers longer p before (line ∷ lines) (text_after p earlier) (after_turn (turn_at node_rules n (node_after p earlier) line) settle)
   unfolding turn_at
-  line_turned n later = by_past (nat_lt node_rules.lines n || nat_lt node_rules.octets (length line))
+  line_turned n number later = by_past (nat_lt node_rules.lines n || nat_lt node_rules.octets (length line)) refl
     where
-      by_past : (t : Bool) → Answers p before (line ∷ lines) (text_after p earlier)
+      by_past : (t : Bool) → (nat_lt node_rules.lines n || nat_lt node_rules.octets (length line)) ≡ t → Answers longer p before (line ∷ lines) (text_after p earlier)
           (after_turn (if t then ends_run [] statuses.Limit else node_turn n (node_after p earlier) (node_event_of line)) settle)
-      by_past true = stops p before (line ∷ lines) earlier says [] statuses.Limit (inl refl)
-      by_past false = turned n (node_event_of line) refl later
+      by_past true past = stops longer p before (line ∷ lines) earlier says [] statuses.Limit (subst (λ (k : ℕ). PassesLimit k line) number (past-limits n line past), refl)
+      by_past false past = turned n number (node_event_of line) refl later
 
 -- ---- all lines
 
-keeps_from : (p : Party) (n : ℕ) (before lines : List (List ℕ)) (earlier : List NodeEvent) (ending : Status) → Said before earlier
-    → Answers p before lines (text_after p earlier)
+-- a run ends so after its last line
+abbrev EndsLines : Bool → Status → Type 0
+EndsLines longer ending = (n : ℕ) → ClosesAs longer ending n [] []
+
+keeps_from : (longer : Bool) (p : Party) (n : ℕ) → (before lines : List (List ℕ)) → n ≡ 1 + length before → (earlier : List NodeEvent)
+    (ending : Status) → EndsLines longer ending → Said before earlier
+    → Answers longer p before lines (text_after p earlier)
     (lines_settle node_rules n (node_after p earlier) lines (λ now. record { text = []; ends = Some ending }))
 unfolding lines_settle node_after
-keeps_from p n before [] earlier ending says = stops p before [] earlier says [] ending (inl refl)
-keeps_from p n before (line ∷ lines) earlier ending says =
-    line_turned p before lines line earlier says (λ now. lines_settle node_rules (n + 1) now lines (λ last. record { text = []; ends = Some ending })) n
-    (λ event is. keeps_from p (n + 1) (before ++ line ∷ []) lines (event ∷ earlier) ending (more-said before earlier line event is says))
+keeps_from longer p n before [] number earlier ending last says = stops longer p before [] earlier says [] ending (last (1 + length before))
+keeps_from longer p n before (line ∷ lines) number earlier ending last says =
+    let more : n + 1 ≡ 1 + length (before ++ line ∷ []) = ap (λ (k : ℕ). k + 1) number ∙ omega (arith, length-append before (line ∷ [])) in
+    line_turned longer p before lines line earlier says (λ now. lines_settle node_rules (n + 1) now lines (λ final. record { text = []; ends = Some ending })) n number
+    (λ event is. keeps_from longer p (n + 1) (before ++ line ∷ []) lines more (event ∷ earlier) ending last (more-said before earlier line event is says))
 
 none_said : Said [] []
 none_said = record { many = refl; said = refl }
 
-from_start : (p : Party) (lines : List (List ℕ)) (ending : Status)
-    → Answers p [] lines [] (lines_settle node_rules 1 (begins p) lines (λ now. record { text = []; ends = Some ending }))
+from_start : (longer : Bool) (p : Party) (lines : List (List ℕ)) (ending : Status) → EndsLines longer ending
+    → Answers longer p [] lines [] (lines_settle node_rules 1 (begins p) lines (λ now. record { text = []; ends = Some ending }))
 unfolding node_after text_after
-from_start p lines ending = keeps_from p 1 [] lines [] ending none_said
+from_start longer p lines ending last = keeps_from longer p 1 [] lines refl [] ending last none_said
 
 -- what `node` answers to an input
 answers_all : (own peer most : ℕ) (input : List ℕ)
-    → Answers (node_party own peer) [] (lines_within most input) [] (within most (settles own peer) at_end input)
+    → Answers (nat_lt most (length input)) (node_party own peer) [] (lines_within most input) [] (within most (settles own peer) at_end input)
 unfolding within lines_within
 answers_all own peer most input = by_test (nat_lt most (length input))
   where
-    by_test : (t : Bool) → Answers (node_party own peer) [] (if t then lines_of (ended_part (take most input)) else lines_of input) []
+    by_test : (t : Bool) → Answers t (node_party own peer) [] (if t then lines_of (ended_part (take most input)) else lines_of input) []
         (if t then or_limit (lines_from node_rules 1 (begins (node_party own peer)) going_on (take most input))
         else lines_from node_rules 1 (begins (node_party own peer)) at_end input)
     by_test true =
         rw (from-limit node_rules 1 (begins (node_party own peer)) (take most input))
-        (from_start (node_party own peer) (lines_of (ended_part (take most input))) statuses.Limit)
+        (from_start true (node_party own peer) (lines_of (ended_part (take most input))) statuses.Limit (λ n. (refl, refl)))
     by_test false =
         rw (from-end node_rules 1 (begins (node_party own peer)) input)
-        (from_start (node_party own peer) (lines_of input) statuses.Done)
+        (from_start false (node_party own peer) (lines_of input) statuses.Done (λ n. (refl, refl, refl)))
 
--- the text of the answer, and how the run ends by it
-pub record Lawful (own peer most : ℕ) (input : List ℕ) : Type 0 where
-  pub status : Status
-  pub is : (within most (settles own peer) at_end input).ends ≡ Some status
-  pub law : AnswersLines (node_party own peer) most input (within most (settles own peer) at_end input).text
-
-pub answers_lines : (own peer most : ℕ) (input : List ℕ) → Lawful own peer most input
+pub answers_lines : (own peer most : ℕ) (input : List ℕ) → IsAnswered own peer most input
 answers_lines own peer most input =
     let all = answers_all own peer most input in
     record {
-      status = all.status;
-      is = all.ends;
+      ending = all.status;
+      ends = all.ends;
       law = record { events = all.events; closing = all.closing; said = all.said; written = all.written; closes = all.closes };
     }

@@ -1,7 +1,9 @@
 -- What `node` writes and hands up over a run, whoever is at the other end (RFC 5326, section 6.9): the
 -- answers to the events that its lines say, and a red part with the event that makes it whole, and
 -- with no other.
-use Rattle.std.specs.Prelude.{◌≡◌, ℕ, ◌↔◌, ◌⊎◌, length, take, map, reverse, List, [], ◌∷◌, ◌++◌, Result, Ok, Err}
+use Rattle.std.specs.Prelude.{◌≡◌, ℕ, ◌+◌, ◌<◌, ◌↔◌, ◌⊎◌, Bool, true, false, nat_lt, length, take, drop, map, reverse, List, [], ◌∷◌, ◌++◌, Some, Result, Ok, Err}
+use Rattle.edge_traits.specs.declared.status.Status.{Status}
+use Rattle.edge_traits.specs.declared.status.Status.TheVariants as statuses
 use Rattle.edge_traits.specs.Settled.{at_end}
 use Rattle.command_frame.specs.InputLines.{lines_within}
 use Rattle.command_frame.specs.Within.{within}
@@ -16,7 +18,7 @@ use Rattle.replay_script.specs.declared.event.NodeEvent.TheVariants as events
 use Rattle.replay_script.specs.declared.fault.LineFault.{LineFault}
 use Rattle.replay_script.specs.Events.{node_event_of}
 use Rattle.node_run.specs.WrittenLines.{effects_text, block_line, refusal_line}
-use Rattle.node_run.specs.Node.{NodeState, begins, moment_of, engine_does, at_moment, node_party, settles}
+use Rattle.node_run.specs.Node.{NodeState, begins, is_late, moment_of, engine_does, at_moment, node_party, node_rules, settles}
 
 -- ---- after some events
 
@@ -51,14 +53,45 @@ text_after p (event ∷ earlier) = text_after p earlier ++ answer_text (done_at 
 abbrev pub IsClosing : List ℕ → Type 0
 IsClosing closing = (closing ≡ []) ⊎ ((n : ℕ) × (fault : LineFault) × (closing ≡ refusal_line n fault))
 
--- the text is what is written for the events that the first lines say, and after it at most the line
--- of a refusal; the lines are those of an input of which at most so many octets are looked at
-pub record AnswersLines (p : Party) (most : ℕ) (input text : List ℕ) : Type 0 where
+-- line n is one too many, or too long, or would set the clock past the last moment
+abbrev pub PassesLimit : ℕ → List ℕ → Type 0
+PassesLimit n line =
+    (node_rules.lines < n) ⊎ (node_rules.octets < length line)
+    ⊎ ((event : NodeEvent) × (node_event_of line ≡ Ok event) × (is_late event ≡ true))
+
+-- The next line, line n, passes a limit; or none is left, and the input is longer than is looked at.
+abbrev pub LimitsNext : Bool → ℕ → List (List ℕ) → Type 0
+LimitsNext longer n [] = longer ≡ true
+LimitsNext longer n (line ∷ left) = PassesLimit n line
+
+-- the next line is refused, for what it says
+abbrev pub RefusesNext : ℕ → List (List ℕ) → List ℕ → Type 0
+RefusesNext n [] closing = ⊥
+RefusesNext n (line ∷ left) closing =
+    (fault : LineFault) × (node_event_of line ≡ Err fault) × (closing ≡ refusal_line n fault)
+
+-- How the text ends, by how the run ends. Where it is done, the input has been looked at whole, all lines
+-- were answered, and nothing more is written. Where it ends at a limit, the next line, line n, or the
+-- length of the input passes it, and nothing more is written. Else the next line is refused.
+abbrev pub ClosesAs : Bool → Status → ℕ → List (List ℕ) → List ℕ → Type 0
+ClosesAs longer statuses.Done n left closing = (longer ≡ false) × (left ≡ []) × (closing ≡ [])
+ClosesAs longer statuses.Limit n left closing = LimitsNext longer n left × (closing ≡ [])
+ClosesAs longer statuses.Refused n left closing = RefusesNext n left closing
+ClosesAs longer statuses.Usage n left closing = ⊥
+ClosesAs longer statuses.ReadFault n left closing = ⊥
+ClosesAs longer statuses.WriteFault n left closing = ⊥
+ClosesAs longer statuses.Memory n left closing = ⊥
+
+-- the text is what is written for the events that the first lines say, and after it what the end of the
+-- run asks for; the lines are those of an input of which at most so many octets are looked at
+pub record AnswersLines (p : Party) (most : ℕ) (input text : List ℕ) (ending : Status) : Type 0 where
   pub events : List NodeEvent
   pub closing : List ℕ
   pub said : map node_event_of (take (length events) (lines_within most input)) ≡ map Ok (reverse events)
   pub written : text ≡ text_after p events ++ closing
-  pub closes : IsClosing closing
+  pub closes :
+      ClosesAs (nat_lt most (length input)) ending (1 + length events)
+      (drop (length events) (lines_within most input)) closing
 
 -- ---- red parts
 
@@ -93,11 +126,17 @@ comings_of (event ∷ earlier) = coming_of (clock_after (event ∷ earlier)) eve
 
 -- ---- the laws
 
+-- how the run of an input ends, and that its text is so
+pub record IsAnswered (own peer most : ℕ) (input : List ℕ) : Type 0 where
+  pub ending : Status
+  pub ends : (within most (settles own peer) at_end input).ends ≡ Some ending
+  pub law :
+      AnswersLines (node_party own peer) most input (within most (settles own peer) at_end input).text ending
+
 -- what `node` answers to an input is what it answers to the events that its lines say
 abbrev pub AnswersEvents : Type 0
 AnswersEvents =
-    (own peer most : ℕ) (input : List ℕ)
-    → AnswersLines (node_party own peer) most input (within most (settles own peer) at_end input).text
+    (own peer most : ℕ) (input : List ℕ) → IsAnswered own peer most input
 
 -- a session's red part is handed up with the event that makes it whole, and with no other: place by
 -- place the first octet that came

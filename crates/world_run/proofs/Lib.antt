@@ -5,4 +5,6 @@ pub mod StepLemmas
 pub mod DrainLemmas
 pub mod TellingLemmas
 mod PlayLemmas
+pub mod JoinerLemmas
+pub mod SendLemmas
 pub mod ScriptLemmas

@@ -21,10 +21,12 @@ use Rattle.path_drain.specs.Decided.{BegunAreDecided}
 use Rattle.path_drain.specs.WholeRun.{WholeRunsComplete, run_path}
 use Rattle.path_drain.specs.Drained.{DrainsAreMade, PathsAreTimed}
 use Rattle.world_run.specs.World.{PathStart, WorldState, no_path, on_path, start_in, no_moment, start_turn, world_rules, settles}
-use Rattle.world_run.specs.Headline.{DrainMakes, DrainCompletes, lines_with, datagram_lines, datagram_texts, PassesFirst, up_lines, note_lines, end_lines, up_text, note_text, end_texts, PlaysScript, ClosesFirst, EndsLawfully, WorldsKeepHeadline}
-use Rattle.world_run.proofs.StartLemmas.{starts_fit, starts_takes, starts_timed}
+use Rattle.world_run.specs.Headline.{DrainMakes, DrainCompletes, lines_with, datagram_lines, datagram_texts, PassesFirst, up_lines, note_lines, join_lines, end_lines, up_text, note_text, join_text, joins_in, end_texts, PlaysScript, ClosesFirst, EndsLawfully, WorldsKeepHeadline}
+use Rattle.world_run.proofs.StartLemmas.{starts_fit, starts_named, starts_takes, starts_timed}
 use Rattle.world_run.proofs.PlayLemmas.{Plays, EndsLines, plays_from, past-lines}
-use Rattle.world_run.proofs.LineLemmas.{Has, HasLines, nothing, and_then, sent_in, told_in, told_if, both-have, events-have, drained-have, closing-has, sents-append, ups-append, notes-append}
+use Rattle.world_run.proofs.LineLemmas.{Has, HasLines, nothing, and_then, sent_in, told_in, told_if, both-have, events-have, drained-have, closing-has, sents-append, ups-append, joins-append, notes-append}
+use Rattle.world_run.proofs.JoinerLemmas.{all_joined}
+use Rattle.world_run.proofs.SendLemmas.{all_send, is_done, up_octets}
 
 -- what some lines settle from the first on
 data Settles (longer : Bool) (lines : List (List ℕ)) (settled : Settled) : Type 0 where
@@ -69,6 +71,11 @@ module _ (longer : Bool) (s : PathSetup) (w : Path) (n : ℕ) (lines : List (Lis
       alone (codes "up ") settled.text _ all-have.ups
       ∙ (ap (λ ls. map up_text (ups_in s w plays.events) ++ ls) (append-nil _) ∙ ups-append s w plays.events plays.made)
 
+  joins-are : join_lines settled.text ≡ map join_text (joins_in s w (plays.events ++ plays.made))
+  joins-are =
+      alone (codes "join ") settled.text _ all-have.joins
+      ∙ (ap (λ ls. map join_text (joins_in s w plays.events) ++ ls) (append-nil _) ∙ joins-append s w plays.events plays.made)
+
   notes-are : note_lines settled.text ≡ map note_text (notes_in s w (plays.events ++ plays.made))
   notes-are =
       alone (codes "note ") settled.text _ all-have.notes
@@ -109,11 +116,18 @@ module _ (longer : Bool) (laws : Laws) where
         sents = sents-are longer start.setup (starts_path start.setup start.now) 2 lines settled plays refl;
         ups = ups-are longer start.setup (starts_path start.setup start.now) 2 lines settled plays;
         notes = notes-are longer start.setup (starts_path start.setup start.now) 2 lines settled plays;
+        joins = joins-are longer start.setup (starts_path start.setup start.now) 2 lines settled plays;
+        joined = all_joined start.setup start.now (plays.events ++ plays.made);
         end = end-is longer start.setup (starts_path start.setup start.now) 2 lines settled plays;
         hands_on = λ earlier later is. laws.received start.setup start.now earlier fit.linked;
         carried_out = λ face up among at.
-            laws.carried_out start.setup (starts_path start.setup start.now) (plays.events ++ plays.made) face up
-            (starts_takes first start said) among at;
+            is_done start.setup (starts_path start.setup start.now) (plays.events ++ plays.made) face up (starts_named first start said)
+            (up_octets start.setup start.now (plays.events ++ plays.made) face up laws.decided
+            (laws.received start.setup start.now (plays.events ++ plays.made) fit.linked)
+            (all_send plays.later plays.events plays.made plays.drains start.setup
+            (run_path start.setup start.now plays.events) plays.said plays.drain) among at)
+            (laws.carried_out start.setup (starts_path start.setup start.now) (plays.events ++ plays.made) face up
+            (starts_takes first start said) among at);
         decided = laws.decided start.setup (starts_path start.setup start.now) (plays.events ++ plays.made);
         completes = completes plays.drains start.setup start.now plays.events plays.made fit
             (starts_takes first start said) plays.drain;

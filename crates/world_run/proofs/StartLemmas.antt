@@ -2,6 +2,7 @@
 use Rattle.std.proofs.Common.{◌≡◌, ℕ, ◌≤◌, Bool, true, false, List, Result, Ok, Err, inl, inr, refl, sym, ap, arith, if◌then◌else◌}
 use Rattle.std.proofs.lemmas.Bool.{le-leb}
 use Rattle.endpoint.specs.declared.name.Endpoint.{Endpoint}
+use Rattle.endpoint.specs.Endpoints.{IsEndpoint}
 use Rattle.ltp_segment.specs.declared.session.TheConstants.{BLOCK_MAX}
 use Rattle.ltp_segment.specs.Policy.{PolicyValue, is_between, policy_of}
 use Rattle.replay_script.specs.declared.event.Event.{Event}
@@ -119,6 +120,10 @@ module _ (line : List ℕ) (start : PathStart) (said : start_in line ≡ Ok star
       places : (face : Face) → 64 ≤ (at_face (path_setup says.gate says.policy says.cut).gate.parties face).sessions
       places faces.Old = omega arith
       places faces.New = omega arith
+
+  -- the gate's name has a text
+  pub starts_named : IsEndpoint start.setup.gate.gate
+  starts_named = rw setup-is says.sound.legal
 
   -- and every drain of the path ends
   pub starts_timed : PathsAreTimed → IsTimed start.setup BLOCK_MAX

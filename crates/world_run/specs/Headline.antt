@@ -17,23 +17,31 @@ use Rattle.replay_script.specs.declared.fault.LineFault.TheVariants as faults
 use Rattle.replay_script.specs.Words.{spaced}
 use Rattle.ltp_laws.specs.View.{IsIn}
 use Rattle.gate_cases.specs.declared.face.Face.{Face}
+use Rattle.path_laws.specs.declared.effects.EndJoin.{EndJoin}
+use Rattle.path_laws.specs.declared.effects.JoinAt.{JoinAt}
 use Rattle.path_laws.specs.declared.effects.NoteAt.{NoteAt}
 use Rattle.path_laws.specs.declared.effects.UpAt.{UpAt}
+use Rattle.path_laws.specs.declared.places.PathEnd.{PathEnd}
+use Rattle.path_laws.specs.declared.places.PathEnd.TheVariants as ends
+use Rattle.path_laws.specs.declared.places.Place.{Place}
+use Rattle.path_laws.specs.declared.places.Place.TheVariants as places
 use Rattle.path_laws.specs.Path.{PathSetup, Path, SentFrom, PathEvent, starts_path, path_step, path_run}
+use Rattle.path_laws.specs.Path.{fragments_in, joins_told}
 use Rattle.path_laws.specs.Laws.{HandsOn}
-use Rattle.path_laws.specs.Log.{Begun, ups_in}
-use Rattle.path_laws.specs.Places.{face_place}
+use Rattle.path_laws.specs.Log.{Begun, begun_at, ups_in}
+use Rattle.path_laws.specs.Places.{face_of, face_place}
 use Rattle.path_drain.specs.PathRoom.{PathRoom}
 use Rattle.path_drain.specs.Clean.{AreCleanOnPathFrom}
 use Rattle.path_drain.specs.Effects.{notes_in}
 use Rattle.path_drain.specs.Hopeful.{PathHopeful}
 use Rattle.path_drain.specs.Left.{IsBefore}
 use Rattle.path_drain.specs.Arrival.{IsPassedOnIn}
-use Rattle.path_drain.specs.CarriedOut.{IsCarriedOutIn}
+use Rattle.path_drain.specs.CarriedOut.{IsReportBegun, IsReportNoted, PiecesBegin}
+use Rattle.path_drain.specs.Completion.{IsCaseNotedIn}
 use Rattle.path_drain.specs.Decided.{IsBegunIn}
 use Rattle.path_drain.specs.WholeRun.{IsRunComplete, run_begun, run_path, run_ups}
-use Rattle.world_run.specs.WrittenLines.{sent_words, up_words, note_words, end_words, refusal_line}
-use Rattle.world_run.specs.WrittenLines.{after_drain_line}
+use Rattle.world_run.specs.WrittenLines.{sent_words, up_words, note_words, join_words, end_words}
+use Rattle.world_run.specs.WrittenLines.{refusal_line, after_drain_line}
 use Rattle.world_run.specs.World.{PathStart, LaterLine, says_event, says_drain, start_in, line_in}
 use Rattle.world_run.specs.World.{no_moment, is_late, is_late_if_any, most_sent, octets_sent}
 use Rattle.world_run.specs.World.{drain_made, clean_after, events_text, drain_text, world_rules, settles}
@@ -140,8 +148,8 @@ lines_with front [] = []
 lines_with front (line ∷ lines) =
     if begins front line then line ∷ lines_with front lines else lines_with front lines
 
--- the lines that say that a datagram was sent or that a block came whole, the notes, and the lines that
--- say that a drain ended
+-- the lines that say that a datagram was sent or that a block came whole, the notes, what the ends'
+-- joiners answered, and the lines that say that a drain ended
 abbrev pub datagram_lines : List ℕ → List (List ℕ)
 datagram_lines text = lines_with (codes "sent ") (lines_of text)
 
@@ -150,6 +158,9 @@ up_lines text = lines_with (codes "up ") (lines_of text)
 
 abbrev pub note_lines : List ℕ → List (List ℕ)
 note_lines text = lines_with (codes "note ") (lines_of text)
+
+abbrev pub join_lines : List ℕ → List (List ℕ)
+join_lines text = lines_with (codes "join ") (lines_of text)
 
 abbrev pub end_lines : List ℕ → List (List ℕ)
 end_lines text = lines_with (codes "end ") (lines_of text)
@@ -166,10 +177,65 @@ up_text up = spaced (up_words up)
 abbrev pub note_text : NoteAt → List ℕ
 note_text n = spaced (note_words n)
 
+abbrev pub join_text : JoinAt → List ℕ
+join_text j = spaced (join_words j)
+
 -- the line that says that a drain ended after so many events, where there was one
 abbrev pub end_texts : Bool → ℕ → List (List ℕ)
 end_texts true n = spaced (end_words n) ∷ []
 end_texts false n = []
+
+-- ---- fragments that come to an end
+
+-- what joiners answer in some events, in order
+unfoldable pub joins_in : PathSetup → Path → List PathEvent → List JoinAt
+joins_in s w [] = []
+joins_in s w (event ∷ events) =
+    (path_step s w event).effects.joins ++ joins_in s (path_step s w event).path events
+
+-- an end's node is at this place
+abbrev pub is_node : PathEnd → Place → Bool
+is_node ends.Old places.OldNode = true
+is_node ends.Old places.OldFace = false
+is_node ends.Old places.NewFace = false
+is_node ends.Old places.NewNode = false
+is_node ends.New places.OldNode = false
+is_node ends.New places.OldFace = false
+is_node ends.New places.NewFace = false
+is_node ends.New places.NewNode = true
+
+-- of these what an end's joiner answers
+unfoldable pub answers_at : PathEnd → List JoinAt → List EndJoin
+answers_at end [] = []
+answers_at end (j ∷ joins) =
+    if is_node end j.place then j.answer ∷ answers_at end joins else answers_at end joins
+
+-- the blocks that came whole at an end
+unfoldable pub blocks_at : PathEnd → List UpAt → List (List ℕ)
+blocks_at end [] = []
+blocks_at end (up ∷ ups) =
+    if is_node end up.place then up.body ∷ blocks_at end ups else blocks_at end ups
+
+-- An end has one joiner, to which nothing came before. Of all answers its own are those to the
+-- fragments among the blocks that came whole there, one after another.
+abbrev pub JoinsFragments : PathEnd → List UpAt → List JoinAt → Type 0
+JoinsFragments end ups joins =
+    answers_at end joins
+    ≡ joins_told (face_of end) [] (fragments_in (face_of end) (blocks_at end ups))
+
+-- ---- what the gate decides
+
+-- A block came whole at a face in one of some events, and the gate did with it as it decided then.
+-- event notes the block's case; with it each piece of a bundle that passes begins its session at the other
+-- face, and where it notes a report the report begins its own at this one.
+pub record IsDoneIn
+    (s : PathSetup) (w : Path) (events : List PathEvent) (face : Face) (up : UpAt) : Type 0 where
+  pub case : IsCaseNotedIn s w events face up
+  pub pieces : PiecesBegin s (path_run s w case.earlier) case.event face up
+  pub report :
+      IsReportNoted (path_step s (path_run s w case.earlier) case.event).effects.notes face up
+      → IsReportBegun s (path_run s w case.earlier)
+      (begun_at s (path_run s w case.earlier) case.event) face up
 
 -- ---- the law
 
@@ -193,7 +259,8 @@ DrainCompletes false s start events made = Unit {0}
 -- The text of a script that sets up a path. It is what happens in these events, and in those of a
 -- drain after them, where there is one, with their number; after it at most the line of a refusal
 -- follows. Its `sent` lines are exactly the datagrams that were sent, with their numbers, its `up` lines
--- the blocks that came whole, and its notes those that were made.
+-- the blocks that came whole, its notes those that were made, and its `join` lines what the ends' joiners
+-- answered: those of an end to the fragments among the blocks that came whole there.
 -- After each of the events holds of the blocks all that `HandsOn` says, by what was begun up to then:
 -- each is the whole block of the session of that number that was begun across the link; no two came
 -- at one place in one session; and at either end each is a piece of what becomes of one bundle that
@@ -227,7 +294,13 @@ pub record PlaysScript
   pub notes :
       note_lines text
       ≡ map note_text (notes_in start.setup (starts_path start.setup start.now) (events ++ made))
+  pub joins :
+      join_lines text
+      ≡ map join_text (joins_in start.setup (starts_path start.setup start.now) (events ++ made))
   pub end : end_lines text ≡ end_texts drains (length made)
+  pub joined :
+      (end : PathEnd) → JoinsFragments end (run_ups start.setup start.now (events ++ made))
+      (joins_in start.setup (starts_path start.setup start.now) (events ++ made))
   pub hands_on :
       (earlier later : List PathEvent) → events ++ made ≡ earlier ++ later
       → HandsOn start.setup (run_begun start.setup start.now earlier)
@@ -235,7 +308,7 @@ pub record PlaysScript
   pub carried_out :
       (face : Face) (up : UpAt) → IsIn up (run_ups start.setup start.now (events ++ made))
       → up.place ≡ face_place face
-      → IsCarriedOutIn start.setup (starts_path start.setup start.now) (events ++ made) face up
+      → IsDoneIn start.setup (starts_path start.setup start.now) (events ++ made) face up
   pub decided :
       (b : Begun) → IsIn b (run_begun start.setup start.now (events ++ made))
       → IsBegunIn start.setup (starts_path start.setup start.now) (events ++ made) b

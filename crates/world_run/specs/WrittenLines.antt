@@ -69,10 +69,12 @@ sent_line k d = line_of (sent_words k d.from (segment_octets d.segment))
 abbrev pub up_line : UpAt → List ℕ
 up_line up = line_of (up_words up)
 
--- what an end's joiner answers
+-- the words of a line about what an end's joiner answers
+abbrev pub join_words : JoinAt → List (List ℕ)
+join_words j = codes "join" ∷ place_word j.place ∷ join_word j.answer ∷ whole_word j.answer
+
 abbrev pub join_line : JoinAt → List ℕ
-join_line j =
-    line_of (codes "join" ∷ place_word j.place ∷ join_word j.answer ∷ whole_word j.answer)
+join_line j = line_of (join_words j)
 
 -- the words of a note
 abbrev pub note_words : NoteAt → List (List ℕ)

@@ -169,7 +169,7 @@ node-keeps : (own peer : ℕ) (status : Status) (left before now : Option (List 
 node-keeps own peer status left before now input =
     let answered = answers_lines own peer most_input input in
     lawful (within most_input (node.settles own peer)) (node-front own peer) input
-    (λ text ending. AnswersLines (node_party own peer) most_input input text) answered.status answered.is answered.law
+    (AnswersLines (node_party own peer) most_input input) answered.ending answered.ends answered.law
     status left before now
 
 record-keeps : (own peer : ℕ) (status : Status) (left before now : Option (List ℕ)) (input : List ℕ)

@@ -216,7 +216,7 @@ law_of commands.Receive input = keeps (KeepsReceiverLaw the_limits most_input in
 law_of commands.KeepReceiving input = no_law
 law_of (commands.Bundles command) input = no_law
 law_of (commands.Node own peer) input =
-    keeps (λ text ending. AnswersLines (node_party own peer) most_input input text)
+    keeps (AnswersLines (node_party own peer) most_input input)
 law_of (commands.Record own peer) input =
     keeps (λ text ending. AreEngines own peer → WritesExchange own peer text)
 law_of (commands.Audit own peer) input = no_law

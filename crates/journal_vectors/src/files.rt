@@ -2,7 +2,7 @@
 
 use crate::texts::{BEGUN, BLOCK, CLEAR, DONE, MARKED, RESERVED, SENT, begun, said};
 use gate_journal::{Journal, RecoverFault, recover};
-use journal_file::{JournalCause, Kept, Record, read_kept, write_record};
+use journal_file::{Kept, Record, read_kept, write_record};
 use std::alloc::Global;
 use std::test::Fail;
 use store_traits::{Call, MemStore};
@@ -32,10 +32,24 @@ fn journal(alloc: Global, text: &str, gate: usize) -> Result<Journal<MemStore>, 
     Ok(Journal { store, gate })
 }
 
-/// Whether a journal has such a file, and its gate at this place.
-fn has(alloc: Global, journal: &Journal<MemStore>, text: &str, gate: usize) -> Result<bool, Fail> {
-    let octets = hex::decode(alloc, text)?;
-    Ok(journal.gate == gate && journal.store.octets() == octets.as_slice())
+/// The place of a journal's gate, and its file.
+fn stands(alloc: Global, journal: &Journal<MemStore>) -> Result<String, Fail> {
+    let (gate, file) = (journal.gate, hex::encode(alloc, journal.store.octets())?);
+    Ok(format!(in alloc; "{gate} {file}")?)
+}
+
+/// What a journal has in place of this file, with its gate at this place, where it hasn't that.
+fn otherwise(
+    alloc: Global,
+    journal: &Journal<MemStore>,
+    text: &str,
+    gate: usize,
+) -> Result<Option<String>, Fail> {
+    let (stands, wanted) = (stands(alloc, journal)?, format!(in alloc; "{gate} {text}")?);
+    if stands.as_str() == wanted.as_str() {
+        return Ok(None);
+    }
+    Ok(Some(stands))
 }
 
 /// What a file says is kept.
@@ -52,7 +66,8 @@ fn a_file_is_made_anew(rt: HostRuntime) -> Result<(), Fail> {
     let mut journal = journal(rt.alloc(), DONE, 84)?;
     let kept = kept(rt.alloc(), RESERVED)?;
     assert_eq!(rt; journal.install(rt.alloc(), &kept), Ok(26));
-    assert_eq!(rt; has(rt.alloc(), &journal, RESERVED, 26)?, true);
+    let wrong = otherwise(rt.alloc(), &journal, RESERVED, 26)?;
+    assert!(rt; wrong.is_none(), "{wrong:?}");
     let calls = [
         Call::StartNew,
         Call::Add,
@@ -69,7 +84,8 @@ fn a_new_file_has_no_ended_block(rt: HostRuntime) -> Result<(), Fail> {
     let mut journal = journal(rt.alloc(), DONE, 84)?;
     let kept = kept(rt.alloc(), DONE)?;
     assert_eq!(rt; journal.install(rt.alloc(), &kept), Ok(26));
-    assert_eq!(rt; has(rt.alloc(), &journal, RESERVED, 26)?, true);
+    let wrong = otherwise(rt.alloc(), &journal, RESERVED, 26)?;
+    assert!(rt; wrong.is_none(), "{wrong:?}");
     Ok(())
 }
 
@@ -78,7 +94,8 @@ fn a_block_goes_behind_the_gate(rt: HostRuntime) -> Result<(), Fail> {
     let block = hex::decode(rt.alloc(), BLOCK)?;
     let mut journal = journal(rt.alloc(), RESERVED, 26)?;
     assert_eq!(rt; journal.commit(rt.alloc(), &[begun(&block)]), Ok(50));
-    assert_eq!(rt; has(rt.alloc(), &journal, BEGUN, 76)?, true);
+    let wrong = otherwise(rt.alloc(), &journal, BEGUN, 76)?;
+    assert!(rt; wrong.is_none(), "{wrong:?}");
     let calls = [Call::Write, Call::Sync, Call::Write, Call::Sync];
     assert_eq!(rt; journal.store.calls(), calls.as_slice());
     Ok(())
@@ -88,7 +105,8 @@ fn a_block_goes_behind_the_gate(rt: HostRuntime) -> Result<(), Fail> {
 fn an_end_goes_behind_the_gate(rt: HostRuntime) -> Result<(), Fail> {
     let mut journal = journal(rt.alloc(), BEGUN, 76)?;
     assert_eq!(rt; journal.commit(rt.alloc(), &[SENT]), Ok(8));
-    assert_eq!(rt; has(rt.alloc(), &journal, DONE, 84)?, true);
+    let wrong = otherwise(rt.alloc(), &journal, DONE, 84)?;
+    assert!(rt; wrong.is_none(), "{wrong:?}");
     Ok(())
 }
 
@@ -96,7 +114,8 @@ fn an_end_goes_behind_the_gate(rt: HostRuntime) -> Result<(), Fail> {
 fn no_records_make_no_call(rt: HostRuntime) -> Result<(), Fail> {
     let mut journal = journal(rt.alloc(), BEGUN, 76)?;
     assert_eq!(rt; journal.commit(rt.alloc(), &[]), Ok(0));
-    assert_eq!(rt; has(rt.alloc(), &journal, BEGUN, 76)?, true);
+    let wrong = otherwise(rt.alloc(), &journal, BEGUN, 76)?;
+    assert!(rt; wrong.is_none(), "{wrong:?}");
     assert_eq!(rt; journal.store.calls().len(), 0);
     Ok(())
 }
@@ -107,7 +126,8 @@ fn records_go_at_once(rt: HostRuntime) -> Result<(), Fail> {
     let block = hex::decode(rt.alloc(), BLOCK)?;
     let mut journal = journal(rt.alloc(), RESERVED, 26)?;
     assert_eq!(rt; journal.commit(rt.alloc(), &[begun(&block), SENT]), Ok(58));
-    assert_eq!(rt; has(rt.alloc(), &journal, DONE, 84)?, true);
+    let wrong = otherwise(rt.alloc(), &journal, DONE, 84)?;
+    assert!(rt; wrong.is_none(), "{wrong:?}");
     Ok(())
 }
 
@@ -126,14 +146,16 @@ fn what_stands_behind_is_no_record(rt: HostRuntime) -> Result<(), Fail> {
     Ok(())
 }
 
-/// Whether a file is refused there, and stays as it is.
-fn is_refused(alloc: Global, file: &[u8], at: usize, why: JournalCause) -> Result<bool, Fail> {
+/// Where and why a file is refused, as a text, where it stays as it is.
+fn refused(alloc: Global, file: &[u8]) -> Result<String, Fail> {
     let mut store = MemStore::new(alloc, file, None)?;
-    let refused = match recover(alloc, &mut store) {
-        Err(RecoverFault::Damaged { at: place, cause }) => place == at && cause == why,
-        _ => false,
-    };
-    Ok(refused && store.octets() == file)
+    match recover(alloc, &mut store) {
+        Err(RecoverFault::Damaged { at, cause }) if store.octets() == file => {
+            let word = cause.word();
+            Ok(format!(in alloc; "{at} {word}")?)
+        }
+        _ => Err("it isn't refused, or doesn't stay".into()),
+    }
 }
 
 #[test]
@@ -142,13 +164,7 @@ fn a_damaged_file_stays(rt: HostRuntime) -> Result<(), Fail> {
     if let Some(octet) = changed.get_mut(40) {
         *octet = 0;
     }
-    assert_eq!(rt;
-        is_refused(rt.alloc(), &changed, 72, JournalCause::Crc)?,
-        true
-    );
-    assert_eq!(rt;
-        is_refused(rt.alloc(), b"hello", 0, JournalCause::Start)?,
-        true
-    );
+    assert_eq!(rt; refused(rt.alloc(), &changed)?.as_str(), "72 Crc");
+    assert_eq!(rt; refused(rt.alloc(), b"hello")?.as_str(), "0 Start");
     Ok(())
 }

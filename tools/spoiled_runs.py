@@ -40,13 +40,18 @@ LARGE = ("0", "1", "63", "64", "65", "127", "128", "255", "1000", "16383", "1638
          "18446744073709551615", "18446744073709551616", "99999999999999999999999999")
 
 
+def reads(words):
+    """Whether words name a command that ends with its input. Of `gate` that is its check: a run goes on."""
+    return bool(words) and re.fullmatch(b"[a-z]+", words[0]) is not None and words[0] not in (b"serve", b"make") and \
+        (words[0] != b"gate" or words[1:2] == [b"check"])
+
+
 def inputs_by_words():
     """The inputs of the rows, by the words of their runs."""
     found = collections.defaultdict(list)
     for path in rows.files():
         for row in rows.rows_of(path):
-            if row.words and re.fullmatch(b"[a-z]+", row.words[0]) and row.words[0] not in (b"serve", b"make") and \
-                    row.status in ENDINGS and row.source is None and 0 < len(row.given()) <= LARGEST:
+            if reads(row.words) and row.status in ENDINGS and row.source is None and 0 < len(row.given()) <= LARGEST:
                 found[tuple(row.words)].append(row.given())
     return found
 

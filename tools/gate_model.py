@@ -72,6 +72,11 @@ def subject_of(octets):
         bundle = (format_model.bundle6 if octets[:1] == b"\6" else format_model.bundle7)(fields)
     except Refused:
         return None
+    return shown_of(bundle)
+
+
+def shown_of(bundle):
+    """What a line says of a bundle."""
     body = next(block["body"] for block in bundle["blocks"] if block["kind"] == 1)
     return {"creation": bundle["creation"], "destination": bundle["destination"], "fragment": bundle["fragment"],
             "payload": len(body) // 2, "source": bundle["source"], "version": bundle["version"]}

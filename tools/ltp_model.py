@@ -368,16 +368,16 @@ class Engine:
 
     sending, receiving, read = Sender, Receiver, staticmethod(read_segment)
 
-    def __init__(self, own, peer, first=1, policy=None):
+    def __init__(self, own, peer, first=1, policy=None, sessions=MOST_SESSIONS):
         self.own, self.peer, self.first, self.next = own, peer, first, first
-        self.policy = policy or Policy()
+        self.policy, self.sessions = policy or Policy(), sessions
         self.senders, self.receivers, self.closed = {}, {}, set()
         self.closed_runs = 0      # of consecutive closed numbers
 
     def submit(self, block, red, now):
         effects = Effects()
         tests = ((not block, "Empty"), (len(block) > BLOCK_MAX, "TooLarge"), (self.next >= SERIALS, "NumbersSpent"),
-                 (len(self.senders) >= MOST_SESSIONS, "Busy"))
+                 (len(self.senders) >= self.sessions, "Busy"))
         for holds, cause in tests:
             if holds:
                 effects.refused.append([cause])
@@ -395,14 +395,17 @@ class Engine:
         except Refused as refusal:
             effects.notes.append(["BadSegment", refusal.at, refusal.cause])
             return effects
-        is_used = self.first <= name[1] < self.next
-        if name[0] == self.own and kind in (REPORT, SENDER_CANCEL_ACK, RECEIVER_CANCEL) and is_used:
+        if name[0] == self.own and kind in (REPORT, SENDER_CANCEL_ACK, RECEIVER_CANCEL) and self.is_used(name[1]):
             self.to_sender(kind, name, content, now, effects)
         elif name[0] == self.peer and kind in (*PIECES, REPORT_ACK, SENDER_CANCEL, RECEIVER_CANCEL_ACK):
             self.to_receiver(kind, name, content, now, effects)
         else:
             effects.notes.append(["Stranger"])
         return effects
+
+    def is_used(self, number):
+        """Whether a number is that of a session of its own, be it over or not."""
+        return self.first <= number < self.next
 
     def to_sender(self, kind, name, content, now, effects):
         session = self.senders.get(name[1])
@@ -446,9 +449,9 @@ class Engine:
             effects.notes.append(["BadBounds", number])
         elif is_green and session is None:
             effects.greens.append([number, piece["offset"], int(kind == GREEN_END_BLOCK), piece["body"]])
-        elif number in self.closed or session is not None and session.cancelling:
+        elif session is not None and session.cancelling or self.is_closed(number, effects):
             effects.notes.append(["Closed", number])
-        elif session is None and len(self.receivers) + self.closed_runs >= MOST_RUNS:
+        elif session is None and self.is_full():
             effects.notes.append(["HistoryFull", number])
         else:
             if session is None:
@@ -456,9 +459,16 @@ class Engine:
             if session.piece(kind, piece, now, effects):
                 self.touch(number)
 
+    def is_closed(self, number, effects):
+        """Whether a session of the peer's is over, of which a red piece came."""
+        return number in self.closed
+
+    def is_full(self):
+        return len(self.receivers) + self.closed_runs >= MOST_RUNS
+
     def open(self, name, effects):
-        """A new session, for which the longest untouched one is closed where 64 are kept."""
-        if len(self.receivers) >= MOST_SESSIONS:
+        """A new session, for which the longest untouched one is closed where as many are kept as may be."""
+        if len(self.receivers) >= self.sessions:
             eldest = next(iter(self.receivers))
             self.close(eldest)
             effects.notes.append(["Evicted", eldest])

@@ -366,7 +366,7 @@ class Receiver(Session):
 class Engine:
     """One end of a link: sessions that it sends, by number, and those that it receives, the longest untouched first."""
 
-    sending, receiving, read = Sender, Receiver, staticmethod(read_segment)
+    sending, receiving, read, numbers = Sender, Receiver, staticmethod(read_segment), SERIALS
 
     def __init__(self, own, peer, first=1, policy=None, sessions=MOST_SESSIONS):
         self.own, self.peer, self.first, self.next = own, peer, first, first
@@ -376,7 +376,7 @@ class Engine:
 
     def submit(self, block, red, now):
         effects = Effects()
-        tests = ((not block, "Empty"), (len(block) > BLOCK_MAX, "TooLarge"), (self.next >= SERIALS, "NumbersSpent"),
+        tests = ((not block, "Empty"), (len(block) > BLOCK_MAX, "TooLarge"), (self.next >= self.numbers, "NumbersSpent"),
                  (len(self.senders) >= self.sessions, "Busy"))
         for holds, cause in tests:
             if holds:

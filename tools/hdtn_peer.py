@@ -71,9 +71,9 @@ class HdtnNode(PeerNode):
         return number
 
     def receive(self, session, block):
-        found, left = bundles_in(block, self.version)
-        if len(found) == 1 and not left:
-            self.came += found
+        found, end = bundles_in(block, self.version)
+        if len(found) == 1 and end is None:
+            self.hand_over(found)
         else:
             self.left.append((session, block.hex()))
 

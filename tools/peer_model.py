@@ -576,7 +576,7 @@ class Link:
         self.socket.setblocking(False)
 
     def poll(self):
-        """The peer's datagrams, at most 256, up to the end of what came or of as many others."""
+        """The peer's datagrams, at most 256, up to the end of what came or to as many others in a row."""
         came, others = [], 0
         while len(came) < AT_ONCE and others < AT_ONCE:
             try:
@@ -585,6 +585,7 @@ class Link:
                 break
             if takes(self.accept, self.peer, come):
                 came.append(datagram)
+                others = 0
             else:
                 others += 1
         return came

@@ -20,6 +20,7 @@ from quick_ends import QuickEngine
 
 SOCKET = 1 << 23                # octets that wait in a node's socket
 WAIT = 0.02
+RECEIVED = 1024                 # sessions that a node receives at once; how many it sends is said to it
 
 
 class Way:
@@ -46,16 +47,16 @@ class Way:
 
 
 def bundles_in(block, version):
-    """The bundles of a block, and the octets that are left."""
+    """The octets of each bundle of a block, and the refusal of what comes after them or None."""
     found, fields = [], Fields(block)
     try:
         while fields.left():
             start = fields.at
             (format_model.bundle6 if version == 6 else format_model.bundle7)(fields)
             found.append(block[start:fields.at])
-    except Refused:
-        return found, block[start:]
-    return found, b""
+    except Refused as end:
+        return found, end
+    return found, None
 
 
 def bound_socket(family, address):
@@ -83,7 +84,7 @@ class PeerNode:
     def __init__(self, version, numbers, own, gate, policy=POLICY, there=None, back=None, queues=None, first=1,
                  sessions=64):
         self.version, self.queues, self.there, self.back = version, queues, there or Way(), back or Way()
-        self.engine = self.engine_of(*numbers, first, policy, sessions)
+        self.engine, self.sessions = self.engine_of(*numbers, first, policy, RECEIVED), sessions
         self.family, address = address_of(own)
         self.peer = address_of(gate)[1]
         self.socket = bound_socket(self.family, address)
@@ -91,6 +92,7 @@ class PeerNode:
         self.address, self.gate_address, self.gate = text_of(self.socket.getsockname()), gate, self.peer[1]
         self.bundles, self.room, self.sent = collections.deque(), 0, 0
         self.blocks, self.came, self.left, self.notes = {}, [], [], []
+        self.began_at, self.came_at = {}, []      # moments of blocks, and of the bundles that came
 
     # ---- what a kind of nodes does in its own way ----
 
@@ -117,18 +119,38 @@ class PeerNode:
     def begin(self, bundles):
         """Sends bundles as one block."""
         self.engine.next = session = self.next_number()
-        self.blocks[session] = bundles
+        self.blocks[session], self.began_at[session] = bundles, moment()
         block = b"".join(bundles)
         effects = self.engine.submit(block, len(block), moment())
         self.notes += [["Failed", session, cause] for cause, in effects.refused]
         self.take(effects)
 
+    def leave_half(self, bundle):
+        """Sends the first half of a block, of which it then knows nothing any more; answers the session."""
+        self.engine.next = session = self.next_number()
+        datagrams = self.engine.submit(bundle, len(bundle), moment()).out
+        del self.engine.senders[session]
+        for datagram, in datagrams[:(len(datagrams) + 1) // 2]:
+            self.there.put(datagram)
+        return session
+
+    def begin_anew(self, first):
+        """Its numbers go on from an earlier one."""
+        self.engine.next = first
+        for kept in (self.blocks, self.began_at, self.notes):
+            kept.clear()
+
     def receive(self, session, block):
         """What stands in a block that came goes to the bundle layer."""
-        found, left = bundles_in(block, self.version)
-        self.came += found
-        if left:
-            self.left.append((session, left.hex()))
+        found, end = bundles_in(block, self.version)
+        self.hand_over(found)
+        if end:
+            self.left.append((session, block[sum(map(len, found)):].hex()))
+
+    def hand_over(self, bundles):
+        """To the bundle layer."""
+        self.came += bundles
+        self.came_at += [moment()] * len(bundles)
 
     # ---- datagrams ----
 
@@ -162,7 +184,7 @@ class PeerNode:
         deadline = self.engine.next_deadline()
         if deadline is not None and deadline <= moment():
             self.take(self.engine.tick(moment()))
-        while len(self.engine.senders) < self.engine.sessions and (bundles := self.next_block()):
+        while len(self.engine.senders) < self.sessions and (bundles := self.next_block()):
             self.begin(bundles)
         self.send_some()
         return came > 0

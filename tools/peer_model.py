@@ -202,6 +202,9 @@ class PeerEngine(QuickEngine):
         self.close(number)
         return ["Evicted", number]
 
+    def remembered(self, number):
+        self.newer.add(number)
+
     def make_place(self, effects):
         """For one more number, or one more session."""
         if 2 * (self.newer.runs + len(self.receivers)) >= self.remember:
@@ -212,7 +215,7 @@ class PeerEngine(QuickEngine):
         """A red piece of a session that only the older numbers know keeps it for as long again."""
         if number in self.older and number not in self.newer and number not in self.marked:
             self.make_place(effects)
-            self.newer.add(number)
+            self.remembered(number)
         return number in self.newer or number in self.marked
 
     def is_full(self):
@@ -230,7 +233,7 @@ class PeerEngine(QuickEngine):
 
     def close(self, number):
         del self.receivers[number], self.touched[number]
-        self.newer.add(number)
+        self.remembered(number)
 
     def arrive(self, datagram, now):
         """A step, after which the sessions together have no more octets than half of the memory."""

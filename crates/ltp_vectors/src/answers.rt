@@ -1,27 +1,22 @@
-//! What the tables share: octets in hex, policies, and a session's answers as lines.
+//! What the tables of sessions share: policies, and a session's answers as lines.
 
 ghost use Rattle.std.specs.Prelude.{◌≤◌, length};
 
+use crate::lines::{octets, write_numbers, write_octets, write_words};
 use endpoint::Octets;
 use ltp_segment::{Green, Note, Outs, Policy, Step};
 use std::alloc::{AllocError, Global};
-use std::fmt::Write;
 use std::test::Fail;
 
 /// A moment; the datagram that comes then, or an empty text where the session's timer is looked
 /// at; and the lines of what the session answers and how it stands after that.
 pub(crate) type Row = (u64, &'static str, &'static str);
 
+/// A datagram: its front in hex, and a range of a block after it.
+pub(crate) type Part = (&'static str, usize, usize);
+
 /// Moments are below this one.
 pub(crate) const MOMENTS: u64 = 1 << 62;
-
-/// The octets that a row writes in hex.
-pub(crate) fn octets(alloc: Global, text: &str) -> Result<Vec<u8>, Fail> {
-    match hex::decode(alloc, text.as_bytes()) {
-        Ok(octets) => Ok(octets),
-        Err(_) => Err(Fail::new("a row isn't hex")),
-    }
-}
 
 /// The policy of these values.
 pub(crate) fn policy(segment: u32, timeout: u64, limit: u32, cap: u64) -> Result<Policy, Fail> {
@@ -31,20 +26,11 @@ pub(crate) fn policy(segment: u32, timeout: u64, limit: u32, cap: u64) -> Result
     }
 }
 
-/// A block of so many octets, of which no two that are near each other are alike.
-pub(crate) fn block(alloc: Global, size: u64) -> Result<Vec<u8>, AllocError> {
-    let mut octets = Vec::new(alloc);
-    for i in 0..size {
-        octets.push((i % 251) as u8)?;
-    }
-    Ok(octets)
-}
-
 /// Appends the lines of what a session sends.
 pub(crate) fn write_outs(alloc: Global, text: &mut String, outs: &Outs) -> Result<(), AllocError> {
     for datagram in outs.as_slice() {
-        let digits = hex::encode(alloc, datagram.as_slice())?;
-        write!(text, "out {digits}\n")?;
+        write_words(text, &["out"])?;
+        write_octets(alloc, text, datagram.as_slice())?;
     }
     Ok(())
 }
@@ -52,8 +38,8 @@ pub(crate) fn write_outs(alloc: Global, text: &mut String, outs: &Outs) -> Resul
 /// Appends the line of a red part, where one is handed up.
 fn write_up(alloc: Global, text: &mut String, up: &Option<Octets>) -> Result<(), AllocError> {
     if let Some(octets) = up {
-        let digits = hex::encode(alloc, octets.as_slice())?;
-        write!(text, "up {digits}\n")?;
+        write_words(text, &["up"])?;
+        write_octets(alloc, text, octets.as_slice())?;
     }
     Ok(())
 }
@@ -61,30 +47,33 @@ fn write_up(alloc: Global, text: &mut String, up: &Option<Octets>) -> Result<(),
 /// Appends the line of a green piece, where one is handed up.
 fn write_green(alloc: Global, text: &mut String, green: &Option<Green>) -> Result<(), AllocError> {
     if let Some(piece) = green {
-        let Green {
-            session,
-            offset,
-            last,
-            body,
-        } = piece;
-        let digits = hex::encode(alloc, body.as_slice())?;
-        write!(text, "green {session} {offset} {last} {digits}\n")?;
+        write_words(text, &["green"])?;
+        write_numbers(text, &[piece.session, piece.offset])?;
+        write_words(text, &[if piece.last { " true" } else { " false" }])?;
+        write_octets(alloc, text, piece.body.as_slice())?;
     }
     Ok(())
 }
 
-/// Appends the line of a note, where there is one.
-fn write_note(text: &mut String, note: Option<Note>) -> Result<(), AllocError> {
+/// Appends the numbers of a note, of those that the rows have.
+fn write_note_numbers(text: &mut String, note: Note) -> Result<(), AllocError> {
     match note {
-        None => Ok(()),
-        Some(Note::Failed { session, reason }) => write!(text, "note Failed {session} {reason}\n"),
-        Some(Note::Cancelled { session, reason }) => {
-            write!(text, "note Cancelled {session} {reason}\n")
+        Note::Failed { session, reason } | Note::Cancelled { session, reason } => {
+            write_numbers(text, &[session, u64::from(reason)])
         }
-        Some(Note::Sent { session }) => write!(text, "note Sent {session}\n"),
-        Some(Note::BadBounds { session }) => write!(text, "note BadBounds {session}\n"),
-        Some(other) => write!(text, "note {}\n", other.name()),
+        Note::Sent { session } | Note::BadBounds { session } => write_numbers(text, &[session]),
+        _ => Ok(()),
     }
+}
+
+/// Appends the line of a note, where there is one.
+fn write_note(text: &mut String, noted: Option<Note>) -> Result<(), AllocError> {
+    if let Some(note) = noted {
+        write_words(text, &["note ", note.name()])?;
+        write_note_numbers(text, note)?;
+        write_words(text, &["\n"])?;
+    }
+    Ok(())
 }
 
 /// Appends the lines of an answer.
@@ -102,20 +91,18 @@ pub(crate) fn write_state(
     over: bool,
 ) -> Result<(), AllocError> {
     if let Some(moment) = deadline {
-        write!(text, "due {moment}\n")?;
+        write_words(text, &["due"])?;
+        write_numbers(text, &[moment])?;
+        write_words(text, &["\n"])?;
     }
     if over {
-        write!(text, "over\n")?;
+        write_words(text, &["over\n"])?;
     }
     Ok(())
 }
 
 /// The octets of a text in hex, and a range of a block after them.
-pub(crate) fn with_part(
-    alloc: Global,
-    segment: (&str, usize, usize),
-    block: &[u8],
-) -> Result<Vec<u8>, Fail> {
+pub(crate) fn with_part(alloc: Global, segment: Part, block: &[u8]) -> Result<Vec<u8>, Fail> {
     let (head, from, to) = segment;
     let mut datagram = octets(alloc, head)?;
     match block.get(from..to) {
@@ -126,12 +113,7 @@ pub(crate) fn with_part(
 }
 
 /// Whether these datagrams are sent: of each a front in hex, and a range of a block after it.
-pub(crate) fn are(
-    alloc: Global,
-    outs: &Outs,
-    wanted: &[(&str, usize, usize)],
-    block: &[u8],
-) -> Result<bool, Fail> {
+pub(crate) fn are(alloc: Global, outs: &Outs, wanted: &[Part], block: &[u8]) -> Result<bool, Fail> {
     if outs.len() != wanted.len() {
         return Ok(false);
     }

@@ -1,6 +1,6 @@
 //! Recorded exchanges of engine 2 with its peer 1, entry by entry.
 
-use crate::answers::octets;
+use crate::lines::{is_so, octets};
 use ltp_audit::{Audit, AuditFault, Rule};
 use ltp_segment::SegmentCause;
 use std::alloc::Global;
@@ -17,16 +17,29 @@ fn fault(broken: Option<Rule>) -> Option<AuditFault> {
     }
 }
 
-/// Whether an audit answers these entries so, one after another.
-fn goes(alloc: Global, rows: &[Row]) -> Result<bool, Fail> {
-    let mut audit = Audit::new(alloc, 2, 1);
-    for (out, text, broken) in rows {
-        let datagram = octets(alloc, text)?;
-        if audit.add(*out, &datagram).err() != fault(*broken) {
-            return Ok(false);
-        }
+/// Why an audit doesn't accept a datagram in hex, where it doesn't.
+fn fault_at(
+    alloc: Global,
+    audit: &mut Audit,
+    out: bool,
+    text: &str,
+) -> Result<Option<AuditFault>, Fail> {
+    let datagram = octets(alloc, text)?;
+    Ok(audit.add(out, &datagram).err())
+}
+
+/// An audit answers these entries so, one after another.
+fn play(alloc: Global, audit: &mut Audit, rows: &[Row]) -> Result<(), Fail> {
+    for &(out, text, broken) in rows {
+        is_so(fault_at(alloc, audit, out, text)? == fault(broken), text)?;
     }
-    Ok(true)
+    Ok(())
+}
+
+/// An audit of engine 2 answers these entries so.
+fn goes(alloc: Global, rows: &[Row]) -> Result<(), Fail> {
+    let mut audit = Audit::new(alloc, 2, 1);
+    play(alloc, &mut audit, rows)
 }
 
 /// A red part, its report and the acknowledgement of that. What is broken leaves all as before, so
@@ -79,32 +92,38 @@ const CANCELS: &[Row] = &[
 
 #[test]
 fn a_claim_and_an_acknowledgement_are_of_what_came(rt: HostRuntime) -> Result<(), Fail> {
-    assert!(rt; goes(rt.alloc(), ONE_SESSION)?);
-    Ok(())
+    goes(rt.alloc(), ONE_SESSION)
 }
 
 #[test]
 fn red_octets_do_not_change(rt: HostRuntime) -> Result<(), Fail> {
-    assert!(rt; goes(rt.alloc(), OCTETS)?);
-    Ok(())
+    goes(rt.alloc(), OCTETS)
 }
 
 #[test]
 fn a_cancel_is_acknowledged_after_it(rt: HostRuntime) -> Result<(), Fail> {
-    assert!(rt; goes(rt.alloc(), CANCELS)?);
+    goes(rt.alloc(), CANCELS)
+}
+
+/// What is no segment; the place of what is wrong; and what is wrong there.
+type Form = (&'static str, usize, SegmentCause);
+
+const FORMS: &[Form] = &[
+    ("", 0, SegmentCause::Truncated),
+    ("0801070008080300010000", 10, SegmentCause::Claim),
+];
+
+/// An audit refuses each of these at its place.
+fn refuses(alloc: Global, audit: &mut Audit, rows: &[Form]) -> Result<(), Fail> {
+    for &(text, at, cause) in rows {
+        let form = AuditFault::Form { at, cause };
+        is_so(fault_at(alloc, audit, true, text)? == Some(form), text)?;
+    }
     Ok(())
 }
 
 #[test]
 fn what_is_no_segment_is_refused_at_its_place(rt: HostRuntime) -> Result<(), Fail> {
     let mut audit = Audit::new(rt.alloc(), 2, 1);
-    for (text, at, cause) in [
-        ("", 0, SegmentCause::Truncated),
-        ("0801070008080300010000", 10, SegmentCause::Claim),
-    ] {
-        let datagram = octets(rt.alloc(), text)?;
-        let form = AuditFault::Form { at, cause };
-        assert!(rt; audit.add(true, &datagram).err() == Some(form), "{text}");
-    }
-    Ok(())
+    refuses(rt.alloc(), &mut audit, FORMS)
 }

@@ -1,16 +1,38 @@
 //! One session of a receiver: what it reports, what it hands up, and how it ends.
 
-ghost use Rattle.std.specs.Prelude.{◌≡◌, ◌<◌, ◌^◌, false, OnOk};
+ghost use Rattle.std.specs.Prelude.{◌≡◌, ◌<◌, ◌≤◌, ◌^◌, false, true, length, OnOk};
+ghost use Rattle.ltp_receiver.specs.Receiver.{IsOpen};
+ghost use Rattle.ltp_segment.specs.declared.session.TheConstants.{BLOCK_MAX};
+ghost use Rattle.ltp_session.specs.Cells.{stop_of};
 
-use crate::answers::{
-    MOMENTS, Row, are, block, octets, policy, with_part, write_state, write_step,
-};
+use crate::answers::{MOMENTS, Part, Row, are, policy, with_part, write_state, write_step};
+use crate::lines::{are_lines, block, is_so, octets};
 use crate::reports::report_on_seconds;
+use endpoint::Octets;
 use ltp_receiver::Receiver;
 use ltp_segment::{BLOCK_MAX, Content, PieceKind, PieceView, Policy, Step, decode};
 use spans::Run;
 use std::alloc::Global;
 use std::test::Fail;
+
+/// Whether a session is open.
+fn is_open(receiver: &Receiver) -> bool
+    requires { receiver.now.spent ≡ false }
+    ensures { result ≡ true → IsOpen receiver.now.kept }
+{
+    !receiver.is_over() && !receiver.is_cancelling()
+}
+
+/// Whether a piece can be one of a block.
+fn is_part(piece: &PieceView<'_>) -> bool
+    ensures some { result ≡ true → 0 < length piece.now.body.now }
+    ensures fits { result ≡ true → stop_of piece.now.offset piece.now.body.now ≤ BLOCK_MAX }
+{
+    match piece.offset.checked_add(piece.body.len() as u64) {
+        Some(stop) => !piece.body.is_empty() && stop <= BLOCK_MAX,
+        None => false,
+    }
+}
 
 /// What an open session answers to a piece that can be one of a block.
 fn take(receiver: &mut Receiver, piece: &PieceView<'_>, now: u64) -> Result<Step, Fail>
@@ -18,13 +40,10 @@ fn take(receiver: &mut Receiver, piece: &PieceView<'_>, now: u64) -> Result<Step
     requires moment { now < 2 ^ 62 }
     ensures { OnOk result (receiver.new.spent ≡ false) }
 {
-    if receiver.is_over() || receiver.is_cancelling() || piece.body.is_empty() {
-        return Err(Fail::new("no piece may come"));
+    if !is_open(receiver) || !is_part(piece) {
+        return Err(Fail::new("no such piece may come"));
     }
-    match piece.offset.checked_add(piece.body.len() as u64) {
-        Some(stop) if stop <= BLOCK_MAX => Ok(receiver.piece(piece, now)?),
-        _ => Err(Fail::new("a row's piece stops too late")),
-    }
+    Ok(receiver.piece(piece, now)?)
 }
 
 /// What a session answers to the content of a segment that comes for it. Acknowledgements have no
@@ -92,28 +111,42 @@ fn act(alloc: Global, receiver: &mut Receiver, row: Row) -> Result<Option<Step>,
     hear(receiver, &octets(alloc, text)?, now)
 }
 
-/// Whether a session answers to a row as it is to.
-fn holds(alloc: Global, receiver: &mut Receiver, row: Row) -> Result<bool, Fail>
+/// Appends the lines of what a session answers to a row, and how it stands after that.
+fn tell(alloc: Global, receiver: &mut Receiver, row: Row, text: &mut String) -> Result<(), Fail>
+    requires { receiver.old.spent ≡ false }
+    ensures { OnOk result (receiver.new.spent ≡ false) }
+{
+    if let Some(step) = act(alloc, receiver, row)? {
+        write_step(alloc, text, &step)?;
+    }
+    write_state(text, receiver.deadline(), receiver.is_over())?;
+    Ok(())
+}
+
+/// A session answers to a row as it is to.
+fn holds(alloc: Global, receiver: &mut Receiver, row: Row) -> Result<(), Fail>
     requires { receiver.old.spent ≡ false }
     ensures { OnOk result (receiver.new.spent ≡ false) }
 {
     let mut text = String::new(alloc);
-    if let Some(step) = act(alloc, receiver, row)? {
-        write_step(alloc, &mut text, &step)?;
-    }
-    write_state(&mut text, receiver.deadline(), receiver.is_over())?;
-    Ok(text.as_str() == row.2)
+    tell(alloc, receiver, row, &mut text)?;
+    are_lines(text.as_str(), row.2)
 }
 
-/// Whether session 7 of engine 1 answers to each row as it is to.
-fn goes(alloc: Global, policy: &Policy, rows: &[Row]) -> Result<bool, Fail> {
-    let mut receiver = Receiver::new(alloc, 1, 7, policy);
+/// A session answers to each row as it is to.
+fn play(alloc: Global, receiver: &mut Receiver, rows: &[Row]) -> Result<(), Fail>
+    requires { receiver.old.spent ≡ false }
+{
     for &row in rows {
-        if !holds(alloc, &mut receiver, row)? {
-            return Ok(false);
-        }
+        holds(alloc, receiver, row)?;
     }
-    Ok(true)
+    Ok(())
+}
+
+/// Session 7 of engine 1 answers to each row as it is to.
+fn goes(alloc: Global, policy: &Policy, rows: &[Row]) -> Result<(), Fail> {
+    let mut receiver = Receiver::new(alloc, 1, 7, policy);
+    play(alloc, &mut receiver, rows)
 }
 
 /// A block in one piece: it is handed up and reported. The report is sent again until it is
@@ -134,8 +167,7 @@ const IN_ONE_PIECE: &[Row] = &[
 
 #[test]
 fn a_report_is_sent_until_it_is_acknowledged(rt: HostRuntime) -> Result<(), Fail> {
-    assert!(rt; goes(rt.alloc(), &Policy::default(), IN_ONE_PIECE)?);
-    Ok(())
+    goes(rt.alloc(), &Policy::default(), IN_ONE_PIECE)
 }
 
 /// Two pieces, the end first. An acknowledgement of the report on the end alone leaves the session
@@ -153,8 +185,7 @@ const END_FIRST: &[Row] = &[
 
 #[test]
 fn the_end_may_come_first(rt: HostRuntime) -> Result<(), Fail> {
-    assert!(rt; goes(rt.alloc(), &Policy::default(), END_FIRST)?);
-    Ok(())
+    goes(rt.alloc(), &Policy::default(), END_FIRST)
 }
 
 /// The first octet that came for a place stays.
@@ -169,8 +200,7 @@ const OVERLAPPING: &[Row] = &[
 
 #[test]
 fn the_first_octet_stays(rt: HostRuntime) -> Result<(), Fail> {
-    assert!(rt; goes(rt.alloc(), &Policy::default(), OVERLAPPING)?);
-    Ok(())
+    goes(rt.alloc(), &Policy::default(), OVERLAPPING)
 }
 
 /// A checkpoint within the red part is reported up to its own end, and hands nothing up.
@@ -192,8 +222,7 @@ const INNER_CHECKPOINT: &[Row] = &[
 
 #[test]
 fn a_checkpoint_within_the_red_part(rt: HostRuntime) -> Result<(), Fail> {
-    assert!(rt; goes(rt.alloc(), &Policy::default(), INNER_CHECKPOINT)?);
-    Ok(())
+    goes(rt.alloc(), &Policy::default(), INNER_CHECKPOINT)
 }
 
 /// A checkpoint comes before all other octets, and the red part goes on after it.
@@ -214,8 +243,7 @@ const CHECKPOINT_FIRST: &[Row] = &[
 
 #[test]
 fn a_checkpoint_may_come_before_all_data(rt: HostRuntime) -> Result<(), Fail> {
-    assert!(rt; goes(rt.alloc(), &Policy::default(), CHECKPOINT_FIRST)?);
-    Ok(())
+    goes(rt.alloc(), &Policy::default(), CHECKPOINT_FIRST)
 }
 
 /// The greatest serial number, of a checkpoint and of an acknowledgement that closes nothing.
@@ -231,8 +259,7 @@ const GREATEST_SERIAL: &[Row] = &[
 
 #[test]
 fn a_serial_may_be_the_greatest(rt: HostRuntime) -> Result<(), Fail> {
-    assert!(rt; goes(rt.alloc(), &Policy::default(), GREATEST_SERIAL)?);
-    Ok(())
+    goes(rt.alloc(), &Policy::default(), GREATEST_SERIAL)
 }
 
 /// A moment at which a report was sent again, once more: nothing is due then.
@@ -251,8 +278,7 @@ const STANDING_STILL: &[Row] = &[
 
 #[test]
 fn a_moment_may_stand_still(rt: HostRuntime) -> Result<(), Fail> {
-    assert!(rt; goes(rt.alloc(), &Policy::default(), STANDING_STILL)?);
-    Ok(())
+    goes(rt.alloc(), &Policy::default(), STANDING_STILL)
 }
 
 /// The red part's end stays where it is, and nothing comes after it. A checkpoint that comes again
@@ -281,8 +307,7 @@ const MOVING_END: &[Row] = &[
 
 #[test]
 fn an_end_stays_where_it_is(rt: HostRuntime) -> Result<(), Fail> {
-    assert!(rt; goes(rt.alloc(), &Policy::default(), MOVING_END)?);
-    Ok(())
+    goes(rt.alloc(), &Policy::default(), MOVING_END)
 }
 
 /// An end before red octets that came is only noted; a green piece before them ends the session.
@@ -326,10 +351,9 @@ const GREEN_BELOW_THE_END: &[Row] = &[
 #[test]
 fn colours_that_cross_end_the_session(rt: HostRuntime) -> Result<(), Fail> {
     let policy = Policy::default();
-    assert!(rt; goes(rt.alloc(), &policy, GREEN_IN_RED)?);
-    assert!(rt; goes(rt.alloc(), &policy, RED_AFTER_GREEN)?);
-    assert!(rt; goes(rt.alloc(), &policy, GREEN_BELOW_THE_END)?);
-    Ok(())
+    goes(rt.alloc(), &policy, GREEN_IN_RED)?;
+    goes(rt.alloc(), &policy, RED_AFTER_GREEN)?;
+    goes(rt.alloc(), &policy, GREEN_BELOW_THE_END)
 }
 
 /// A report that was sent twice ends the session: given up where the red part isn't whole.
@@ -359,32 +383,50 @@ const UNANSWERED_BUT_WHOLE: &[Row] = &[
 #[test]
 fn a_report_is_sent_as_often_as_the_policy_says(rt: HostRuntime) -> Result<(), Fail> {
     let policy = policy(1024, 10_000, 2, 160_000)?;
-    assert!(rt; goes(rt.alloc(), &policy, UNANSWERED)?);
-    assert!(rt; goes(rt.alloc(), &policy, UNANSWERED_BUT_WHOLE)?);
-    Ok(())
+    goes(rt.alloc(), &policy, UNANSWERED)?;
+    goes(rt.alloc(), &policy, UNANSWERED_BUT_WHOLE)
 }
 
-/// A segment of a block of 1,200 octets, or an acknowledgement; the report that answers it; and
-/// whether the block is handed up.
-type Segment = ((&'static str, usize, usize), &'static str, bool);
+/// A segment of a block of 1,200 octets, or an acknowledgement; the report that answers it, where one
+/// does; and whether the block is handed up.
+type Segment = (Part, &'static [Part], bool);
 
 /// The first segment and the last come, then the second, late, and then once more as a checkpoint,
 /// with an acknowledgement before it.
 const THREE_SEGMENTS: &[Segment] = &[
-    (("0001010001008400", 0, 512), "", false),
+    (("0001010001008400", 0, 512), &[], false),
     (
         ("0301010001880081300200", 1024, 1200),
-        "0801010002028930000200840088008130",
+        &[("0801010002028930000200840088008130", 0, 0)],
         false,
     ),
-    (("000101000184008400", 512, 1024), "", true),
-    (("0901010002", 0, 0), "", false),
+    (("000101000184008400", 512, 1024), &[], true),
+    (("0901010002", 0, 0), &[], false),
     (
         ("0101010001840084000302", 512, 1024),
-        "08010100030389300001008930",
+        &[("08010100030389300001008930", 0, 0)],
         false,
     ),
 ];
+
+/// Whether this block is handed up, or nothing where it isn't to be.
+fn is_up(up: &Option<Octets>, whole: bool, block: &[u8]) -> bool {
+    match up {
+        Some(octets) => whole && octets.as_slice() == block,
+        None => !whole,
+    }
+}
+
+/// Whether a session sends these datagrams, and hands this block up or doesn't.
+fn is_step(
+    alloc: Global,
+    step: &Step,
+    wanted: &[Part],
+    whole: bool,
+    block: &[u8],
+) -> Result<bool, Fail> {
+    Ok(is_up(&step.up, whole, block) && are(alloc, &step.out, wanted, block)?)
+}
 
 /// Whether a session answers to a segment of this block as it is to.
 fn segment_holds(
@@ -396,31 +438,35 @@ fn segment_holds(
     requires { receiver.old.spent ≡ false }
     ensures { OnOk result (receiver.new.spent ≡ false) }
 {
-    let (segment, report, whole) = row;
+    let (segment, wanted, whole) = row;
     let datagram = with_part(alloc, segment, block)?;
-    let Some(step) = hear(receiver, &datagram, 0)? else {
-        return Ok(report.is_empty() && !whole);
-    };
-    let handed_up = match &step.up {
-        Some(octets) => whole && octets.as_slice() == block,
-        None => !whole,
-    };
-    let reports = [(report, 0, 0)];
-    let wanted = &reports[usize::from(report.is_empty())..];
-    Ok(are(alloc, &step.out, wanted, block)? && handed_up)
+    match hear(receiver, &datagram, 0)? {
+        Some(step) => is_step(alloc, &step, wanted, whole, block),
+        None => Ok(wanted.is_empty() && !whole),
+    }
+}
+
+/// A session answers to each segment of this block as it is to, and isn't over at it; an
+/// acknowledgement ends it then, and nothing is kept.
+fn takes(alloc: Global, receiver: &mut Receiver, rows: &[Segment], block: &[u8]) -> Result<(), Fail>
+    requires { receiver.old.spent ≡ false }
+{
+    for &row in rows {
+        let holds = segment_holds(alloc, receiver, row, block)?;
+        is_so(holds && !receiver.is_over(), row.0.0)?;
+    }
+    receiver.acknowledged(3);
+    is_so(
+        receiver.is_over() && receiver.filled().run(0).is_none(),
+        "it goes on",
+    )
 }
 
 #[test]
 fn a_late_segment_makes_a_block_whole(rt: HostRuntime) -> Result<(), Fail> {
     let octets = block(rt.alloc(), 1200)?;
     let mut receiver = Receiver::new(rt.alloc(), 1, 1, &Policy::default());
-    for &row in THREE_SEGMENTS {
-        let holds = segment_holds(rt.alloc(), &mut receiver, row, &octets)?;
-        assert!(rt; holds && !receiver.is_over(), "{}", row.0.0);
-    }
-    receiver.acknowledged(3);
-    assert!(rt; receiver.is_over() && receiver.filled().run(0).is_none());
-    Ok(())
+    takes(rt.alloc(), &mut receiver, THREE_SEGMENTS, &octets)
 }
 
 /// Takes so many red pieces with these octets, each followed by as many places that stay empty.
@@ -450,38 +496,62 @@ type WithGaps = (u64, u64, u64);
 /// Single octets at 0 to 2,046 and at 2,048; and every second of 8,192 segments, with the last.
 const WITH_GAPS: &[WithGaps] = &[(1, 1024, 2048), (512, 4096, 4_193_792)];
 
-/// Whether a block with gaps is reported with the greatest number of claims, up to the last one's
-/// stop.
-fn report_is_cut(alloc: Global, row: WithGaps) -> Result<bool, Fail> {
-    let (size, count, end) = row;
-    let octets = block(alloc, size)?;
-    let mut receiver = Receiver::new(alloc, 1, 1, &Policy::default());
-    take_seconds(&mut receiver, &octets, count)?;
+/// Takes the last piece of a block, with these octets, and answers the step.
+fn take_last(receiver: &mut Receiver, body: &[u8], offset: u64) -> Result<Step, Fail>
+    requires { receiver.old.spent ≡ false }
+    ensures { OnOk result (receiver.new.spent ≡ false) }
+{
     let last = PieceView {
         kind: PieceKind::RedEndBlock,
         service: 1,
-        offset: end,
+        offset,
         checkpoint: 2,
         report: 0,
-        body: &octets,
+        body,
     };
-    let step = take(&mut receiver, &last, 0)?;
+    take(receiver, &last, 0)
+}
+
+/// Whether this report alone is sent.
+fn is_only_report(step: &Step, wanted: &[u8]) -> bool {
+    match step.out.as_slice() {
+        [report] => report.as_slice() == wanted,
+        _ => false,
+    }
+}
+
+/// Whether a block with gaps, in segments of these octets, is reported with the greatest number of
+/// claims, up to the last one's stop.
+fn report_is_cut(
+    receiver: &mut Receiver,
+    row: WithGaps,
+    octets: &[u8],
+    wanted: &[u8],
+) -> Result<bool, Fail>
+    requires { receiver.old.spent ≡ false }
+{
+    let (size, count, end) = row;
+    take_seconds(receiver, octets, count)?;
+    let step = take_last(receiver, octets, end)?;
     let claimed = Run {
         from: size.saturating_mul(2046),
         to: size.saturating_mul(2047),
     };
-    let wanted = report_on_seconds(alloc, size)?;
-    let reported = match step.out.as_slice() {
-        [report] => report.as_slice() == wanted.as_slice(),
-        _ => false,
-    };
-    Ok(reported && receiver.filled().run(1023) == Some(claimed))
+    Ok(is_only_report(&step, wanted) && receiver.filled().run(1023) == Some(claimed))
+}
+
+/// Whether the report on a block with gaps is cut.
+fn is_cut(alloc: Global, row: WithGaps) -> Result<bool, Fail> {
+    let octets = block(alloc, row.0)?;
+    let wanted = report_on_seconds(alloc, row.0)?;
+    let mut receiver = Receiver::new(alloc, 1, 1, &Policy::default());
+    report_is_cut(&mut receiver, row, &octets, &wanted)
 }
 
 #[test]
 fn a_report_has_1024_claims_at_most(rt: HostRuntime) -> Result<(), Fail> {
     for &row in WITH_GAPS {
-        assert!(rt; report_is_cut(rt.alloc(), row)?, "{}", row.0);
+        assert!(rt; is_cut(rt.alloc(), row)?, "{}", row.0);
     }
     Ok(())
 }

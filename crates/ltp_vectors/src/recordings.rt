@@ -2,12 +2,12 @@
 
 ghost use Rattle.std.specs.Prelude.{◌≡◌, ◌<◌, ◌^◌, false, OnOk};
 
-use crate::answers::{MOMENTS, octets, policy};
+use crate::answers::{MOMENTS, policy};
+use crate::lines::{are_lines, is_so, octets, write_octets, write_words};
 use ltp_audit::{Audit, Entry, Recorder};
 use ltp_engine::SubmitRefused;
 use ltp_segment::Policy;
 use std::alloc::{AllocError, Global};
-use std::fmt::Write;
 use std::test::Fail;
 
 /// What the engine is told.
@@ -29,9 +29,8 @@ type Row = (u64, Told, &'static str);
 /// Appends the lines of entries.
 fn write_entries(alloc: Global, text: &mut String, entries: &[Entry]) -> Result<(), AllocError> {
     for entry in entries {
-        let side = if entry.out { "out" } else { "in" };
-        let digits = hex::encode(alloc, entry.datagram.as_slice())?;
-        write!(text, "{side} {digits}\n")?;
+        write_words(text, &[if entry.out { "out" } else { "in" }])?;
+        write_octets(alloc, text, entry.datagram.as_slice())?;
     }
     Ok(())
 }
@@ -58,56 +57,70 @@ fn tell(alloc: Global, recorder: &mut Recorder, told: Told, now: u64) -> Result<
     Ok(())
 }
 
-/// Whether the recording grows by the lines of a row.
-fn holds(alloc: Global, recorder: &mut Recorder, row: Row) -> Result<bool, Fail>
+/// Tells the engine of a row, and appends the lines by which the recording grows.
+fn record(alloc: Global, recorder: &mut Recorder, row: Row, text: &mut String) -> Result<(), Fail>
     requires { recorder.old.spent ≡ false }
     ensures { OnOk result (recorder.new.spent ≡ false) }
 {
-    let (now, told, wanted) = row;
+    let (now, told, _) = row;
     if now >= MOMENTS {
         return Err(Fail::new("a row is too late"));
     }
     let from = recorder.entries().len();
     tell(alloc, recorder, told, now)?;
-    let mut text = String::new(alloc);
     if let Some(entries) = recorder.entries().get(from..) {
-        write_entries(alloc, &mut text, entries)?;
+        write_entries(alloc, text, entries)?;
     }
-    Ok(text.as_str() == wanted)
+    Ok(())
 }
 
-/// The recording of engine 2 whose first session is 1, if it grows by the lines of each row.
-fn recorded(alloc: Global, policy: Policy, rows: &[Row]) -> Result<Option<Recorder>, Fail> {
-    let mut recorder = Recorder::new(alloc, 2, 1, 1, policy);
+/// The recording grows by the lines of a row.
+fn holds(alloc: Global, recorder: &mut Recorder, row: Row) -> Result<(), Fail>
+    requires { recorder.old.spent ≡ false }
+    ensures { OnOk result (recorder.new.spent ≡ false) }
+{
+    let mut text = String::new(alloc);
+    record(alloc, recorder, row, &mut text)?;
+    are_lines(text.as_str(), row.2)
+}
+
+/// The recording grows by the lines of each row.
+fn play(alloc: Global, recorder: &mut Recorder, rows: &[Row]) -> Result<(), Fail>
+    requires { recorder.old.spent ≡ false }
+{
     for &row in rows {
-        if !holds(alloc, &mut recorder, row)? {
-            return Ok(None);
-        }
+        holds(alloc, recorder, row)?;
     }
-    Ok(Some(recorder))
+    Ok(())
 }
 
-/// Whether an audit accepts each entry of a recording, and there is no other.
-fn is_accepted(alloc: Global, recorder: &Recorder) -> Result<bool, Fail> {
-    let mut audit = Audit::new(alloc, 2, 1);
+/// An audit accepts each entry of a recording, and there is no other.
+fn accepts(audit: &mut Audit, recorder: &Recorder) -> Result<(), Fail> {
     let count = recorder.entries().len();
     for i in 0..count {
         let Some(entry) = recorder.entry(i) else {
-            return Ok(false);
+            return Err(Fail::new("an entry isn't there"));
         };
-        if audit.add(entry.out, entry.datagram.as_slice()).is_err() {
-            return Ok(false);
-        }
+        is_so(
+            audit.add(entry.out, entry.datagram.as_slice()).is_ok(),
+            "an entry is refused",
+        )?;
     }
-    Ok(recorder.entry(count).is_none())
+    is_so(recorder.entry(count).is_none(), "there is another entry")
 }
 
-/// Whether the recording grows by the lines of each row, and an audit accepts it.
-fn goes(alloc: Global, policy: Policy, rows: &[Row]) -> Result<bool, Fail> {
-    match recorded(alloc, policy, rows)? {
-        Some(recorder) => is_accepted(alloc, &recorder),
-        None => Ok(false),
-    }
+/// An audit of engine 2 accepts a recording.
+fn is_accepted(alloc: Global, recorder: &Recorder) -> Result<(), Fail> {
+    let mut audit = Audit::new(alloc, 2, 1);
+    accepts(&mut audit, recorder)
+}
+
+/// The recording of engine 2, whose first session is 1, grows by the lines of each row, and an audit
+/// accepts it.
+fn goes(alloc: Global, policy: Policy, rows: &[Row]) -> Result<(), Fail> {
+    let mut recorder = Recorder::new(alloc, 2, 1, 1, policy);
+    play(alloc, &mut recorder, rows)?;
+    is_accepted(alloc, &recorder)
 }
 
 /// A red part of the peer. Its report is sent again until it is acknowledged.
@@ -152,9 +165,8 @@ const BOTH_WAYS: &[Row] = &[
 
 #[test]
 fn what_comes_is_recorded_before_what_is_sent(rt: HostRuntime) -> Result<(), Fail> {
-    assert!(rt; goes(rt.alloc(), Policy::default(), HEARD)?);
-    assert!(rt; goes(rt.alloc(), Policy::default(), BOTH_WAYS)?);
-    Ok(())
+    goes(rt.alloc(), Policy::default(), HEARD)?;
+    goes(rt.alloc(), Policy::default(), BOTH_WAYS)
 }
 
 /// All four cancels and their acknowledgements, where each segment is sent once: a checkpoint that
@@ -192,8 +204,7 @@ const CANCELS: &[Row] = &[
 #[test]
 fn a_cancel_is_recorded(rt: HostRuntime) -> Result<(), Fail> {
     let policy = policy(1024, 10_000, 1, 160_000)?;
-    assert!(rt; goes(rt.alloc(), policy, CANCELS)?);
-    Ok(())
+    goes(rt.alloc(), policy, CANCELS)
 }
 
 /// What comes is recorded as it came: no octets, what is no segment, and the acknowledgement of
@@ -207,15 +218,22 @@ const NOISE: &[Row] = &[
 
 #[test]
 fn all_that_comes_is_recorded(rt: HostRuntime) -> Result<(), Fail> {
-    assert!(rt; recorded(rt.alloc(), Policy::default(), NOISE)?.is_some());
-    Ok(())
+    let mut recorder = Recorder::new(rt.alloc(), 2, 1, 1, Policy::default());
+    play(rt.alloc(), &mut recorder, NOISE)
+}
+
+/// Whether a block is refused as empty, and nothing is recorded.
+fn refuses(recorder: &mut Recorder) -> bool
+    requires { recorder.old.spent ≡ false }
+{
+    match recorder.submit(&[], 0, 0) {
+        Err(SubmitRefused::Empty) => recorder.entries().is_empty() && recorder.entry(0).is_none(),
+        _ => false,
+    }
 }
 
 #[test]
 fn a_block_that_is_refused_is_not_recorded(rt: HostRuntime) -> Result<(), Fail> {
     let mut recorder = Recorder::new(rt.alloc(), 2, 1, 1, Policy::default());
-    let refused = recorder.submit(&[], 0, 0).err();
-    assert!(rt; refused == Some(SubmitRefused::Empty));
-    assert!(rt; recorder.entries().is_empty() && recorder.entry(0).is_none());
-    Ok(())
+    is_so(refuses(&mut recorder), "a block is recorded")
 }

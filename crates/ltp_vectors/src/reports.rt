@@ -4,7 +4,7 @@ ghost use Rattle.std.specs.Prelude.{◌≡◌, ◌+◌, true, IfSome, IfOk};
 ghost use Rattle.ltp_segment.specs.Legal.{IsReport, IsClaim, AreClaims};
 ghost use Rattle.ltp_segment.specs.Views.{report_value};
 
-use crate::answers::octets;
+use crate::lines::octets;
 use ltp_segment::{Claim, ReportView};
 use std::alloc::{AllocError, Global};
 use std::test::Fail;
@@ -45,16 +45,28 @@ pub(crate) fn is_report(alloc: Global, report: ReportView<'_>) -> Result<bool, A
     Ok(are_claims(&claims, report.upper - report.lower))
 }
 
+/// Appends the claims of every second segment of this size, so many of them.
+fn write_seconds(datagram: &mut Vec<u8>, size: u64, count: u64) -> Result<(), AllocError> {
+    for i in 0..count {
+        sdnv::write(size.saturating_mul(i.saturating_mul(2)), datagram)?;
+        sdnv::write(size, datagram)?;
+    }
+    Ok(())
+}
+
+/// Appends the first report on session 1 of engine 1, where every second segment of this size came.
+fn write_report(datagram: &mut Vec<u8>, size: u64) -> Result<(), AllocError> {
+    datagram.extend_from_slice(&[0x08, 1, 1, 0, 2, 2])?;
+    sdnv::write(size.saturating_mul(2047), datagram)?;
+    datagram.extend_from_slice(&[0, 0x88, 0])?;
+    write_seconds(datagram, size, 1024)
+}
+
 /// The first report on session 1 of engine 1, where every second segment of one size came: it has
 /// 1,024 claims, and its upper bound is where the last of them stops.
 pub(crate) fn report_on_seconds(alloc: Global, size: u64) -> Result<Vec<u8>, Fail> {
-    let mut datagram = octets(alloc, "080101000202")?;
-    sdnv::write(size.saturating_mul(2047), &mut datagram)?;
-    datagram.extend_from_slice(&octets(alloc, "008800")?)?;
-    for i in 0..1024u64 {
-        sdnv::write(size.saturating_mul(i.saturating_mul(2)), &mut datagram)?;
-        sdnv::write(size, &mut datagram)?;
-    }
+    let mut datagram = Vec::new(alloc);
+    write_report(&mut datagram, size)?;
     Ok(datagram)
 }
 

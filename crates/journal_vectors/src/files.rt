@@ -14,42 +14,90 @@ const RECORDS: &[(Record, &str)] = &[
     (CLEAR, "0400072a70638b"),
 ];
 
+/// The octets of a record, in hex.
+fn octets_of(alloc: Global, record: &Record) -> Result<String, Fail> {
+    let mut octets = Vec::new(alloc);
+    write_record(alloc, record, &mut octets)?;
+    Ok(hex::encode(alloc, octets.as_slice())?)
+}
+
 #[test]
 fn a_record_is_written_so(rt: HostRuntime) -> Result<(), Fail> {
     for (record, wanted) in RECORDS {
-        let mut octets = Vec::new(rt.alloc());
-        write_record(rt.alloc(), record, &mut octets)?;
-        let got = hex::encode(rt.alloc(), octets.as_slice())?;
-        assert_eq!(rt; got.as_str(), *wanted);
+        assert_eq!(rt; octets_of(rt.alloc(), record)?.as_str(), *wanted);
     }
     Ok(())
 }
 
-/// A journal in memory, whose file has these octets and its gate at this place.
-fn journal(alloc: Global, text: &str, gate: usize) -> Result<Journal<MemStore>, Fail> {
-    let octets = hex::decode(alloc, text)?;
-    let store = MemStore::new(alloc, &octets, None)?;
-    Ok(Journal { store, gate })
+/// A journal's file, and the place of its gate.
+#[derive(Clone, Copy)]
+struct Stands {
+    file: &'static str,
+    gate: usize,
 }
 
-/// The place of a journal's gate, and its file.
-fn stands(alloc: Global, journal: &Journal<MemStore>) -> Result<String, Fail> {
+const AT_RESERVED: Stands = Stands {
+    file: RESERVED,
+    gate: 26,
+};
+
+const AT_BEGUN: Stands = Stands {
+    file: BEGUN,
+    gate: 76,
+};
+
+const AT_DONE: Stands = Stands {
+    file: DONE,
+    gate: 84,
+};
+
+/// The calls by which a file is made anew.
+const ANEW: &[Call] = &[
+    Call::StartNew,
+    Call::Add,
+    Call::SyncNew,
+    Call::Install,
+    Call::Sync,
+];
+
+/// The calls by which records are committed.
+const COMMITTED: &[Call] = &[Call::Write, Call::Sync, Call::Write, Call::Sync];
+
+/// A journal in memory that stands so.
+fn journal(alloc: Global, stands: Stands) -> Result<Journal<MemStore>, Fail> {
+    let octets = hex::decode(alloc, stands.file)?;
+    let store = MemStore::new(alloc, &octets, None)?;
+    Ok(Journal {
+        store,
+        gate: stands.gate,
+    })
+}
+
+/// How a journal stands, as a text.
+fn shown(alloc: Global, journal: &Journal<MemStore>) -> Result<String, Fail> {
     let (gate, file) = (journal.gate, hex::encode(alloc, journal.store.octets())?);
     Ok(format!(in alloc; "{gate} {file}")?)
 }
 
-/// What a journal has in place of this file, with its gate at this place, where it hasn't that.
+/// Whether a text says that a journal stands so.
+fn says(alloc: Global, text: &str, stands: Stands) -> Result<bool, Fail> {
+    let (gate, file) = (stands.gate, stands.file);
+    let wanted = format!(in alloc; "{gate} {file}")?;
+    Ok(text == wanted.as_str())
+}
+
+/// How a journal stands, where it doesn't stand so after these calls.
 fn otherwise(
     alloc: Global,
     journal: &Journal<MemStore>,
-    text: &str,
-    gate: usize,
+    stands: Stands,
+    calls: &[Call],
 ) -> Result<Option<String>, Fail> {
-    let (stands, wanted) = (stands(alloc, journal)?, format!(in alloc; "{gate} {text}")?);
-    if stands.as_str() == wanted.as_str() {
+    let text = shown(alloc, journal)?;
+    if says(alloc, text.as_str(), stands)? && journal.store.calls() == calls {
         return Ok(None);
     }
-    Ok(Some(stands))
+    Ok(Some(text))
 }
 
 /// What a file says is kept.
@@ -61,62 +109,87 @@ fn kept(alloc: Global, text: &str) -> Result<Kept, Fail> {
     }
 }
 
+/// How a journal stands whose file had one block, and that is made anew of what a file says is kept: where
+/// that isn't so that the numbers alone are kept.
+fn wrong_anew(alloc: Global, text: &str) -> Result<Option<String>, Fail> {
+    let kept = kept(alloc, text)?;
+    let mut journal = journal(alloc, AT_DONE)?;
+    made_wrong(alloc, &mut journal, &kept)
+}
+
+/// The same of this journal.
+fn made_wrong(
+    alloc: Global,
+    journal: &mut Journal<MemStore>,
+    kept: &Kept,
+) -> Result<Option<String>, Fail> {
+    if journal.install(alloc, kept) != Ok(26) {
+        return Err("the gate isn't at 26".into());
+    }
+    otherwise(alloc, journal, AT_RESERVED, ANEW)
+}
+
 #[test]
 fn a_file_is_made_anew(rt: HostRuntime) -> Result<(), Fail> {
-    let mut journal = journal(rt.alloc(), DONE, 84)?;
-    let kept = kept(rt.alloc(), RESERVED)?;
-    assert_eq!(rt; journal.install(rt.alloc(), &kept), Ok(26));
-    let wrong = otherwise(rt.alloc(), &journal, RESERVED, 26)?;
+    let wrong = wrong_anew(rt.alloc(), RESERVED)?;
     assert!(rt; wrong.is_none(), "{wrong:?}");
-    let calls = [
-        Call::StartNew,
-        Call::Add,
-        Call::SyncNew,
-        Call::Install,
-        Call::Sync,
-    ];
-    assert_eq!(rt; journal.store.calls(), calls.as_slice());
     Ok(())
 }
 
 #[test]
 fn a_new_file_has_no_ended_block(rt: HostRuntime) -> Result<(), Fail> {
-    let mut journal = journal(rt.alloc(), DONE, 84)?;
-    let kept = kept(rt.alloc(), DONE)?;
-    assert_eq!(rt; journal.install(rt.alloc(), &kept), Ok(26));
-    let wrong = otherwise(rt.alloc(), &journal, RESERVED, 26)?;
+    let wrong = wrong_anew(rt.alloc(), DONE)?;
     assert!(rt; wrong.is_none(), "{wrong:?}");
     Ok(())
+}
+
+/// How a journal stands that stood so, and to which records are committed: where its gate doesn't move so
+/// far, to stand so.
+fn wrong_commit(
+    alloc: Global,
+    before: Stands,
+    records: &[Record],
+    after: Stands,
+) -> Result<Option<String>, Fail> {
+    let mut journal = journal(alloc, before)?;
+    committed_wrong(alloc, &mut journal, records, after)
+}
+
+/// The same of this journal.
+fn committed_wrong(
+    alloc: Global,
+    journal: &mut Journal<MemStore>,
+    records: &[Record],
+    after: Stands,
+) -> Result<Option<String>, Fail> {
+    let before = journal.gate;
+    match journal.commit(alloc, records) {
+        Ok(moved) if before.checked_add(moved) == Some(after.gate) => {}
+        _ => return Err("the gate doesn't move so".into()),
+    }
+    let calls: &[Call] = if records.is_empty() { &[] } else { COMMITTED };
+    otherwise(alloc, journal, after, calls)
 }
 
 #[test]
 fn a_block_goes_behind_the_gate(rt: HostRuntime) -> Result<(), Fail> {
     let block = hex::decode(rt.alloc(), BLOCK)?;
-    let mut journal = journal(rt.alloc(), RESERVED, 26)?;
-    assert_eq!(rt; journal.commit(rt.alloc(), &[begun(&block)]), Ok(50));
-    let wrong = otherwise(rt.alloc(), &journal, BEGUN, 76)?;
+    let wrong = wrong_commit(rt.alloc(), AT_RESERVED, &[begun(&block)], AT_BEGUN)?;
     assert!(rt; wrong.is_none(), "{wrong:?}");
-    let calls = [Call::Write, Call::Sync, Call::Write, Call::Sync];
-    assert_eq!(rt; journal.store.calls(), calls.as_slice());
     Ok(())
 }
 
 #[test]
 fn an_end_goes_behind_the_gate(rt: HostRuntime) -> Result<(), Fail> {
-    let mut journal = journal(rt.alloc(), BEGUN, 76)?;
-    assert_eq!(rt; journal.commit(rt.alloc(), &[SENT]), Ok(8));
-    let wrong = otherwise(rt.alloc(), &journal, DONE, 84)?;
+    let wrong = wrong_commit(rt.alloc(), AT_BEGUN, &[SENT], AT_DONE)?;
     assert!(rt; wrong.is_none(), "{wrong:?}");
     Ok(())
 }
 
 #[test]
 fn no_records_make_no_call(rt: HostRuntime) -> Result<(), Fail> {
-    let mut journal = journal(rt.alloc(), BEGUN, 76)?;
-    assert_eq!(rt; journal.commit(rt.alloc(), &[]), Ok(0));
-    let wrong = otherwise(rt.alloc(), &journal, BEGUN, 76)?;
+    let wrong = wrong_commit(rt.alloc(), AT_BEGUN, &[], AT_BEGUN)?;
     assert!(rt; wrong.is_none(), "{wrong:?}");
-    assert_eq!(rt; journal.store.calls().len(), 0);
     Ok(())
 }
 
@@ -124,9 +197,7 @@ fn no_records_make_no_call(rt: HostRuntime) -> Result<(), Fail> {
 #[test]
 fn records_go_at_once(rt: HostRuntime) -> Result<(), Fail> {
     let block = hex::decode(rt.alloc(), BLOCK)?;
-    let mut journal = journal(rt.alloc(), RESERVED, 26)?;
-    assert_eq!(rt; journal.commit(rt.alloc(), &[begun(&block), SENT]), Ok(58));
-    let wrong = otherwise(rt.alloc(), &journal, DONE, 84)?;
+    let wrong = wrong_commit(rt.alloc(), AT_RESERVED, &[begun(&block), SENT], AT_DONE)?;
     assert!(rt; wrong.is_none(), "{wrong:?}");
     Ok(())
 }

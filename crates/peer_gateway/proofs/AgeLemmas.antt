@@ -64,13 +64,13 @@ read-alone f w a spells =
     ap (λ (text : List ℕ). read f text 0) (sym (append-nil w))
     ∙ (read-only f [] w [] a spells ∙ ap (λ (n : ℕ). found a n) (zero-add (length w)))
 
-came-old-in : (s : PeerSettings) (b : Bundle6) → IsLegal b → IsCounted b → came_in s faces.Old (canon6 b) ≡ Some (came6 s b)
+pub came-old-in : (s : PeerSettings) (b : Bundle6) → IsLegal b → IsCounted b → came_in s faces.Old (canon6 b) ≡ Some (came6 s b)
 unfolding came_in
 came-old-in s b legal counted =
     ap (λ r. option_map (λ (x : Bundle6 × ℕ). came6 s x.0) (result_ok r))
     (read-alone (table6.bundle 64) (canon6 b) b (canon-spells b legal counted))
 
-came-new-in : (s : PeerSettings) (b : Bundle7) → IsLegal7 b → came_in s faces.New (octets7 b) ≡ Some (came7 s b)
+pub came-new-in : (s : PeerSettings) (b : Bundle7) → IsLegal7 b → came_in s faces.New (octets7 b) ≡ Some (came7 s b)
 unfolding came_in
 came-new-in s b legal =
     ap (λ r. option_map (λ (x : Bundle7 × ℕ). came7 s x.0) (result_ok r))

@@ -24,7 +24,7 @@ use Rattle.peer_gateway.proofs.GoingLemmas.{ready-few, go-next}
 abbrev pub together : PeerSettings → Face → ℕ → List Piece → List ℕ
 together s face leaves pieces = flat_map (going_octets s face leaves) pieces
 
-octets-few : (s : PeerSettings) (face : Face) (leaves : ℕ) (pieces : List Piece) → All (IsSizedAt s face leaves) pieces
+pub octets-few : (s : PeerSettings) (face : Face) (leaves : ℕ) (pieces : List Piece) → All (IsSizedAt s face leaves) pieces
     → length (together s face leaves pieces) ≤ sizes pieces
 octets-few s face leaves [] sized = omega arith
 octets-few s face leaves (piece ∷ pieces) sized =
@@ -36,7 +36,7 @@ octets-few s face leaves (piece ∷ pieces) sized =
       (All-head (IsSizedAt s face leaves) piece pieces sized).few,
     )
 
-octets-some : (s : PeerSettings) (face : Face) (leaves : ℕ) (pieces : List Piece) → All (IsSizedAt s face leaves) pieces
+pub octets-some : (s : PeerSettings) (face : Face) (leaves : ℕ) (pieces : List Piece) → All (IsSizedAt s face leaves) pieces
     → 0 < length pieces → 0 < length (together s face leaves pieces)
 octets-some s face leaves [] sized some = absurd (omega (arith, some))
 octets-some s face leaves (piece ∷ pieces) sized some =
@@ -47,7 +47,7 @@ octets-some s face leaves (piece ∷ pieces) sized some =
     )
 
 -- the pieces that go together fit into a block
-going-few : (g : GatheringValue) (now : ℕ) → AreWithin g.waiting → sizes (going g now) ≤ BLOCK_MAX
+pub going-few : (g : GatheringValue) (now : ℕ) → AreWithin g.waiting → sizes (going g now) ≤ BLOCK_MAX
 unfolding ready
 going-few g now within = by (is_complete g || is_late g.wait_ms now g.waiting)
   where

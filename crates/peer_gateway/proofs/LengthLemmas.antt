@@ -56,12 +56,12 @@ spelling-grows few many less =
     omega (arith, length-spelling few, length-spelling many, rest)
 
 -- how many octets a head has
-abbrev head_size : ℕ → ℕ
+abbrev pub head_size : ℕ → ℕ
 head_size n =
     if nat_lt n 24 then 1 else if nat_lt n (2 ^ 8) then 2 else if nat_lt n (2 ^ 16) then 3
     else if nat_lt n (2 ^ 32) then 5 else 9
 
-length-head : (kind n : ℕ) → length (head kind n) ≡ head_size n
+pub length-head : (kind n : ℕ) → length (head kind n) ≡ head_size n
 length-head kind n = by (nat_lt n 24) (nat_lt n (2 ^ 8)) (nat_lt n (2 ^ 16)) (nat_lt n (2 ^ 32))
   where
     by : (a b c d : Bool) → length (if a then first_octet kind n ∷ []

@@ -8,3 +8,10 @@ pub mod AgeLemmas
 pub mod LengthLemmas
 pub mod SizeLemmas
 pub mod StayLemmas
+pub mod SpelledLemmas
+pub mod SizedLemmas
+pub mod CameLemmas
+pub mod WaitLemmas
+pub mod AnswerLemmas
+pub mod FaceLemmas
+pub mod GateLemmas

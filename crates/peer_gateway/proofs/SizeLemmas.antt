@@ -24,7 +24,7 @@ use Rattle.peer_gateway.proofs.AgeLemmas.{IsRead, wire-read}
 use Rattle.peer_gateway.proofs.LengthLemmas.{new-grows, old-grows}
 
 -- as many as with the gateway's own types
-length-wire : (s : PeerSettings) (face : Face) (full : Full) → length (wire_octets s face full) ≡ length (octets_at face full)
+pub length-wire : (s : PeerSettings) (face : Face) (full : Full) → length (wire_octets s face full) ≡ length (octets_at face full)
 unfolding wire_octets
 length-wire s faces.Old full = length-relabelled6 s.types (view6_of full)
 length-wire s faces.New full = length-relabelled7 s.types (view7_of full)

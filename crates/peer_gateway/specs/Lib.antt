@@ -4,3 +4,9 @@ pub mod Gate
 pub mod Going
 pub mod Steps
 pub mod Laws
+-- what ties code to it
+pub mod Answers
+pub mod Views
+pub mod Waits
+pub mod Faces
+pub mod Ties

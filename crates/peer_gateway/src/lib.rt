@@ -1,4 +1,4 @@
-//! What a gateway among other implementations does: definitions, and what holds of them.
+//! What a gateway among other implementations does.
 //!
 //! Such a gateway stands between two links as that of [`gateway_core`] does, with bounds and a memory for each
 //! face that an operator sets. `specs/Keys.antt` has those; `peer_sessions`, what a face's sessions do;
@@ -12,10 +12,28 @@
 //! ([`laws::heads_are_small`], [`laws::sized_for_any_stay`]). A block of several bundles passes as they do in
 //! blocks of their own ([`laws::rows_pass_in_turn`]), and an age is raised once ([`laws::age_raised_once`]).
 //!
-//! Of the code there are the octets of a piece after a stay ([`stayed`]); no code does the steps yet.
+//! [`PeerGateway`] does the steps: it begins, time passes ([`PeerGateway::tick`]), and a piece is added that was
+//! kept ([`PeerGateway::add_kept`]). What it answers is a [`PeerAnswer`]. No code does yet what comes of a
+//! datagram.
 #![tactic(auto)]
 
+mod answer;
+mod config;
+mod faces;
+mod gateway;
+mod going;
 pub mod laws;
+mod moments;
+mod parts;
+mod pushing;
+mod starting;
 mod staying;
+mod told;
+mod waits;
 
+pub use answer::PeerAnswer;
+pub use config::PeerConfig;
+pub use gateway::PeerGateway;
+pub use moments::{FaceMoments, Moments};
 pub use staying::stayed;
+pub use told::{Added, BlockBegun, Remark, RemarkAt};

@@ -1,6 +1,7 @@
 //! The octets of a piece after a stay.
 
 ghost use Rattle.std.specs.Prelude.{◌≡◌, true, false, Some, if◌then◌else◌, IfOk};
+ghost use Rattle.wire_fields.specs.Reading.{IsOctets};
 ghost use Rattle.bundle6.specs.Legal.{IsLegal};
 ghost use Rattle.bundle7.specs.Legal.{IsLegal7};
 ghost use Rattle.translate.specs.Sound.{IsSound};
@@ -10,7 +11,7 @@ ghost use Rattle.bundle_age.specs.Raised.{raised_by, has_age};
 ghost use Rattle.peer_cases.specs.Arrivals.{came_as};
 ghost use Rattle.peer_cases.specs.Pieces.{wire_octets};
 ghost use Rattle.peer_cases.specs.Rows.{came_in};
-ghost use Rattle.peer_gateway.specs.Going.{raised_octets, stayed_octets};
+ghost use Rattle.peer_gateway.specs.Going.{raised_octets, stayed_octets, stayed_size};
 
 use block_types::{relabel6, relabel7};
 use bundle_age::{has_age, raised};
@@ -139,3 +140,24 @@ fn raised_full(
     let full = raised(alloc, full, stay)?;
     wire_octets(alloc, settings, face, &full)
 }
+
+/// How many octets a piece has at a face after the longest stay that can be said.
+pub(crate) fn stayed_size(
+    alloc: Global,
+    settings: PeerSettings,
+    face: Face,
+    octets: &Octets,
+) -> Result<u64, AllocError>
+    ensures { IfOk result (λ size. size ≡ stayed_size settings face octets.now) }
+{
+    if !settings.raises {
+        return Ok(octets.len() as u64);
+    }
+    let longest = stayed(alloc, settings, face, octets.copy(alloc)?, u64::MAX)?;
+    Ok(longest.len() as u64)
+}
+
+/// Says that octets are below 256.
+pub(crate) fn are_octets(octets: &[u8])
+    ensures { IsOctets octets.now }
+{}

@@ -1,0 +1,10 @@
+use Rattle.std.proofs.Common.{sym}
+use Rattle.peer_gateway.specs.Steps.{a_tick}
+use Rattle.peer_gateway.specs.Views.{moments_of}
+use Rattle.peer_gateway.proofs.GateLemmas.{event-so}
+use Rattle.peer_gateway.proofs.gateway.PeerGateway.tick.Goals as goal
+
+pub returns-clause-done : goal.returns-clause-done
+returns-clause-done c =
+    event-so c.args.self.now c.self.inside.spent c.self.inside.parts c.find_outboxes.new.self c.tick.new.self a_tick (moments_of c.args.moments)
+    c.args.outboxes c.none-answer.result c.tick.new.answer (sym c.self.view_is) c.find_outboxes.ensures c.none-answer.ensures c.in_ok-tick.ensures

@@ -1,0 +1,9 @@
+use Rattle.std.proofs.Common.{◌≡◌, ◌++◌, map}
+use Rattle.peer_gateway.specs.Gate.{told_green}
+use Rattle.peer_gateway.specs.Steps.{told_at}
+use Rattle.peer_gateway.specs.Answers.{told_seen}
+use Rattle.peer_gateway.proofs.pushing.push_greens.Given as goal
+
+abbrev pub invariant-each : goal.invariant-each
+invariant-each l =
+    map told_seen l.told.items ≡ map told_seen l.initial.told.items ++ map (told_at l.face) (map told_green l.yielded)

@@ -1,7 +1,7 @@
 //! What a crash leaves of a journal's file, and what is kept by that.
 
 use crate::outside::{Over, named};
-use journal_file::{JournalFault, Kept, read_kept};
+use journal_file::{JournalFault, Kept, Pending, read_kept};
 use std::alloc::{AllocError, Global};
 use std::test::Fail;
 use store_traits::{Tear, TornStore};
@@ -25,12 +25,7 @@ pub(crate) fn said(alloc: Global, file: &[u8]) -> Result<String, Fail> {
 fn shown(alloc: Global, kept: &Kept) -> Result<String, Fail> {
     let mut text = String::new(alloc);
     for one in kept.pending.as_slice() {
-        let (id, face, digits) = (
-            one.id,
-            named(one.face),
-            hex::encode(alloc, one.block.as_slice())?,
-        );
-        write!(text, "pending {id} {face} {digits}\n")?;
+        show_pending(alloc, &mut text, one)?;
     }
     for mark in kept.marks.as_slice() {
         let (face, session) = (named(mark.face), mark.session);
@@ -39,6 +34,14 @@ fn shown(alloc: Global, kept: &Kept) -> Result<String, Fail> {
     let (old, new) = (kept.old_reserved, kept.new_reserved);
     write!(text, "reserved {old} {new}\n")?;
     Ok(text)
+}
+
+/// Adds the line of a block.
+fn show_pending(alloc: Global, text: &mut String, one: &Pending) -> Result<(), Fail> {
+    let digits = hex::encode(alloc, one.block.as_slice())?;
+    let (id, face) = (one.id, named(one.face));
+    write!(text, "pending {id} {face} {digits}\n")?;
+    Ok(())
 }
 
 /// What comes to the disk of a change.
@@ -76,10 +79,20 @@ fn says_either(
     last: Tear,
     either: Either,
 ) -> Result<bool, Fail> {
-    let tears = tears(alloc, store.moment(), early, last)?;
-    let file = store.left(alloc, store.moment(), &tears)?;
+    let file = left_by(alloc, store, early, last)?;
     let said = said(alloc, &file)?;
     Ok(said.as_str() == either.before || said.as_str() == either.after)
+}
+
+/// What a crash leaves by these choices.
+fn left_by(
+    alloc: Global,
+    store: &TornStore,
+    early: Tear,
+    last: Tear,
+) -> Result<Vec<u8>, AllocError> {
+    let tears = tears(alloc, store.moment(), early, last)?;
+    store.left(alloc, store.moment(), &tears)
 }
 
 /// Whether it is so with each front of these octets, where nothing of the changes before comes to the disk.
@@ -135,12 +148,30 @@ pub(crate) fn leaves_one_of_two(alloc: Global, over: &Over, each: bool) -> Resul
         Some(others) => others,
         None => file,
     };
-    let before = said(alloc, &store.left(alloc, store.moment(), &[])?)?;
+    let before = said_before(alloc, store)?;
     let after = said(alloc, file)?;
     let either = Either {
         before: before.as_str(),
         after: after.as_str(),
     };
+    all_say_either(alloc, store, written, others, either, each)
+}
+
+/// What is said by the file that a crash leaves with nothing of the last change.
+fn said_before(alloc: Global, store: &TornStore) -> Result<String, Fail> {
+    let file = store.left(alloc, store.moment(), &[])?;
+    said(alloc, &file)
+}
+
+/// Whether it is so with all of these, and where it is asked for with each front of what was written.
+fn all_say_either(
+    alloc: Global,
+    store: &TornStore,
+    written: &[u8],
+    others: &[u8],
+    either: Either,
+    each: bool,
+) -> Result<bool, Fail> {
     Ok(
         wholes_say_either(alloc, store, written, others, either)?
             && (!each || fronts_say_either(alloc, store, written, either)?),

@@ -2,6 +2,8 @@
 
 ghost use Rattle.std.specs.Prelude.{◌≡◌, ◌<◌, ◌^◌, [], All, IfOk, IfSome};
 ghost use Rattle.gate_half.specs.Setup.{IsRunnable};
+ghost use Rattle.journal_file.specs.Legal.{IsLegal};
+ghost use Rattle.journal_file.specs.Ties.{kept_of};
 
 use edge_traits::LONGEST_DATAGRAM;
 use endpoint::Octets;
@@ -12,6 +14,7 @@ use gate_journal::{Journal, recover};
 use gate_journaled::Journaled;
 use gate_run::laws::what_is_read_is_runnable;
 use gate_run::{GateStatus, gate};
+use journal_file::Kept;
 use outbox::Reading;
 use std::alloc::{AllocError, Global};
 use std::test::Fail;
@@ -44,14 +47,35 @@ pub(crate) fn run(
     fails: Option<usize>,
 ) -> Result<(GateStatus, Over), Fail> {
     let mut store = TornStore::new(alloc, before, fails)?;
-    let Ok(kept) = recover(alloc, &mut store) else {
-        return Err(Fail::new("a file isn't recovered"));
-    };
-    let journal = Journal { store, gate: 0 };
-    let mut outside = Journaled::new(alloc, outside_of(alloc, comes)?, journal);
-    let file = file(alloc, comes.file)?;
-    let status = gate(alloc, &file, Some(kept), turns, &mut outside);
-    Ok((status, outside))
+    let kept = recovered(alloc, &mut store)?;
+    let outside = outside_of(alloc, comes)?;
+    let mut over = Journaled::new(alloc, outside, Journal { store, gate: 0 });
+    let status = go(alloc, comes.file, kept, turns, &mut over)?;
+    Ok((status, over))
+}
+
+/// What is kept by the file of a store.
+fn recovered(alloc: Global, store: &mut TornStore) -> Result<Kept, Fail>
+    ensures { IfOk result (λ kept. IsLegal (kept_of kept)) }
+{
+    match recover(alloc, store) {
+        Ok(kept) => Ok(kept),
+        Err(_) => Err(Fail::new("a file isn't recovered")),
+    }
+}
+
+/// Runs the gateway for so many turns, going on from what is kept.
+pub(crate) fn go(
+    alloc: Global,
+    text: &str,
+    kept: Kept,
+    turns: u64,
+    over: &mut Over,
+) -> Result<GateStatus, Fail>
+    requires { IsLegal (kept_of kept) }
+{
+    let file = file(alloc, text)?;
+    Ok(gate(alloc, &file, Some(kept), turns, over))
 }
 
 /// What a gateway's file means.
@@ -104,7 +128,7 @@ fn link(alloc: Global, gives: &[&str]) -> Result<MemFace, Fail> {
 }
 
 /// Has a datagram come on a link.
-fn put(link: &mut MemFace, datagram: &[u8]) -> Result<(), Fail> {
+pub(crate) fn put(link: &mut MemFace, datagram: &[u8]) -> Result<(), Fail> {
     if datagram.len() > LONGEST_DATAGRAM {
         return Err(Fail::new("a datagram is too long"));
     }
@@ -133,23 +157,34 @@ pub(crate) fn named(face: Face) -> &'static str {
 pub(crate) fn told(alloc: Global, acts: &[MemAct]) -> Result<String, Fail> {
     let mut text = String::new(alloc);
     for act in acts {
-        match act {
-            MemAct::Sent(face, datagram) => tell(alloc, &mut text, "sent", *face, datagram)?,
-            MemAct::Lost(face, datagram) => tell(alloc, &mut text, "lost", *face, datagram)?,
-            MemAct::Wrote(lines) => add(&mut text, lines)?,
-            MemAct::Shown(metrics) => {
-                text.push_str("shown\n")?;
-                add(&mut text, metrics)?;
-            }
-            MemAct::Committed(_) => text.push_str("committed\n")?,
-            MemAct::Installed(_) => text.push_str("installed\n")?,
+        tell(alloc, &mut text, act)?;
+        if let MemAct::Shown(metrics) = act {
+            add(&mut text, metrics)?;
         }
     }
     Ok(text)
 }
 
+/// Adds an act: a line, or the lines that were written. Of the metrics it is a line that they were shown.
+pub(crate) fn tell(alloc: Global, text: &mut String, act: &MemAct) -> Result<(), Fail> {
+    match act {
+        MemAct::Sent(face, datagram) => tell_datagram(alloc, text, "sent", *face, datagram),
+        MemAct::Lost(face, datagram) => tell_datagram(alloc, text, "lost", *face, datagram),
+        MemAct::Wrote(lines) => add(text, lines),
+        MemAct::Shown(_) => tell_call(text, "shown\n"),
+        MemAct::Committed(_) => tell_call(text, "committed\n"),
+        MemAct::Installed(_) => tell_call(text, "installed\n"),
+    }
+}
+
+/// Adds the line of a call.
+fn tell_call(text: &mut String, line: &str) -> Result<(), Fail> {
+    text.push_str(line)?;
+    Ok(())
+}
+
 /// Adds the line of a datagram.
-fn tell(
+fn tell_datagram(
     alloc: Global,
     text: &mut String,
     how: &str,

@@ -1,7 +1,7 @@
 //! Runs with a journal, each cut off after each of its turns: so it is seen with which turn each act came,
 //! and what stands in the file then.
 
-use crate::outside::{Comes, octets, run, told};
+use crate::outside::{Comes, Over, octets, run, told};
 use crate::rows::{self, Row};
 use gate_cases::Face;
 use gate_run::GateStatus;
@@ -17,13 +17,20 @@ fn makes(alloc: Global, row: &Row, turns: u64, wanted: &str, left: &str) -> Resu
         readings: row.readings,
         gives: row.gives,
     };
-    let (status, outside) = run(alloc, &comes, turns, &before, None)?;
+    let (status, over) = run(alloc, &comes, turns, &before, None)?;
+    Ok(status == GateStatus::Done && is_so(alloc, &over, wanted, left)?)
+}
+
+/// Whether a run made exactly this, and left this file.
+fn is_so(alloc: Global, over: &Over, wanted: &str, left: &str) -> Result<bool, Fail> {
+    let made = told(alloc, over.outside.acts())?;
+    Ok(made.as_str() == wanted && is_left(alloc, over, left)?)
+}
+
+/// Whether a run left this file.
+fn is_left(alloc: Global, over: &Over, left: &str) -> Result<bool, Fail> {
     let left = octets(alloc, left)?;
-    Ok(
-        status == GateStatus::Done
-            && told(alloc, outside.outside.acts())?.as_str() == wanted
-            && outside.journal.store.octets() == left.as_slice(),
-    )
+    Ok(over.journal.store.octets() == left.as_slice())
 }
 
 /// The first turn of a run after which not exactly what is wanted was made, or stands in the file.
@@ -43,63 +50,67 @@ fn wrong_turn(alloc: Global, row: &Row) -> Result<Option<u64>, Fail> {
     }
 }
 
+/// The first of these runs that doesn't go so, with the turn after which it doesn't.
+fn first_wrong(alloc: Global, rows: &[Row]) -> Result<Option<(usize, u64)>, Fail> {
+    let mut number: usize = 0;
+    'rows: for row in rows {
+        if let Some(turn) = wrong_turn(alloc, row)? {
+            return Ok(Some((number, turn)));
+        }
+        number = number.saturating_add(1);
+    }
+    Ok(None)
+}
+
 #[test]
 fn what_passed_is_resumed(rt: HostRuntime) -> Result<(), Fail> {
-    let alloc = rt.alloc();
-    assert_eq!(rt; wrong_turn(alloc, &rows::a_block_that_passed())?, None);
-    assert_eq!(rt; wrong_turn(alloc, &rows::a_block_that_is_resumed())?, None);
-    assert_eq!(rt;
-        wrong_turn(alloc, &rows::a_record_behind_a_closed_gate())?,
-        None
-    );
-    assert_eq!(rt; wrong_turn(alloc, &rows::a_gate_that_is_neither())?, None);
+    let rows = [
+        rows::a_block_that_passed(),
+        rows::a_block_that_is_resumed(),
+        rows::a_record_behind_a_closed_gate(),
+        rows::a_gate_that_is_neither(),
+    ];
+    assert_eq!(rt; first_wrong(rt.alloc(), &rows)?, None);
     Ok(())
 }
 
 #[test]
 fn claimed_sessions_are_marked(rt: HostRuntime) -> Result<(), Fail> {
-    let alloc = rt.alloc();
-    assert_eq!(rt; wrong_turn(alloc, &rows::a_mark_until_it_is_whole())?, None);
-    assert_eq!(rt; wrong_turn(alloc, &rows::a_marked_session())?, None);
-    assert_eq!(rt;
-        wrong_turn(alloc, &rows::a_cancel_of_a_marked_session())?,
-        None
-    );
-    assert_eq!(rt;
-        wrong_turn(alloc, &rows::a_cancel_of_an_unfinished_one())?,
-        None
-    );
+    let rows = [
+        rows::a_mark_until_it_is_whole(),
+        rows::a_marked_session(),
+        rows::a_cancel_of_a_marked_session(),
+        rows::a_cancel_of_an_unfinished_one(),
+    ];
+    assert_eq!(rt; first_wrong(rt.alloc(), &rows)?, None);
     Ok(())
 }
 
 #[test]
 fn marks_and_blocks_of_both_faces_go_on(rt: HostRuntime) -> Result<(), Fail> {
-    let alloc = rt.alloc();
-    assert_eq!(rt; wrong_turn(alloc, &rows::a_mark_of_thirty_days())?, None);
-    assert_eq!(rt; wrong_turn(alloc, &rows::a_younger_mark())?, None);
-    assert_eq!(rt;
-        wrong_turn(alloc, &rows::what_is_kept_of_both_faces())?,
-        None
-    );
-    assert_eq!(rt;
-        wrong_turn(alloc, &rows::octets_that_are_no_bundle())?,
-        None
-    );
+    let rows = [
+        rows::a_mark_of_thirty_days(),
+        rows::a_younger_mark(),
+        rows::what_is_kept_of_both_faces(),
+        rows::octets_that_are_no_bundle(),
+    ];
+    assert_eq!(rt; first_wrong(rt.alloc(), &rows)?, None);
     Ok(())
 }
 
 #[test]
 fn numbers_end_and_sessions_fail(rt: HostRuntime) -> Result<(), Fail> {
-    let alloc = rt.alloc();
-    assert_eq!(rt; wrong_turn(alloc, &rows::the_last_numbers())?, None);
-    assert_eq!(rt; wrong_turn(alloc, &rows::numbers_that_end())?, None);
-    assert_eq!(rt; wrong_turn(alloc, &rows::pieces_that_failed())?, None);
+    let rows = [
+        rows::the_last_numbers(),
+        rows::numbers_that_end(),
+        rows::pieces_that_failed(),
+    ];
+    assert_eq!(rt; first_wrong(rt.alloc(), &rows)?, None);
     Ok(())
 }
 
-/// A file that says that a block is pending under so many ids at the new face.
-fn file_of_many(alloc: Global, block: &[u8], many: u64) -> Result<Vec<u8>, Fail> {
-    let mut kept = Kept::new(alloc);
+/// Has a block be pending under so many ids at the new face.
+fn begin_many(alloc: Global, kept: &mut Kept, block: &[u8], many: u64) -> Result<(), Fail> {
     'ids: for before in 0..many {
         let said = Record::Begun {
             id: before.saturating_add(1),
@@ -108,6 +119,20 @@ fn file_of_many(alloc: Global, block: &[u8], many: u64) -> Result<Vec<u8>, Fail>
         };
         kept.take(alloc, &said)?;
     }
+    Ok(())
+}
+
+/// What is kept where a block is pending under so many ids.
+fn kept_of_many(alloc: Global, many: u64) -> Result<Kept, Fail> {
+    let block = octets(alloc, rows::a_block())?;
+    let mut kept = Kept::new(alloc);
+    begin_many(alloc, &mut kept, &block, many)?;
+    Ok(kept)
+}
+
+/// A file that says so.
+fn file_of_many(alloc: Global, many: u64) -> Result<Vec<u8>, Fail> {
+    let kept = kept_of_many(alloc, many)?;
     let mut file = Vec::new(alloc);
     write_file(alloc, &kept, &mut file)?;
     Ok(file)
@@ -115,25 +140,32 @@ fn file_of_many(alloc: Global, block: &[u8], many: u64) -> Result<Vec<u8>, Fail>
 
 /// What is made of 65 blocks that wait, in so many turns. In the second one the second of them is sent.
 fn made_of_many(alloc: Global, turns: u64) -> Result<String, Fail> {
-    let file = file_of_many(alloc, octets(alloc, rows::a_block())?.as_slice(), 65)?;
+    let file = file_of_many(alloc, 65)?;
     let comes = Comes {
         file: rows::plain_file(),
         readings: &[1015000, 1015000, 1015100, 1015100],
         gives: [&["-", "-"], &["0803020002032900010029", "-", "-"]],
     };
-    let (_, outside) = run(alloc, &comes, turns, &file, None)?;
-    told(alloc, outside.outside.acts())
+    let (_, over) = run(alloc, &comes, turns, &file, None)?;
+    told(alloc, over.outside.acts())
+}
+
+/// Whether it is said of a session in so many turns that its block is resumed.
+fn is_resumed(alloc: Global, turns: u64, session: &str) -> Result<bool, Fail> {
+    let made = made_of_many(alloc, turns)?;
+    let line = format!(in alloc; "\"event\":\"resumed\",\"face\":\"new\",\"session\":{session},")?;
+    Ok(made.contains(line.as_str()))
 }
 
 /// Sixty-four are begun in the first half, and the last one in the half after a session ended.
 #[test]
 fn more_wait_than_there_are_sessions(rt: HostRuntime) -> Result<(), Fail> {
     for (turns, session, wanted) in [(1, "64", true), (1, "65", false), (2, "65", true)] {
-        let made = made_of_many(rt.alloc(), turns)?;
-        let line = format!(in rt.alloc();
-            "\"event\":\"resumed\",\"face\":\"new\",\"session\":{session},"
-        )?;
-        assert_eq!(rt; made.contains(line.as_str()), wanted, "{turns} {session}");
+        assert_eq!(rt;
+            is_resumed(rt.alloc(), turns, session)?,
+            wanted,
+            "{turns} {session}"
+        );
     }
     Ok(())
 }

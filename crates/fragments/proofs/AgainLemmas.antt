@@ -28,12 +28,13 @@ use Rattle.fragments.specs.declared.fault.JoinRefused.TheVariants as refusals
 use Rattle.fragments.specs.declared.join.Join.{Join}
 use Rattle.fragments.specs.declared.joining.Joined.{Joined}
 use Rattle.fragments.specs.declared.joining.Joined.TheVariants as answers
-use Rattle.fragments.specs.Cells.{cell, octet_in, or_else, with_octets, all_octets, whole_octets}
+use Rattle.cells.specs.Cells.{cell, octet_in, or_else, all_octets}
+use Rattle.fragments.specs.Cells.{with_octets, whole_octets}
 use Rattle.fragments.specs.Cutting.{octets_of, octets_in, place_of, place_in, piece}
 use Rattle.fragments.specs.Joining.{same_endpoint, is_named, index_of, open_join, others, accepted, new_join, started, with_payload, unfragmented, head_with, grown, whole_of, is_repeat, joined_with, answered, Joining, Adds}
 use Rattle.fragments.specs.Again.{answer, after_pieces, is_among, IsCut, count_of, AreIndexes, HaveAll, LackOne, IsOpenAnswer, PiecesJoinAgain, JoinsAgain}
 use Rattle.fragments.proofs.CuttingLemmas.{begins-within, reaches-end}
-use Rattle.fragments.proofs.CellLemmas.{cell-filled, length-filled, octet_in-none, octet_in-inside, octet_in-before_first, octet_in-past, or_else-none, all_octets-only, all_octets-cell, all_octets-length}
+use Rattle.cells.proofs.CellLemmas.{cell-filled, length-filled, octet_in-none, octet_in-inside, octet_in-before_first, octet_in-past, or_else-none, all_octets-only, all_octets-cell, all_octets-length}
 
 -- ---- cells
 

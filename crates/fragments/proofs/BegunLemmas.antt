@@ -14,11 +14,12 @@ use Rattle.fragments.specs.declared.limits.TheConstants.{TOTAL_MAX, NAMES_MAX}
 use Rattle.fragments.specs.declared.fault.JoinRefused.{JoinRefused}
 use Rattle.fragments.specs.declared.fault.JoinRefused.TheVariants as refusals
 use Rattle.fragments.specs.declared.join.Join.{Join}
-use Rattle.fragments.specs.Cells.{cell, octet_in, or_else, all_octets, whole_octets}
+use Rattle.cells.specs.Cells.{cell, octet_in, or_else, all_octets}
+use Rattle.fragments.specs.Cells.{whole_octets}
 use Rattle.fragments.specs.Cutting.{octets_of}
 use Rattle.fragments.specs.Joining.{index_of, open_join, open_total, others, accepted, accepted_as, new_join, started, head_with, grown, whole_of, whole_with, joined_with, kept_after}
 use Rattle.fragments.specs.Again.{after, after_at, after_records, WholeWhenAllCame}
-use Rattle.fragments.proofs.CellLemmas.{octet_in-before_first, all_octets-cell, all_octets-length}
+use Rattle.cells.proofs.CellLemmas.{octet_in-before_first, all_octets-cell, all_octets-length}
 use Rattle.fragments.proofs.AgainLemmas.{cell-with}
 
 record IsBegun (join : Join) : Type 0 where

@@ -1,9 +1,6 @@
 pub mod CuttingLemmas
 pub mod ValidLemmas
-pub mod CellLemmas
-pub mod GapLemmas
-pub mod LogLemmas
-pub mod FilledLemmas
+pub mod HasAllLemmas
 pub mod JoinLemmas
 pub mod AgainLemmas
 pub mod BegunLemmas

@@ -17,12 +17,12 @@ use Rattle.fragments.specs.declared.fault.JoinRefused.{JoinRefused}
 use Rattle.fragments.specs.declared.join.Join.{Join}
 use Rattle.fragments.specs.declared.joining.Joined.{Joined}
 use Rattle.fragments.specs.declared.joining.Joined.TheVariants as answers
-use Rattle.fragments.specs.Cells.{cell, octet_in, or_else, all_octets}
+use Rattle.cells.specs.Cells.{cell, octet_in, or_else, all_octets}
 use Rattle.fragments.specs.Cutting.{octets_of}
 use Rattle.fragments.specs.Joining.{same_endpoint, is_named, index_of, open_join, others, accepted, started, with_payload, unfragmented, head_with, grown, whole_of, whole_with, is_repeat, joined_with, answered, kept_after}
 use Rattle.fragments.specs.Again.{after, after_at, after_records, answer, answer_at}
 use Rattle.fragments.specs.Payload.{have_one_name, IsFragmentOf, IsFragmentIfNamed, FragmentsGiveTheWhole}
-use Rattle.fragments.proofs.CellLemmas.{octet_in-inside, octet_in-before_first, octet_in-past, all_octets-cell, all_octets-length}
+use Rattle.cells.proofs.CellLemmas.{octet_in-inside, octet_in-before_first, octet_in-past, all_octets-cell, all_octets-length}
 use Rattle.fragments.proofs.AgainLemmas.{cell-with}
 use Rattle.fragments.proofs.BegunLemmas.{is-taken}
 

@@ -7,5 +7,4 @@ pub mod Again
 pub mod Payload
 pub mod Word
 -- What ties code to it.
-pub mod Laid
 pub mod CutterLeft

@@ -2,14 +2,15 @@
 
 ghost use Rattle.std.specs.Prelude.{◌≡◌, ◌≤◌, ◌<◌, true, IfOk, IfSome, Some};
 ghost use Rattle.bundle_meaning.specs.Valid.{IsValid};
+ghost use Rattle.cells.specs.Cells.{stop_of};
 ghost use Rattle.fragments.specs.declared.limits.TheConstants.{TOTAL_MAX};
-ghost use Rattle.fragments.specs.Cells.{stop_of, has_all};
+ghost use Rattle.fragments.specs.Cells.{with_octets, has_all};
 ghost use Rattle.fragments.specs.Cutting.{octets_of};
 ghost use Rattle.fragments.specs.Joining.{same_endpoint, is_named, new_join, head_with, unfragmented, with_payload, grown, Finishes};
 
-use crate::cells::Cells;
 use crate::cutting::octets_of;
 use bundle_meaning::{Content, Full, Shared};
+use cells::Cells;
 use endpoint::{Endpoint, Fragment, Octets};
 use std::alloc::{AllocError, Global};
 
@@ -84,7 +85,9 @@ impl Join {
         requires { stop_of offset octets.now ≤ TOTAL_MAX }
         ensures { result ≡ has_all self.now.cells offset octets.now }
     {
-        self.cells.has_all(offset, octets)
+        self.cells
+            .places()
+            .covers(offset, offset + octets.len() as u64)
     }
 
     /// The join, with a fragment more. The first octet for a place stays.
@@ -105,7 +108,7 @@ impl Join {
             millis,
             sequence,
             total,
-            cells: cells.with_octets(offset, octets_of(&full.shared.content))?,
+            cells: with_octets(cells, offset, octets_of(&full.shared.content))?,
             head: head_with(alloc, head, full, offset)?,
         })
     }
@@ -122,7 +125,7 @@ impl Join {
             cells,
             head,
         } = self;
-        if !cells.is_whole(total) {
+        let Some(octets) = cells.whole_part(alloc, Some(total))? else {
             return Ok(Finished::Open(Join {
                 source,
                 millis,
@@ -131,7 +134,7 @@ impl Join {
                 cells,
                 head,
             }));
-        }
+        };
         match head {
             None => Ok(Finished::Open(Join {
                 source,
@@ -141,8 +144,20 @@ impl Join {
                 cells,
                 head: None,
             })),
-            Some(head) => Ok(Finished::Whole(with_payload(head, cells.whole(alloc, total)?))),
+            Some(head) => Ok(Finished::Whole(with_payload(head, Octets::from_vec(octets)))),
         }
+    }
+}
+
+/// The cells, with these octets from a place on where none is yet; no octets fill no place.
+fn with_octets(cells: Cells, offset: u64, octets: &[u8]) -> Result<Cells, AllocError>
+    requires { stop_of offset octets.now ≤ TOTAL_MAX }
+    ensures { IfOk result (λ now. now ≡ with_octets cells offset octets.now) }
+{
+    if octets.is_empty() {
+        Ok(cells)
+    } else {
+        cells.with(offset, octets)
     }
 }
 

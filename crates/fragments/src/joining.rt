@@ -3,7 +3,7 @@
 ghost use Rattle.std.specs.Prelude.{◌≡◌, ◌≤◌, [], true, false, Ok, Err, Some, None, IfOk, OnErr};
 ghost use Rattle.bundle_meaning.specs.Valid.{IsValid};
 ghost use Rattle.fragments.specs.declared.limits.TheConstants.{TOTAL_MAX};
-ghost use Rattle.fragments.specs.Cells.{stop_of};
+ghost use Rattle.cells.specs.Cells.{stop_of};
 ghost use Rattle.fragments.specs.Cutting.{octets_of};
 ghost use Rattle.fragments.specs.Again.{JoinsAgain, IsBounded};
 ghost use Rattle.fragments.specs.Joining.{index_of, open_join, others, open_total, accepted, is_repeat, started, Adds, TakesIn};

@@ -14,7 +14,6 @@
 //! [`totals_are_small`].
 #![tactic(auto)]
 
-mod cells;
 mod cutter;
 mod cutting;
 mod fault;
@@ -24,7 +23,6 @@ mod joining;
 mod kept;
 mod laws;
 mod limits;
-mod log;
 
 pub use cutter::Cutter;
 pub use cutting::cut;

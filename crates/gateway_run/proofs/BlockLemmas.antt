@@ -6,8 +6,8 @@ use Rattle.std.proofs.lemmas.Grind.{same_number_lists}
 use Rattle.std.proofs.lemmas.List.{get_or-take, length-take-le}
 use Rattle.std.proofs.lemmas.List.Elements.{All-head, All-tail}
 use Rattle.gateway_run.specs.LineContent.{RedPiece}
-use Rattle.ltp_session.specs.Cells.{octet_in}
-use Rattle.gateway_run.specs.RedPart.{or_else, first_octet}
+use Rattle.cells.specs.Cells.{octet_in, or_else}
+use Rattle.gateway_run.specs.RedPart.{first_octet}
 use Rattle.gateway_run.specs.ReceiverLaw.{IsOfBlock, IsFrontOfBlock}
 
 -- an octet of the block at a place

@@ -3,12 +3,13 @@ use Rattle.std.proofs.Common.{◌≡◌, ℕ, zero, suc, ◌<◌, ◌≤◌, max
 use Rattle.std.proofs.lemmas.Bool.{eq-eqb, cases_lt}
 use Rattle.std.proofs.lemmas.List.{get_or_past}
 use Rattle.ltp_session.specs.declared.name.SessionName.{SessionName}
-use Rattle.ltp_session.specs.Cells.{octet_in, filled, all_octets, whole_part, length_after}
+use Rattle.cells.specs.Cells.{cell, octet_in, or_else, filled, all_octets, whole_part}
+use Rattle.ltp_session.specs.Cells.{length_after}
 use Rattle.gateway_run.specs.LineContent.{RedPiece, stop}
 use Rattle.gateway_run.specs.Session.{Session, fresh, open_part, handed_up, Reply, up, note, skip, is_out_of_bounds, handing_up, meets_open, meets}
-use Rattle.gateway_run.specs.RedPart.{or_else, first_octet, length_by, reach_by, is_filled_below, is_whole, IsRedPart, counts}
+use Rattle.gateway_run.specs.RedPart.{first_octet, length_by, reach_by, is_filled_below, is_whole, IsRedPart, counts}
 use Rattle.gateway_run.specs.ReceiverLaw.{is_begun}
-use Rattle.gateway_run.proofs.CellLemmas.{cell, cell-filled, length-filled, all_octets-length, all_octets-cell, all_octets-only, all_octets-some}
+use Rattle.cells.proofs.CellLemmas.{cell-filled, length-filled, all_octets-length, all_octets-cell, all_octets-only, all_octets-some}
 
 -- ---- filled places
 

@@ -1,5 +1,4 @@
 pub mod BlockLemmas
-pub mod CellLemmas
 pub mod LawLemmas
 pub mod TableLemmas
 pub mod CountLemmas

@@ -18,7 +18,7 @@ use Rattle.gateway_run.specs.LineContent.{RedPiece, stop}
 use Rattle.gateway_run.specs.Session.{Session, fresh, open_part, handed_up, nothing, up, note, skip, is_out_of_bounds, handing_up, meets}
 use Rattle.gateway_run.specs.KeptSessions.{Kept, session_in, with_session, is_unfinished, unfinished, same_name}
 use Rattle.gateway_run.specs.Table.{key_cmp, key, StandsFor, Shows, ShowsOthers, LacksFirst, Puts, found_at, IsTaken}
-use Rattle.gateway_run.proofs.CellLemmas.{length-laid_over}
+use Rattle.cells.proofs.CellLemmas.{length-laid_over}
 use Rattle.gateway_run.proofs.TableLemmas.{session_in-with, unfinished-with, count, same_name-is, both}
 
 then-is : (x y : Ordering) → is_eq (ordering_then x y) ≡ (is_eq x && is_eq y)

@@ -2,15 +2,10 @@
 -- which octets it has. No cells stand here; that the cells of a session agree with it is proved.
 use Rattle.std.specs.Prelude.{◌≡◌, ℕ, zero, suc, ◌<◌, Bool, true, false, not, ◌&&◌, max, List, [], ◌∷◌, length, slice_index, Option, None, Some, is_some, if◌then◌else◌}
 use Rattle.ltp_session.specs.declared.name.SessionName.{SessionName}
-use Rattle.ltp_session.specs.Cells.{octet_in}
+use Rattle.cells.specs.Cells.{octet_in, or_else}
 use Rattle.gateway_run.specs.LineContent.{RedPiece, stop, LineContent, no_hex, no_segment, other, red, content_of}
 use Rattle.gateway_run.specs.Session.{is_out_of_bounds}
 use Rattle.gateway_run.specs.KeptSessions.{same_name}
-
--- the first of two, where there is one
-abbrev pub or_else : {X : Type 0} → Option X → Option X → Option X
-or_else None second = second
-or_else (Some first) second = Some first
 
 -- ---- what the pieces of a session give, the newest first
 

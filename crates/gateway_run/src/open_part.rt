@@ -9,7 +9,7 @@ ghost use Rattle.gateway_run.specs.OpenPart.{Stands};
 
 use crate::part::OpenPart;
 use crate::piece::Piece;
-use ltp_cells::Cells;
+use cells::Cells;
 use ltp_segment::BLOCK_MAX;
 use std::alloc::{AllocError, Global};
 use std::mem;

@@ -1,6 +1,6 @@
 //! What is kept of a red part that isn't whole.
 
-use ltp_cells::Cells;
+use cells::Cells;
 
 /// A red part of which pieces came, and that isn't whole yet.
 #[derive(Drop)]

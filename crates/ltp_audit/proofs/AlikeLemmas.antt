@@ -5,7 +5,7 @@ use Rattle.std.proofs.lemmas.Bool.{eqb-true}
 use Rattle.std.specs.List.{list_all}
 use Rattle.ltp_session.specs.Cells.{octet_in}
 use Rattle.ltp_session.specs.RedPart.{or_else, RedPiece, first_octet}
-use Rattle.ltp_session.proofs.CellLemmas.{octet_in-none}
+use Rattle.cells.proofs.CellLemmas.{octet_in-none}
 use Rattle.ltp_audit.specs.Recorded.{agrees, has_no_other, are_alike}
 use Rattle.ltp_audit.specs.Shows.{AreAlike}
 use Rattle.ltp_audit.proofs.PageLemmas.{octet_in-cons}

@@ -6,7 +6,7 @@ use Rattle.std.proofs.lemmas.Bool.{cases_lt, eq-eqb}
 use Rattle.std.proofs.lemmas.Bool.Decides.{nat_tests}
 use Rattle.ltp_session.specs.Cells.{cell, octet_in}
 use Rattle.ltp_session.specs.RedPart.{or_else}
-use Rattle.ltp_session.proofs.CellLemmas.{octet_in-inside, octet_in-before_first, octet_in-past, octet_in-none}
+use Rattle.cells.proofs.CellLemmas.{octet_in-inside, octet_in-before_first, octet_in-past, octet_in-none}
 use Rattle.ltp_audit.specs.Recorded.{agrees, has_no_other}
 
 pub cell-empty : (n k : ℕ) → cell (replicate n None) k ≡ None

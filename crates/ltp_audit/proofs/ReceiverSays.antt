@@ -24,7 +24,7 @@ use Rattle.ltp_session.specs.Timer.{is_past_serials}
 use Rattle.ltp_laws.specs.Claims.{IsFilled}
 use Rattle.ltp_laws.specs.Blocks.{IfKnown}
 use Rattle.ltp_laws.specs.Kept.{IfKept, IfKeeps}
-use Rattle.ltp_laws.proofs.CellLemmas.{cell-filled}
+use Rattle.cells.proofs.CellLemmas.{cell-filled}
 use Rattle.ltp_laws.proofs.ClaimLemmas.{report_of-is}
 use Rattle.ltp_laws.proofs.ListLemmas.{both_arms, by_arms, answered}
 use Rattle.ltp_laws.proofs.TableLemmas.{self_eqb}

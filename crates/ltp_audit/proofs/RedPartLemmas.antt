@@ -11,7 +11,7 @@ use Rattle.ltp_segment.specs.declared.segment.Claim.{Claim}
 use Rattle.ltp_segment.specs.Legal.{IsClaim, AreClaims}
 use Rattle.ltp_session.specs.Cells.{cell, octet_in}
 use Rattle.ltp_session.specs.RedPart.{or_else}
-use Rattle.ltp_session.proofs.CellLemmas.{octet_in-before_first, octet_in-past, octet_in-none, or_else-none}
+use Rattle.cells.proofs.CellLemmas.{octet_in-before_first, octet_in-past, octet_in-none, or_else-none}
 use Rattle.ltp_audit.specs.declared.page.Page.{Page}
 use Rattle.ltp_audit.specs.declared.page.TheConstants.{PAGE}
 use Rattle.ltp_audit.specs.declared.places.TheConstants.{LAST}

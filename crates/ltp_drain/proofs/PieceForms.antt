@@ -27,7 +27,7 @@ use Rattle.ltp_laws.specs.Claims.{IsWhole}
 use Rattle.ltp_laws.specs.HandUps.{AllFilled}
 use Rattle.ltp_laws.specs.Kept.{IfKept}
 use Rattle.ltp_laws.specs.Serials.{pending_of}
-use Rattle.ltp_laws.proofs.CellLemmas.{cell-filled}
+use Rattle.cells.proofs.CellLemmas.{cell-filled}
 use Rattle.ltp_laws.proofs.ClaimLemmas.{claims_from, report_with, report_of-with}
 use Rattle.ltp_laws.proofs.HandUpLemmas.{filled-reach}
 use Rattle.ltp_laws.proofs.ListLemmas.{both_arms, by_arms}

@@ -13,7 +13,7 @@ use Rattle.ltp_session.specs.Sender.{Sending, SendingPhase, sender_open, sender_
 use Rattle.ltp_session.specs.Step.{Change, stays, keeps, ends, StepValue}
 use Rattle.ltp_session.specs.Table.{find, put, without, settled, ticked, then_kept}
 use Rattle.ltp_session.specs.Timer.{first_serial, is_past_serials}
-use Rattle.ltp_session.proofs.CellLemmas.{length-filled}
+use Rattle.cells.proofs.CellLemmas.{length-filled}
 use Rattle.ltp_laws.specs.Kept.{IfKept, IfKeeps}
 use Rattle.ltp_laws.specs.Steps.{ReceiverStep, idle, over, turns, again, fills, reports_on}
 use Rattle.ltp_laws.proofs.ListLemmas.{both_arms, by_arms, answered}

@@ -16,7 +16,8 @@ use Rattle.ltp_session.specs.Cells.{cell}
 use Rattle.ltp_session.specs.Receiver.{Receiving}
 use Rattle.ltp_session.specs.Table.{find, put}
 use Rattle.ltp_session.specs.Views.{SessionValue}
-use Rattle.ltp_receiver.specs.Receiver.{Covers, cells_of}
+use Rattle.cells.specs.Covers.{Covers}
+use Rattle.ltp_receiver.specs.Receiver.{cells_of}
 use Rattle.ltp_engine.specs.declared.inbound.Inbound.{Inbound}
 use Rattle.ltp_engine.specs.Bounds.{ReceivesAtMost}
 use Rattle.ltp_engine.specs.Sessions.{cells_in}
@@ -92,7 +93,7 @@ count-same (b ∷ places) (x ∷ cells) within each =
     let here : b ≡ is_some x = each 0 in
     count-one b places ∙ (rw (here, rest) refl ∙ sym (sum_by-cons (λ (c : Option ℕ). if is_some c then 1 else 0) x cells))
 
-pub count-covers : (places : List Bool) (cells : List (Option ℕ)) → Covers places cells → covered_count places ≡ count_by is_some cells
+pub count-covers : {most : ℕ} (places : List Bool) (cells : List (Option ℕ)) → Covers most places cells → covered_count places ≡ count_by is_some cells
 count-covers places cells covers = count-same places cells (subst (λ n. length cells ≤ n) (sym covers.limit) covers.within) covers.each
 
 -- ---- all sessions

@@ -23,7 +23,8 @@ use Rattle.ltp_laws.specs.Runs.{KeepsUnder, both_facts}
 use Rattle.ltp_laws.specs.Serials.{HasReported, NoReports, SerialFacts}
 use Rattle.ltp_laws.specs.Steps.{ReceiverStep, idle, over, turns, again, fills, reports_on}
 use Rattle.ltp_laws.specs.View.{View, receiver_moves, IsIn}
-use Rattle.ltp_laws.proofs.CellLemmas.{cell-filled, or_else}
+use Rattle.cells.specs.Cells.{or_else}
+use Rattle.cells.proofs.CellLemmas.{cell-filled}
 use Rattle.ltp_laws.proofs.ListLemmas.{both_arms, by_arms}
 use Rattle.ltp_laws.proofs.ReceiverLemmas.{with_red-is, end-within, fresh-is}
 use Rattle.ltp_laws.proofs.SerialLemmas.{among-append, Old, old-among, old-resent, fresh-tells}

@@ -15,8 +15,9 @@ use Rattle.ltp_laws.specs.Kept.{IsClosedOr, IfKept, IfKeeps}
 use Rattle.ltp_laws.specs.Runs.{KeepsUnder}
 use Rattle.ltp_laws.specs.Steps.{ReceiverStep, idle, over, turns, again, fills, reports_on}
 use Rattle.ltp_laws.specs.View.{View, closed_after, IsIn}
-use Rattle.ltp_laws.proofs.CellLemmas.{or_else, cell-filled, all_octets-length, all_octets-cell}
-use Rattle.ltp_laws.proofs.CellLemmas.{all_octets-some}
+use Rattle.cells.specs.Cells.{or_else}
+use Rattle.cells.proofs.CellLemmas.{cell-filled, all_octets-length, all_octets-cell}
+use Rattle.cells.proofs.CellLemmas.{all_octets-some}
 use Rattle.ltp_laws.proofs.ReceiverLemmas.{with_red-is, fresh-is}
 use Rattle.ltp_laws.proofs.SerialLemmas.{all-among}
 use Rattle.ltp_laws.proofs.StepLemmas.{met, hears-form, tick-form}

@@ -3,7 +3,6 @@ pub mod TableLemmas
 pub mod FrameLemmas
 pub mod RunLemmas
 pub mod ApartLemmas
-pub mod CellLemmas
 pub mod SenderLemmas
 pub mod ReceiverLemmas
 pub mod SerialLemmas

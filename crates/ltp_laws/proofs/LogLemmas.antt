@@ -37,7 +37,7 @@ use Rattle.ltp_laws.specs.Steps.{HandsUp, ReceiverStep, idle, over, turns, again
 use Rattle.ltp_laws.specs.Steps.{reports_on}
 use Rattle.ltp_laws.specs.View.{IsIn, View, view, said, closed_after, sender_moves}
 use Rattle.ltp_laws.specs.View.{receiver_moves, evicted, Unused, untouched_view, session_of}
-use Rattle.ltp_laws.proofs.CellLemmas.{all_octets-length, all_octets-cell}
+use Rattle.cells.proofs.CellLemmas.{all_octets-length, all_octets-cell}
 use Rattle.ltp_laws.proofs.FactLemmas.{facts-keep, session-keep}
 use Rattle.ltp_laws.proofs.FrameLemmas.{opening, find-with_receiver, closed-with_receiver}
 use Rattle.ltp_laws.proofs.FrameLemmas.{next-unused}

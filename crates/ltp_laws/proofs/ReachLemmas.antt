@@ -27,7 +27,8 @@ use Rattle.ltp_laws.specs.Serials.{pending_of, HasReported, NoReports, SerialFac
 use Rattle.ltp_laws.specs.Steps.{Reports, ReceiverStep, idle, over, turns, again, fills}
 use Rattle.ltp_laws.specs.Steps.{reports_on}
 use Rattle.ltp_laws.specs.View.{View, closed_after, receiver_moves, IsIn}
-use Rattle.ltp_laws.proofs.CellLemmas.{or_else, cell-filled}
+use Rattle.cells.specs.Cells.{or_else}
+use Rattle.cells.proofs.CellLemmas.{cell-filled}
 use Rattle.ltp_laws.proofs.ClaimLemmas.{claims_from, grown, report_with, AreRuns, runs-from}
 use Rattle.ltp_laws.proofs.ClaimLemmas.{apart-take, ends-low, ends-most, report_of-with}
 use Rattle.ltp_laws.proofs.HandUpLemmas.{filled-reach, still-filled, gone-on, or_open}

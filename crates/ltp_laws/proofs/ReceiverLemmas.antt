@@ -24,7 +24,8 @@ use Rattle.ltp_laws.specs.Blocks.{IsAt, IsOf, IsInPart, IsPieceOf, IsContentOf, 
 use Rattle.ltp_laws.specs.Blocks.{IfKnown, IfGreen}
 use Rattle.ltp_laws.specs.Kept.{IfKept}
 use Rattle.ltp_laws.specs.Runs.{KeepsTo}
-use Rattle.ltp_laws.proofs.CellLemmas.{or_else, cell-filled, length-filled}
+use Rattle.cells.specs.Cells.{or_else}
+use Rattle.cells.proofs.CellLemmas.{cell-filled, length-filled}
 use Rattle.ltp_laws.proofs.ListLemmas.{both_arms, by_arms, answered}
 
 -- ---- what a red piece adds

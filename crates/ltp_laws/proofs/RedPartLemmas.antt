@@ -31,7 +31,8 @@ use Rattle.ltp_laws.specs.Spelling.{Holds, Ends, HoldsCells, HeldFacts, IsRedPar
 use Rattle.ltp_laws.specs.Steps.{HandsUp, ReceiverStep, idle, over, turns, again, fills}
 use Rattle.ltp_laws.specs.Steps.{reports_on}
 use Rattle.ltp_laws.specs.View.{said, view_by, View, IsIn}
-use Rattle.ltp_laws.proofs.CellLemmas.{or_else, cell-filled, all_octets-length, all_octets-cell}
+use Rattle.cells.specs.Cells.{or_else}
+use Rattle.cells.proofs.CellLemmas.{cell-filled, all_octets-length, all_octets-cell}
 use Rattle.ltp_laws.proofs.ListLemmas.{both_arms, by_arms, answered}
 use Rattle.ltp_laws.proofs.SerialLemmas.{among-left}
 use Rattle.ltp_laws.proofs.StepLemmas.{met, hears-form, tick-form}

@@ -14,7 +14,7 @@ use Rattle.ltp_segment.specs.Legal.{AreClaims, IsReport}
 use Rattle.ltp_segment.specs.Reports.{end_from}
 use Rattle.ltp_session.specs.Cells.{cell, filled_places}
 use Rattle.ltp_session.specs.Claims.{claim_of, claims_below, upper_of, report_within, report_on}
-use Rattle.ltp_receiver.specs.Receiver.{Covers}
+use Rattle.cells.specs.Covers.{Covers}
 
 -- ---- runs below a bound
 
@@ -295,7 +295,7 @@ cell-places [] k = refl
 cell-places (c ∷ cells) zero = refl
 cell-places (c ∷ cells) (suc k) = cell-places cells k
 
-pub claims-same : (places : List Bool) (cells : List (Option ℕ)) (upper : ℕ) → Covers places cells
+pub claims-same : {most : ℕ} (places : List Bool) (cells : List (Option ℕ)) (upper : ℕ) → Covers most places cells
     → map claim_of (runs_of (take upper places)) ≡ claims_below upper cells
 unfolding claims_below runs_of
 claims-same places cells upper covers =
@@ -303,7 +303,7 @@ claims-same places cells upper covers =
     ∙ (ap (cut upper) (same-runs 0 places (filled_places cells) (λ i. covers.each i ∙ sym (cell-places cells i)))
     ∙ sym (runs_of-take upper (filled_places cells))))
 
-pub report-same : (places : List Bool) (cells : List (Option ℕ)) (serial checkpoint upper : ℕ) → Covers places cells
+pub report-same : {most : ℕ} (places : List Bool) (cells : List (Option ℕ)) (serial checkpoint upper : ℕ) → Covers most places cells
     → report_within 1024 serial checkpoint upper (map claim_of (runs_of (take upper places))) ≡ report_on serial checkpoint upper cells
 unfolding report_on
 report-same places cells serial checkpoint upper covers =

@@ -2,8 +2,6 @@
 pub mod Receiver
 pub mod RedPart
 -- what ties the code to it
-pub mod Laid
 pub mod Reports
 pub mod Phases
 pub mod Kept
-pub mod Ties

@@ -1,13 +1,9 @@
 -- What a receiver shows of its session.
 
-use Rattle.std.specs.Prelude.{◌≡◌, ℕ, ◌≤◌, Bool, false, List, [], length, Option, None, Some}
-use Rattle.std.specs.Prelude.{is_some}
-use Rattle.spans.specs.Places.{is_covered}
-use Rattle.ltp_segment.specs.declared.session.TheConstants.{BLOCK_MAX}
+use Rattle.std.specs.Prelude.{◌≡◌, ℕ, Bool, false, List, [], Option, None, Some}
 use Rattle.ltp_segment.specs.Policy.{PolicyValue}
 use Rattle.ltp_segment.specs.Values.{PieceValue}
 use Rattle.ltp_session.specs.declared.name.SessionName.{SessionName}
-use Rattle.ltp_session.specs.Cells.{cell}
 use Rattle.ltp_session.specs.Step.{StepValue, stays, sending}
 use Rattle.ltp_session.specs.Receiver.{Receiving, fresh, is_cancelling, is_outside, piece_step}
 use Rattle.ltp_session.specs.Receiver.{receiver_deadline}
@@ -55,9 +51,3 @@ deadline_of (Some r) = receiver_deadline r
 abbrev pub cells_of : Option Receiving → List (Option ℕ)
 cells_of None = []
 cells_of (Some r) = r.cells
-
--- these places, up to the greatest length of a block, are covered where the cells are filled
-pub record Covers (places : List Bool) (cells : List (Option ℕ)) : Type 0 where
-  pub limit : length places ≡ BLOCK_MAX
-  pub within : length cells ≤ BLOCK_MAX
-  pub each : (k : ℕ) → is_covered places k ≡ is_some (cell cells k)

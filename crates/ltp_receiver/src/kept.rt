@@ -14,9 +14,9 @@ ghost use Rattle.ltp_session.specs.Receiver.{red_part, with_handed_up, takes_red
 ghost use Rattle.ltp_session.specs.Receiver.{acknowledged, receiver_tick};
 
 use crate::bounds::{bound_of, ends_block, is_below, is_misplaced, is_past, length_after, lowest};
-use crate::cells::Cells;
 use crate::phase::{Pending, Phase};
 use crate::report::Report;
+use cells::Cells;
 use endpoint::Octets;
 use ltp_segment::{Green, Note, Outs, PieceView, Policy, Step, write_cancel};
 use ltp_session::{SessionName, Timer, first_serial};
@@ -229,7 +229,8 @@ impl Kept {
         if self.handed_up {
             return Ok(None);
         }
-        self.cells.whole_part(alloc, self.length)
+        let part = self.cells.whole_part(alloc, self.length)?;
+        Ok(part.map(Octets::from_vec))
     }
 
     /// The session once its red part is handed up, where there is one.

@@ -6,13 +6,14 @@ ghost use Rattle.spans.specs.Places.{uncovered};
 ghost use Rattle.ltp_segment.specs.declared.session.TheConstants.{BLOCK_MAX};
 ghost use Rattle.ltp_segment.specs.PolicyViews.{policy_value};
 ghost use Rattle.ltp_segment.specs.Views.{piece_value};
+ghost use Rattle.cells.specs.Covers.{Covers};
 ghost use Rattle.ltp_session.specs.Cells.{stop_of};
 ghost use Rattle.ltp_session.specs.Receiver.{on_report_ack, on_receiver_cancel_ack};
 ghost use Rattle.ltp_session.specs.Receiver.{on_receiver_tick};
 ghost use Rattle.ltp_session.specs.Views.{answer_of, changed};
 ghost use Rattle.ltp_receiver.specs.Receiver.{new_session, IsOpen, on_open_piece, is_kept_outside};
 ghost use Rattle.ltp_receiver.specs.Receiver.{is_kept_cancelling, is_kept_handed_up, deadline_of};
-ghost use Rattle.ltp_receiver.specs.Receiver.{cells_of, Covers};
+ghost use Rattle.ltp_receiver.specs.Receiver.{cells_of};
 
 use crate::kept::{Kept, Terms, sending};
 use ltp_segment::{BLOCK_MAX, Outs, PieceView, Policy, Step};
@@ -198,7 +199,7 @@ impl Receiver {
     /// is over there are none.
     pub fn filled(&self) -> &Spans
         requires whole { self.now.spent ≡ false }
-        ensures { Covers result.now (cells_of self.now.kept) }
+        ensures { Covers BLOCK_MAX result.now (cells_of self.now.kept) }
     {
         match &self.kept {
             None => &self.nothing,

@@ -7,7 +7,7 @@ use Rattle.std.proofs.lemmas.List.{get_or_past, get_or-take, length-take-le}
 use Rattle.std.proofs.lemmas.List.Elements.{All-head, All-tail}
 use Rattle.ltp_session.specs.Cells.{cell, octet_in, filled, all_octets, whole_part, length_after, is_misplaced}
 use Rattle.ltp_session.specs.RedPart.{RedPiece, red_stop, or_else, first_octet, red_length, red_reach, is_filled_below, is_whole, IsRedPart, IsOfBlock, IsFrontOfBlock}
-use Rattle.ltp_session.proofs.CellLemmas.{cell-filled, length-filled, all_octets-length, all_octets-cell, all_octets-only, all_octets-some}
+use Rattle.cells.proofs.CellLemmas.{cell-filled, length-filled, all_octets-length, all_octets-cell, all_octets-only, all_octets-some}
 
 -- ---- filled places
 

@@ -5,6 +5,7 @@ use Rattle.std.specs.Prelude.{◌≡◌, ℕ, zero, suc, ◌+◌, ◌<◌, All, 
 use Rattle.std.specs.Prelude.{List, [], ◌∷◌, length, take, slice_index, Option, None, Some}
 use Rattle.std.specs.Prelude.{is_some, if◌then◌else◌}
 use Rattle.ltp_session.specs.Cells.{octet_in, stop_of}
+pub use Rattle.cells.specs.Cells.{or_else}
 
 -- a piece of a red part: where it begins, whether the red part ends with it, and its octets
 pub record RedPiece : Type 0 where
@@ -15,11 +16,6 @@ pub record RedPiece : Type 0 where
 -- the place after its last octet
 abbrev pub red_stop : RedPiece → ℕ
 red_stop piece = stop_of piece.offset piece.body
-
--- the first of two, where there is one
-abbrev pub or_else : {X : Type 0} → Option X → Option X → Option X
-or_else None second = second
-or_else (Some first) second = Some first
 
 -- ---- what the pieces give that came, the newest first
 

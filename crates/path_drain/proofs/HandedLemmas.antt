@@ -13,7 +13,7 @@ use Rattle.ltp_laws.specs.Blocks.{BlockFacts, IfKnown, IsAt, IsReceiverOf}
 use Rattle.ltp_laws.specs.Steps.{HandsUp, ReceiverStep, again, fills, idle, over, reports_on}
 use Rattle.ltp_laws.specs.Steps.{turns}
 use Rattle.ltp_laws.specs.View.{IsIn, View}
-use Rattle.ltp_laws.proofs.CellLemmas.{all_octets-cell, all_octets-length}
+use Rattle.cells.proofs.CellLemmas.{all_octets-cell, all_octets-length}
 use Rattle.ltp_laws.proofs.HandUpLemmas.{heard-piece, met-kept}
 use Rattle.ltp_laws.proofs.ReceiverLemmas.{fresh-is, with_red-is}
 use Rattle.ltp_laws.proofs.StepLemmas.{met}

@@ -37,7 +37,7 @@ pub fn run<S: Source, K: Sink, L: Link, C: Clock>(
     run_told(alloc, words, source, sink, old_link, new_link, clock).status
 }
 
-/// The same, and which limit the run passed, where it passed one. It is the call that `main` makes.
+/// The same, and which limit the run passed, where it passed one. It is the call that the program makes.
 pub fn run_told<S: Source, K: Sink, L: Link, C: Clock>(
     alloc: Global,
     words: &[Word],

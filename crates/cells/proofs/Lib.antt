@@ -1,0 +1,4 @@
+pub mod CellLemmas
+pub mod GapLemmas
+pub mod LogLemmas
+pub mod FilledLemmas

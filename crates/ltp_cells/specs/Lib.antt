@@ -1,5 +1,0 @@
--- what public clauses cite
-pub mod Covers
--- what ties the code to it
-pub mod Laid
-pub mod Gaps

@@ -203,11 +203,11 @@ class Journal:
     def waiting(self, face):
         """The first block of an earlier run that waits at a face."""
         begun = set(self.ids.values())
-        return next(((number, block) for number, (at, block) in self.kept.pending.items()
+        return next(((number, block) for number, (at, *_, block) in self.kept.pending.items()
                      if at == face and number not in begun), None)
 
     def is_large(self):
-        return len(self.octets) - 1 >= (64 << 20) + 2 * sum(len(block) for _, block in self.kept.pending.values())
+        return len(self.octets) - 1 >= (64 << 20) + 2 * sum(len(piece[-1]) for piece in self.kept.pending.values())
 
 
 FACES = {OLD: 0, NEW: 1}

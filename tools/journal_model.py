@@ -28,7 +28,8 @@ MARK_AGE = 30 * 24 * 3600 * 1000
 
 @dataclass
 class Kept:
-    """Blocks that are pending as [face, block] by their ids, marks as [face, session, when], and numbers."""
+    """Blocks that are pending as [face, block] by their ids, or as [face, came, block] where they have a moment; marks as
+    [face, session, when]; and numbers."""
 
     pending: dict = field(default_factory=dict)
     marks: list = field(default_factory=list)
@@ -38,8 +39,8 @@ class Kept:
     def apply(self, record):
         kind, *rest = record
         if kind == "begun":
-            number, face, block = rest
-            self.pending[number], self.greatest = [face, block], number
+            number, *piece = rest
+            self.pending[number], self.greatest = piece, number
         elif kind == "done":
             del self.pending[rest[0]]
         elif kind == "mark":
@@ -69,7 +70,7 @@ class Kept:
     def file(self):
         """The octets of a file that is made anew of it."""
         records = [["reserved", 0, self.reserved[0]], ["reserved", 1, self.reserved[1]]]
-        records += [["begun", number, face, block] for number, (face, block) in self.pending.items()]
+        records += [["begun", number, *piece] for number, piece in self.pending.items()]
         records += [["mark", *mark] for mark in self.marks]
         return OPENING + b"".join(OPEN + spelled(each) for each in records) + CLOSED
 
@@ -80,8 +81,9 @@ def spelled(record):
     """A record with its check."""
     kind, *rest = record
     if kind == "begun":
-        number, face, block = rest
-        octets = b"\1" + sdnv(number) + bytes([face]) + sdnv(len(block)) + block
+        number, face, *came, block = rest
+        octets = (b"\6" if came else b"\1") + sdnv(number) + bytes([face])
+        octets += b"".join(map(sdnv, came)) + sdnv(len(block)) + block
     elif kind == "done":
         octets = b"\2" + sdnv(rest[0]) + bytes([HOWS[rest[1]]])
     elif kind == "mark":
@@ -110,11 +112,13 @@ class Reader(Fields):
     def record(self, kept):
         began = self.at
         kind = self.octet()
-        self.must(1 <= kind <= 5, "Kind")
-        if kind == 1:
+        self.must(1 <= kind <= 6, "Kind")
+        if kind in (1, 6):
             number = self.shortest()
             self.must(number > kept.greatest, "Id")
-            record = ["begun", number, self.face(), self.many(self.shortest())]
+            face = self.face()
+            came = [self.shortest()] if kind == 6 else []
+            record = ["begun", number, face, *came, self.many(self.shortest())]
         elif kind == 2:
             number = self.shortest()
             self.must(number in kept.pending, "Id")
@@ -154,8 +158,8 @@ def main(words):
     except Refused as refusal:
         print(f"damaged at {refusal.at}: {refusal.cause}")
         return 1
-    for number, (face, block) in kept.pending.items():
-        print(f"pending {number} {('old', 'new')[face]} {len(block)} octets")
+    for number, (face, *came, block) in kept.pending.items():
+        print(f"pending {number} {('old', 'new')[face]} {len(block)} octets", *(f"came {moment}" for moment in came))
     for face, session, when in kept.marks:
         print(f"mark {('old', 'new')[face]} {session} {when}")
     print(f"reserved {kept.reserved[0]} {kept.reserved[1]}, gate at {gate}")

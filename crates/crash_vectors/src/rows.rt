@@ -91,6 +91,25 @@ sent new 0303a00100010029a002009f8907000182028202018202820101820100821a000f42450
     }
 }
 
+/// A block with an age is dated. It is resumed as it is, and stays dated in the new file.
+pub(crate) fn a_dated_block_that_is_resumed() -> Row {
+    Row {
+        file: plain_file(),
+        readings: &[1015000, 1015000],
+        gives: [&["-"], &["-"]],
+        made: r#"installed
+sent new 0303a00100010032a002009f8907000182028202018202820101820100821a000f42450019ea5b425a46850702000043191388850101000043616263ff
+{"at":"2000-01-01T00:16:55.000Z","event":"start","first_session":[4097,4097],"marks":0,"pending":1}
+{"at":"2000-01-01T00:16:55.000Z","event":"resumed","face":"new","session":4097,"subject":{"creation":[1000005,0],"destination":"ipn:2.1","fragment":null,"payload":3,"source":"ipn:1.1","version":7}}
+"#,
+        ends: &[440],
+        before: "66696d6a726e6c31010500a00198234a74010501a0013d62d80a01060101bdd250329f8907000182028202018202820101820100821a000f42450019ea5b425a46850702000043191388850101000043616263ffae51ea3300",
+        files: &[
+            "66696d6a726e6c31010500c00118bf6f72010501c001bdfefd0c01060101bdd250329f8907000182028202018202820101820100821a000f42450019ea5b425a46850702000043191388850101000043616263ffae51ea3300",
+        ],
+    }
+}
+
 /// A record behind a closed gate counts for nothing.
 pub(crate) fn a_record_behind_a_closed_gate() -> Row {
     Row {

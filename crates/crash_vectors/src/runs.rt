@@ -67,6 +67,7 @@ fn what_passed_is_resumed(rt: HostRuntime) -> Result<(), Fail> {
     let rows = [
         rows::a_block_that_passed(),
         rows::a_block_that_is_resumed(),
+        rows::a_dated_block_that_is_resumed(),
         rows::a_record_behind_a_closed_gate(),
         rows::a_gate_that_is_neither(),
     ];
@@ -115,6 +116,7 @@ fn begin_many(alloc: Global, kept: &mut Kept, block: &[u8], many: u64) -> Result
         let said = Record::Begun {
             id: before.saturating_add(1),
             face: Face::New,
+            came: None,
             block,
         };
         kept.take(alloc, &said)?;

@@ -29,9 +29,15 @@ fn copy_record(alloc: Global, said: &Record) -> Result<MemRecord, AllocError>
     ensures { IfOk result (λ copy. value_of copy ≡ record_of said.now) }
 {
     Ok(match said {
-        Record::Begun { id, face, block } => MemRecord::Begun(Pending {
+        Record::Begun {
+            id,
+            face,
+            came,
+            block,
+        } => MemRecord::Begun(Pending {
             id: *id,
             face: *face,
+            came: *came,
             block: Octets::from_slice(alloc, block)?,
         }),
         Record::Done { id, how } => MemRecord::Done { id: *id, how: *how },
@@ -67,6 +73,7 @@ fn copy_pending(alloc: Global, pending: &[Pending]) -> Result<Vec<Pending>, Allo
         copies.push(Pending {
             id: one.id,
             face: one.face,
+            came: one.came,
             block: Octets::from_slice(alloc, one.block.as_slice())?,
         })?;
     }

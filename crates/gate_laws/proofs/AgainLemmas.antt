@@ -53,7 +53,7 @@ RiseTo low high (p ∷ ps) = (low < p.id) × RiseTo p.id high ps
 
 rise-legal : (low high : ℕ) (ps : List Pending) → low ≤ high → AreBegun low ps → AreUpTo high ps → RiseTo low high ps
 rise-legal low high [] le are up = le
-rise-legal low high (p ∷ ps) le are up = (are.0, rise-legal p.id high ps up.0 are.3 up.1)
+rise-legal low high (p ∷ ps) le are up = (are.0, rise-legal p.id high ps up.0 are.4 up.1)
 
 rise-below : (m low high : ℕ) (ps : List Pending) → m ≤ low → RiseTo low high ps → RiseTo m high ps
 rise-below m low high [] le rise = omega (arith, le, rise)

@@ -87,6 +87,7 @@ impl Work {
         Ok(Some(Pending {
             id: pending.id,
             face: pending.face,
+            came: pending.came,
             block: pending.block.copy(self.alloc)?,
         }))
     }
@@ -97,7 +98,12 @@ impl Work {
         requires can { can_begin pending.face (self.old).gate ≡ true }
         ensures { OnOk result (Does self.old self.new (parts.resumed pending)) }
     {
-        let Pending { id, face, block } = pending;
+        let Pending {
+            id,
+            face,
+            block,
+            ..
+        } = pending;
         if !is_block(block.as_slice()) {
             return Err(AllocError);
         }

@@ -33,14 +33,14 @@ either a b = a || b
 
 above-any : (n id : ℕ) (ps : List Pending) → id ≤ n → AreBegun n ps → list_any (has_id id) ps ≡ false
 above-any n id [] le are = refl
-above-any n id (p ∷ ps) le (above, small, short, rest) =
+above-any n id (p ∷ ps) le (above, small, short, moment, rest) =
     let other : (p.id == id) ≡ false = ne_eqb p.id id (λ e. omega (arith, e, le, above)) in
     rw other (above-any p.id id ps (omega (arith, le, above)) rest)
 
 gone-any : (n id : ℕ) (ps : List Pending) → AreBegun n ps → list_any (has_id id) (drop_first (has_id id) ps) ≡ false
 unfolding drop_first
 gone-any n id [] are = refl
-gone-any n id (p ∷ ps) (above, small, short, rest) = by (p.id == id) refl (gone-any p.id id ps rest)
+gone-any n id (p ∷ ps) (above, small, short, moment, rest) = by (p.id == id) refl (gone-any p.id id ps rest)
   where
     by : (t : Bool) → (p.id == id) ≡ t → list_any (has_id id) (drop_first (has_id id) ps) ≡ false
         → list_any (has_id id) (if t then ps else p ∷ drop_first (has_id id) ps) ≡ false

@@ -95,14 +95,14 @@ begins-one : (kept : KeptValue) (begun : Begun) (records : List RecordValue) (mo
 unfolding kept_with
 begins-one kept begun records more named small short rest =
     let seam = append_assoc named (named_with begun.face begun.session (kept.greatest + 1) ∷ []) more in record {
-      may = ((omega arith, small, short), rest.may);
+      may = ((omega arith, small, short, tt), rest.may);
       marks = rest.marks;
       pending = rw seam at rest.pending;
       own_ids = rw seam at rest.own_ids;
     }
 
 may-begin : (kept : KeptValue) (b : Begun) (n : ℕ) → kept.greatest + suc n < 2 ^ 64 → length b.block < 2 ^ 64 → MayCome kept (a_begun (pending_with (kept.greatest + 1) b))
-may-begin kept b n small short = (omega arith, omega (arith, small), short)
+may-begin kept b n small short = (omega arith, omega (arith, small), short, tt)
 
 pieces-follow : (kept : KeptValue) (begun : List Begun) (named : List Named) → IsLegal kept → ArePending kept.pending named → HaveOwnIds named
     → kept.greatest + length begun < 2 ^ 64 → AreShort begun → Begins kept (begun_records kept.greatest begun) (named ++ begun_named kept.greatest begun)

@@ -59,7 +59,8 @@ named_left is_open (n ∷ more) named =
 -- ---- `begun` for each piece that is begun, with the next id; a report of the gateway has none
 
 abbrev pub pending_with : ℕ → Begun → Pending
-pending_with id begun = record { id = id; face = begun.face; block = begun.block }
+pending_with id begun =
+    record { id = id; face = begun.face; came = None; block = begun.block }
 
 unfoldable pub begun_records : ℕ → List Begun → List RecordValue
 begun_records greatest [] = []

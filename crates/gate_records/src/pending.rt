@@ -48,13 +48,15 @@ pub(crate) fn next_id(greatest: u64) -> Result<u64, AllocError>
     }
 }
 
-/// A block that is begun, under this id, with a copy of its octets.
+/// A block that is begun, under this id, with a copy of its octets. It has no moment: it goes at once, as it
+/// came.
 pub(crate) fn pending_of(alloc: Global, id: u64, begun: &Begun) -> Result<Pending, AllocError>
     ensures { IfOk result (λ p. p ≡ pending_with id begun.now) }
 {
     Ok(Pending {
         id,
         face: begun.face,
+        came: None,
         block: begun.block.copy(alloc)?,
     })
 }

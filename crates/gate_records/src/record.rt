@@ -32,6 +32,7 @@ impl StepRecord {
             StepRecord::Begun(pending) => Record::Begun {
                 id: pending.id,
                 face: pending.face,
+                came: pending.came,
                 block: pending.block.as_slice(),
             },
             StepRecord::Done { id, how } => Record::Done { id: *id, how: *how },

@@ -84,8 +84,8 @@ may-append kept (r ∷ rs) qs (may, rest) after = (may, may-append (kept_with ke
 may-begin : (kept : KeptValue) (pending : List Pending) → AreBegun kept.greatest pending → MayFollow kept (begun_all pending)
 unfolding kept_with
 may-begin kept [] are = tt
-may-begin kept (p ∷ pending) (above, small, short, rest) =
-    ((above, small, short), may-begin (with_pending kept (kept.pending ++ p ∷ []) p.id) pending rest)
+may-begin kept (p ∷ pending) (above, small, short, moment, rest) =
+    ((above, small, short, moment), may-begin (with_pending kept (kept.pending ++ p ∷ []) p.id) pending rest)
 
 may-mark : (kept : KeptValue) (earlier marks : List Mark) → AreMarked earlier marks → MayFollow kept (marked_all marks)
 may-mark kept earlier [] are = tt

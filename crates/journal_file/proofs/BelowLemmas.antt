@@ -24,7 +24,7 @@ anew-below kept legal = record {
 }
 
 may-below : (lower kept : KeptValue) (r : RecordValue) → IsBelow lower kept → MayCome kept r → MayCome lower r
-may-below lower kept (a_begun p) below (above, small, short) = (omega (arith, below.greatest, above), small, short)
+may-below lower kept (a_begun p) below (above, small, short, moment) = (omega (arith, below.greatest, above), small, short, moment)
 may-below lower kept (a_done id how) below (pending, small) = (ap (λ (l : List Pending). is_pending id l) below.pending ∙ pending, small)
 may-below lower kept (a_mark m) below may = may
 may-below lower kept (a_clear face session) below may = may

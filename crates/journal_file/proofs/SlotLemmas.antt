@@ -5,7 +5,6 @@ use Rattle.std.proofs.lemmas.List.{length-append, append-nil, take_all, set_spli
 use Rattle.std.proofs.lemmas.List.Concat.{flat_map-append}
 use Rattle.std.proofs.lemmas.List.Edits.{remove-append_right}
 use Rattle.std.specs.List.{position_or_len}
-use Rattle.gate_cases.specs.declared.face.Face.{Face}
 use Rattle.journal_file.specs.declared.kept.Pending.{Pending}
 use Rattle.journal_file.specs.declared.slots.Slot.{Slot}
 use Rattle.journal_file.specs.Keeping.{has_id}
@@ -84,8 +83,8 @@ push-rising (x ∷ xs) s b r = (push-above x.id xs s b.0 r.0, push-rising xs s b
 
 -- ---- what slots hold
 
-abbrev before_others : ℕ → Face → Option (Bor (List ℕ)) → List Pending → List Pending
-before_others id face block others = held_of id face block ++ others
+abbrev before_others : Slot → Option (Bor (List ℕ)) → List Pending → List Pending
+before_others slot block others = held_of slot.id slot.face slot.came block ++ others
 
 pub held-append : (xs ys : List Slot) → held (xs ++ ys) ≡ held xs ++ held ys
 held-append xs ys = flat_map-append held_in xs ys
@@ -97,8 +96,8 @@ place-below id [] ps b = omega arith
 place-below id (x ∷ xs) ps b = by x.block (place-below id xs ps b.1)
   where
     by : (o : Option (Bor (List ℕ))) → position_or_len (has_id id) (held xs ++ ps) ≡ length (held xs) + position_or_len (has_id id) ps
-        → position_or_len (has_id id) (before_others x.id x.face o (held xs) ++ ps)
-        ≡ length (before_others x.id x.face o (held xs)) + position_or_len (has_id id) ps
+        → position_or_len (has_id id) (before_others x o (held xs) ++ ps)
+        ≡ length (before_others x o (held xs)) + position_or_len (has_id id) ps
     by None rest = rest
     by (Some block) rest = rw (ne_eqb x.id id (λ e. omega (arith, e, b.0)), rest) (omega arith)
 
@@ -108,7 +107,7 @@ place-above id [] a = refl
 place-above id (x ∷ xs) a = by x.block (place-above id xs a.1)
   where
     by : (o : Option (Bor (List ℕ))) → position_or_len (has_id id) (held xs) ≡ length (held xs)
-        → position_or_len (has_id id) (before_others x.id x.face o (held xs)) ≡ length (before_others x.id x.face o (held xs))
+        → position_or_len (has_id id) (before_others x o (held xs)) ≡ length (before_others x o (held xs))
     by None rest = rest
     by (Some block) rest = rw (ne_eqb x.id id (λ e. omega (arith, e, a.0)), rest) (omega arith)
 
@@ -143,22 +142,22 @@ after-drop (x ∷ xs) (suc i) d lt r = after-drop xs i d (omega arith) r.1
 
 -- a slot in the midst of others
 held-split : (xs : List Slot) (i : ℕ) (d : Slot) → i < length xs
-    → held xs ≡ held (take i xs) ++ before_others (get_or xs i d).id (get_or xs i d).face (get_or xs i d).block (held (drop (suc i) xs))
+    → held xs ≡ held (take i xs) ++ before_others (get_or xs i d) (get_or xs i d).block (held (drop (suc i) xs))
 held-split xs i d lt = ap held (split xs i d lt) ∙ held-append (take i xs) (get_or xs i d ∷ drop (suc i) xs)
 
 held-set : (xs : List Slot) (i : ℕ) (s : Slot) → i < length xs → s.block ≡ None → held (set xs i s) ≡ held (take i xs) ++ held (drop (suc i) xs)
 held-set xs i s lt none =
     ap held (set_split xs i s lt) ∙ held-append (take i xs) (s ∷ drop (suc i) xs)
-    ∙ ap (λ (o : Option (Bor (List ℕ))). held (take i xs) ++ before_others s.id s.face o (held (drop (suc i) xs))) none
+    ∙ ap (λ (o : Option (Bor (List ℕ))). held (take i xs) ++ before_others s o (held (drop (suc i) xs))) none
 
 abbrev pending_of : Slot → Bor (List ℕ) → Pending
-pending_of s block = record { id = s.id; face = s.face; block = block.now }
+pending_of s block = record { id = s.id; face = s.face; came = s.came; block = block.now }
 
 held-full : (xs : List Slot) (i : ℕ) (d : Slot) (block : Bor (List ℕ)) → i < length xs → (get_or xs i d).block ≡ Some block
     → held xs ≡ held (take i xs) ++ pending_of (get_or xs i d) block ∷ held (drop (suc i) xs)
 held-full xs i d block lt is =
     held-split xs i d lt
-    ∙ ap (λ (o : Option (Bor (List ℕ))). held (take i xs) ++ before_others (get_or xs i d).id (get_or xs i d).face o (held (drop (suc i) xs))) is
+    ∙ ap (λ (o : Option (Bor (List ℕ))). held (take i xs) ++ before_others (get_or xs i d) o (held (drop (suc i) xs))) is
 
 removed : (front rest : List Pending) (p : Pending) → remove (front ++ p ∷ rest) (length front) ≡ front ++ rest
 removed front rest p =
@@ -212,7 +211,7 @@ not-found id xs i d r b from lt holds = by (get_or xs i d).block refl ((get_or x
     by None is true same holds =
         none-in id (take i xs) (drop (suc i) xs) xs b (rw (sym (eqb-true (get_or xs i d).id id same)) after)
         (held-split xs i d lt
-        ∙ ap (λ (o : Option (Bor (List ℕ))). held (take i xs) ++ before_others (get_or xs i d).id (get_or xs i d).face o (held (drop (suc i) xs))) is)
+        ∙ ap (λ (o : Option (Bor (List ℕ))). held (take i xs) ++ before_others (get_or xs i d) o (held (drop (suc i) xs))) is)
     by (Some block) is true same holds = absurd (cc)
     by o is false same holds =
         let far = apart id (get_or xs i d).id (from-drop id xs i d lt from) (eqb-false (get_or xs i d).id id same) in

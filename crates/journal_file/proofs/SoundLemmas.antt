@@ -9,9 +9,9 @@ use Rattle.journal_file.specs.declared.fault.JournalCause.TheVariants as causes
 use Rattle.journal_file.specs.declared.kept.Pending.{Pending}
 use Rattle.journal_file.specs.Values.{KeptValue, RecordValue, a_begun, a_done, a_mark, a_clear, a_reserved, nothing_kept}
 use Rattle.journal_file.specs.Keeping.{has_id, is_pending, greater, kept_with, kept_after, MARKS_MAX}
-use Rattle.journal_file.specs.Table.{sized_number, number_where, is_shortest, begun_fields, done_fields, mark_fields, clear_fields, reserved_fields, fields_of, entry, records}
+use Rattle.journal_file.specs.Table.{sized_number, number_where, is_shortest, begun_fields, done_fields, mark_fields, clear_fields, reserved_fields, dated_fields, fields_of, entry, records}
 use Rattle.journal_file.specs.File.{Reads}
-use Rattle.journal_file.specs.Spelling.{MayCome, MayFollow}
+use Rattle.journal_file.specs.Spelling.{IsSmall, MayCome, MayFollow}
 use Rattle.journal_file.specs.Anew.{AreBegun, IsSound}
 use Rattle.journal_file.specs.Legal.{AreUpTo, IsLegal}
 use Rattle.journal_file.proofs.DropLemmas.{drop_first, drop_first-is}
@@ -42,7 +42,17 @@ module _ (kept : KeptValue) where
       let first = number-small front _ a id is_id in
       let above = ltb-true kept.greatest id (needed (nat_lt kept.greatest id) causes.Id first.1) in
       let long = number-small _ _ e size is_size in
-      rw is (above, first.0, subst (λ (n : ℕ). n < 2 ^ 64) (sym is_block.1 ∙ ap length is_block.0) long.0)
+      rw is (above, first.0, subst (λ (n : ℕ). n < 2 ^ 64) (sym is_block.1 ∙ ap length is_block.0) long.0, tt)
+
+  dated-may : (front w : List ℕ) (said : RecordValue) → Spells (dated_fields kept.greatest) front w said → MayCome kept said
+  unfolding dated_fields
+  dated-may front w said
+      (a, b, id, p0, is_id, (c, d, face, p1, is_face, (e, f, moment, p2, is_moment, (g, h, size, p3, is_size, (i, j, block, p4, is_block, (none, is)))))) =
+      let first = number-small front _ a id is_id in
+      let above = ltb-true kept.greatest id (needed (nat_lt kept.greatest id) causes.Id first.1) in
+      let came = number-small _ _ e moment is_moment in
+      let long = number-small _ _ g size is_size in
+      rw is (above, first.0, subst (λ (n : ℕ). n < 2 ^ 64) (sym is_block.1 ∙ ap length is_block.0) long.0, came.0)
 
   done-may : (front w : List ℕ) (said : RecordValue) → Spells (done_fields kept.pending) front w said → MayCome kept said
   unfolding done_fields
@@ -63,34 +73,36 @@ module _ (kept : KeptValue) where
   unfolding reserved_fields
   reserved-may front w said (a, b, face, p0, is_face, (c, d, n, p1, is_n, (none, is))) = rw is (number-small _ _ c n is_n).0
 
-  fields-may : (front w : List ℕ) (said : RecordValue) (k1 k2 k3 k4 : Bool)
-      → Spells (choice k1 (begun_fields kept.greatest) (choice k2 (done_fields kept.pending) (choice k3 mark_fields (choice k4 clear_fields reserved_fields)))) front w said
+  fields-may : (front w : List ℕ) (said : RecordValue) (k1 k2 k3 k4 k5 : Bool)
+      → Spells (choice k1 (begun_fields kept.greatest) (choice k2 (done_fields kept.pending) (choice k3 mark_fields (choice k4 clear_fields
+      (choice k5 reserved_fields (dated_fields kept.greatest)))))) front w said
       → MayCome kept said
-  fields-may front w said true k2 k3 k4 s = begun-may front w said s
-  fields-may front w said false true k3 k4 s = done-may front w said s
-  fields-may front w said false false true k4 s = mark-may front w said s
-  fields-may front w said false false false true s = clear-may front w said s
-  fields-may front w said false false false false s = reserved-may front w said s
+  fields-may front w said true k2 k3 k4 k5 s = begun-may front w said s
+  fields-may front w said false true k3 k4 k5 s = done-may front w said s
+  fields-may front w said false false true k4 k5 s = mark-may front w said s
+  fields-may front w said false false false true k5 s = clear-may front w said s
+  fields-may front w said false false false false true s = reserved-may front w said s
+  fields-may front w said false false false false false s = dated-may front w said s
 
   pub entry-may : (front w : List ℕ) (said : RecordValue) → Spells (entry kept) front w said → MayCome kept said
   unfolding entry fields_of
   entry-may front w said (a, b, start, p0, at, (c, d, kind, p1, is_kind, (e, f, r, p2, fields, (g, h, octets, p3, here, (i, j, four, p4, checked, (none, is)))))) =
-      rw is (fields-may _ e r (kind == 1) (kind == 2) (kind == 3) (kind == 4) fields)
+      rw is (fields-may _ e r (kind == 1) (kind == 2) (kind == 3) (kind == 4) (kind == 5) fields)
 
 -- ---- pending blocks
 
 begun-above : (m n : ℕ) (ps : List Pending) → m ≤ n → AreBegun n ps → AreBegun m ps
 begun-above m n [] le are = tt
-begun-above m n (p ∷ ps) le (above, small, short, rest) = (omega (arith, le, above), small, short, rest)
+begun-above m n (p ∷ ps) le (above, small, short, moment, rest) = (omega (arith, le, above), small, short, moment, rest)
 
 begun-drop : (n : ℕ) (test : Pending → Bool) (ps : List Pending) → AreBegun n ps → AreBegun n (drop_first test ps)
 unfolding drop_first
 begun-drop n test [] are = tt
-begun-drop n test (p ∷ ps) (above, small, short, rest) = by (test p) (begun-drop p.id test ps rest)
+begun-drop n test (p ∷ ps) (above, small, short, moment, rest) = by (test p) (begun-drop p.id test ps rest)
   where
     by : (t : Bool) → AreBegun p.id (drop_first test ps) → AreBegun n (if t then ps else p ∷ drop_first test ps)
     by true others = begun-above n p.id ps (omega (arith, above)) rest
-    by false others = (above, small, short, others)
+    by false others = (above, small, short, moment, others)
 
 up_to-drop : (n : ℕ) (test : Pending → Bool) (ps : List Pending) → AreUpTo n ps → AreUpTo n (drop_first test ps)
 unfolding drop_first
@@ -101,10 +113,10 @@ up_to-drop n test (p ∷ ps) (below, rest) = by (test p) (up_to-drop n test ps r
     by true others = rest
     by false others = (below, others)
 
-begun-push : (n g : ℕ) (p : Pending) (ps : List Pending) → n ≤ g → g < p.id → p.id < 2 ^ 64 → length p.block < 2 ^ 64
+begun-push : (n g : ℕ) (p : Pending) (ps : List Pending) → n ≤ g → g < p.id → p.id < 2 ^ 64 → length p.block < 2 ^ 64 → IsSmall p.came
     → AreUpTo g ps → AreBegun n ps → AreBegun n (ps ++ p ∷ [])
-begun-push n g p [] le above small short up are = (omega (arith, le, above), small, short, tt)
-begun-push n g p (q ∷ ps) le above small short (low, up) (a, s, t, rest) = (a, s, t, begun-push q.id g p ps low above small short up rest)
+begun-push n g p [] le above small short moment up are = (omega (arith, le, above), small, short, moment, tt)
+begun-push n g p (q ∷ ps) le above small short moment (low, up) (a, s, t, m, rest) = (a, s, t, m, begun-push q.id g p ps low above small short moment up rest)
 
 up_to-push : (g : ℕ) (p : Pending) (ps : List Pending) → g < p.id → AreUpTo g ps → AreUpTo p.id (ps ++ p ∷ [])
 up_to-push g p [] above up = (omega arith, tt)
@@ -121,8 +133,8 @@ greater-small a b n low small = by (nat_lt a b)
 
 pub legal-with : (kept : KeptValue) (said : RecordValue) → MayCome kept said → IsLegal kept → IsLegal (kept_with kept said)
 unfolding kept_with
-legal-with kept (a_begun p) (above, small, short) legal = record {
-  pending = begun-push 0 kept.greatest p kept.pending (omega arith) above small short legal.up_to legal.pending;
+legal-with kept (a_begun p) (above, small, short, moment) legal = record {
+  pending = begun-push 0 kept.greatest p kept.pending (omega arith) above small short moment legal.up_to legal.pending;
   up_to = up_to-push kept.greatest p kept.pending above legal.up_to;
   marks = legal.marks;
   old_reserved = legal.old_reserved;

@@ -1,5 +1,5 @@
 -- What is written spells what it says, and opening a gate makes what stands behind it the next records.
-use Rattle.std.proofs.Common.{◌≡◌, ℕ, zero, suc, ◌<◌, ◌^◌, ◌==◌, Bool, true, false, nat_lt, List, [], ◌∷◌, ◌++◌, length, drop, Option, None, refl, sym, ap, ◌∙◌, arith, append_assoc, subst, inr}
+use Rattle.std.proofs.Common.{◌≡◌, ℕ, zero, suc, ◌<◌, ◌^◌, ◌==◌, Bool, true, false, nat_lt, List, [], ◌∷◌, ◌++◌, length, drop, Option, Some, None, refl, sym, ap, ◌∙◌, arith, append_assoc, subst, inr}
 use Rattle.std.proofs.Math.Seq.{drop-append_seam}
 use Rattle.std.proofs.lemmas.List.{append-nil, length-append}
 use Rattle.std.proofs.lemmas.Bool.{lt-ltb, eq-eqb, ne_eqb}
@@ -16,9 +16,9 @@ use Rattle.journal_file.specs.declared.record.How.{How}
 use Rattle.journal_file.specs.declared.record.How.TheVariants as hows
 use Rattle.journal_file.specs.Values.{KeptValue, RecordValue, a_begun, a_done, a_mark, a_clear, a_reserved, nothing_kept}
 use Rattle.journal_file.specs.Keeping.{octet_of, is_pending, kept_with, kept_after}
-use Rattle.journal_file.specs.Table.{sized_number, number_where, face, how, begun_fields, done_fields, mark_fields, clear_fields, reserved_fields, fields_of, record_kind, check_of, check, entry, records}
+use Rattle.journal_file.specs.Table.{sized_number, number_where, face, how, begun_fields, done_fields, mark_fields, clear_fields, reserved_fields, dated_fields, fields_of, record_kind, check_of, check, entry, records}
 use Rattle.journal_file.specs.File.{opening, Reads}
-use Rattle.journal_file.specs.Spelling.{how_octet, field_octets, kind_octet, body_octets, record_octets, gated, MayCome, MayFollow, Closes}
+use Rattle.journal_file.specs.Spelling.{how_octet, field_octets, begun_octet, kind_octet, body_octets, record_octets, gated, MayCome, MayFollow, Closes}
 
 -- ---- lists
 
@@ -86,31 +86,70 @@ how-spells front hows.Cancelled = (3 ∷ [], [], 3, refl, (refl, refl), (refl, r
 
 -- ---- what follows a kind
 
-fields-spell : (kept : KeptValue) (front : List ℕ) (said : RecordValue) → MayCome kept said
-    → Spells (fields_of (kind_octet said) kept) front (field_octets said) said
-unfolding fields_of begun_fields done_fields mark_fields clear_fields reserved_fields
-fields-spell kept front (a_begun p) may = (
-  spelling p.id,
+abbrev begun_by : ℕ → Face → Option ℕ → List ℕ → RecordValue
+begun_by id at came block = a_begun (record { id = id; face = at; came = came; block = block })
+
+-- a block that is begun, with a moment or without one
+begun-spells : (kept : KeptValue) (front : List ℕ) (id : ℕ) (at : Face) (came : Option ℕ) (block : List ℕ)
+    → MayCome kept (begun_by id at came block)
+    → Spells (fields_of (begun_octet came) kept) front (field_octets (begun_by id at came block)) (begun_by id at came block)
+unfolding fields_of begun_fields dated_fields
+begun-spells kept front id at None block may = (
+  spelling id,
   _,
-  p.id,
+  id,
   refl,
-  number-spells (λ id. needs (nat_lt kept.greatest id) causes.Id) front p.id may.1 (rw (lt-ltb kept.greatest p.id may.0) refl),
+  number-spells (λ n. needs (nat_lt kept.greatest n) causes.Id) front id may.1 (rw (lt-ltb kept.greatest id may.0) refl),
   (
-    octet_of p.face ∷ [],
+    octet_of at ∷ [],
     _,
-    p.face,
+    at,
     refl,
-    face-spells _ p.face,
+    face-spells _ at,
     (
-      spelling (length p.block),
+      spelling (length block),
       _,
-      length p.block,
+      length block,
       refl,
-      number-spells (λ _. None) _ (length p.block) may.2 refl,
-      (p.block, [], p.block, sym (append-nil p.block), (refl, refl), (refl, refl)),
+      number-spells (λ _. None) _ (length block) may.2 refl,
+      (block, [], block, sym (append-nil block), (refl, refl), (refl, refl)),
     ),
   ),
 )
+begun-spells kept front id at (Some moment) block may = (
+  spelling id,
+  _,
+  id,
+  refl,
+  number-spells (λ n. needs (nat_lt kept.greatest n) causes.Id) front id may.1 (rw (lt-ltb kept.greatest id may.0) refl),
+  (
+    octet_of at ∷ [],
+    _,
+    at,
+    refl,
+    face-spells _ at,
+    (
+      spelling moment,
+      _,
+      moment,
+      refl,
+      number-spells (λ _. None) _ moment may.3 refl,
+      (
+        spelling (length block),
+        _,
+        length block,
+        refl,
+        number-spells (λ _. None) _ (length block) may.2 refl,
+        (block, [], block, sym (append-nil block), (refl, refl), (refl, refl)),
+      ),
+    ),
+  ),
+)
+
+fields-spell : (kept : KeptValue) (front : List ℕ) (said : RecordValue) → MayCome kept said
+    → Spells (fields_of (kind_octet said) kept) front (field_octets said) said
+unfolding fields_of done_fields mark_fields clear_fields reserved_fields
+fields-spell kept front (a_begun p) may = begun-spells kept front p.id p.face p.came p.block may
 fields-spell kept front (a_done id h) may = (
   spelling id,
   _,
@@ -157,8 +196,12 @@ check-spells : (front octets : List ℕ) → Spells (check octets) front (check_
 unfolding check
 check-spells front octets = ((refl, refl), rw ((bytes_eq-Decides (check_of octets) (check_of octets)).1 refl) refl)
 
+begun-kind : (front : List ℕ) (came : Option ℕ) → Spells record_kind front (begun_octet came ∷ []) (begun_octet came)
+begun-kind front None = (refl, refl)
+begun-kind front (Some moment) = (refl, refl)
+
 kind-spells : (front : List ℕ) (said : RecordValue) → Spells record_kind front (kind_octet said ∷ []) (kind_octet said)
-kind-spells front (a_begun p) = (refl, refl)
+kind-spells front (a_begun p) = begun-kind front p.came
 kind-spells front (a_done id h) = (refl, refl)
 kind-spells front (a_mark m) = (refl, refl)
 kind-spells front (a_clear f session) = (refl, refl)

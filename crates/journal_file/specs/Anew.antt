@@ -6,7 +6,7 @@ use Rattle.journal_file.specs.declared.kept.Mark.{Mark}
 use Rattle.journal_file.specs.Values.{KeptValue, RecordValue, a_begun, a_mark, a_reserved}
 use Rattle.journal_file.specs.Keeping.{marks_with, MARKS_MAX}
 use Rattle.journal_file.specs.File.{opening}
-use Rattle.journal_file.specs.Spelling.{gated}
+use Rattle.journal_file.specs.Spelling.{gated, IsSmall}
 
 -- its records: the numbers that are reserved, the blocks that are pending, each begun under its id, and
 -- the marks
@@ -43,7 +43,8 @@ but_greatest kept = record {
 abbrev pub AreBegun : ℕ → List Pending → Type 0
 AreBegun id [] = Unit {0}
 AreBegun id (p ∷ pending) =
-    (id < p.id) × (p.id < 2 ^ 64) × (length p.block < 2 ^ 64) × AreBegun p.id pending
+    (id < p.id) × (p.id < 2 ^ 64) × (length p.block < 2 ^ 64) × IsSmall p.came
+    × AreBegun p.id pending
 
 -- after these marks each further one goes to the end and none leaves: no session has two, and no face
 -- too many

@@ -9,12 +9,13 @@ use Rattle.journal_file.specs.Keeping.{has_id, is_pending, without_first}
 use Rattle.journal_file.specs.Values.{RecordValue, a_begun, a_done, a_mark, a_clear, a_reserved}
 
 -- the block that a slot holds, if it isn't empty
-abbrev pub held_of : ℕ → Face → Option (Bor (List ℕ)) → List Pending
-held_of id face None = []
-held_of id face (Some block) = record { id = id; face = face; block = block.now } ∷ []
+abbrev pub held_of : ℕ → Face → Option ℕ → Option (Bor (List ℕ)) → List Pending
+held_of id face came None = []
+held_of id face came (Some block) =
+    record { id = id; face = face; came = came; block = block.now } ∷ []
 
 abbrev pub held_in : Slot → List Pending
-held_in slot = held_of slot.id slot.face slot.block
+held_in slot = held_of slot.id slot.face slot.came slot.block
 
 -- the blocks in the slots that aren't empty
 abbrev pub held : List Slot → List Pending

@@ -1,5 +1,5 @@
 -- The octets that are written: of a record, of records behind a gate, and of a whole file.
-use Rattle.std.specs.Prelude.{◌≡◌, ℕ, ◌^◌, ◌<◌, true, List, [], ◌∷◌, ◌++◌, length}
+use Rattle.std.specs.Prelude.{◌≡◌, ℕ, ◌^◌, ◌<◌, true, List, [], ◌∷◌, ◌++◌, length, Option, Some, None, IfSome}
 use Rattle.sdnv.specs.Shortest.{spelling}
 use Rattle.wire_fields.specs.Format.{Spells}
 use Rattle.journal_file.specs.declared.record.How.{How}
@@ -16,17 +16,28 @@ how_octet hows.Sent = 1
 how_octet hows.Failed = 2
 how_octet hows.Cancelled = 3
 
+-- the moment of a block that has one
+abbrev pub came_octets : Option ℕ → List ℕ
+came_octets None = []
+came_octets (Some moment) = spelling moment
+
 -- what stands after the kind
 abbrev pub field_octets : RecordValue → List ℕ
 field_octets (a_begun p) =
-    spelling p.id ++ ((octet_of p.face ∷ []) ++ (spelling (length p.block) ++ p.block))
+    spelling p.id
+    ++ ((octet_of p.face ∷ []) ++ (came_octets p.came ++ (spelling (length p.block) ++ p.block)))
 field_octets (a_done id how) = spelling id ++ how_octet how ∷ []
 field_octets (a_mark m) = (octet_of m.face ∷ []) ++ (spelling m.session ++ spelling m.when)
 field_octets (a_clear face session) = (octet_of face ∷ []) ++ spelling session
 field_octets (a_reserved face number) = (octet_of face ∷ []) ++ spelling number
 
+-- a block that has a moment is begun by a record of its own kind
+abbrev pub begun_octet : Option ℕ → ℕ
+begun_octet None = 1
+begun_octet (Some moment) = 6
+
 abbrev pub kind_octet : RecordValue → ℕ
-kind_octet (a_begun p) = 1
+kind_octet (a_begun p) = begun_octet p.came
 kind_octet (a_done id how) = 2
 kind_octet (a_mark m) = 3
 kind_octet (a_clear face session) = 4
@@ -53,9 +64,14 @@ behind_gate (r ∷ rs) = record_octets r ++ gated rs
 
 -- ---- what may be written
 
+-- a moment, where there is one, has a spelling
+abbrev pub IsSmall : Option ℕ → Type 0
+IsSmall came = IfSome came (λ moment. moment < 2 ^ 64)
+
 -- a record may come next where this is kept
 abbrev pub MayCome : KeptValue → RecordValue → Type 0
-MayCome kept (a_begun p) = (kept.greatest < p.id) × (p.id < 2 ^ 64) × (length p.block < 2 ^ 64)
+MayCome kept (a_begun p) =
+    (kept.greatest < p.id) × (p.id < 2 ^ 64) × (length p.block < 2 ^ 64) × IsSmall p.came
 MayCome kept (a_done id how) = (is_pending id kept.pending ≡ true) × (id < 2 ^ 64)
 MayCome kept (a_mark m) = (m.session < 2 ^ 64) × (m.when < 2 ^ 64)
 MayCome kept (a_clear face session) = session < 2 ^ 64

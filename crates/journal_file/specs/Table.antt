@@ -73,7 +73,7 @@ begun_fields greatest = do
   at ← face
   size ← number
   block ← any_octets size causes.Number
-  give (a_begun (record { id = id; face = at; block = block }))
+  give (a_begun (record { id = id; face = at; came = None; block = block }))
 
 unfoldable pub done_fields : List Pending → Format JournalCause RecordValue
 done_fields pending = do
@@ -100,19 +100,30 @@ reserved_fields = do
   first ← number
   give (a_reserved at first)
 
+-- a block that is begun, with the moment at which its octets came
+unfoldable pub dated_fields : ℕ → Format JournalCause RecordValue
+dated_fields greatest = do
+  id ← new_id greatest
+  at ← face
+  moment ← number
+  size ← number
+  block ← any_octets size causes.Number
+  give (a_begun (record { id = id; face = at; came = Some moment; block = block }))
+
 -- what follows a kind, where this is kept
 unfoldable pub fields_of : ℕ → KeptValue → Format JournalCause RecordValue
 fields_of kind kept =
     choice (kind == 1) (begun_fields kept.greatest)
     (choice (kind == 2) (done_fields kept.pending)
     (choice (kind == 3) mark_fields
-    (choice (kind == 4) clear_fields reserved_fields)))
+    (choice (kind == 4) clear_fields
+    (choice (kind == 5) reserved_fields (dated_fields kept.greatest)))))
 
 -- ---- records
 
 abbrev pub record_kind : Format JournalCause ℕ
 record_kind =
-    such_that (any_octet causes.Kind) (λ b. needs (nat_lt 0 b && nat_lt b 6) causes.Kind)
+    such_that (any_octet causes.Kind) (λ b. needs (nat_lt 0 b && nat_lt b 7) causes.Kind)
 
 -- the check of a record's octets: CRC-32C, in network order
 abbrev pub check_of : List ℕ → List ℕ

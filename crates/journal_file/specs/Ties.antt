@@ -50,7 +50,8 @@ kept_of kept = record {
 }
 
 abbrev pub record_of : Record → RecordValue
-record_of (records.Begun id face block) = a_begun (record { id = id; face = face; block = block.now })
+record_of (records.Begun id face came block) =
+    a_begun (record { id = id; face = face; came = came; block = block.now })
 record_of (records.Done id how) = a_done id how
 record_of (records.Marked mark) = a_mark mark
 record_of (records.Clear face session) = a_clear face session

@@ -17,7 +17,7 @@ pub record KeptValue : Type 0 where
   pub greatest : ℕ
 
 pub data RecordValue : Type 0 where
-  -- a block is begun at a face, under an id
+  -- a block is begun at a face, under an id; where it has the moment at which its octets came, with that
   a_begun : Pending → RecordValue
   -- the session of an id ended
   a_done : ℕ → How → RecordValue

@@ -15,7 +15,7 @@ pub enum JournalCause {
     /// The file begins with other octets than `fimjrnl1`.
     #[error("Start")]
     Start,
-    /// A record's kind is none of the five.
+    /// A record's kind is none of the six.
     #[error("Kind")]
     Kind,
     /// No number below 2^64 is spelled within ten octets, or one is, but not in the fewest octets.

@@ -81,7 +81,7 @@ pub(crate) fn record_kind(text: &[u8], at: usize) -> Result<(u8, usize), Damage>
     ensures exact { Gives (λ n. n) refused result (read record_kind text.now at) }
 {
     let (octet, after) = octet(text, at, JournalCause::Kind)?;
-    if octet == 0 || octet >= 6 {
+    if octet == 0 || octet >= 7 {
         return Err(JournalCause::Kind.at(at));
     }
     Ok((octet, after))

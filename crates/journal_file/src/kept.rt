@@ -21,6 +21,9 @@ pub struct Pending {
     pub id: u64,
     /// The face at which it was begun.
     pub face: Face,
+    /// When its octets came, in milliseconds since 2000, where its record says it. An age that they have
+    /// is to be raised by how long they stayed since then.
+    pub came: Option<u64>,
     /// Its octets.
     pub block: Octets,
 }
@@ -73,11 +76,17 @@ impl Kept {
         ensures memory { OnErr result (takes_memory (record_of said.now) ≡ true) }
     {
         match said {
-            Record::Begun { id, face, block } => {
+            Record::Begun {
+                id,
+                face,
+                came,
+                block,
+            } => {
                 let block = Octets::from_slice(alloc, block)?;
                 self.begin(Pending {
                     id: *id,
                     face: *face,
+                    came: *came,
                     block,
                 })
             }

@@ -5,7 +5,7 @@ ghost use Rattle.wire_fields.specs.Refusal.{Stop};
 ghost use Rattle.wire_fields.specs.Reading.{read};
 ghost use Rattle.wire_fields.specs.Gives.{Gives, GivesWhole, IsOn};
 ghost use Rattle.journal_file.specs.Values.{KeptValue, nothing_kept};
-ghost use Rattle.journal_file.specs.Table.{begun_fields, done_fields, mark_fields, clear_fields, reserved_fields, fields_of, entry, records};
+ghost use Rattle.journal_file.specs.Table.{begun_fields, done_fields, mark_fields, clear_fields, reserved_fields, dated_fields, fields_of, entry, records};
 ghost use Rattle.journal_file.specs.File.{Reads, IsDamaged, read_file, opening};
 ghost use Rattle.journal_file.specs.Anew.{IsSound};
 ghost use Rattle.journal_file.specs.Legal.{IsLegal};
@@ -126,7 +126,8 @@ fn read_fields<'a>(
         2 => read_done(text, at, book),
         3 => read_mark(text, at),
         4 => read_clear(text, at),
-        _ => read_reserved(text, at),
+        5 => read_reserved(text, at),
+        _ => read_dated(text, at, book.greatest()),
     }
 }
 
@@ -141,7 +142,15 @@ fn read_begun<'a>(text: &'a [u8], at: usize, greatest: u64) -> Result<(Record<'a
     let (face, at) = face(text, at)?;
     let (size, at) = number(text, at)?;
     let (block, at) = octets(text, at, size, JournalCause::Number)?;
-    Ok((Record::Begun { id, face, block }, at))
+    Ok((
+        Record::Begun {
+            id,
+            face,
+            came: None,
+            block,
+        },
+        at,
+    ))
 }
 
 #[tactic(auto, unfolding(crate::specs::Table::done_fields))]
@@ -198,4 +207,27 @@ fn read_reserved<'a>(text: &'a [u8], at: usize) -> Result<(Record<'a>, usize), D
     let (face, at) = face(text, at)?;
     let (number, at) = number(text, at)?;
     Ok((Record::Reserved { face, number }, at))
+}
+
+#[tactic(auto, unfolding(crate::specs::Table::dated_fields))]
+fn read_dated<'a>(text: &'a [u8], at: usize, greatest: u64) -> Result<(Record<'a>, usize), Damage>
+    requires { at ≤ length text.now }
+    ensures within { IfOk result (λ x. IsOn at text.now x.1) }
+    ensures above { IfOk result (λ x. IsAbove greatest (record_of x.0)) }
+    ensures exact { Gives record_of refused result (read (dated_fields greatest) text.now at) }
+{
+    let (id, at) = new_id(text, at, greatest)?;
+    let (face, at) = face(text, at)?;
+    let (came, at) = number(text, at)?;
+    let (size, at) = number(text, at)?;
+    let (block, at) = octets(text, at, size, JournalCause::Number)?;
+    Ok((
+        Record::Begun {
+            id,
+            face,
+            came: Some(came),
+            block,
+        },
+        at,
+    ))
 }

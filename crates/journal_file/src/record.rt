@@ -17,10 +17,12 @@ pub enum How {
 /// One record. Blocks are lent.
 #[derive(Clone, Copy, Debug)]
 pub enum Record<'a> {
-    /// A block is begun at a face, under an id above all earlier ones.
+    /// A block is begun at a face, under an id above all earlier ones. Where it has the moment at which
+    /// its octets came, that stands in the record too.
     Begun {
         id: u64,
         face: Face,
+        came: Option<u64>,
         block: &'a [u8],
     },
     /// The session of a pending id ended.

@@ -20,6 +20,7 @@ use std::marker::Model;
 pub(crate) struct Slot<'a> {
     pub(crate) id: u64,
     pub(crate) face: Face,
+    pub(crate) came: Option<u64>,
     pub(crate) block: Option<&'a [u8]>,
 }
 
@@ -82,8 +83,19 @@ impl<'a> Book<'a> {
         ensures memory { OnErr result (takes_memory (record_of said.now) ≡ true) }
     {
         match said {
-            Record::Begun { id, face, block } => {
-                add(&mut self.slots, *id, *face, block, self.greatest)?;
+            Record::Begun {
+                id,
+                face,
+                came,
+                block,
+            } => {
+                let slot = Slot {
+                    id: *id,
+                    face: *face,
+                    came: *came,
+                    block: Some(block),
+                };
+                add(&mut self.slots, slot, self.greatest)?;
                 self.greatest = *id;
                 Ok(())
             }
@@ -189,26 +201,16 @@ fn empty(slots: &mut Vec<Slot>, id: u64)
 }
 
 /// Adds a slot at the end.
-fn add<'a>(
-    slots: &mut Vec<Slot<'a>>,
-    id: u64,
-    face: Face,
-    block: &'a [u8],
-    greatest: u64,
-) -> Result<(), AllocError>
+fn add<'a>(slots: &mut Vec<Slot<'a>>, slot: Slot<'a>, greatest: u64) -> Result<(), AllocError>
     requires rising { AreRising slots.old.items }
     requires bound { AllBelow (greatest + 1) slots.old.items }
-    requires above { greatest < id }
-    ensures ok { OnOk result (held slots.new.items ≡ held slots.old.items ++ (record { id = id; face = face; block = block.now }) ∷ []) }
+    requires above { greatest < slot.id }
+    ensures ok { OnOk result (held slots.new.items ≡ held slots.old.items ++ held (slot.entry ∷ [])) }
     ensures rising { AreRising slots.new.items }
-    ensures bound { OnOk result (AllBelow (id + 1) slots.new.items) }
+    ensures bound { OnOk result (AllBelow (slot.entry.id + 1) slots.new.items) }
     ensures same { OnErr result (slots.new.items ≡ slots.old.items) }
 {
-    slots.push(Slot {
-        id,
-        face,
-        block: Some(block),
-    })?;
+    slots.push(slot)?;
     Ok(())
 }
 
@@ -233,6 +235,7 @@ fn copy(alloc: Global, slot: Slot, pending: &mut Vec<Pending>) -> Result<(), All
         Some(block) => pending.push(Pending {
             id: slot.id,
             face: slot.face,
+            came: slot.came,
             block: Octets::from_slice(alloc, block)?,
         })?,
         None => {}

@@ -57,6 +57,7 @@ fn write_pending(alloc: Global, pending: &[Pending], out: &mut Vec<u8>) -> Resul
         let begun = Record::Begun {
             id: one.id,
             face: one.face,
+            came: one.came,
             block: one.block.as_slice(),
         };
         write_entry(alloc, &begun, out)?;

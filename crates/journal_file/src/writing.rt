@@ -5,7 +5,7 @@ ghost use Rattle.std.specs.Prelude.{◌≡◌, ◌++◌, ◌∷◌, [], OnOk, If
 ghost use Rattle.std.specs.Prelude.{map};
 ghost use Rattle.std.specs.List.{flat_map};
 ghost use Rattle.journal_file.specs.Keeping.{octet_of};
-ghost use Rattle.journal_file.specs.Spelling.{how_octet, field_octets, kind_octet, body_octets, record_octets, gated, behind_gate};
+ghost use Rattle.journal_file.specs.Spelling.{how_octet, came_octets, field_octets, begun_octet, kind_octet, body_octets, record_octets, gated, behind_gate};
 ghost use Rattle.journal_file.specs.Ties.{record_of, entry_of};
 
 use crate::fields::check_of;
@@ -81,9 +81,15 @@ fn write_fields(said: &Record, out: &mut Vec<u8>) -> Result<(), AllocError>
     ensures ok { OnOk result (out.new.items ≡ out.old.items ++ field_octets (record_of said.now)) }
 {
     match said {
-        Record::Begun { id, face, block } => {
+        Record::Begun {
+            id,
+            face,
+            came,
+            block,
+        } => {
             sdnv::write(*id, out)?;
             out.push(octet_of(*face))?;
+            write_came(*came, out)?;
             sdnv::write(block.len() as u64, out)?;
             out.extend_from_slice(block)
         }
@@ -108,11 +114,31 @@ fn write_fields(said: &Record, out: &mut Vec<u8>) -> Result<(), AllocError>
     }
 }
 
+/// The moment of a block that has one.
+fn write_came(came: Option<u64>, out: &mut Vec<u8>) -> Result<(), AllocError>
+    ensures ok { OnOk result (out.new.items ≡ out.old.items ++ came_octets came) }
+{
+    match came {
+        Some(moment) => sdnv::write(moment, out),
+        None => Ok(()),
+    }
+}
+
+/// A block that has a moment is begun by a record of its own kind.
+fn begun_octet(came: Option<u64>) -> u8
+    ensures { result ≡ begun_octet came }
+{
+    match came {
+        Some(_) => 6,
+        None => 1,
+    }
+}
+
 fn kind_octet(said: &Record) -> u8
     ensures { result ≡ kind_octet (record_of said.now) }
 {
     match said {
-        Record::Begun { .. } => 1,
+        Record::Begun { came, .. } => begun_octet(*came),
         Record::Done { .. } => 2,
         Record::Marked(_) => 3,
         Record::Clear { .. } => 4,

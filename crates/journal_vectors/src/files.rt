@@ -1,6 +1,9 @@
 //! Files as a journal makes them, octet by octet, and the calls on its store.
 
-use crate::texts::{BEGUN, BLOCK, CLEAR, DONE, MARKED, RESERVED, SENT, begun, said};
+use crate::texts::{
+    BEGUN, BLOCK, CLEAR, DATED, DATED_DONE, DONE, MARKED, RESERVED, SENT, begun, dated, said,
+};
+use gate_cases::Face;
 use gate_journal::{Journal, RecoverFault, recover};
 use journal_file::{Kept, Record, read_kept, write_record};
 use std::alloc::Global;
@@ -12,7 +15,16 @@ const RECORDS: &[(Record, &str)] = &[
     (SENT, "020101cec2ea03"),
     (MARKED, "030007bdd2502ee8d1a7"),
     (CLEAR, "0400072a70638b"),
+    (LATEST, "06010181ffffffffffffffff7f03616263b938fd65"),
 ];
+
+/// A block came at the last moment that a record can have.
+const LATEST: Record = Record::Begun {
+    id: 1,
+    face: Face::New,
+    came: Some(u64::MAX),
+    block: b"abc",
+};
 
 /// The octets of a record, in hex.
 fn octets_of(alloc: Global, record: &Record) -> Result<String, Fail> {
@@ -49,6 +61,16 @@ const AT_BEGUN: Stands = Stands {
 const AT_DONE: Stands = Stands {
     file: DONE,
     gate: 84,
+};
+
+const AT_DATED: Stands = Stands {
+    file: DATED,
+    gate: 79,
+};
+
+const AT_DATED_DONE: Stands = Stands {
+    file: DATED_DONE,
+    gate: 87,
 };
 
 /// The calls by which a file is made anew.
@@ -110,11 +132,11 @@ fn kept(alloc: Global, text: &str) -> Result<Kept, Fail> {
 }
 
 /// How a journal stands whose file had one block, and that is made anew of what a file says is kept: where
-/// that isn't so that the numbers alone are kept.
-fn wrong_anew(alloc: Global, text: &str) -> Result<Option<String>, Fail> {
+/// it doesn't stand so.
+fn wrong_anew(alloc: Global, text: &str, after: Stands) -> Result<Option<String>, Fail> {
     let kept = kept(alloc, text)?;
     let mut journal = journal(alloc, AT_DONE)?;
-    made_wrong(alloc, &mut journal, &kept)
+    made_wrong(alloc, &mut journal, &kept, after)
 }
 
 /// The same of this journal.
@@ -122,23 +144,34 @@ fn made_wrong(
     alloc: Global,
     journal: &mut Journal<MemStore>,
     kept: &Kept,
+    after: Stands,
 ) -> Result<Option<String>, Fail> {
-    if journal.install(alloc, kept) != Ok(26) {
-        return Err("the gate isn't at 26".into());
+    if journal.install(alloc, kept) != Ok(after.gate) {
+        return Err("the gate isn't there".into());
     }
-    otherwise(alloc, journal, AT_RESERVED, ANEW)
+    otherwise(alloc, journal, after, ANEW)
 }
 
 #[test]
 fn a_file_is_made_anew(rt: HostRuntime) -> Result<(), Fail> {
-    let wrong = wrong_anew(rt.alloc(), RESERVED)?;
+    let wrong = wrong_anew(rt.alloc(), RESERVED, AT_RESERVED)?;
     assert!(rt; wrong.is_none(), "{wrong:?}");
     Ok(())
 }
 
 #[test]
 fn a_new_file_has_no_ended_block(rt: HostRuntime) -> Result<(), Fail> {
-    let wrong = wrong_anew(rt.alloc(), DONE)?;
+    for text in [DONE, DATED_DONE] {
+        let wrong = wrong_anew(rt.alloc(), text, AT_RESERVED)?;
+        assert!(rt; wrong.is_none(), "{wrong:?}");
+    }
+    Ok(())
+}
+
+/// A block that has a moment has it in a new file too.
+#[test]
+fn a_new_file_has_a_blocks_moment(rt: HostRuntime) -> Result<(), Fail> {
+    let wrong = wrong_anew(rt.alloc(), DATED, AT_DATED)?;
     assert!(rt; wrong.is_none(), "{wrong:?}");
     Ok(())
 }
@@ -182,6 +215,20 @@ fn a_block_goes_behind_the_gate(rt: HostRuntime) -> Result<(), Fail> {
 #[test]
 fn an_end_goes_behind_the_gate(rt: HostRuntime) -> Result<(), Fail> {
     let wrong = wrong_commit(rt.alloc(), AT_BEGUN, &[SENT], AT_DONE)?;
+    assert!(rt; wrong.is_none(), "{wrong:?}");
+    Ok(())
+}
+
+/// So does a block with a moment, and its end.
+#[test]
+fn a_dated_block_goes_behind_the_gate(rt: HostRuntime) -> Result<(), Fail> {
+    let block = hex::decode(rt.alloc(), BLOCK)?;
+    let wrong = wrong_commit(rt.alloc(), AT_RESERVED, &[dated(&block)], AT_DATED)?;
+    assert!(rt; wrong.is_none(), "{wrong:?}");
+    let wrong = wrong_commit(rt.alloc(), AT_DATED, &[SENT], AT_DATED_DONE)?;
+    assert!(rt; wrong.is_none(), "{wrong:?}");
+    let records = [dated(&block), SENT];
+    let wrong = wrong_commit(rt.alloc(), AT_RESERVED, &records, AT_DATED_DONE)?;
     assert!(rt; wrong.is_none(), "{wrong:?}");
     Ok(())
 }
@@ -236,6 +283,11 @@ fn a_damaged_file_stays(rt: HostRuntime) -> Result<(), Fail> {
         *octet = 0;
     }
     assert_eq!(rt; refused(rt.alloc(), &changed)?.as_str(), "72 Crc");
+    let mut changed = hex::decode(rt.alloc(), DATED)?;
+    if let Some(octet) = changed.get_mut(30) {
+        *octet = 0x80;
+    }
+    assert_eq!(rt; refused(rt.alloc(), &changed)?.as_str(), "30 Number");
     assert_eq!(rt; refused(rt.alloc(), b"hello")?.as_str(), "0 Start");
     Ok(())
 }

@@ -18,15 +18,37 @@ pub const DONE: &str =
     "66696d6a726e6c31010500a00198234a74010501a0013d62d80a01010101299f890700018202\
 8202018202820101820100821a000f42450019ea5b425a46850101000043616263ff56f4406a01020101cec2ea0300";
 
+/// Both numbers are reserved, and that bundle is begun with the moment 1010000, at which it came.
+pub const DATED: &str =
+    "66696d6a726e6c31010500a00198234a74010501a0013d62d80a01060101bdd250299f890700\
+0182028202018202820101820100821a000f42450019ea5b425a46850101000043616263ffac\
+5eef5700";
+
+/// The same, and its session has sent it.
+pub const DATED_DONE: &str =
+    "66696d6a726e6c31010500a00198234a74010501a0013d62d80a01060101bdd250299f890700\
+0182028202018202820101820100821a000f42450019ea5b425a46850101000043616263ffac\
+5eef5701020101cec2ea0300";
+
 /// The block of those files.
 pub const BLOCK: &str =
     "9f8907000182028202018202820101820100821a000f42450019ea5b425a46850101000043616263ff";
 
 /// The block is begun.
 pub fn begun(block: &[u8]) -> Record {
+    begun_at(None, block)
+}
+
+/// The block is begun with the moment 1010000.
+pub fn dated(block: &[u8]) -> Record {
+    begun_at(Some(1_010_000), block)
+}
+
+fn begun_at(came: Option<u64>, block: &[u8]) -> Record {
     Record::Begun {
         id: 1,
         face: Face::New,
+        came,
         block,
     }
 }
@@ -56,6 +78,9 @@ pub fn shown(alloc: Global, kept: &Kept) -> Result<String, AllocError> {
     for begun in kept.pending.as_slice() {
         let (id, face, size) = (begun.id, named(begun.face), begun.block.len());
         write!(text, "begun {id} {face} {size} ")?;
+        if let Some(came) = begun.came {
+            write!(text, "came {came} ")?;
+        }
     }
     for mark in kept.marks.as_slice() {
         let (face, session, when) = (named(mark.face), mark.session, mark.when);

@@ -27,13 +27,38 @@ const KEPT: &[(&str, &str)] = &[
     ),
 ];
 
+/// The same, with blocks that have the moment at which they came.
+const DATED: &[(&str, &str)] = &[
+    (
+        "66696d6a726e6c3101060101bdd25003616263bca0aed400",
+        "begun 1 new 3 came 1010000 reserved 0 0 greatest 1",
+    ),
+    (
+        "66696d6a726e6c31010601010000ad112f1b00",
+        "begun 1 new 0 came 0 reserved 0 0 greatest 1",
+    ),
+    (
+        "66696d6a726e6c310106010181ffffffffffffffff7f0016ccf13100",
+        "begun 1 new 0 came 18446744073709551615 reserved 0 0 greatest 1",
+    ),
+    (
+        "66696d6a726e6c3101010100016f8c51841001060201bdd25003616263a50fa2fd00",
+        "begun 1 old 1 begun 2 new 3 came 1010000 reserved 0 0 greatest 2",
+    ),
+    (
+        "66696d6a726e6c3101060101bdd25003616263bca0aed401020101cec2ea0300",
+        "reserved 0 0 greatest 1",
+    ),
+];
+
 /// Files that are damaged, the place, and the cause.
 const DAMAGED: &[(&str, usize, &str)] = &[
     ("68656c6c6f", 0, "Start"),
     ("66696d6a726e6c31", 8, "Truncated"),
     ("66696d6a726e6c3101", 9, "Truncated"),
     ("66696d6a726e6c3101007d53510000", 9, "Kind"),
-    ("66696d6a726e6c310106", 9, "Kind"),
+    ("66696d6a726e6c310106", 10, "Truncated"),
+    ("66696d6a726e6c310107", 9, "Kind"),
     ("66696d6a726e6c310105008001e7a8a97600", 11, "Number"),
     ("66696d6a726e6c31010502018ed526f300", 10, "Face"),
 ];
@@ -63,10 +88,53 @@ const MISPLACED: &[(&str, usize, &str)] = &[
     ),
 ];
 
+/// The same, of records that begin a block with its moment.
+const DATED_DAMAGED: &[(&str, usize, &str)] = &[
+    ("66696d6a726e6c3101060101bdd2", 12, "Truncated"),
+    ("66696d6a726e6c3101060101bdd250036162", 16, "Truncated"),
+    (
+        "66696d6a726e6c3101060101036162632df4e76d00",
+        14,
+        "Truncated",
+    ),
+    (
+        "66696d6a726e6c3101060101800103616263b990ec9000",
+        12,
+        "Number",
+    ),
+    (
+        "66696d6a726e6c31010601018280808080808080800003616263bbfe19b400",
+        12,
+        "Number",
+    ),
+    (
+        "66696d6a726e6c3101060102bdd2500361626367e429bd00",
+        11,
+        "Face",
+    ),
+    ("66696d6a726e6c3101060001bdd25003616263489e789c00", 10, "Id"),
+    (
+        "66696d6a726e6c310101010103616263301157e401060101bdd25003616263bca0aed400",
+        22,
+        "Id",
+    ),
+    (
+        "66696d6a726e6c3101060101bdd25003616263bca0aed40101010103616263301157e400",
+        25,
+        "Id",
+    ),
+    (
+        "66696d6a726e6c3101060101bdd25003616263c7db214d00",
+        19,
+        "Crc",
+    ),
+];
+
 /// Octets of the file with one block that are changed, to what, and the place where it is damaged then.
 const CHANGED: &[(usize, u8, usize, &str)] = &[
     (0, 0x67, 0, "Start"),
-    (9, 0x06, 9, "Kind"),
+    (9, 0x06, 10, "Id"),
+    (9, 0x07, 9, "Kind"),
     (12, 0x02, 13, "Crc"),
     (40, 0x00, 72, "Crc"),
     (75, 0x00, 72, "Crc"),
@@ -91,6 +159,9 @@ fn shown_kept(alloc: Global, kept: &Kept) -> Result<String, Fail> {
     for begun in kept.pending.as_slice() {
         let (id, face, size) = (begun.id, named(begun.face), begun.block.len());
         write!(text, "begun {id} {face} {size} ")?;
+        if let Some(came) = begun.came {
+            write!(text, "came {came} ")?;
+        }
     }
     for mark in kept.marks.as_slice() {
         let (face, session, when) = (named(mark.face), mark.session, mark.when);
@@ -119,8 +190,29 @@ fn a_file_says_what_is_kept(rt: HostRuntime) -> Result<(), Fail> {
 }
 
 #[test]
+fn a_file_says_when_a_block_came(rt: HostRuntime) -> Result<(), Fail> {
+    for (text, wanted) in DATED {
+        let file = hex::decode(rt.alloc(), text)?;
+        let got = shown(rt.alloc(), file.as_slice())?;
+        assert_eq!(rt; got.as_str(), *wanted, "{text}");
+    }
+    Ok(())
+}
+
+#[test]
 fn a_damaged_file_is_refused(rt: HostRuntime) -> Result<(), Fail> {
     for (text, at, cause) in DAMAGED {
+        let file = hex::decode(rt.alloc(), text)?;
+        let got = shown(rt.alloc(), file.as_slice())?;
+        let wanted = format!(in rt.alloc(); "{at} {cause}")?;
+        assert_eq!(rt; got.as_str(), wanted.as_str(), "{text}");
+    }
+    Ok(())
+}
+
+#[test]
+fn a_damaged_moment_is_refused(rt: HostRuntime) -> Result<(), Fail> {
+    for (text, at, cause) in DATED_DAMAGED {
         let file = hex::decode(rt.alloc(), text)?;
         let got = shown(rt.alloc(), file.as_slice())?;
         let wanted = format!(in rt.alloc(); "{at} {cause}")?;

@@ -17,6 +17,6 @@ pub returns-in-4-clause-above : goal.returns-in-4-clause-above
 returns-in-4-clause-above c =
     IfOk-weaker c.read_clear.result (λ x. (n : ℕ) → IsAbove n (record_of x.0)) (λ x. IsAbove c.args.book.now.greatest (record_of x.0)) (λ x any. any c.args.book.now.greatest) c.read_clear.ensures.above
 
-pub returns-in_default-clause-above : goal.returns-in_default-clause-above
-returns-in_default-clause-above c =
+pub returns-in-5-clause-above : goal.returns-in-5-clause-above
+returns-in-5-clause-above c =
     IfOk-weaker c.read_reserved.result (λ x. (n : ℕ) → IsAbove n (record_of x.0)) (λ x. IsAbove c.args.book.now.greatest (record_of x.0)) (λ x any. any c.args.book.now.greatest) c.read_reserved.ensures.above

@@ -27,11 +27,16 @@ link_counts (links.BadSegment place cause) = None
 link_counts links.PollFailed = Some things.PollFailed
 link_counts (links.SendFailed datagrams) = None
 link_counts (links.OutboxFull datagrams) = Some (things.Dropped datagrams)
+link_counts (links.Forgotten runs) = None
 
--- a block that came whole, by what became of it
+-- a block that came whole, by what became of it; in one with several bundles, each of them, and the end
 abbrev pub session_counts : SessionEvent → Option Counted
 session_counts (sessions.BadBundle place cause) =
     Some (things.Block (cases.BadBundle place cause))
+session_counts (sessions.BadEnd index place cause) =
+    Some (things.Block (cases.BadBundle place cause))
+session_counts (sessions.Began several octets) = None
+session_counts (sessions.Green last octets offset) = Some (things.Green octets)
 session_counts (sessions.Failed reason) = None
 session_counts (sessions.Cancelled reason) = None
 session_counts (sessions.Refused service) = None
@@ -50,9 +55,9 @@ bundle_counts bundles.HopLimit = Some (things.Block cases.HopLimit)
 bundle_counts bundles.Storage = Some (things.Block cases.Storage)
 bundle_counts (bundles.Reported report) = None
 bundle_counts bundles.Unreported = None
-bundle_counts bundles.Sent = Some (things.Ended ends.Sent)
-bundle_counts (bundles.Failed reason) = Some (things.Ended ends.Failed)
-bundle_counts (bundles.Cancelled reason) = Some (things.Ended ends.Cancelled)
+bundle_counts (bundles.Sent several) = Some (things.Ended ends.Sent)
+bundle_counts (bundles.Failed several reason) = Some (things.Ended ends.Failed)
+bundle_counts (bundles.Cancelled several reason) = Some (things.Ended ends.Cancelled)
 
 abbrev pub counted_where : Face → Option Counted → Counters → Counters
 counted_where face None c = c
@@ -66,6 +71,10 @@ event_counted (events.Session face session what) c =
     counted_where face (session_counts what) c
 event_counted (events.Bundle face session subject what) c =
     counted_where face (bundle_counts what) c
+event_counted (events.InRow face session index subject what) c =
+    counted_where face (bundle_counts what) c
+event_counted (events.LeftOut face session index subject kinds residue) c = c
+event_counted (events.Waiting face subject) c = c
 
 unfoldable pub events_counted : List Event → Counters → Counters
 events_counted [] c = c

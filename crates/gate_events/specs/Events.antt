@@ -65,18 +65,18 @@ first_number (own ∷ more) = own.session
 abbrev pub failed_event : Face → ℕ → ℕ → Option Own → Event
 failed_event face session reason None = events.Session face session (sessions.Failed reason)
 failed_event face session reason (Some own) =
-    events.Bundle face session own.subject (bundles.Failed reason)
+    events.Bundle face session own.subject (bundles.Failed None reason)
 
 abbrev pub cancelled_event : Face → ℕ → ℕ → Option Own → Event
 cancelled_event face session reason None =
     events.Session face session (sessions.Cancelled reason)
 cancelled_event face session reason (Some own) =
-    events.Bundle face session own.subject (bundles.Cancelled reason)
+    events.Bundle face session own.subject (bundles.Cancelled None reason)
 
 -- a note of a face's engine
 abbrev pub engine_event : OpenAt → List Own → Face → Note → Event
 engine_event is_open own face (engine.Sent session) =
-    events.Bundle face session (carried (end_of is_open face session own)) bundles.Sent
+    events.Bundle face session (carried (end_of is_open face session own)) (bundles.Sent None)
 engine_event is_open own face (engine.Failed session reason) =
     failed_event face session reason (end_of is_open face session own)
 engine_event is_open own face (engine.Refused session service) =
@@ -110,9 +110,9 @@ gate_event s u face (notes.Expired session) = block_event s face session bundles
 gate_event s u face (notes.HopLimit session) = block_event s face session bundles.HopLimit
 gate_event s u face (notes.Storage session) = block_event s face session bundles.Storage
 gate_event s u face (notes.Passed session pieces) =
-    block_event s face session (bundles.Passed (first_number u.begun) pieces)
+    block_event s face session (bundles.Passed (Some (first_number u.begun)) pieces)
 gate_event s u face (notes.Reported session) =
-    block_event s face session (bundles.Reported (first_number u.begun))
+    block_event s face session (bundles.Reported (Some (first_number u.begun)))
 gate_event s u face (notes.Unreported session) =
     block_event s face session bundles.Unreported
 

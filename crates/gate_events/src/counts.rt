@@ -12,10 +12,15 @@ pub(crate) fn count_event(counters: &mut Counters, event: &Event)
     ensures { counters.exit.now ≡ spec.event_counted event.now counters.entry.now }
 {
     match event {
-        Event::Start { .. } | Event::MetricsFailed => {}
+        Event::Start { .. }
+        | Event::MetricsFailed
+        | Event::LeftOut { .. }
+        | Event::Waiting { .. } => {}
         Event::Link { face, what } => count(counters, *face, in_link(*what)),
         Event::Session { face, what, .. } => count(counters, *face, in_session(*what)),
-        Event::Bundle { face, what, .. } => count(counters, *face, in_bundle(*what)),
+        Event::Bundle { face, what, .. } | Event::InRow { face, what, .. } => {
+            count(counters, *face, in_bundle(*what))
+        }
     }
 }
 
@@ -39,7 +44,8 @@ fn in_link(what: LinkEvent) -> Option<Counted>
         | LinkEvent::ContactClosed { .. }
         | LinkEvent::Stranger
         | LinkEvent::BadSegment { .. }
-        | LinkEvent::SendFailed { .. } => None,
+        | LinkEvent::SendFailed { .. }
+        | LinkEvent::Forgotten { .. } => None,
     }
 }
 
@@ -48,10 +54,12 @@ fn in_session(what: SessionEvent) -> Option<Counted>
     ensures { result ≡ spec.session_counts what }
 {
     match what {
-        SessionEvent::BadBundle { place, cause } => Some(Counted::Block {
-            case: GateCase::BadBundle { at: place, cause },
-        }),
-        SessionEvent::Failed { .. }
+        SessionEvent::BadBundle { place, cause } | SessionEvent::BadEnd { place, cause, .. } => {
+            Some(of_block(GateCase::BadBundle { at: place, cause }))
+        }
+        SessionEvent::Green { octets, .. } => Some(Counted::Green { octets }),
+        SessionEvent::Began { .. }
+        | SessionEvent::Failed { .. }
         | SessionEvent::Cancelled { .. }
         | SessionEvent::Refused { .. }
         | SessionEvent::Evicted
@@ -71,7 +79,7 @@ fn in_bundle(what: BundleEvent) -> Option<Counted>
         BundleEvent::Expired => Some(of_block(GateCase::Expired)),
         BundleEvent::HopLimit => Some(of_block(GateCase::HopLimit)),
         BundleEvent::Storage => Some(of_block(GateCase::Storage)),
-        BundleEvent::Sent => Some(Counted::Ended { how: Ended::Sent }),
+        BundleEvent::Sent { .. } => Some(Counted::Ended { how: Ended::Sent }),
         BundleEvent::Failed { .. } => Some(Counted::Ended { how: Ended::Failed }),
         BundleEvent::Cancelled { .. } => Some(Counted::Ended {
             how: Ended::Cancelled,

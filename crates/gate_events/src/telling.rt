@@ -133,12 +133,12 @@ impl OwnSessions {
                 block_event(alloc, ups, note.face, session, BundleEvent::Storage)
             }
             GateNote::Passed { session, pieces } => {
-                let first = first_number(begun);
+                let first = Some(first_number(begun));
                 let what = BundleEvent::Passed { first, pieces };
                 block_event(alloc, ups, note.face, session, what)
             }
             GateNote::Reported { session } => {
-                let report = first_number(begun);
+                let report = Some(first_number(begun));
                 let what = BundleEvent::Reported { report };
                 block_event(alloc, ups, note.face, session, what)
             }
@@ -157,7 +157,7 @@ impl OwnSessions {
         match note {
             Note::Sent { session } => {
                 let subject = carried(self.end(face, session, gateway));
-                let what = BundleEvent::Sent;
+                let what = BundleEvent::Sent { bundles: None };
                 Event::Bundle {
                     face,
                     session,
@@ -315,7 +315,10 @@ fn failed_event(face: Face, session: u64, reason: u8, end: Option<Own>) -> Event
             face,
             session,
             subject: own.subject,
-            what: BundleEvent::Failed { reason },
+            what: BundleEvent::Failed {
+                bundles: None,
+                reason,
+            },
         },
         None => session_event(face, session, SessionEvent::Failed { reason }),
     }
@@ -331,7 +334,10 @@ fn cancelled_event(face: Face, session: u64, reason: u8, end: Option<Own>) -> Ev
             face,
             session,
             subject: own.subject,
-            what: BundleEvent::Cancelled { reason },
+            what: BundleEvent::Cancelled {
+                bundles: None,
+                reason,
+            },
         },
         None => session_event(face, session, SessionEvent::Cancelled { reason }),
     }

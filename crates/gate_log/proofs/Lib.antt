@@ -3,3 +3,4 @@ pub mod PlainLemmas
 pub mod LineLemmas
 pub mod ShownLemmas
 pub mod SubjectLemmas
+pub mod RisingLemmas

@@ -1,12 +1,12 @@
 -- A line and a subject, piece by piece.
-use Rattle.std.proofs.Common.{◌≡◌, ℕ, true, List, [], ◌∷◌, ◌++◌, codes, refl, sym, ap, ◌∙◌, append_assoc, append-nil}
+use Rattle.std.proofs.Common.{◌≡◌, ℕ, true, List, [], ◌∷◌, ◌++◌, codes, Option, None, Some, refl, sym, ap, ◌∙◌, append_assoc, append-nil}
 use Rattle.json.specs.Print.{quoted, escape_byte}
 use Rattle.serde_json.specs.Written.{compact_text, members_text}
 use Rattle.gate_log.specs.declared.event.Event.{Event}
 use Rattle.gate_log.specs.declared.subject.Subject.{Subject}
 use Rattle.gate_log.specs.Values.{Entry, keys_of, moment, created, bundle}
-use Rattle.gate_log.specs.Lines.{event_entries, line_of}
-use Rattle.gate_log.specs.Written.{later_text, later_texts, written_line, written_bundle, subject_rest}
+use Rattle.gate_log.specs.Lines.{count_if, event_entries, line_of}
+use Rattle.gate_log.specs.Written.{later_text, later_texts, later_if, written_line, written_bundle, subject_rest}
 
 -- ---- piece by piece
 
@@ -17,6 +17,19 @@ ends start now piece last = last ∙ ap (λ (v : List ℕ). start ++ v) (sym (ap
 -- a piece before the rest
 pub before : (start mid now piece rest : List ℕ) → mid ≡ start ++ piece → now ≡ mid ++ rest → now ≡ start ++ (piece ++ rest)
 before start mid now piece rest first more = more ∙ ap (λ (v : List ℕ). v ++ rest) first ∙ append_assoc start piece rest
+
+-- two pieces before the rest
+pub two-before : (start mid now a b rest : List ℕ) → mid ≡ start ++ (a ++ (b ++ [])) → now ≡ mid ++ rest → now ≡ start ++ (a ++ (b ++ rest))
+two-before start mid now a b rest first more =
+    more ∙ ap (λ (v : List ℕ). v ++ rest) first ∙ regroup
+  where
+    regroup : (start ++ (a ++ (b ++ []))) ++ rest ≡ start ++ (a ++ (b ++ rest))
+    regroup = append_assoc start (a ++ (b ++ [])) rest ∙ ap (λ (v : List ℕ). start ++ v) (append_assoc a (b ++ []) rest ∙ ap (λ (v : List ℕ). a ++ v) (append_assoc b [] rest))
+
+-- a number that may be left out, before the rest
+pub later_counted : (key : List ℕ) (number : Option ℕ) (rest : List Entry) → later_texts (count_if key number rest) ≡ later_if key number ++ later_texts rest
+later_counted key None rest = refl
+later_counted key (Some n) rest = refl
 
 -- ---- objects
 

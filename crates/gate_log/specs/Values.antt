@@ -2,7 +2,7 @@
 
 use Rattle.std.specs.Prelude.{ℕ, List, [], ◌∷◌, codes, Option, Some, None}
 use Rattle.serde_json.specs.Data.{Data, null, number, string, array, object, unsigned}
-use Rattle.serde_json.specs.Data.{no_items, item, Members, no_members, member}
+use Rattle.serde_json.specs.Data.{Items, no_items, item, Members, no_members, member}
 use Rattle.endpoint.specs.declared.extent.Fragment.{Fragment}
 use Rattle.endpoint.specs.declared.name.Endpoint.{Endpoint}
 use Rattle.endpoint.specs.Endpoints.{text_of}
@@ -26,6 +26,14 @@ object_of entries = object (keys_of entries)
 
 abbrev pub count : ℕ → Data
 count n = number (unsigned n)
+
+-- numbers of a list, in order
+abbrev pub count_items : List ℕ → Items
+count_items [] = no_items
+count_items (n ∷ more) = item (count n) (count_items more)
+
+abbrev pub counts : List ℕ → Data
+counts numbers = array (count_items numbers)
 
 abbrev pub two : ℕ → ℕ → Data
 two first second = array (item (count first) (item (count second) no_items))

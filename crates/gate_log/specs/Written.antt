@@ -1,13 +1,13 @@
 -- An object as it is written: member by member.
 
-use Rattle.std.specs.Prelude.{◌≡◌, ℕ, true, nat_lt, List, ◌++◌, drop, flat_map, codes}
+use Rattle.std.specs.Prelude.{◌≡◌, ℕ, true, nat_lt, List, [], ◌++◌, drop, flat_map, codes, Option, None, Some}
 use Rattle.std.specs.Fmt.{decimal}
 use Rattle.std.specs.List.{list_all}
 use Rattle.json.specs.Print.{escape, quoted}
 use Rattle.serde_json.specs.Written.{compact_text}
 use Rattle.gate_log.specs.declared.event.Event.{Event}
 use Rattle.gate_log.specs.declared.subject.Subject.{Subject}
-use Rattle.gate_log.specs.Values.{Entry, moment, created, subject_entries}
+use Rattle.gate_log.specs.Values.{Entry, count, moment, created, subject_entries}
 use Rattle.gate_log.specs.Lines.{event_entries}
 
 -- a text that stands in a string as it is
@@ -32,6 +32,11 @@ later_text entry = codes "," ++ (quoted entry.0 ++ (codes ":" ++ compact_text en
 
 abbrev pub later_texts : List Entry → List ℕ
 later_texts = flat_map later_text
+
+-- a member that is a number, where there is one
+abbrev pub later_if : List ℕ → Option ℕ → List ℕ
+later_if key None = []
+later_if key (Some n) = later_text (key, count n)
 
 -- a line, and a subject, as they are written
 abbrev pub written_line : ℕ → Event → List ℕ

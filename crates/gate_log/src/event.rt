@@ -1,6 +1,7 @@
 //! What an operator must know.
 
 use crate::subject::Subject;
+use endpoint::Octets;
 use gate_cases::{BadCause, Face};
 use ltp_segment::SegmentCause;
 use translate::Refused;
@@ -48,6 +49,42 @@ pub enum Event {
         /// What.
         what: BundleEvent,
     },
+    /// Something happened to one of the bundles of a block that has more than one, or has octets after its
+    /// only one.
+    InRow {
+        /// The face at which the block came.
+        face: Face,
+        /// The number of the session that carried it.
+        session: u64,
+        /// The bundle's place among those of the block, from 1.
+        index: u64,
+        /// The bundle.
+        subject: Option<Subject>,
+        /// What.
+        what: BundleEvent,
+    },
+    /// A bundle passed without what the other version has no field for.
+    LeftOut {
+        /// The face at which its block came.
+        face: Face,
+        /// The number of the session that carried it.
+        session: u64,
+        /// The bundle's place among those of the block, from 1, where there is more than it.
+        index: Option<u64>,
+        /// The bundle.
+        subject: Option<Subject>,
+        /// The types of the extension blocks that were left out, in order.
+        blocks: Octets,
+        /// Whether more than them was left out, which a residue would have held.
+        residue: bool,
+    },
+    /// A block was pending in the journal, and waits at a face that gathers for others to be sent again with.
+    Waiting {
+        /// The face.
+        face: Face,
+        /// The bundle that is the front of the block; none where there is none.
+        subject: Option<Subject>,
+    },
 }
 
 /// What happens to a face's link.
@@ -86,6 +123,11 @@ pub enum LinkEvent {
         /// How many, in this half.
         datagrams: u64,
     },
+    /// Sessions that are over were forgotten before their time, since there was no place for more.
+    Forgotten {
+        /// How many runs of consecutive numbers they were.
+        runs: u64,
+    },
 }
 
 /// What happens in a session of which no bundle is known.
@@ -98,6 +140,31 @@ pub enum SessionEvent {
         place: usize,
         /// What is wrong there.
         cause: BadCause,
+    },
+    /// A block came whole that is bundles of the face's version, and octets after them that aren't one.
+    BadEnd {
+        /// The place of these octets among the bundles of the block, from 1.
+        index: u64,
+        /// The place of the first field that isn't there as it should be, from the block's beginning.
+        place: usize,
+        /// What is wrong there.
+        cause: BadCause,
+    },
+    /// A block of gathered pieces begins.
+    Began {
+        /// How many they are.
+        bundles: u64,
+        /// How many octets they have.
+        octets: u64,
+    },
+    /// A green piece came, and was dropped.
+    Green {
+        /// Whether it ends its block.
+        last: bool,
+        /// How many octets it has.
+        octets: u64,
+        /// Where they stand in the block.
+        offset: u64,
     },
     /// A receiving session was given up.
     Failed {
@@ -131,8 +198,8 @@ pub enum BundleEvent {
     Resumed,
     /// It came, and goes on at the other face.
     Passed {
-        /// The number of the first session there.
-        first: u64,
+        /// The number of the first session there; none where that face gathers, so that it isn't known yet.
+        first: Option<u64>,
         /// In how many pieces it goes on, a session each.
         pieces: u64,
     },
@@ -149,20 +216,27 @@ pub enum BundleEvent {
     Storage,
     /// It came, and the report that it asks for was sent.
     Reported {
-        /// The number of the report's session.
-        report: u64,
+        /// The number of the report's session; none where the face gathers.
+        report: Option<u64>,
     },
     /// It came, and the report that it asks for wasn't sent.
     Unreported,
     /// It was sent, and all of it was claimed.
-    Sent,
+    Sent {
+        /// How many bundles it was, where several were gathered.
+        bundles: Option<u64>,
+    },
     /// It was sent, and the session was given up.
     Failed {
+        /// How many bundles it was, where several were gathered.
+        bundles: Option<u64>,
         /// Why, as the cancel says it.
         reason: u8,
     },
     /// It was sent, and the peer cancelled the session.
     Cancelled {
+        /// How many bundles it was, where several were gathered.
+        bundles: Option<u64>,
         /// Why, as the cancel says it.
         reason: u8,
     },

@@ -4,8 +4,9 @@
 //! keys in alphabetical order, and a line feed. [`subject_of`] says which bundle a block is, for the
 //! lines that are about one. No line has octets of a payload.
 //!
-//! The causes are those of the formats and of the gateway, by their names. No program stands on this
-//! crate yet.
+//! The causes are those of the formats and of the gateway, by their names. Some events are told by no
+//! program yet: those of green data, of gathered pieces, of blocks with several bundles, of what is left out
+//! and of what is forgotten early.
 #![tactic(auto)]
 
 mod event;

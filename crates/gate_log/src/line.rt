@@ -11,8 +11,9 @@ ghost use Rattle.gate_log.specs.Written.{IsPlain, later_text, later_texts, writt
 
 use crate::event::{BundleEvent, Event, LinkEvent, SessionEvent};
 use crate::member::{
-    push_cause, push_count, push_count_or_null, push_created, push_face, push_fragment,
-    push_moment, push_two, push_until, push_until_or_null, push_version, push_word,
+    push_bool, push_cause, push_count, push_count_if, push_count_or_null, push_created, push_face,
+    push_fragment, push_kinds, push_moment, push_two, push_until, push_until_or_null, push_version,
+    push_word,
 };
 use crate::name::push_name;
 use crate::subject::Subject;
@@ -67,7 +68,32 @@ fn push_event(text: &mut String, event: &Event) -> Result<(), AllocError>
             subject,
             what,
         } => {
-            push_block(text, *face, *session, *what)?;
+            push_block(text, *face, *session, None, *what)?;
+            push_subject(text, subject)
+        }
+        Event::InRow {
+            face,
+            session,
+            index,
+            subject,
+            what,
+        } => {
+            push_block(text, *face, *session, Some(*index), *what)?;
+            push_subject(text, subject)
+        }
+        Event::LeftOut {
+            face,
+            session,
+            index,
+            subject,
+            blocks,
+            residue,
+        } => {
+            push_left(text, *face, *session, *index, blocks.as_slice(), *residue)?;
+            push_subject(text, subject)
+        }
+        Event::Waiting { face, subject } => {
+            push_called(text, "resumed", *face)?;
             push_subject(text, subject)
         }
     }
@@ -105,7 +131,17 @@ fn push_link(text: &mut String, face: Face, what: LinkEvent) -> Result<(), Alloc
         LinkEvent::PollFailed => push_called(text, "poll_failed", face),
         LinkEvent::SendFailed { datagrams } => push_lost(text, "send_failed", face, datagrams),
         LinkEvent::OutboxFull { datagrams } => push_lost(text, "outbox_full", face, datagrams),
+        LinkEvent::Forgotten { runs } => push_forgotten(text, face, runs),
     }
+}
+
+#[tactic(auto, unfolding(json::specs::Print::escape_byte))]
+fn push_forgotten(text: &mut String, face: Face, runs: u64) -> Result<(), AllocError>
+    ensures { OnOk result (string_bytes text.new ≡ string_bytes text.old
+        ++ later_texts (spec.link_entries face (LinkEvent.Forgotten runs))) }
+{
+    push_called(text, "forgotten", face)?;
+    push_count(text, "runs", runs)
 }
 
 #[tactic(auto, unfolding(json::specs::Print::escape_byte))]
@@ -191,6 +227,23 @@ fn push_session(
             push_cause(text, cause.word())?;
             push_numbered(text, "bad_bundle", face, "place", place as u64, session)
         }
+        SessionEvent::BadEnd {
+            index,
+            place,
+            cause,
+        } => {
+            push_cause(text, cause.word())?;
+            push_end_of_row(text, face, index, place as u64, session)
+        }
+        SessionEvent::Began { bundles, octets } => {
+            push_count(text, "bundles", bundles)?;
+            push_numbered(text, "began", face, "octets", octets, session)
+        }
+        SessionEvent::Green {
+            last,
+            octets,
+            offset,
+        } => push_green(text, face, session, last, octets, offset),
         SessionEvent::Failed { reason } => {
             push_ended(text, "failed", face, session, reason, "receiving")
         }
@@ -205,6 +258,44 @@ fn push_session(
         SessionEvent::Closed => push_in(text, "closed", face, session),
         SessionEvent::HistoryFull => push_in(text, "history_full", face, session),
     }
+}
+
+/// What is no bundle after those of a block, and where.
+#[tactic(auto, unfolding(json::specs::Print::escape_byte))]
+fn push_end_of_row(
+    text: &mut String,
+    face: Face,
+    index: u64,
+    place: u64,
+    session: u64,
+) -> Result<(), AllocError>
+    ensures { OnOk result (string_bytes text.new ≡ string_bytes text.old ++ later_texts
+        (spec.called (codes "bad_bundle") ∷ spec.at_face face ∷ (codes "index", count index)
+        ∷ (codes "place", count place) ∷ spec.in_session session ∷ [])) }
+{
+    push_called(text, "bad_bundle", face)?;
+    push_count(text, "index", index)?;
+    push_count(text, "place", place)?;
+    push_count(text, "session", session)
+}
+
+#[tactic(auto, unfolding(json::specs::Print::escape_byte))]
+fn push_green(
+    text: &mut String,
+    face: Face,
+    session: u64,
+    last: bool,
+    octets: u64,
+    offset: u64,
+) -> Result<(), AllocError>
+    ensures { OnOk result (string_bytes text.new ≡ string_bytes text.old ++ later_texts
+        (spec.session_entries face session (SessionEvent.Green last octets offset))) }
+{
+    push_called(text, "green", face)?;
+    push_bool(text, "last", last)?;
+    push_count(text, "octets", octets)?;
+    push_count(text, "offset", offset)?;
+    push_count(text, "session", session)
 }
 
 /// What happened, at which face and in which session.
@@ -266,54 +357,133 @@ fn push_ended(
 
 // ---- a block
 
-#[tactic(auto, unfolding(json::specs::Print::escape_byte))]
+#[tactic(auto, using(crate::proofs::LineLemmas::later_counted), unfolding(json::specs::Print::escape_byte))]
 fn push_block(
     text: &mut String,
     face: Face,
     session: u64,
+    index: Option<u64>,
     what: BundleEvent,
 ) -> Result<(), AllocError>
     ensures { OnOk result (string_bytes text.new
-        ≡ string_bytes text.old ++ later_texts (spec.block_entries face session what)) }
+        ≡ string_bytes text.old ++ later_texts (spec.block_entries face session index what)) }
 {
     match what {
-        BundleEvent::Resumed => push_in(text, "resumed", face, session),
-        BundleEvent::Passed { first, pieces } => { push_passed(text, face, session, first, pieces) }
+        BundleEvent::Resumed => push_in_row(text, "resumed", face, index, session),
+        BundleEvent::Passed { first, pieces } => {
+            push_passed(text, face, session, index, first, pieces)
+        }
         BundleEvent::Untranslated { cause } => {
             push_cause(text, cause.word())?;
-            push_in(text, "untranslated", face, session)
+            push_in_row(text, "untranslated", face, index, session)
         }
-        BundleEvent::Expired => push_in(text, "expired", face, session),
-        BundleEvent::HopLimit => push_in(text, "hop_limit", face, session),
-        BundleEvent::Storage => push_in(text, "storage", face, session),
-        BundleEvent::Reported { report } => {
-            push_numbered(text, "reported", face, "report", report, session)
+        BundleEvent::Expired => push_in_row(text, "expired", face, index, session),
+        BundleEvent::HopLimit => push_in_row(text, "hop_limit", face, index, session),
+        BundleEvent::Storage => push_in_row(text, "storage", face, index, session),
+        BundleEvent::Reported { report } => push_reported(text, face, session, index, report),
+        BundleEvent::Unreported => push_in_row(text, "unreported", face, index, session),
+        BundleEvent::Sent { bundles } => {
+            push_count_if(text, "bundles", bundles)?;
+            push_in(text, "sent", face, session)
         }
-        BundleEvent::Unreported => push_in(text, "unreported", face, session),
-        BundleEvent::Sent => push_in(text, "sent", face, session),
-        BundleEvent::Failed { reason } => {
-            push_ended(text, "failed", face, session, reason, "sending")
+        BundleEvent::Failed { bundles, reason } => {
+            push_lost_block(text, "failed", face, session, bundles, reason)
         }
-        BundleEvent::Cancelled { reason } => {
-            push_ended(text, "cancelled", face, session, reason, "sending")
+        BundleEvent::Cancelled { bundles, reason } => {
+            push_lost_block(text, "cancelled", face, session, bundles, reason)
         }
     }
 }
 
-#[tactic(auto, unfolding(json::specs::Print::escape_byte))]
+/// What happened to a bundle, at which face, in which session, and at which place of its row.
+#[tactic(auto, using(crate::proofs::LineLemmas::later_counted), unfolding(json::specs::Print::escape_byte))]
+fn push_in_row(
+    text: &mut String,
+    event: &'static str,
+    face: Face,
+    index: Option<u64>,
+    session: u64,
+) -> Result<(), AllocError>
+    requires { IsPlain event.now }
+    ensures { OnOk result (string_bytes text.new ≡ string_bytes text.old
+        ++ later_texts (spec.row_entries event.now face index session)) }
+{
+    push_called(text, event, face)?;
+    push_count_if(text, "index", index)?;
+    push_count(text, "session", session)
+}
+
+#[tactic(auto, using(crate::proofs::LineLemmas::later_counted), unfolding(json::specs::Print::escape_byte))]
 fn push_passed(
     text: &mut String,
     face: Face,
     session: u64,
-    first: u64,
+    index: Option<u64>,
+    first: Option<u64>,
     pieces: u64,
 ) -> Result<(), AllocError>
     ensures { OnOk result (string_bytes text.new ≡ string_bytes text.old
-        ++ later_texts (spec.block_entries face session (BundleEvent.Passed first pieces))) }
+        ++ later_texts (spec.block_entries face session index (BundleEvent.Passed first pieces))) }
 {
     push_called(text, "passed", face)?;
-    push_count(text, "first", first)?;
+    push_count_if(text, "first", first)?;
+    push_count_if(text, "index", index)?;
     push_count(text, "pieces", pieces)?;
+    push_count(text, "session", session)
+}
+
+#[tactic(auto, using(crate::proofs::LineLemmas::later_counted), unfolding(json::specs::Print::escape_byte))]
+fn push_reported(
+    text: &mut String,
+    face: Face,
+    session: u64,
+    index: Option<u64>,
+    report: Option<u64>,
+) -> Result<(), AllocError>
+    ensures { OnOk result (string_bytes text.new ≡ string_bytes text.old
+        ++ later_texts (spec.block_entries face session index (BundleEvent.Reported report))) }
+{
+    push_called(text, "reported", face)?;
+    push_count_if(text, "index", index)?;
+    push_count_if(text, "report", report)?;
+    push_count(text, "session", session)
+}
+
+/// A block of the gateway's own whose session was ended early.
+#[tactic(auto, using(crate::proofs::LineLemmas::later_counted), unfolding(json::specs::Print::escape_byte))]
+fn push_lost_block(
+    text: &mut String,
+    event: &'static str,
+    face: Face,
+    session: u64,
+    bundles: Option<u64>,
+    reason: u8,
+) -> Result<(), AllocError>
+    requires { IsPlain event.now }
+    ensures { OnOk result (string_bytes text.new ≡ string_bytes text.old
+        ++ later_texts (spec.sent_entries face session bundles event.now reason)) }
+{
+    push_count_if(text, "bundles", bundles)?;
+    push_ended(text, event, face, session, reason, "sending")
+}
+
+/// A bundle that passed without a part of it.
+#[tactic(auto, using(crate::proofs::LineLemmas::later_counted), unfolding(json::specs::Print::escape_byte))]
+fn push_left(
+    text: &mut String,
+    face: Face,
+    session: u64,
+    index: Option<u64>,
+    blocks: &[u8],
+    residue: bool,
+) -> Result<(), AllocError>
+    ensures { OnOk result (string_bytes text.new ≡ string_bytes text.old
+        ++ later_texts (spec.left_entries face session index blocks.now residue)) }
+{
+    push_kinds(text, blocks)?;
+    push_called(text, "left_out", face)?;
+    push_count_if(text, "index", index)?;
+    push_bool(text, "residue", residue)?;
     push_count(text, "session", session)
 }
 

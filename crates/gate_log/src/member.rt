@@ -1,12 +1,13 @@
 //! Members of a line: a comma, a key, and what stands under it.
 
-ghost use Rattle.std.specs.Prelude.{◌≡◌, ◌++◌, codes, OnOk};
+ghost use Rattle.std.specs.Prelude.{◌≡◌, ◌++◌, false, codes, OnOk};
+ghost use Rattle.std.specs.Fmt.{decimal};
 ghost use Rattle.std.specs.String.{string_bytes};
-ghost use Rattle.serde_json.specs.Data.{string, null};
-ghost use Rattle.serde_json.specs.Written.{compact_text};
+ghost use Rattle.serde_json.specs.Data.{string, null, boolean};
+ghost use Rattle.serde_json.specs.Written.{compact_text, items_text, comma_if};
 ghost use Rattle.gate_log.specs.Values as values;
 ghost use Rattle.gate_log.specs.Lines.{at_face, for_cause};
-ghost use Rattle.gate_log.specs.Written.{IsPlain, later_text};
+ghost use Rattle.gate_log.specs.Written.{IsPlain, later_text, later_if};
 
 use crate::name::{push_string, text_in};
 use endpoint::Fragment;
@@ -32,6 +33,68 @@ pub(crate) fn push_count(text: &mut String, key: &str, number: u64) -> Result<()
         ≡ string_bytes text.old ++ later_text (key.now, values.count number)) }
 {
     write!(text, ",\"{key}\":{number}")
+}
+
+/// A number, where there is one.
+pub(crate) fn push_count_if(
+    text: &mut String,
+    key: &str,
+    number: Option<u64>,
+) -> Result<(), AllocError>
+    requires { IsPlain key.now }
+    ensures { OnOk result (string_bytes text.new ≡ string_bytes text.old ++ later_if key.now number) }
+{
+    match number {
+        Some(number) => push_count(text, key, number),
+        None => Ok(()),
+    }
+}
+
+/// Whether something holds.
+#[tactic(auto, unfolding(crate::specs::Written::later_text))]
+pub(crate) fn push_bool(text: &mut String, key: &str, holds: bool) -> Result<(), AllocError>
+    requires { IsPlain key.now }
+    ensures { OnOk result (string_bytes text.new
+        ≡ string_bytes text.old ++ later_text (key.now, boolean holds)) }
+{
+    if holds {
+        write!(text, ",\"{key}\":true")
+    } else {
+        write!(text, ",\"{key}\":false")
+    }
+}
+
+/// The types of blocks.
+#[tactic(auto, unfolding(crate::specs::Written::later_text, json::specs::Print::escape_byte))]
+pub(crate) fn push_kinds(text: &mut String, kinds: &[u8]) -> Result<(), AllocError>
+    ensures { OnOk result (string_bytes text.new
+        ≡ string_bytes text.old ++ later_text (codes "blocks", values.counts kinds.now)) }
+{
+    text.push_str(",\"blocks\":[")?;
+    push_items(text, kinds)
+}
+
+/// The numbers of a list, and its end.
+fn push_items(text: &mut String, numbers: &[u8]) -> Result<(), AllocError>
+    ensures { OnOk result (string_bytes text.new ≡ string_bytes text.old
+        ++ items_text false (values.count_items numbers.now)) }
+{
+    'numbers: for index in 0..numbers.len() {
+        push_item(text, index > 0, numbers[index])?;
+    }
+    text.push_str("]")
+}
+
+/// A number of a list, the first one or a later one.
+fn push_item(text: &mut String, later: bool, number: u8) -> Result<(), AllocError>
+    ensures { OnOk result (string_bytes text.new
+        ≡ string_bytes text.old ++ (comma_if later ++ decimal number)) }
+{
+    if later {
+        write!(text, ",{number}")
+    } else {
+        write!(text, "{number}")
+    }
 }
 
 /// Two numbers.

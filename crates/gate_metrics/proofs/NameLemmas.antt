@@ -1,12 +1,12 @@
 -- The names of families, and the labels of their samples.
-use Rattle.std.proofs.Common.{◌≡◌, Bool, true, ◌&&◌, ◌++◌, refl, ap}
+use Rattle.std.proofs.Common.{◌≡◌, ℕ, Bool, true, ◌&&◌, ◌++◌, refl, ap}
 use Rattle.std.specs.Prelude.{map}
 use Rattle.gate_cases.specs.declared.face.Face.TheVariants.{Old, New}
 use Rattle.gate_metrics.specs.declared.counters.Counters.{Counters}
 use Rattle.gate_metrics.specs.declared.gauges.Gauges.{Gauges}
 use Rattle.gate_metrics.specs.declared.gauges.LinkGauge.{LinkGauge}
 use Rattle.gate_metrics.specs.declared.gauges.LinkGauge.TheVariants.{Open, Opens, Closed}
-use Rattle.gate_metrics.specs.Text.{opening, families}
+use Rattle.gate_metrics.specs.Text.{opening, families, peer_families}
 use Rattle.gate_metrics.specs.Laws.{are_apart, AreApart}
 
 opening-apart : (old new : LinkGauge) → are_apart (map (λ s. s.labels) (opening Old old ++ opening New new)) ≡ true
@@ -22,6 +22,12 @@ opening-apart Closed Closed = refl
 
 pub apart : (c : Counters) (g : Gauges) → AreApart (families c g)
 apart c g = record {
+  names = refl;
+  labels = ap (λ (b : Bool). b && true) (opening-apart g.old.link g.new.link);
+}
+
+pub apart-peers : (c : Counters) (g : Gauges) (old new : ℕ) → AreApart (peer_families c g old new)
+apart-peers c g old new = record {
   names = refl;
   labels = ap (λ (b : Bool). b && true) (opening-apart g.old.link g.new.link);
 }

@@ -6,7 +6,7 @@ use Rattle.std.proofs.lemmas.Grind.{flat_map-append}
 use Rattle.moment_text.specs.Text.{digits}
 use Rattle.gate_metrics.specs.declared.counters.Counters.{Counters}
 use Rattle.gate_metrics.specs.declared.gauges.Gauges.{Gauges}
-use Rattle.gate_metrics.specs.Text.{family_text, metrics_text, traffic, troubles, kept, links, journal}
+use Rattle.gate_metrics.specs.Text.{family_text, metrics_text, peer_text, families, beside, traffic, troubles, kept, links, journal}
 
 -- the last piece of a list of pieces
 pub ends : (start now piece : List ℕ) → now ≡ start ++ piece → now ≡ start ++ (piece ++ [])
@@ -42,3 +42,7 @@ metrics-parts c g =
     (flat_map-append family_text (kept g) (links g.old.link g.new.link ++ journal g.pending_pieces)
     ∙ ap (λ (v : List ℕ). flat_map family_text (kept g) ++ v)
     (flat_map-append family_text (links g.old.link g.new.link) (journal g.pending_pieces))))
+
+pub peer-parts : (c : Counters) (g : Gauges) (old new : ℕ) → peer_text c g old new ≡ metrics_text c g ++ flat_map family_text (beside c old new)
+unfolding peer_text metrics_text
+peer-parts c g old new = flat_map-append family_text (families c g) (beside c old new)

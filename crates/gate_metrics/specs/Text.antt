@@ -158,6 +158,19 @@ families c g =
     traffic c ++ (troubles c ++ (kept g ++ (links g.old.link g.new.link
     ++ journal g.pending_pieces)))
 
+-- what a gateway among other implementations tells besides: the octets of the pieces that wait at the old
+-- face and at the new one, too
+abbrev pub beside : Counters → (old new : ℕ) → List Family
+beside c old new =
+    counter (codes "green_bytes_total") (codes "Octets of green data that came.")
+    (by_face c.old.green_octets c.new.green_octets)
+    ∷ gauge (codes "gathered_bytes") (codes "Octets of the pieces that wait to be sent.")
+    (by_face old new)
+    ∷ []
+
+abbrev pub peer_families : Counters → Gauges → (old new : ℕ) → List Family
+peer_families c g old new = families c g ++ beside c old new
+
 -- ---- their text
 
 unfoldable pub sample_text : List ℕ → Sample → List ℕ
@@ -177,3 +190,6 @@ family_text family =
 
 unfoldable pub metrics_text : Counters → Gauges → List ℕ
 metrics_text c g = flat_map family_text (families c g)
+
+unfoldable pub peer_text : Counters → Gauges → (old new : ℕ) → List ℕ
+peer_text c g old new = flat_map family_text (peer_families c g old new)

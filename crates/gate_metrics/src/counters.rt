@@ -43,6 +43,11 @@ pub enum Counted {
     PollFailed,
     /// A send failed.
     SendFailed,
+    /// Green data came.
+    Green {
+        /// How many octets it has.
+        octets: u64,
+    },
 }
 
 /// How a sending session ended.
@@ -88,6 +93,7 @@ pub struct FaceCounters {
     pub(crate) sessions_ended: EndCounters,
     pub(crate) polls_failed: u64,
     pub(crate) sends_failed: u64,
+    pub(crate) green_octets: u64,
 }
 
 /// What was counted at both faces.
@@ -135,6 +141,7 @@ impl FaceCounters {
             sessions_ended: EndCounters::new(),
             polls_failed: 0,
             sends_failed: 0,
+            green_octets: 0,
         }
     }
 
@@ -157,6 +164,7 @@ impl FaceCounters {
             Counted::Ended { how } => self.sessions_ended.count(how),
             Counted::PollFailed => add(&mut self.polls_failed, 1),
             Counted::SendFailed => add(&mut self.sends_failed, 1),
+            Counted::Green { octets } => add(&mut self.green_octets, octets),
         }
     }
 }

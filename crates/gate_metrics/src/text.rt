@@ -27,6 +27,22 @@ pub fn write_metrics(
     push_pending(text, gauges.pending_pieces)
 }
 
+/// Appends the text of the metrics of a gateway among other implementations, at whose faces pieces of so
+/// many octets wait to be sent.
+pub fn write_peer_metrics(
+    text: &mut String,
+    counters: &Counters,
+    gauges: &Gauges,
+    old_gathered: u64,
+    new_gathered: u64,
+) -> Result<(), AllocError>
+    ensures { OnOk result (string_bytes text.new ≡ string_bytes text.old
+        ++ spec.peer_text counters.now gauges.now old_gathered new_gathered) }
+{
+    write_metrics(text, counters, gauges)?;
+    push_beside(text, counters, old_gathered, new_gathered)
+}
+
 // ---- the families
 
 /// Appends what is counted of blocks and of datagrams that came or went.
@@ -100,6 +116,32 @@ fn push_troubles(text: &mut String, counters: &Counters) -> Result<(), AllocErro
         "Sends that failed.",
         old.sends_failed,
         new.sends_failed,
+    )
+}
+
+/// Appends what is told of green data, and of pieces that wait.
+fn push_beside(
+    text: &mut String,
+    counters: &Counters,
+    old_gathered: u64,
+    new_gathered: u64,
+) -> Result<(), AllocError>
+    ensures { OnOk result (string_bytes text.new ≡ string_bytes text.old
+        ++ flat_map spec.family_text (spec.beside counters.now old_gathered new_gathered)) }
+{
+    push_counter(
+        text,
+        "green_bytes_total",
+        "Octets of green data that came.",
+        counters.old.green_octets,
+        counters.new.green_octets,
+    )?;
+    push_gauge(
+        text,
+        "gathered_bytes",
+        "Octets of the pieces that wait to be sent.",
+        old_gathered,
+        new_gathered,
     )
 }
 

@@ -6,6 +6,7 @@ ghost use Rattle.gate_log.specs.Subjects.{IsSubject};
 
 use bundle6::Cause6;
 use bundle7::Cause7;
+use endpoint::Octets;
 use gate_cases::{BadCause, Face};
 use gate_log::{BundleEvent, Event, LinkEvent, SessionEvent, Subject, subject_of, write_line};
 use ltp_segment::SegmentCause;
@@ -101,6 +102,11 @@ const LINKS: &[(Face, LinkEvent, &str)] = &[
         LinkEvent::OutboxFull { datagrams: 6 },
         r#","datagrams":6,"event":"outbox_full","face":"new"}"#,
     ),
+    (
+        Face::Old,
+        LinkEvent::Forgotten { runs: 2048 },
+        r#","event":"forgotten","face":"old","runs":2048}"#,
+    ),
 ];
 
 #[test]
@@ -147,6 +153,37 @@ const SESSIONS: &[(Face, u64, SessionEvent, &str)] = &[
             cause: BadCause::Seven { cause: Cause7::Crc },
         },
         r#","cause":"Crc","event":"bad_bundle","face":"new","place":240,"session":2}"#,
+    ),
+    (
+        Face::New,
+        7,
+        SessionEvent::BadEnd {
+            index: 2,
+            place: 60,
+            cause: BadCause::Seven {
+                cause: Cause7::Truncated,
+            },
+        },
+        r#","cause":"Truncated","event":"bad_bundle","face":"new","index":2,"place":60,"session":7}"#,
+    ),
+    (
+        Face::New,
+        1,
+        SessionEvent::Began {
+            bundles: 2,
+            octets: 82,
+        },
+        r#","bundles":2,"event":"began","face":"new","octets":82,"session":1}"#,
+    ),
+    (
+        Face::Old,
+        9,
+        SessionEvent::Green {
+            last: true,
+            octets: 1,
+            offset: 0,
+        },
+        r#","event":"green","face":"old","last":true,"octets":1,"offset":0,"session":9}"#,
     ),
     (
         Face::Old,
@@ -226,6 +263,15 @@ fn the_run_has_its_lines(rt: HostRuntime) -> Result<(), Fail> {
         "{\"at\":\"2000-01-01T00:16:55.000Z\",\
 \"event\":\"start\",\"first_session\":[4097,4098],\"marks\":2,\"pending\":1}\n"
     );
+    let waiting = Event::Waiting {
+        face: Face::New,
+        subject: None,
+    };
+    assert_eq!(rt;
+        line(rt.alloc(), 0, &waiting)?.as_str(),
+        "{\"at\":\"2000-01-01T00:00:00.000Z\",\
+\"event\":\"resumed\",\"face\":\"new\",\"subject\":null}\n"
+    );
     assert_eq!(rt;
         line(rt.alloc(), 252_455_616_000_000, &Event::MetricsFailed)?.as_str(),
         "{\"at\":\"9999-12-31T23:59:59.999Z\",\"event\":\"metrics_failed\"}\n"
@@ -258,10 +304,18 @@ const EVENTS: &[(Face, BundleEvent, &str)] = &[
     (
         Face::Old,
         BundleEvent::Passed {
-            first: 1_262_740_484,
+            first: Some(1_262_740_484),
             pieces: 60,
         },
         r#","event":"passed","face":"old","first":1262740484,"pieces":60,"session":1"#,
+    ),
+    (
+        Face::Old,
+        BundleEvent::Passed {
+            first: None,
+            pieces: 1,
+        },
+        r#","event":"passed","face":"old","pieces":1,"session":1"#,
     ),
     (
         Face::Old,
@@ -294,8 +348,15 @@ const EVENTS: &[(Face, BundleEvent, &str)] = &[
     ),
     (
         Face::Old,
-        BundleEvent::Reported { report: 16382 },
+        BundleEvent::Reported {
+            report: Some(16382),
+        },
         r#","event":"reported","face":"old","report":16382,"session":1"#,
+    ),
+    (
+        Face::New,
+        BundleEvent::Reported { report: None },
+        r#","event":"reported","face":"new","session":1"#,
     ),
     (
         Face::Old,
@@ -304,20 +365,132 @@ const EVENTS: &[(Face, BundleEvent, &str)] = &[
     ),
     (
         Face::New,
-        BundleEvent::Sent,
+        BundleEvent::Sent { bundles: None },
         r#","event":"sent","face":"new","session":1"#,
     ),
     (
+        Face::New,
+        BundleEvent::Sent { bundles: Some(2) },
+        r#","bundles":2,"event":"sent","face":"new","session":1"#,
+    ),
+    (
         Face::Old,
-        BundleEvent::Failed { reason: 2 },
+        BundleEvent::Failed {
+            bundles: None,
+            reason: 2,
+        },
         r#","event":"failed","face":"old","reason":2,"session":1,"side":"sending""#,
     ),
     (
         Face::Old,
-        BundleEvent::Cancelled { reason: 3 },
+        BundleEvent::Cancelled {
+            bundles: None,
+            reason: 3,
+        },
         r#","event":"cancelled","face":"old","reason":3,"session":1,"side":"sending""#,
     ),
+    (
+        Face::New,
+        BundleEvent::Cancelled {
+            bundles: Some(3),
+            reason: 4,
+        },
+        r#","bundles":3,"event":"cancelled","face":"new","reason":4,"session":1,"side":"sending""#,
+    ),
 ];
+
+/// What happens to the second bundle of a block in session 7, and its line between the moment and the
+/// subject.
+const ROWS: &[(BundleEvent, &str)] = &[
+    (
+        BundleEvent::Passed {
+            first: Some(2),
+            pieces: 1,
+        },
+        r#","event":"passed","face":"old","first":2,"index":2,"pieces":1,"session":7"#,
+    ),
+    (
+        BundleEvent::Passed {
+            first: None,
+            pieces: 1,
+        },
+        r#","event":"passed","face":"old","index":2,"pieces":1,"session":7"#,
+    ),
+    (
+        BundleEvent::Storage,
+        r#","event":"storage","face":"old","index":2,"session":7"#,
+    ),
+    (
+        BundleEvent::Reported { report: Some(1) },
+        r#","event":"reported","face":"old","index":2,"report":1,"session":7"#,
+    ),
+    (
+        BundleEvent::Untranslated {
+            cause: Refused::CustodyAsked,
+        },
+        r#","cause":"CustodyAsked","event":"untranslated","face":"old","index":2,"session":7"#,
+    ),
+];
+
+#[test]
+fn what_happens_to_a_bundle_of_several_has_its_line(rt: HostRuntime) -> Result<(), Fail> {
+    for (what, middle) in ROWS {
+        let event = Event::InRow {
+            face: Face::Old,
+            session: 7,
+            index: 2,
+            subject: None,
+            what: *what,
+        };
+        let got = line(rt.alloc(), AT, &event)?;
+        let at = "{\"at\":\"2000-01-01T00:16:50.000Z\"";
+        let wanted = format!(in rt.alloc(); "{at}{middle},\"subject\":null}}\n")?;
+        assert_eq!(rt; got.as_str(), wanted.as_str());
+    }
+    Ok(())
+}
+
+/// The types of the blocks that are left out, the bundle's place in its block, whether a residue was due, and
+/// the line between the moment and the subject.
+const LEFT: &[(&[u8], Option<u64>, bool, &str)] = &[
+    (
+        &[19],
+        None,
+        true,
+        r#","blocks":[19],"event":"left_out","face":"old","residue":true,"session":7"#,
+    ),
+    (
+        &[],
+        Some(2),
+        true,
+        r#","blocks":[],"event":"left_out","face":"old","index":2,"residue":true,"session":7"#,
+    ),
+    (
+        &[7, 255, 1],
+        None,
+        false,
+        r#","blocks":[7,255,1],"event":"left_out","face":"old","residue":false,"session":7"#,
+    ),
+];
+
+#[test]
+fn what_is_left_out_has_its_line(rt: HostRuntime) -> Result<(), Fail> {
+    for (blocks, index, residue, middle) in LEFT {
+        let event = Event::LeftOut {
+            face: Face::Old,
+            session: 7,
+            index: *index,
+            subject: None,
+            blocks: Octets::from_slice(rt.alloc(), blocks)?,
+            residue: *residue,
+        };
+        let got = line(rt.alloc(), AT, &event)?;
+        let at = "{\"at\":\"2000-01-01T00:16:50.000Z\"";
+        let wanted = format!(in rt.alloc(); "{at}{middle},\"subject\":null}}\n")?;
+        assert_eq!(rt; got.as_str(), wanted.as_str());
+    }
+    Ok(())
+}
 
 #[test]
 fn what_happens_to_a_bundle_has_its_line(rt: HostRuntime) -> Result<(), Fail> {

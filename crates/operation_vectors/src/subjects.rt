@@ -55,7 +55,7 @@ fn the_front_of_a_block_is_the_subject(rt: HostRuntime) -> Result<(), Fail> {
             face: Face::Old,
             session: 5,
             subject: subject(rt.alloc(), block)?,
-            what: BundleEvent::Sent,
+            what: BundleEvent::Sent { bundles: None },
         };
         let got = line(rt.alloc(), 0, &event)?;
         let front =
@@ -90,7 +90,7 @@ fn the_longest_names_make_the_longest_line(rt: HostRuntime) -> Result<(), Fail> 
         session: u64::MAX,
         subject: subject_of(rt.alloc(), block.as_slice())?,
         what: BundleEvent::Passed {
-            first: u64::MAX,
+            first: Some(u64::MAX),
             pieces: u64::MAX,
         },
     };

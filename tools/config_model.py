@@ -13,6 +13,9 @@ except ImportError:
 TIMERS = {"segment": 1024, "timeout_ms": 10_000, "limit": 10}
 LEAST_CAP = 160_000
 OUTBOX = 536_870_912
+BOUNDS = {"sessions": 64, "memory": 268_435_456, "aggregate": 0, "aggregate_ms": 1_000, "remember": 1_048_576,
+          "remember_ms": 3_600_000}
+BLOCKS = {"residue_block": 192, "wrap_block": 193}
 NUMBERS = {"old": (2, 1), "new": (3, 4)}
 
 
@@ -30,6 +33,7 @@ def moment_of(moment):
 def gateway_lines(table):
     yield f"endpoint = {text_of(table['endpoint'])}"
     yield f"cut = {table.get('cut', 65_536)}"
+    yield f"age = {text_of(table.get('age', 'raise'))}"
     for key in ("journal", "metrics"):
         if key in table:
             yield f"{key} = {text_of(table[key])}"
@@ -50,6 +54,10 @@ def face_lines(face, table):
             yield f"{key} = {table[key]}"
     yield f"outbox = {table.get('outbox', OUTBOX)}"
     yield f"accept = {text_of(table.get('accept', 'address'))}"
+    for key, default in (BOUNDS | BLOCKS if face == "new" else BOUNDS).items():
+        yield f"{key} = {table.get(key, default)}"
+    if face == "new":
+        yield f"foreign_blocks = {text_of(table.get('foreign_blocks', 'wrap'))}"
     for contact in table.get("contact", []):
         yield ""
         yield f"[[{face}.contact]]"

@@ -10,6 +10,7 @@ use Rattle.toml.proofs.Turns.{document_some}
 use Rattle.endpoint.specs.Endpoints.{text_of}
 use Rattle.gate_config.specs.declared.file.GateFile.{GateFile}
 use Rattle.gate_config.specs.declared.file.GatewayConfig.{GatewayConfig}
+use Rattle.gate_config.specs.Shown.{age_word}
 use Rattle.config_laws.proofs.LineLemmas.{AreLines, read_lines, not_bom}
 use Rattle.config_laws.proofs.TableLemmas.{Pairs, puts, Opens, run_table, table_lines, run_then}
 use Rattle.config_laws.proofs.FaceLemmas.{whole, pair_if, member_if, face_members, face_lines, run_face}
@@ -21,13 +22,14 @@ paths_pairs journal metrics = pair_if (codes "journal") (option_map string journ
 
 abbrev pub gateway_pairs : GatewayConfig → Option (List ℕ) → Option (List ℕ) → Pairs
 gateway_pairs g journal metrics =
-    (codes "endpoint", string (text_of g.endpoint)) ∷ (codes "cut", whole g.cut) ∷ paths_pairs journal metrics
+    (codes "endpoint", string (text_of g.endpoint)) ∷ (codes "cut", whole g.cut) ∷ (codes "age", string (age_word g.age)) ∷ paths_pairs journal metrics
 
 abbrev pub gateway_members_of : GatewayConfig → Option (List ℕ) → Option (List ℕ) → Members
 gateway_members_of g journal metrics =
-    member (codes "cut") (whole g.cut)
+    member (codes "age") (string (age_word g.age))
+    (member (codes "cut") (whole g.cut)
     (member (codes "endpoint") (string (text_of g.endpoint))
-    (member_if (codes "journal") (option_map string journal) (member_if (codes "metrics") (option_map string metrics) no_members)))
+    (member_if (codes "journal") (option_map string journal) (member_if (codes "metrics") (option_map string metrics) no_members))))
 
 -- the table that the gateway is shown as
 abbrev pub gateway_members : GatewayConfig → Members
@@ -39,9 +41,10 @@ path_nodes k (Some path) more = node k (value (string path)) more
 
 abbrev gateway_nodes : GatewayConfig → Option (List ℕ) → Option (List ℕ) → Nodes
 gateway_nodes g journal metrics =
-    node (codes "cut") (value (whole g.cut))
+    node (codes "age") (value (string (age_word g.age)))
+    (node (codes "cut") (value (whole g.cut))
     (node (codes "endpoint") (value (string (text_of g.endpoint)))
-    (path_nodes (codes "journal") journal (path_nodes (codes "metrics") metrics no_nodes)))
+    (path_nodes (codes "journal") journal (path_nodes (codes "metrics") metrics no_nodes))))
 
 gateway_puts : (g : GatewayConfig) (journal metrics : Option (List ℕ)) → puts (gateway_pairs g journal metrics) no_nodes ≡ Some (gateway_nodes g journal metrics)
 unfolding along_dots at_key
@@ -99,14 +102,14 @@ abbrev pub gateway_lines : GatewayConfig → List Expression
 gateway_lines g = table_lines (codes "gateway") (gateway_pairs g g.journal g.metrics)
 
 abbrev pub file_lines : GateFile → List Expression
-file_lines file = gateway_lines file.gateway ++ (face_lines (codes "old") file.old ++ face_lines (codes "new") file.new)
+file_lines file = gateway_lines file.gateway ++ (face_lines (codes "old") file.old None ++ face_lines (codes "new") file.new (Some file.blocks))
 
 -- the table that a file is shown as
 abbrev pub file_members : GateFile → Members
 file_members file =
     member (codes "gateway") (table (gateway_members file.gateway))
-    (member (codes "new") (table (face_members file.new))
-    (member (codes "old") (table (face_members file.old)) no_members))
+    (member (codes "new") (table (face_members file.new (Some file.blocks)))
+    (member (codes "old") (table (face_members file.old None)) no_members))
 
 pub record RunsFile (file : GateFile) : Type 0 where
   pub root : Nodes
@@ -118,9 +121,9 @@ pub run_file : (file : GateFile) → RunsFile file
 run_file file =
     let gateway = gateway_nodes file.gateway file.gateway.journal file.gateway.metrics in
     let g = open_table header gateway in
-    let old = run_face (codes "old") (node (codes "gateway") g no_nodes) (old_root g) file.old (opens_old g) in
+    let old = run_face (codes "old") (node (codes "gateway") g no_nodes) (old_root g) file.old None (opens_old g) in
     let o = open_table header old.face in
-    let new = run_face (codes "new") (node (codes "gateway") g (node (codes "old") o no_nodes)) (new_root g o) file.new (opens_new g o) in
+    let new = run_face (codes "new") (node (codes "gateway") g (node (codes "old") o no_nodes)) (new_root g o) file.new (Some file.blocks) (opens_new g o) in
     let first_part = run_table (codes "gateway") no_nodes [] gateway_root (gateway_pairs file.gateway file.gateway.journal file.gateway.metrics) gateway
     opens_gateway (gateway_puts file.gateway file.gateway.journal file.gateway.metrics) in
     let (old_path, old_runs) = old.runs (codes "gateway" ∷ []) in
@@ -129,8 +132,8 @@ run_file file =
       root = new_root g o new.face;
       path = new_path;
       closed = rw (close-gateway file.gateway file.gateway.journal file.gateway.metrics, new.closed, old.closed) refl;
-      runs = run_then (no_nodes, []) (gateway_root gateway, codes "gateway" ∷ []) (gateway_lines file.gateway) (face_lines (codes "old") file.old ++ face_lines (codes "new") file.new) first_part
-          ∙ run_then (gateway_root gateway, codes "gateway" ∷ []) (old_root g old.face, old_path) (face_lines (codes "old") file.old) (face_lines (codes "new") file.new) old_runs ∙ new_runs;
+      runs = run_then (no_nodes, []) (gateway_root gateway, codes "gateway" ∷ []) (gateway_lines file.gateway) (face_lines (codes "old") file.old None ++ face_lines (codes "new") file.new (Some file.blocks)) first_part
+          ∙ run_then (gateway_root gateway, codes "gateway" ∷ []) (old_root g old.face, old_path) (face_lines (codes "old") file.old None) (face_lines (codes "new") file.new (Some file.blocks)) old_runs ∙ new_runs;
     }
 
 no_skip : (text : List ℕ) → (first text == 239) ≡ false → skip_bom text ≡ text

@@ -1,6 +1,6 @@
 -- A file that some text means has what a file is to have that is shown.
 
-use Rattle.std.proofs.Common.{◌≡◌, ℕ, ◌+◌, ◌<◌, max, Bool, true, false, not, ◌&&◌, nat_lt, if◌then◌else◌, pos, negsuc, ℤ, List, [], ◌∷◌, Option, Some, None, option_map, option_and_then, unwrap_or, Result, Ok, Err, refl, sym, ap, ◌∙◌, arith}
+use Rattle.std.proofs.Common.{◌≡◌, ℕ, ◌+◌, ◌<◌, max, Bool, true, false, not, ◌&&◌, nat_lt, if◌then◌else◌, pos, negsuc, ℤ, List, [], ◌∷◌, ◌++◌, Option, Some, None, option_map, option_and_then, unwrap_or, Result, Ok, Err, refl, sym, ap, ◌∙◌, arith}
 use Rattle.std.proofs.lemmas.Bool.{false≢true}
 use Rattle.std.proofs.lemmas.Bool.Decides.{nat_tests}
 use Rattle.toml.specs.Data.{Data, string, integer, float, boolean, datetime, array, table, Items, no_items, item, as_array, as_str}
@@ -26,13 +26,13 @@ use Rattle.gate_config.specs.declared.fault.Wanted.TheVariants as wants
 use Rattle.gate_config.specs.declared.fault.Refusal.{Refusal}
 use Rattle.gate_config.specs.declared.fault.Refusal.TheVariants as refusals
 use Rattle.gate_config.specs.declared.file.GateFile.{GateFile}
-use Rattle.gate_config.specs.Keys.{kind_of, default_of, file_keys, gateway_keys, face_keys, contact_keys}
+use Rattle.gate_config.specs.Keys.{kind_of, default_of, file_keys, gateway_keys, face_keys, blocks_keys, contact_keys, keys_of}
 use Rattle.gate_config.specs.Refusals.{first_of}
 use Rattle.gate_config.specs.Values.{at, whole_of, moment_in, is_within, item_count, all_tables, fits, is_of, is_named, moment_at, text_at, contacts_at}
-use Rattle.gate_config.specs.Meaning.{first_misfit, table_refusal, refuse_if, same_text, contact_refusal, contacts_refusal, number_in, face_refusal, section_of, refusal_of, contact_of, contacts_of, face_of, endpoint_or_null, gateway_of, file_of}
+use Rattle.gate_config.specs.Meaning.{first_misfit, table_refusal, refuse_if, same_text, contact_refusal, contacts_refusal, number_in, face_refusal, blocks_refusal, section_of, refusal_of, contact_of, contacts_of, face_of, blocks_of, endpoint_or_null, gateway_of, file_of}
 use Rattle.gate_config.specs.Reading.{MeansText}
 use Rattle.config_laws.proofs.FaceLemmas.{whole, contact_items, contacts_data}
-use Rattle.config_laws.proofs.Showable.{Fits, IsContact, AreContacts, IsFace, IsGateway, IsFile}
+use Rattle.config_laws.proofs.Showable.{Fits, IsContact, AreContacts, IsFace, AreBlocks, IsGateway, IsFile}
 
 -- ---- what isn't refused
 
@@ -221,14 +221,20 @@ record HasDefaults (face : Section) : Type 0 where
   limit : is_within 1 100 (default_of face keys.Limit) ≡ true
   cap_ms : is_within 1 3_600_000 (default_of face keys.CapMs) ≡ true
   outbox : is_within 65_507 4_294_967_295 (default_of face keys.Outbox) ≡ true
+  sessions : is_within 1 1024 (default_of face keys.Sessions) ≡ true
+  memory : is_within 33_554_432 1_099_511_627_776 (default_of face keys.Memory) ≡ true
+  aggregate : is_within 0 4_194_304 (default_of face keys.Aggregate) ≡ true
+  aggregate_ms : is_within 1 60_000 (default_of face keys.AggregateMs) ≡ true
+  remember : is_within 4096 16_777_216 (default_of face keys.Remember) ≡ true
+  remember_ms : is_within 1000 604_800_000 (default_of face keys.RememberMs) ≡ true
 
 old_defaults : HasDefaults sections.Old
-old_defaults = record { engine = refl; peer_engine = refl; segment = refl; timeout_ms = refl; limit = refl; cap_ms = refl; outbox = refl }
+old_defaults = record { engine = refl; peer_engine = refl; segment = refl; timeout_ms = refl; limit = refl; cap_ms = refl; outbox = refl; sessions = refl; memory = refl; aggregate = refl; aggregate_ms = refl; remember = refl; remember_ms = refl }
 
 new_defaults : HasDefaults sections.New
-new_defaults = record { engine = refl; peer_engine = refl; segment = refl; timeout_ms = refl; limit = refl; cap_ms = refl; outbox = refl }
+new_defaults = record { engine = refl; peer_engine = refl; segment = refl; timeout_ms = refl; limit = refl; cap_ms = refl; outbox = refl; sessions = refl; memory = refl; aggregate = refl; aggregate_ms = refl; remember = refl; remember_ms = refl }
 
--- what a face's keys hold is of their kinds
+-- what the keys of both faces hold is of their kinds
 record FaceFits (place : Option Data) : Type 0 where
   bind : Fits keys.Bind (at keys.Bind place)
   peer : Fits keys.Peer (at keys.Peer place)
@@ -241,10 +247,16 @@ record FaceFits (place : Option Data) : Type 0 where
   first_session : Fits keys.FirstSession (at keys.FirstSession place)
   rate : Fits keys.Rate (at keys.Rate place)
   outbox : Fits keys.Outbox (at keys.Outbox place)
-  contact : Fits keys.Contact (at keys.Contact place)
+  sessions : Fits keys.Sessions (at keys.Sessions place)
+  memory : Fits keys.Memory (at keys.Memory place)
+  aggregate : Fits keys.Aggregate (at keys.Aggregate place)
+  aggregate_ms : Fits keys.AggregateMs (at keys.AggregateMs place)
+  remember : Fits keys.Remember (at keys.Remember place)
+  remember_ms : Fits keys.RememberMs (at keys.RememberMs place)
 
-face_fits : (within : Within) (place : Option Data) → first_misfit within face_keys place ≡ None → FaceFits place
-face_fits within place none =
+face_fits : (within : Within) (rest : List Key) (place : Option Data) → first_misfit within (face_keys ++ rest) place ≡ None
+    → FaceFits place × (first_misfit within rest place ≡ None)
+face_fits within rest place none =
     let bind = misfit_none within keys.Bind _ place none in
     let peer = misfit_none within keys.Peer _ place bind.1 in
     let engine = misfit_none within keys.Engine _ place peer.1 in
@@ -257,29 +269,83 @@ face_fits within place none =
     let rate = misfit_none within keys.Rate _ place first_session.1 in
     let outbox = misfit_none within keys.Outbox _ place rate.1 in
     let accept = misfit_none within keys.Accept _ place outbox.1 in
-    let contact = misfit_none within keys.Contact [] place accept.1 in
-    record {
-      bind = bind.0;
-      peer = peer.0;
-      engine = engine.0;
-      peer_engine = peer_engine.0;
-      segment = segment.0;
-      timeout_ms = timeout_ms.0;
-      limit = limit.0;
-      cap_ms = cap_ms.0;
-      first_session = first_session.0;
-      rate = rate.0;
-      outbox = outbox.0;
-      contact = contact.0;
-    }
+    let sessions = misfit_none within keys.Sessions _ place accept.1 in
+    let memory = misfit_none within keys.Memory _ place sessions.1 in
+    let aggregate = misfit_none within keys.Aggregate _ place memory.1 in
+    let aggregate_ms = misfit_none within keys.AggregateMs _ place aggregate.1 in
+    let remember = misfit_none within keys.Remember _ place aggregate_ms.1 in
+    let remember_ms = misfit_none within keys.RememberMs rest place remember.1 in (
+      record {
+        bind = bind.0;
+        peer = peer.0;
+        engine = engine.0;
+        peer_engine = peer_engine.0;
+        segment = segment.0;
+        timeout_ms = timeout_ms.0;
+        limit = limit.0;
+        cap_ms = cap_ms.0;
+        first_session = first_session.0;
+        rate = rate.0;
+        outbox = outbox.0;
+        sessions = sessions.0;
+        memory = memory.0;
+        aggregate = aggregate.0;
+        aggregate_ms = aggregate_ms.0;
+        remember = remember.0;
+        remember_ms = remember_ms.0;
+      },
+      remember_ms.1,
+    )
 
-face_means : (face : Section) (place : Option Data) → HasDefaults face → face_refusal face place ≡ None → IsFace (face_of face place)
+-- what the keys hold that the face towards version 7 alone has, and its contacts
+record NewFits (place : Option Data) : Type 0 where
+  residue : Fits keys.ResidueBlock (at keys.ResidueBlock place)
+  wrap : Fits keys.WrapBlock (at keys.WrapBlock place)
+  contact : Fits keys.Contact (at keys.Contact place)
+
+new_fits : (within : Within) (place : Option Data) → first_misfit within (blocks_keys ++ (keys.Contact ∷ [])) place ≡ None → NewFits place
+new_fits within place none =
+    let residue = misfit_none within keys.ResidueBlock _ place none in
+    let wrap = misfit_none within keys.WrapBlock _ place residue.1 in
+    let foreign = misfit_none within keys.ForeignBlocks _ place wrap.1 in
+    let contact = misfit_none within keys.Contact [] place foreign.1 in
+    record { residue = residue.0; wrap = wrap.0; contact = contact.0 }
+
+-- the keys of a face are those of both, and more, of which the contacts are one
+record HasKeys (face : Section) : Type 0 where
+  rest : List Key
+  all : keys_of face ≡ face_keys ++ rest
+  contact : (within : Within) (place : Option Data) → first_misfit within rest place ≡ None → Fits keys.Contact (at keys.Contact place)
+
+old_keys : HasKeys sections.Old
+old_keys = record {
+  rest = keys.Contact ∷ [];
+  all = refl;
+  contact = λ within place none. (misfit_none within keys.Contact [] place none).0;
+}
+
+new_keys : HasKeys sections.New
+new_keys = record {
+  rest = blocks_keys ++ (keys.Contact ∷ []);
+  all = refl;
+  contact = λ within place none. (new_fits within place none).contact;
+}
+
+keys_fit : (within : Within) (face : Section) (place : Option Data) (known : HasKeys face) → table_refusal within (keys_of face) place ≡ None
+    → FaceFits place × (first_misfit within known.rest place ≡ None)
+keys_fit within face place known none = face_fits within known.rest place (rw known.all at (table_none within (keys_of face) place none))
+
+face_table : (face : Section) (place : Option Data) → face_refusal face place ≡ None → table_refusal (places.Table face) (keys_of face) place ≡ None
 unfolding face_refusal
-face_means face place defaults none =
+face_table face place none = (first_none _ _ none).0
+
+face_means : (face : Section) (place : Option Data) → HasDefaults face → HasKeys face → face_refusal face place ≡ None → IsFace (face_of face place)
+unfolding face_refusal
+face_means face place defaults known none =
     let (in_table, after_table) = first_none _ _ none in
     let (cap, after_cap) = first_none _ _ after_table in
     let (contacts, numbers) = first_none _ _ after_cap in
-    let fit = face_fits _ place (table_none _ face_keys place in_table) in
+    let (fit, more) = keys_fit (places.Table face) face place known in_table in
     let wait = number_in face keys.TimeoutMs place in
     let timeout = number_fits 1 3_600_000 (default_of face keys.TimeoutMs) (at keys.TimeoutMs place) fit.timeout_ms defaults.timeout_ms in
     record {
@@ -294,10 +360,31 @@ face_means face place defaults none =
       first_session = number_if_fits 1 4_294_967_295 (at keys.FirstSession place) fit.first_session;
       rate = number_if_fits 1 10_000_000_000 (at keys.Rate place) fit.rate;
       outbox = number_fits 65_507 4_294_967_295 (default_of face keys.Outbox) (at keys.Outbox place) fit.outbox defaults.outbox;
-      contact = contacts_fit (at keys.Contact place) fit.contact;
+      sessions = number_fits 1 1024 (default_of face keys.Sessions) (at keys.Sessions place) fit.sessions defaults.sessions;
+      memory = number_fits 33_554_432 1_099_511_627_776 (default_of face keys.Memory) (at keys.Memory place) fit.memory defaults.memory;
+      aggregate = number_fits 0 4_194_304 (default_of face keys.Aggregate) (at keys.Aggregate place) fit.aggregate defaults.aggregate;
+      aggregate_ms = number_fits 1 60_000 (default_of face keys.AggregateMs) (at keys.AggregateMs place) fit.aggregate_ms defaults.aggregate_ms;
+      remember = number_fits 4096 16_777_216 (default_of face keys.Remember) (at keys.Remember place) fit.remember defaults.remember;
+      remember_ms = number_fits 1000 604_800_000 (default_of face keys.RememberMs) (at keys.RememberMs place) fit.remember_ms defaults.remember_ms;
+      contact = contacts_fit (at keys.Contact place) (known.contact (places.Table face) place more);
       cap = passed _ _ cap;
       contacts = contacts_mean face 0 0 (contacts_at place) contacts;
       apart = passed _ _ numbers;
+    }
+
+-- ---- the types of blocks
+
+blocks_mean : (place : Option Data) → table_refusal (places.Table sections.New) (keys_of sections.New) place ≡ None → blocks_refusal place ≡ None
+    → AreBlocks (blocks_of place)
+unfolding blocks_refusal new_keys
+blocks_mean place in_table none =
+    let (residue, wrap) = first_none _ _ none in
+    let fit = new_fits (places.Table sections.New) place (keys_fit (places.Table sections.New) sections.New place new_keys in_table).1 in
+    record {
+      residue = number_fits 192 255 192 (at keys.ResidueBlock place) fit.residue refl;
+      wrap = number_fits 192 255 193 (at keys.WrapBlock place) fit.wrap refl;
+      residue_apart = passed _ _ residue;
+      wrap_apart = passed _ _ wrap;
     }
 
 -- ---- the gateway
@@ -324,7 +411,8 @@ gateway_means : (within : Within) (place : Option Data) (same : Bool) → table_
 gateway_means within place same none apart is =
     let endpoint = misfit_none within keys.Endpoint _ place (table_none within gateway_keys place none) in
     let cut = misfit_none within keys.Cut _ place endpoint.1 in
-    let journal = misfit_none within keys.Journal _ place cut.1 in
+    let age = misfit_none within keys.Age _ place cut.1 in
+    let journal = misfit_none within keys.Journal _ place age.1 in
     let metrics = misfit_none within keys.Metrics [] place journal.1 in
     let legal = endpoint_fits (at keys.Endpoint place) endpoint.0 in
     record {
@@ -347,17 +435,20 @@ file_means document none =
     let same = same_text (text_at keys.Journal place) (text_at keys.Metrics place) in
     let wrong = refusals.Wrong (places.Table sections.Gateway) keys.Metrics wants.OtherPath in
     let of_paths = refuse_if same wrong in
+    let of_blocks = blocks_refusal new_place in
     let of_new = face_refusal sections.New new_place in
     let of_old = face_refusal sections.Old old_place in
     let of_gateway = table_refusal (places.Table sections.Gateway) gateway_keys place in
-    let after_root = (first_none (table_refusal places.File file_keys document) (first_of of_gateway (first_of of_old (first_of of_new of_paths))) none).1 in
-    let (gateway, after_gateway) = first_none of_gateway (first_of of_old (first_of of_new of_paths)) after_root in
-    let (old, after_old) = first_none of_old (first_of of_new of_paths) after_gateway in
-    let (new, paths) = first_none of_new of_paths after_old in
+    let after_root = (first_none (table_refusal places.File file_keys document) (first_of of_gateway (first_of of_old (first_of of_new (first_of of_blocks of_paths)))) none).1 in
+    let (gateway, after_gateway) = first_none of_gateway (first_of of_old (first_of of_new (first_of of_blocks of_paths))) after_root in
+    let (old, after_old) = first_none of_old (first_of of_new (first_of of_blocks of_paths)) after_gateway in
+    let (new, after_new) = first_none of_new (first_of of_blocks of_paths) after_old in
+    let (blocks, paths) = first_none of_blocks of_paths after_new in
     record {
       gateway = gateway_means (places.Table sections.Gateway) place same gateway (passed same wrong paths) refl;
-      old = face_means sections.Old old_place old_defaults old;
-      new = face_means sections.New new_place new_defaults new;
+      old = face_means sections.Old old_place old_defaults old_keys old;
+      new = face_means sections.New new_place new_defaults new_keys new;
+      blocks = blocks_mean new_place (face_table sections.New new_place new) blocks;
     }
 
 pub means_file : (text : List ℕ) (file : GateFile) → MeansText text file → IsFile file

@@ -19,15 +19,20 @@ use Rattle.gate_config.specs.declared.file.GatewayConfig.{GatewayConfig}
 use Rattle.gate_config.specs.declared.file.FaceConfig.{FaceConfig}
 use Rattle.gate_config.specs.declared.file.Accept.{Accept}
 use Rattle.gate_config.specs.declared.file.Accept.TheVariants as accepts
+use Rattle.gate_config.specs.declared.file.Age.{Age}
+use Rattle.gate_config.specs.declared.file.Age.TheVariants as ages
+use Rattle.gate_config.specs.declared.file.ForeignBlocks.{ForeignBlocks}
+use Rattle.gate_config.specs.declared.file.ForeignBlocks.TheVariants as foreigns
+use Rattle.gate_config.specs.declared.file.BlocksConfig.{BlocksConfig}
 use Rattle.gate_config.specs.declared.file.Contact.{Contact}
 use Rattle.gate_config.specs.Keys.{name_of}
 use Rattle.gate_config.specs.Values.{fits, is_of, item_count}
-use Rattle.gate_config.specs.Shown.{basic_string, value_line, text_line, number_line, text_if, number_if, gateway_shown, face_header, contact_header, contact_shown, contacts_shown, timers_shown, rates_shown, accept_word, face_shown, shown}
+use Rattle.gate_config.specs.Shown.{basic_string, value_line, text_line, number_line, text_if, number_if, gateway_shown, face_header, contact_header, contact_shown, contacts_shown, timers_shown, rates_shown, bounds_shown, blocks_shown, blocks_if, settings_shown, accept_word, age_word, foreign_word, face_shown, shown}
 use Rattle.config_laws.proofs.MomentLemmas.{word_of_moment, length-moment_text}
 use Rattle.config_laws.proofs.FaceLemmas.{contact_items, contacts_data}
 use Rattle.config_laws.proofs.ShownLemmas.{most_is, IfSmall, if_small}
 use Rattle.config_laws.proofs.TextLemmas.{is_low, Part, no_part, joined, longer, word_part, string_part, number_part, word_utf8, endpoint_part}
-use Rattle.config_laws.proofs.Showable.{IsContact, AreContacts, IsFace, IsGateway, IsFile}
+use Rattle.config_laws.proofs.Showable.{IsContact, AreContacts, IsFace, AreBlocks, IsGateway, IsFile}
 use Rattle.config_laws.proofs.StringLemmas.{FaceUtf8, FileUtf8}
 
 -- ---- lines
@@ -75,6 +80,10 @@ address_part key text plain fit utf8 = longer (length (name_of key) + 400) (text
 
 -- ---- tables
 
+age_part : (age : Age) → Part (text_line keys.Age (age_word age)) 100
+age_part ages.Raise = longer 100 _ (text_part keys.Age (codes "raise") refl (word_part (codes "raise") refl).utf8) (omega arith)
+age_part ages.Keep = longer 100 _ (text_part keys.Age (codes "keep") refl (word_part (codes "keep") refl).utf8) (omega arith)
+
 gateway_part : (g : GatewayConfig) → IsGateway g → IfSome g.journal IsUtf8 → IfSome g.metrics IsUtf8 → Part (gateway_shown g) 60_000
 unfolding gateway_shown
 gateway_part g is journal metrics =
@@ -84,7 +93,8 @@ gateway_part g is journal metrics =
     (joined (codes "[gateway]\n") _ (word_part (codes "[gateway]\n") refl)
     (joined (text_line keys.Endpoint (text_of g.endpoint)) _ (longer 6_200 _ (text_part keys.Endpoint (text_of g.endpoint) refl endpoint.utf8) (omega (arith, endpoint.short)))
     (joined (number_line keys.Cut g.cut) _ (number_line_part keys.Cut g.cut refl cut)
-    (joined (text_if keys.Journal g.journal) (text_if keys.Metrics g.metrics) (path_part keys.Journal g.journal refl is.journal journal) (path_part keys.Metrics g.metrics refl is.metrics metrics)))))
+    (joined (text_line keys.Age (age_word g.age)) _ (age_part g.age)
+    (joined (text_if keys.Journal g.journal) (text_if keys.Metrics g.metrics) (path_part keys.Journal g.journal refl is.journal journal) (path_part keys.Metrics g.metrics refl is.metrics metrics))))))
     (omega arith)
 
 -- the headers of a face are short
@@ -148,6 +158,32 @@ rates_part c is =
     (accept_part c.accept))))
     (omega arith)
 
+bounds_part : (c : FaceConfig) → IsFace c → Part (bounds_shown c) 300
+unfolding bounds_shown
+bounds_part c is =
+    longer 300 _
+    (joined (number_line keys.Sessions c.sessions) _ (number_line_part keys.Sessions c.sessions refl (omega (arith, most_is 1 1024 c.sessions is.sessions)))
+    (joined (number_line keys.Memory c.memory) _ (number_line_part keys.Memory c.memory refl (omega (arith, most_is 33_554_432 1_099_511_627_776 c.memory is.memory)))
+    (joined (number_line keys.Aggregate c.aggregate) _ (number_line_part keys.Aggregate c.aggregate refl (omega (arith, most_is 0 4_194_304 c.aggregate is.aggregate)))
+    (joined (number_line keys.AggregateMs c.aggregate_ms) _ (number_line_part keys.AggregateMs c.aggregate_ms refl (omega (arith, most_is 1 60_000 c.aggregate_ms is.aggregate_ms)))
+    (joined (number_line keys.Remember c.remember) (number_line keys.RememberMs c.remember_ms) (number_line_part keys.Remember c.remember refl (omega (arith, most_is 4096 16_777_216 c.remember is.remember)))
+    (number_line_part keys.RememberMs c.remember_ms refl (omega (arith, most_is 1000 604_800_000 c.remember_ms is.remember_ms))))))))
+    (omega arith)
+
+foreign_part : (foreign : ForeignBlocks) → Part (text_line keys.ForeignBlocks (foreign_word foreign)) 100
+foreign_part foreigns.Wrap = longer 100 _ (text_part keys.ForeignBlocks (codes "wrap") refl (word_part (codes "wrap") refl).utf8) (omega arith)
+foreign_part foreigns.Drop = longer 100 _ (text_part keys.ForeignBlocks (codes "drop") refl (word_part (codes "drop") refl).utf8) (omega arith)
+
+blocks_part : (own : Option BlocksConfig) → IfSome own AreBlocks → Part (blocks_if own) 300
+unfolding blocks_shown
+blocks_part None are = longer 300 [] no_part (omega arith)
+blocks_part (Some b) are =
+    longer 300 _
+    (joined (number_line keys.ResidueBlock b.residue_block) _ (number_line_part keys.ResidueBlock b.residue_block refl (omega (arith, most_is 192 255 b.residue_block are.residue)))
+    (joined (number_line keys.WrapBlock b.wrap_block) _ (number_line_part keys.WrapBlock b.wrap_block refl (omega (arith, most_is 192 255 b.wrap_block are.wrap)))
+    (foreign_part b.foreign_blocks)))
+    (omega arith)
+
 timers_part : (c : FaceConfig) → IsFace c → Part (timers_shown c) 300
 unfolding timers_shown
 timers_part c is =
@@ -160,16 +196,24 @@ timers_part c is =
     (number_line_part keys.CapMs c.cap_ms refl (omega (arith, most_is 1 3_600_000 c.cap_ms is.cap_ms))))))))
     (omega arith)
 
-face_part : (face : Section) (c : FaceConfig) → HasHeaders face → IsFace c → FaceUtf8 c → Part (face_shown face c) 470_000
+settings_part : (c : FaceConfig) (own : Option BlocksConfig) → IsFace c → IfSome own AreBlocks → Part (settings_shown c own) 1200
+unfolding settings_shown
+settings_part c own is blocks =
+    longer 1200 _
+    (joined (timers_shown c) _ (timers_part c is)
+    (joined (rates_shown c) _ (rates_part c is) (joined (bounds_shown c) (blocks_if own) (bounds_part c is) (blocks_part own blocks))))
+    (omega arith)
+
+face_part : (face : Section) (c : FaceConfig) (own : Option BlocksConfig) → HasHeaders face → IsFace c → FaceUtf8 c → IfSome own AreBlocks
+    → Part (face_shown face c own) 470_000
 unfolding face_shown
-face_part face c headers is utf8 =
+face_part face c own headers is utf8 blocks =
     let few = contacts_few c.contacts is.contact in
     longer 470_000 _
     (joined (face_header face) _ headers.header
     (joined (text_line keys.Bind c.bind) _ (address_part keys.Bind c.bind refl is.bind utf8.bind)
     (joined (text_line keys.Peer c.peer) _ (address_part keys.Peer c.peer refl is.peer utf8.peer)
-    (joined (timers_shown c) _ (timers_part c is)
-    (joined (rates_shown c) (contacts_shown face c.contacts) (rates_part c is) (contacts_part face 0 c.contacts headers is.contacts))))))
+    (joined (settings_shown c own) (contacts_shown face c.contacts) (settings_part c own is blocks) (contacts_part face 0 c.contacts headers is.contacts)))))
     (omega (arith, few))
 
 pub shown_part : (file : GateFile) → IsFile file → FileUtf8 file → Part (shown file) 1_048_576
@@ -177,5 +221,6 @@ unfolding shown
 shown_part file is utf8 =
     longer 1_048_576 _
     (joined (gateway_shown file.gateway) _ (gateway_part file.gateway is.gateway utf8.journal utf8.metrics)
-    (joined (face_shown sections.Old file.old) (face_shown sections.New file.new) (face_part sections.Old file.old old_headers is.old utf8.old) (face_part sections.New file.new new_headers is.new utf8.new)))
+    (joined (face_shown sections.Old file.old None) (face_shown sections.New file.new (Some file.blocks))
+    (face_part sections.Old file.old None old_headers is.old utf8.old tt) (face_part sections.New file.new (Some file.blocks) new_headers is.new utf8.new is.blocks)))
     (omega arith)

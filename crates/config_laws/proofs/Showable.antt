@@ -1,7 +1,7 @@
 -- What a file has that some text means: each value is of its key's kind, contacts are in order, and no two values are
 -- the same that may not be.
 
-use Rattle.std.proofs.Common.{◌≡◌, ℕ, ◌<◌, true, false, ◌==◌, nat_lt, List, [], ◌∷◌, Option, Some, option_map, Ok}
+use Rattle.std.proofs.Common.{◌≡◌, ℕ, ◌<◌, true, false, ◌||◌, ◌==◌, nat_lt, List, [], ◌∷◌, Option, Some, option_map, Ok}
 use Rattle.toml.specs.Data.{Data, string}
 use Rattle.endpoint.specs.Endpoints.{IsEndpoint}
 use Rattle.moment_text.specs.Moments.{year_10000}
@@ -10,6 +10,7 @@ use Rattle.gate_config.specs.declared.keys.Key.TheVariants as keys
 use Rattle.gate_config.specs.declared.file.GateFile.{GateFile}
 use Rattle.gate_config.specs.declared.file.GatewayConfig.{GatewayConfig}
 use Rattle.gate_config.specs.declared.file.FaceConfig.{FaceConfig}
+use Rattle.gate_config.specs.declared.file.BlocksConfig.{BlocksConfig}
 use Rattle.gate_config.specs.declared.file.Contact.{Contact}
 use Rattle.gate_config.specs.Keys.{kind_of}
 use Rattle.gate_config.specs.Values.{fits, is_named}
@@ -43,10 +44,22 @@ pub record IsFace (c : FaceConfig) : Type 0 where
   pub first_session : Fits keys.FirstSession (option_map whole c.first_session)
   pub rate : Fits keys.Rate (option_map whole c.rate)
   pub outbox : Fits keys.Outbox (Some (whole c.outbox))
+  pub sessions : Fits keys.Sessions (Some (whole c.sessions))
+  pub memory : Fits keys.Memory (Some (whole c.memory))
+  pub aggregate : Fits keys.Aggregate (Some (whole c.aggregate))
+  pub aggregate_ms : Fits keys.AggregateMs (Some (whole c.aggregate_ms))
+  pub remember : Fits keys.Remember (Some (whole c.remember))
+  pub remember_ms : Fits keys.RememberMs (Some (whole c.remember_ms))
   pub contact : Fits keys.Contact (contacts_data c.contacts)
   pub cap : nat_lt c.cap_ms c.timeout_ms ≡ false
   pub contacts : AreContacts 0 c.contacts
   pub apart : (c.engine == c.peer_engine) ≡ false
+
+pub record AreBlocks (b : BlocksConfig) : Type 0 where
+  pub residue : Fits keys.ResidueBlock (Some (whole b.residue_block))
+  pub wrap : Fits keys.WrapBlock (Some (whole b.wrap_block))
+  pub residue_apart : (b.residue_block == 193) ≡ false
+  pub wrap_apart : (b.wrap_block == 192 || b.wrap_block == b.residue_block) ≡ false
 
 pub record IsGateway (g : GatewayConfig) : Type 0 where
   pub legal : IsEndpoint g.endpoint
@@ -60,3 +73,4 @@ pub record IsFile (file : GateFile) : Type 0 where
   pub gateway : IsGateway file.gateway
   pub old : IsFace file.old
   pub new : IsFace file.new
+  pub blocks : AreBlocks file.blocks

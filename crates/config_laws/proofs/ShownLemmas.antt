@@ -1,6 +1,6 @@
 -- What is shown of a file is a text of its lines.
 
-use Rattle.std.proofs.Common.{◌≡◌, ℕ, ◌^◌, ◌<◌, ◌≤◌, true, false, List, [], ◌∷◌, ◌++◌, codes, Option, Some, None, option_map, refl, sym, arith, append-nil}
+use Rattle.std.proofs.Common.{◌≡◌, ℕ, ◌^◌, ◌<◌, ◌≤◌, true, false, List, [], ◌∷◌, ◌++◌, codes, Option, Some, None, IfSome, option_map, refl, sym, arith, append-nil}
 use Rattle.std.proofs.lemmas.Bool.Decides.{nat_tests}
 use Rattle.std.specs.Fmt.{decimal}
 use Rattle.toml_parser.specs.declared.scalar.Scalar.TheVariants.{Datetime as DatetimeScalar}
@@ -19,17 +19,18 @@ use Rattle.gate_config.specs.declared.keys.Section.TheVariants as sections
 use Rattle.gate_config.specs.declared.file.GateFile.{GateFile}
 use Rattle.gate_config.specs.declared.file.GatewayConfig.{GatewayConfig}
 use Rattle.gate_config.specs.declared.file.FaceConfig.{FaceConfig}
+use Rattle.gate_config.specs.declared.file.BlocksConfig.{BlocksConfig}
 use Rattle.gate_config.specs.declared.file.Contact.{Contact}
 use Rattle.gate_config.specs.Keys.{name_of}
 use Rattle.gate_config.specs.Values.{fits, is_of}
-use Rattle.gate_config.specs.Shown.{basic_string, value_line, text_line, number_line, text_if, number_if, gateway_shown, face_header, contact_header, contact_shown, contacts_shown, timers_shown, rates_shown, accept_word, face_shown, shown}
+use Rattle.gate_config.specs.Shown.{basic_string, value_line, text_line, number_line, text_if, number_if, gateway_shown, face_header, contact_header, contact_shown, contacts_shown, timers_shown, rates_shown, bounds_shown, blocks_shown, blocks_if, settings_shown, accept_word, age_word, foreign_word, face_shown, shown}
 use Rattle.config_laws.proofs.LineLemmas.{IsLine, IsValue, pair_turn, AreLines, AreLines-append}
 use Rattle.config_laws.proofs.ValueLemmas.{string_value, number_value, word_value}
 use Rattle.config_laws.proofs.MomentLemmas.{when_of, word_of_moment}
 use Rattle.config_laws.proofs.TableLemmas.{Pairs, pairs_in, are_pairs-append, element_lines}
-use Rattle.config_laws.proofs.FaceLemmas.{whole, moment, pair_if, contact_pairs, rates_pairs, contact_lines, face_lines}
+use Rattle.config_laws.proofs.FaceLemmas.{whole, moment, pair_if, contact_pairs, rates_pairs, bounds_pairs, blocks_pairs, late_pairs, contact_lines, face_lines}
 use Rattle.config_laws.proofs.DocumentLemmas.{gateway_lines, file_lines}
-use Rattle.config_laws.proofs.Showable.{IsContact, AreContacts, IsFace, IsGateway, IsFile}
+use Rattle.config_laws.proofs.Showable.{IsContact, AreContacts, IsFace, AreBlocks, IsGateway, IsFile}
 
 -- ---- lines of a text
 
@@ -113,7 +114,7 @@ gateway_lines_are g is =
     let cut : g.cut < 2 ^ 63 = omega (arith, most_is 1 4_000_000 g.cut is.cut) in
     let paths = both (text_if_is keys.Journal g.journal refl) (text_if_is keys.Metrics g.metrics refl) in
     under (([], codes "gateway"), std_table) (codes "[gateway]\n") gateway_header
-    (before (text_is keys.Endpoint (text_of g.endpoint) refl) (before (number_is keys.Cut g.cut refl cut) (alone paths)))
+    (before (text_is keys.Endpoint (text_of g.endpoint) refl) (before (number_is keys.Cut g.cut refl cut) (before (text_is keys.Age (age_word g.age) refl) (alone paths))))
 
 -- ---- a face
 
@@ -162,6 +163,24 @@ rates_are c is =
     (both (number_is keys.Outbox c.outbox refl (omega (arith, most_is 65_507 4_294_967_295 c.outbox is.outbox)))
     (text_is keys.Accept (accept_word c.accept) refl)))
 
+bounds_are : (c : FaceConfig) → IsFace c → PairsSpelled (bounds_pairs c) (bounds_shown c)
+unfolding bounds_shown key_text
+bounds_are c is =
+    both (number_is keys.Sessions c.sessions refl (omega (arith, most_is 1 1024 c.sessions is.sessions)))
+    (both (number_is keys.Memory c.memory refl (omega (arith, most_is 33_554_432 1_099_511_627_776 c.memory is.memory)))
+    (both (number_is keys.Aggregate c.aggregate refl (omega (arith, most_is 0 4_194_304 c.aggregate is.aggregate)))
+    (both (number_is keys.AggregateMs c.aggregate_ms refl (omega (arith, most_is 1 60_000 c.aggregate_ms is.aggregate_ms)))
+    (both (number_is keys.Remember c.remember refl (omega (arith, most_is 4096 16_777_216 c.remember is.remember)))
+    (number_is keys.RememberMs c.remember_ms refl (omega (arith, most_is 1000 604_800_000 c.remember_ms is.remember_ms)))))))
+
+blocks_are : (own : Option BlocksConfig) → IfSome own AreBlocks → PairsSpelled (blocks_pairs own) (blocks_if own)
+unfolding blocks_shown key_text
+blocks_are None are = no_pair
+blocks_are (Some b) are =
+    both (number_is keys.ResidueBlock b.residue_block refl (omega (arith, most_is 192 255 b.residue_block are.residue)))
+    (both (number_is keys.WrapBlock b.wrap_block refl (omega (arith, most_is 192 255 b.wrap_block are.wrap)))
+    (text_is keys.ForeignBlocks (foreign_word b.foreign_blocks) refl))
+
 abbrev timer_pairs : FaceConfig → Pairs
 timer_pairs c =
     (codes "engine", whole c.engine) ∷ (codes "peer_engine", whole c.peer_engine) ∷ (codes "segment", whole c.segment)
@@ -177,22 +196,29 @@ timers_are c is =
     (both (number_is keys.Limit c.limit refl (omega (arith, most_is 1 100 c.limit is.limit)))
     (number_is keys.CapMs c.cap_ms refl (omega (arith, most_is 1 3_600_000 c.cap_ms is.cap_ms)))))))
 
-face_lines_are : (face : Section) (k : List ℕ) (c : FaceConfig) → IsNamed face k → IsFace c → Spelled (face_lines k c) (face_shown face c)
+settings_are : (c : FaceConfig) (own : Option BlocksConfig) → IsFace c → IfSome own AreBlocks
+    → PairsSpelled (timer_pairs c ++ late_pairs c c.first_session c.rate own) (settings_shown c own)
+unfolding settings_shown
+settings_are c own is blocks = both (timers_are c is) (both (rates_are c is) (both (bounds_are c is) (blocks_are own blocks)))
+
+face_lines_are : (face : Section) (k : List ℕ) (c : FaceConfig) (own : Option BlocksConfig) → IsNamed face k → IsFace c → IfSome own AreBlocks
+    → Spelled (face_lines k c own) (face_shown face c own)
 unfolding face_shown key_text
-face_lines_are face k c named is =
+face_lines_are face k c own named is blocks =
     under (([], k), std_table) (face_header face) named.header
     (before (text_is keys.Bind c.bind refl)
     (before (text_is keys.Peer c.peer refl)
-    (before (timers_are c is) (before (rates_are c is) (contacts_are face k 0 c.contacts named is.contacts)))))
+    (before (settings_are c own is blocks) (contacts_are face k 0 c.contacts named is.contacts))))
 
 -- ---- the file
 
 pub shown_lines : (file : GateFile) → IsFile file → AreLines (file_lines file) (shown file)
 unfolding shown
 shown_lines file is =
-    let old = face_lines_are sections.Old (codes "old") file.old old_named is.old in
-    let new = face_lines_are sections.New (codes "new") file.new new_named is.new in
-    AreLines-append (gateway_lines file.gateway) (face_lines (codes "old") file.old ++ face_lines (codes "new") file.new)
-    (gateway_shown file.gateway) (face_shown sections.Old file.old ++ face_shown sections.New file.new)
+    let own : Option BlocksConfig = Some file.blocks in
+    let old = face_lines_are sections.Old (codes "old") file.old None old_named is.old tt in
+    let new = face_lines_are sections.New (codes "new") file.new own new_named is.new is.blocks in
+    AreLines-append (gateway_lines file.gateway) (face_lines (codes "old") file.old None ++ face_lines (codes "new") file.new own)
+    (gateway_shown file.gateway) (face_shown sections.Old file.old None ++ face_shown sections.New file.new own)
     (gateway_lines_are file.gateway is.gateway).are
-    (AreLines-append (face_lines (codes "old") file.old) (face_lines (codes "new") file.new) (face_shown sections.Old file.old) (face_shown sections.New file.new) old.are new.are)
+    (AreLines-append (face_lines (codes "old") file.old None) (face_lines (codes "new") file.new own) (face_shown sections.Old file.old None) (face_shown sections.New file.new own) old.are new.are)

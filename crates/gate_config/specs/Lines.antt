@@ -33,6 +33,8 @@ fixed_text wants.Endpoint = codes "an endpoint other than dtn:none is wanted"
 fixed_text wants.Address = codes "an address of 1 to 64 octets is wanted"
 fixed_text wants.Path = codes "a path of 1 to 4096 octets is wanted"
 fixed_text wants.Accept = codes "address or port is wanted"
+fixed_text wants.Age = codes "raise or keep is wanted"
+fixed_text wants.ForeignBlocks = codes "wrap or drop is wanted"
 fixed_text (wants.Whole low high) = codes ""
 fixed_text wants.Tables = codes "1 to 4096 tables are wanted"
 fixed_text wants.Moment =
@@ -42,6 +44,8 @@ fixed_text wants.AfterFrom = codes "a moment after from is wanted"
 fixed_text wants.NotBeforeEnd =
     codes "a moment that isn't before the end of the contact before is wanted"
 fixed_text wants.OtherNumber = codes "another number than engine is wanted"
+fixed_text wants.NotWrap = codes "another number than 193 is wanted"
+fixed_text wants.NotResidue = codes "another number than 192 and residue_block is wanted"
 fixed_text wants.OtherPath = codes "another path than journal is wanted"
 
 unfoldable pub low_text : ℕ → List ℕ
@@ -57,12 +61,16 @@ wanted_text wants.Endpoint = fixed_text wants.Endpoint
 wanted_text wants.Address = fixed_text wants.Address
 wanted_text wants.Path = fixed_text wants.Path
 wanted_text wants.Accept = fixed_text wants.Accept
+wanted_text wants.Age = fixed_text wants.Age
+wanted_text wants.ForeignBlocks = fixed_text wants.ForeignBlocks
 wanted_text wants.Tables = fixed_text wants.Tables
 wanted_text wants.Moment = fixed_text wants.Moment
 wanted_text wants.NotBelowTimeout = fixed_text wants.NotBelowTimeout
 wanted_text wants.AfterFrom = fixed_text wants.AfterFrom
 wanted_text wants.NotBeforeEnd = fixed_text wants.NotBeforeEnd
 wanted_text wants.OtherNumber = fixed_text wants.OtherNumber
+wanted_text wants.NotWrap = fixed_text wants.NotWrap
+wanted_text wants.NotResidue = fixed_text wants.NotResidue
 wanted_text wants.OtherPath = fixed_text wants.OtherPath
 
 unfoldable pub line_text : ℕ → List ℕ

@@ -1,8 +1,8 @@
 -- What a document means: the first reason to refuse it, or the values with the defaults filled in.
 
-use Rattle.std.specs.Prelude.{ℕ, ◌+◌, max, Bool, false, not, ◌==◌, nat_lt, if◌then◌else◌}
+use Rattle.std.specs.Prelude.{ℕ, ◌+◌, max, Bool, false, not, ◌||◌, ◌==◌, nat_lt}
 use Rattle.std.specs.Prelude.{List, [], ◌∷◌, Option, Some, None, option_map, option_and_then}
-use Rattle.std.specs.Prelude.{unwrap_or, Result, Ok, Err, codes}
+use Rattle.std.specs.Prelude.{unwrap_or, Result, Ok, Err, codes, if◌then◌else◌}
 use Rattle.std.specs.List.{list_any}
 use Rattle.std.specs.Str.{bytes_eq}
 use Rattle.endpoint.specs.declared.name.Endpoint.{Endpoint}
@@ -24,9 +24,14 @@ use Rattle.gate_config.specs.declared.file.GatewayConfig.{GatewayConfig}
 use Rattle.gate_config.specs.declared.file.FaceConfig.{FaceConfig}
 use Rattle.gate_config.specs.declared.file.Accept.{Accept}
 use Rattle.gate_config.specs.declared.file.Accept.TheVariants as accepts
+use Rattle.gate_config.specs.declared.file.Age.{Age}
+use Rattle.gate_config.specs.declared.file.Age.TheVariants as ages
+use Rattle.gate_config.specs.declared.file.ForeignBlocks.{ForeignBlocks}
+use Rattle.gate_config.specs.declared.file.ForeignBlocks.TheVariants as foreigns
+use Rattle.gate_config.specs.declared.file.BlocksConfig.{BlocksConfig}
 use Rattle.gate_config.specs.declared.file.Contact.{Contact}
 use Rattle.gate_config.specs.Keys.{name_of, kind_of, default_of, key_of}
-use Rattle.gate_config.specs.Keys.{file_keys, gateway_keys, face_keys, contact_keys}
+use Rattle.gate_config.specs.Keys.{file_keys, keys_of, contact_keys}
 use Rattle.gate_config.specs.Refusals.{wanted_of, first_of}
 use Rattle.gate_config.specs.Values.{at, fits, number_at, text_at, moment_at, contacts_at}
 
@@ -93,12 +98,24 @@ cap_in section place =
 
 unfoldable pub face_refusal : Section → Option Data → Option Refusal
 face_refusal face place =
-    first_of (table_refusal (places.Table face) face_keys place)
+    first_of (table_refusal (places.Table face) (keys_of face) place)
     (first_of (refuse_if (nat_lt (cap_in face place) (number_in face keys.TimeoutMs place))
     (refusals.Wrong (places.Table face) keys.CapMs wants.NotBelowTimeout))
     (first_of (contacts_refusal face 0 0 (contacts_at place))
     (refuse_if (number_in face keys.Engine place == number_in face keys.PeerEngine place)
     (refusals.Wrong (places.Table face) keys.PeerEngine wants.OtherNumber))))
+
+-- ---- why the types of blocks are refused
+
+-- a residue and a wrap have types of their own, of which neither is the other's on the other side
+unfoldable pub blocks_refusal : Option Data → Option Refusal
+blocks_refusal place =
+    first_of (refuse_if (number_in sections.New keys.ResidueBlock place == 193)
+    (refusals.Wrong (places.Table sections.New) keys.ResidueBlock wants.NotWrap))
+    (refuse_if (number_in sections.New keys.WrapBlock place == 192
+    || number_in sections.New keys.WrapBlock place
+    == number_in sections.New keys.ResidueBlock place)
+    (refusals.Wrong (places.Table sections.New) keys.WrapBlock wants.NotResidue))
 
 -- ---- why a document is refused
 
@@ -113,13 +130,14 @@ section_of section document = at (key_of section) document
 unfoldable pub refusal_of : Option Data → Option Refusal
 refusal_of document =
     first_of (table_refusal places.File file_keys document)
-    (first_of (table_refusal (places.Table sections.Gateway) gateway_keys
+    (first_of (table_refusal (places.Table sections.Gateway) (keys_of sections.Gateway)
     (section_of sections.Gateway document))
     (first_of (face_refusal sections.Old (section_of sections.Old document))
     (first_of (face_refusal sections.New (section_of sections.New document))
+    (first_of (blocks_refusal (section_of sections.New document))
     (refuse_if (same_text (text_at keys.Journal (section_of sections.Gateway document))
     (text_at keys.Metrics (section_of sections.Gateway document)))
-    (refusals.Wrong (places.Table sections.Gateway) keys.Metrics wants.OtherPath)))))
+    (refusals.Wrong (places.Table sections.Gateway) keys.Metrics wants.OtherPath))))))
 
 -- ---- the values of a document that isn't refused
 
@@ -153,8 +171,31 @@ face_of face place = record {
   rate = number_at keys.Rate place;
   outbox = number_in face keys.Outbox place;
   accept = accept_of (text_at keys.Accept place);
+  sessions = number_in face keys.Sessions place;
+  memory = number_in face keys.Memory place;
+  aggregate = number_in face keys.Aggregate place;
+  aggregate_ms = number_in face keys.AggregateMs place;
+  remember = number_in face keys.Remember place;
+  remember_ms = number_in face keys.RememberMs place;
   contacts = contacts_of (contacts_at place);
 }
+
+-- whether there are private blocks; left out, there are
+abbrev pub foreign_of : Option (List ℕ) → ForeignBlocks
+foreign_of None = foreigns.Wrap
+foreign_of (Some text) = if bytes_eq text (codes "drop") then foreigns.Drop else foreigns.Wrap
+
+abbrev pub blocks_of : Option Data → BlocksConfig
+blocks_of place = record {
+  residue_block = number_in sections.New keys.ResidueBlock place;
+  wrap_block = number_in sections.New keys.WrapBlock place;
+  foreign_blocks = foreign_of (text_at keys.ForeignBlocks place);
+}
+
+-- what becomes of an age; left out, it is raised
+abbrev pub age_of : Option (List ℕ) → Age
+age_of None = ages.Raise
+age_of (Some text) = if bytes_eq text (codes "keep") then ages.Keep else ages.Raise
 
 abbrev pub endpoint_or_null : Result Endpoint EndpointFault → Endpoint
 endpoint_or_null (Ok endpoint) = endpoint
@@ -164,6 +205,7 @@ abbrev pub gateway_of : Option Data → GatewayConfig
 gateway_of place = record {
   endpoint = endpoint_or_null (read_text (unwrap_or (text_at keys.Endpoint place) []));
   cut = number_in sections.Gateway keys.Cut place;
+  age = age_of (text_at keys.Age place);
   journal = text_at keys.Journal place;
   metrics = text_at keys.Metrics place;
 }
@@ -173,4 +215,5 @@ file_of document = record {
   gateway = gateway_of (section_of sections.Gateway document);
   old = face_of sections.Old (section_of sections.Old document);
   new = face_of sections.New (section_of sections.New document);
+  blocks = blocks_of (section_of sections.New document);
 }

@@ -14,6 +14,8 @@ wanted_of kinds.Address = wants.Address
 wanted_of kinds.Path = wants.Path
 wanted_of (kinds.Whole low high) = wants.Whole low high
 wanted_of kinds.Accept = wants.Accept
+wanted_of kinds.Age = wants.Age
+wanted_of kinds.ForeignBlocks = wants.ForeignBlocks
 wanted_of kinds.Contacts = wants.Tables
 wanted_of kinds.Moment = wants.Moment
 

@@ -57,10 +57,10 @@ abbrev pub is_endpoint : Option (List ℕ) → Bool
 is_endpoint None = false
 is_endpoint (Some text) = is_named (read_text text)
 
--- one of the two words that say from where datagrams are taken
-abbrev pub is_accept : Option (List ℕ) → Bool
-is_accept None = false
-is_accept (Some text) = bytes_eq text (codes "address") || bytes_eq text (codes "port")
+-- one of two words
+abbrev pub is_either : List ℕ → List ℕ → Option (List ℕ) → Bool
+is_either one other None = false
+is_either one other (Some text) = bytes_eq text one || bytes_eq text other
 
 abbrev pub is_table : Data → Bool
 is_table (table rows) = true
@@ -85,7 +85,9 @@ is_of kinds.Endpoint value = is_endpoint (as_str value)
 is_of kinds.Address value = is_text 64 (as_str value)
 is_of kinds.Path value = is_text 4096 (as_str value)
 is_of (kinds.Whole low high) value = is_whole low high (whole_of value)
-is_of kinds.Accept value = is_accept (as_str value)
+is_of kinds.Accept value = is_either (codes "address") (codes "port") (as_str value)
+is_of kinds.Age value = is_either (codes "raise") (codes "keep") (as_str value)
+is_of kinds.ForeignBlocks value = is_either (codes "wrap") (codes "drop") (as_str value)
 is_of kinds.Contacts value = is_contacts (as_array value)
 is_of kinds.Moment value = is_some (moment_in value)
 
@@ -97,6 +99,8 @@ may_lack kinds.Address = false
 may_lack kinds.Path = true
 may_lack (kinds.Whole low high) = true
 may_lack kinds.Accept = true
+may_lack kinds.Age = true
+may_lack kinds.ForeignBlocks = true
 may_lack kinds.Contacts = true
 may_lack kinds.Moment = false
 

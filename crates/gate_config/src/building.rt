@@ -7,7 +7,10 @@ ghost use Rattle.gate_config.specs.Lent.{seen};
 ghost use Rattle.gate_config.specs.Values as values;
 ghost use Rattle.gate_config.specs.Meaning as spec;
 
-use crate::file::{Accept, Contact, Contacts, FaceConfig, GateFile, GatewayConfig};
+use crate::file::{
+    Accept, Age, BlocksConfig, Contact, Contacts, FaceConfig, ForeignBlocks, GateFile,
+    GatewayConfig,
+};
 use crate::judging::{cap_in, number_in, section_of};
 use crate::keys::{Key, Section};
 use crate::values::{contacts_at, moment_at, number_at, text_at};
@@ -23,6 +26,7 @@ pub(crate) fn build(alloc: Global, document: &Value) -> Result<GateFile, AllocEr
         gateway: gateway_of(alloc, section_of(Section::Gateway, document))?,
         old: face_of(alloc, Section::Old, section_of(Section::Old, document))?,
         new: face_of(alloc, Section::New, section_of(Section::New, document))?,
+        blocks: blocks_of(section_of(Section::New, document)),
     })
 }
 
@@ -32,6 +36,7 @@ fn gateway_of(alloc: Global, place: Option<&Value>) -> Result<GatewayConfig, All
     Ok(GatewayConfig {
         endpoint: endpoint_of(alloc, text_at(Key::Endpoint, place).unwrap_or(""))?,
         cut: number_in(Section::Gateway, Key::Cut, place),
+        age: age_of(text_at(Key::Age, place)),
         journal: owned(alloc, text_at(Key::Journal, place))?,
         metrics: owned(alloc, text_at(Key::Metrics, place))?,
     })
@@ -79,6 +84,12 @@ fn face_of(alloc: Global, face: Section, place: Option<&Value>) -> Result<FaceCo
         rate: number_at(Key::Rate, place),
         outbox: number_in(face, Key::Outbox, place),
         accept: accept_of(text_at(Key::Accept, place)),
+        sessions: number_in(face, Key::Sessions, place),
+        memory: number_in(face, Key::Memory, place),
+        aggregate: number_in(face, Key::Aggregate, place),
+        aggregate_ms: number_in(face, Key::AggregateMs, place),
+        remember: number_in(face, Key::Remember, place),
+        remember_ms: number_in(face, Key::RememberMs, place),
         contacts: contacts_of(alloc, contacts_at(place))?,
     })
 }
@@ -89,6 +100,34 @@ fn accept_of(text: Option<&str>) -> Accept
     match text {
         Some("port") => Accept::Port,
         _ => Accept::Address,
+    }
+}
+
+fn age_of(text: Option<&str>) -> Age
+    ensures { result ≡ spec.age_of (option_map (λ t. t.now) text.entry) }
+{
+    match text {
+        Some("keep") => Age::Keep,
+        _ => Age::Raise,
+    }
+}
+
+fn blocks_of(place: Option<&Value>) -> BlocksConfig
+    ensures { result ≡ spec.blocks_of (seen place.entry) }
+{
+    BlocksConfig {
+        residue_block: number_in(Section::New, Key::ResidueBlock, place),
+        wrap_block: number_in(Section::New, Key::WrapBlock, place),
+        foreign_blocks: foreign_of(text_at(Key::ForeignBlocks, place)),
+    }
+}
+
+fn foreign_of(text: Option<&str>) -> ForeignBlocks
+    ensures { result ≡ spec.foreign_of (option_map (λ t. t.now) text.entry) }
+{
+    match text {
+        Some("drop") => ForeignBlocks::Drop,
+        _ => ForeignBlocks::Wrap,
     }
 }
 

@@ -34,6 +34,10 @@ pub enum Wanted {
     Path,
     /// The word `address` or the word `port`.
     Accept,
+    /// The word `raise` or the word `keep`.
+    Age,
+    /// The word `wrap` or the word `drop`.
+    ForeignBlocks,
     /// A whole number in a range.
     Whole {
         /// The least that is taken.
@@ -53,6 +57,11 @@ pub enum Wanted {
     NotBeforeEnd,
     /// A peer whose engine number isn't the gateway's own.
     OtherNumber,
+    /// A type of residues that isn't the one which wraps have where no key says another.
+    NotWrap,
+    /// A type of wraps that is neither the one which residues have where no key says another, nor the
+    /// one that they have here.
+    NotResidue,
     /// A path that isn't the journal's.
     OtherPath,
 }

@@ -13,6 +13,8 @@ pub struct GateFile {
     pub old: FaceConfig,
     /// The face towards the nodes of version 7.
     pub new: FaceConfig,
+    /// What stands at that face for what version 7 has no field for.
+    pub blocks: BlocksConfig,
 }
 
 /// What holds for the gateway as a whole.
@@ -22,6 +24,8 @@ pub struct GatewayConfig {
     pub endpoint: Endpoint,
     /// The most octets of a piece's payload: 1 to 4,000,000.
     pub cut: u64,
+    /// What becomes of the age of a bundle while it stays.
+    pub age: Age,
     /// The path of the journal, if there is one.
     pub journal: Option<Octets>,
     /// The path of the file of metrics, if there is one. It isn't the journal's.
@@ -55,8 +59,79 @@ pub struct FaceConfig {
     pub outbox: u64,
     /// From where its datagrams are taken.
     pub accept: Accept,
+    /// The most sessions that are sent, and that are received: 1 to 1,024.
+    pub sessions: u64,
+    /// The octets that it may keep, half of them for each way: 33,554,432 to 2^40.
+    pub memory: u64,
+    /// How many octets are gathered into a block: 0 to 4,194,304. With 0 or 1 each piece has its own.
+    pub aggregate: u64,
+    /// The milliseconds for which a piece waits for others: 1 to 60,000.
+    pub aggregate_ms: u64,
+    /// How many runs of consecutive session numbers are remembered: 4,096 to 16,777,216.
+    pub remember: u64,
+    /// The milliseconds for which a session that is over is remembered: 1,000 to 604,800,000.
+    pub remember_ms: u64,
     /// When the link is open. Without a contact it is open always.
     pub contacts: Contacts,
+}
+
+/// How a version 7 bundle says what version 7 has no field for.
+#[derive(Clone, Copy, Debug, PartialEq, Eq)]
+pub struct BlocksConfig {
+    /// The type of the block that holds a residue: 192 to 255, and not 193.
+    pub residue_block: u64,
+    /// The type of the block that holds a wrap: 193 to 255, and not `residue_block`.
+    pub wrap_block: u64,
+    /// Whether there are such blocks.
+    pub foreign_blocks: ForeignBlocks,
+}
+
+/// What becomes of the age of a bundle while it stays.
+#[derive(Clone, Copy, Debug, PartialEq, Eq)]
+pub enum Age {
+    /// It is raised by the stay.
+    Raise,
+    /// It goes on as it came.
+    Keep,
+}
+
+impl Age {
+    ghost use Rattle.std.specs.Prelude.{◌≡◌};
+    ghost use Rattle.gate_config.specs.Shown.{age_word};
+
+    /// The word that says it in a file.
+    pub fn word(self) -> &'static str
+        ensures { result.now ≡ age_word self }
+    {
+        match self {
+            Age::Raise => "raise",
+            Age::Keep => "keep",
+        }
+    }
+}
+
+/// What becomes of what version 7 has no field for.
+#[derive(Clone, Copy, Debug, PartialEq, Eq)]
+pub enum ForeignBlocks {
+    /// It stands in blocks of the gateway's own.
+    Wrap,
+    /// It is left out.
+    Drop,
+}
+
+impl ForeignBlocks {
+    ghost use Rattle.std.specs.Prelude.{◌≡◌};
+    ghost use Rattle.gate_config.specs.Shown.{foreign_word};
+
+    /// The word that says it in a file.
+    pub fn word(self) -> &'static str
+        ensures { result.now ≡ foreign_word self }
+    {
+        match self {
+            ForeignBlocks::Wrap => "wrap",
+            ForeignBlocks::Drop => "drop",
+        }
+    }
 }
 
 /// From where a face's datagrams are taken.

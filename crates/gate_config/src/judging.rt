@@ -9,9 +9,15 @@ ghost use Rattle.gate_config.specs.Refusals as refused;
 ghost use Rattle.gate_config.specs.Meaning as spec;
 
 use crate::fault::{Flaw, Wanted, Within};
-use crate::keys::{CONTACT_KEYS, FACE_KEYS, FILE_KEYS, GATEWAY_KEYS, Key, Kind, Section};
+use crate::keys::{CONTACT_KEYS, FILE_KEYS, Key, Kind, Section};
 use crate::values::{at, contacts_at, fits, moment_at, number_at, text_at};
 use toml::{Table, Value};
+
+/// The type of a residue where no key says another.
+const RESIDUE: u64 = 192;
+
+/// The type of a wrap where no key says another.
+const WRAP: u64 = 193;
 
 /// The first reason to refuse a document, if there is one.
 #[tactic(auto, unfolding(crate::specs::Meaning::refusal_of))]
@@ -20,14 +26,15 @@ pub(crate) fn judge(document: &Value) -> Result<(), Flaw<'_>>
 {
     judge_table(Within::File, &FILE_KEYS, Some(document))?;
     let gateway = section_of(Section::Gateway, document);
-    judge_table(Within::Table(Section::Gateway), &GATEWAY_KEYS, gateway)?;
+    let within = Within::Table(Section::Gateway);
+    judge_table(within, Section::Gateway.keys(), gateway)?;
     judge_face(Section::Old, section_of(Section::Old, document))?;
     judge_face(Section::New, section_of(Section::New, document))?;
+    judge_blocks(section_of(Section::New, document))?;
     let same = same_text(
         text_at(Key::Journal, gateway),
         text_at(Key::Metrics, gateway),
     );
-    let within = Within::Table(Section::Gateway);
     refuse_if(same, within, Key::Metrics, Wanted::OtherPath)
 }
 
@@ -112,6 +119,8 @@ fn wanted_of(kind: Kind) -> Wanted
         Kind::Path => Wanted::Path,
         Kind::Whole { low, high } => Wanted::Whole { low, high },
         Kind::Accept => Wanted::Accept,
+        Kind::Age => Wanted::Age,
+        Kind::ForeignBlocks => Wanted::ForeignBlocks,
         Kind::Contacts => Wanted::Tables,
         Kind::Moment => Wanted::Moment,
     }
@@ -122,12 +131,26 @@ fn judge_face<'a>(face: Section, place: Option<&'a Value>) -> Result<(), Flaw<'a
     ensures { told result ≡ spec.face_refusal face (seen place.entry) }
 {
     let within = Within::Table(face);
-    judge_table(within, &FACE_KEYS, place)?;
+    judge_table(within, face.keys(), place)?;
     let short = cap_in(face, place) < number_in(face, Key::TimeoutMs, place);
     refuse_if(short, within, Key::CapMs, Wanted::NotBelowTimeout)?;
     judge_contacts(face, contacts_at(place))?;
     let same = number_in(face, Key::Engine, place) == number_in(face, Key::PeerEngine, place);
     refuse_if(same, within, Key::PeerEngine, Wanted::OtherNumber)
+}
+
+/// The types of the gateway's own blocks: with others than these some block would have one type among
+/// the gateway's own bundles and another on the wire, and no way back.
+#[tactic(auto, unfolding(crate::specs::Meaning::blocks_refusal))]
+fn judge_blocks<'a>(place: Option<&'a Value>) -> Result<(), Flaw<'a>>
+    ensures { told result ≡ spec.blocks_refusal (seen place.entry) }
+{
+    let within = Within::Table(Section::New);
+    let residue = number_in(Section::New, Key::ResidueBlock, place);
+    let wrap = number_in(Section::New, Key::WrapBlock, place);
+    refuse_if(residue == WRAP, within, Key::ResidueBlock, Wanted::NotWrap)?;
+    let taken = wrap == RESIDUE || wrap == residue;
+    refuse_if(taken, within, Key::WrapBlock, Wanted::NotResidue)
 }
 
 /// The contacts of a face in order, each with the end of the one before.

@@ -27,6 +27,8 @@ pub enum Key {
     Endpoint,
     /// The most octets of a bundle that isn't cut into pieces.
     Cut,
+    /// Whether the age of a bundle is raised by its stay.
+    Age,
     /// The path of the journal.
     Journal,
     /// The path of the file of metrics.
@@ -55,6 +57,24 @@ pub enum Key {
     Outbox,
     /// From where a face's datagrams are taken.
     Accept,
+    /// The most sessions of a face each way.
+    Sessions,
+    /// The octets that a face may keep.
+    Memory,
+    /// The octets that are gathered into one block.
+    Aggregate,
+    /// The milliseconds for which they are gathered.
+    AggregateMs,
+    /// The runs of session numbers that are remembered.
+    Remember,
+    /// The milliseconds for which they are remembered.
+    RememberMs,
+    /// The type that residues have in version 7.
+    ResidueBlock,
+    /// The type that wraps have in version 7.
+    WrapBlock,
+    /// What becomes of what version 7 has no field for.
+    ForeignBlocks,
     /// The contacts of a face.
     Contact,
     /// The first moment of a contact.
@@ -76,6 +96,10 @@ pub enum Kind {
     Path,
     /// The word `address` or the word `port`.
     Accept,
+    /// The word `raise` or the word `keep`.
+    Age,
+    /// The word `wrap` or the word `drop`.
+    ForeignBlocks,
     /// A whole number.
     Whole {
         /// The least that is taken.
@@ -93,10 +117,16 @@ pub enum Kind {
 pub(crate) const FILE_KEYS: [Key; 3] = [Key::Gateway, Key::Old, Key::New];
 
 /// The keys of the gateway's table.
-pub(crate) const GATEWAY_KEYS: [Key; 4] = [Key::Endpoint, Key::Cut, Key::Journal, Key::Metrics];
+pub(crate) const GATEWAY_KEYS: [Key; 5] = [
+    Key::Endpoint,
+    Key::Cut,
+    Key::Age,
+    Key::Journal,
+    Key::Metrics,
+];
 
-/// The keys of a face's table, in the order in which they are looked at.
-pub(crate) const FACE_KEYS: [Key; 13] = [
+/// The keys of the table of the face towards version 6, in the order in which they are looked at.
+const OLD_KEYS: [Key; 19] = [
     Key::Bind,
     Key::Peer,
     Key::Engine,
@@ -109,6 +139,38 @@ pub(crate) const FACE_KEYS: [Key; 13] = [
     Key::Rate,
     Key::Outbox,
     Key::Accept,
+    Key::Sessions,
+    Key::Memory,
+    Key::Aggregate,
+    Key::AggregateMs,
+    Key::Remember,
+    Key::RememberMs,
+    Key::Contact,
+];
+
+/// The keys of the table of the face towards version 7.
+const NEW_KEYS: [Key; 22] = [
+    Key::Bind,
+    Key::Peer,
+    Key::Engine,
+    Key::PeerEngine,
+    Key::Segment,
+    Key::TimeoutMs,
+    Key::Limit,
+    Key::CapMs,
+    Key::FirstSession,
+    Key::Rate,
+    Key::Outbox,
+    Key::Accept,
+    Key::Sessions,
+    Key::Memory,
+    Key::Aggregate,
+    Key::AggregateMs,
+    Key::Remember,
+    Key::RememberMs,
+    Key::ResidueBlock,
+    Key::WrapBlock,
+    Key::ForeignBlocks,
     Key::Contact,
 ];
 
@@ -129,6 +191,17 @@ impl Section {
             Section::New => Key::New,
         }
     }
+
+    /// The keys of its table, in the order in which they are looked at.
+    pub(crate) fn keys(self) -> &'static [Key]
+        ensures { result.now ≡ spec.keys_of self }
+    {
+        match self {
+            Section::Gateway => &GATEWAY_KEYS,
+            Section::Old => &OLD_KEYS,
+            Section::New => &NEW_KEYS,
+        }
+    }
 }
 
 impl Key {
@@ -142,6 +215,7 @@ impl Key {
             Key::New => "new",
             Key::Endpoint => "endpoint",
             Key::Cut => "cut",
+            Key::Age => "age",
             Key::Journal => "journal",
             Key::Metrics => "metrics",
             Key::Bind => "bind",
@@ -156,6 +230,15 @@ impl Key {
             Key::Rate => "rate",
             Key::Outbox => "outbox",
             Key::Accept => "accept",
+            Key::Sessions => "sessions",
+            Key::Memory => "memory",
+            Key::Aggregate => "aggregate",
+            Key::AggregateMs => "aggregate_ms",
+            Key::Remember => "remember",
+            Key::RememberMs => "remember_ms",
+            Key::ResidueBlock => "residue_block",
+            Key::WrapBlock => "wrap_block",
+            Key::ForeignBlocks => "foreign_blocks",
             Key::Contact => "contact",
             Key::From => "from",
             Key::To => "to",
@@ -172,6 +255,8 @@ impl Key {
             Key::Journal | Key::Metrics => return Kind::Path,
             Key::Bind | Key::Peer => return Kind::Address,
             Key::Accept => return Kind::Accept,
+            Key::Age => return Kind::Age,
+            Key::ForeignBlocks => return Kind::ForeignBlocks,
             Key::Contact => return Kind::Contacts,
             Key::From | Key::To => return Kind::Moment,
             Key::Cut => (1, 4_000_000),
@@ -181,6 +266,13 @@ impl Key {
             Key::Limit => (1, 100),
             Key::Rate => (1, 10_000_000_000),
             Key::Outbox => (65_507, GREATEST),
+            Key::Sessions => (1, 1024),
+            Key::Memory => (33_554_432, 1_099_511_627_776),
+            Key::Aggregate => (0, 4_194_304),
+            Key::AggregateMs => (1, 60_000),
+            Key::Remember => (4096, 16_777_216),
+            Key::RememberMs => (1000, 604_800_000),
+            Key::ResidueBlock | Key::WrapBlock => (192, 255),
         };
         Kind::Whole { low, high }
     }
@@ -200,6 +292,13 @@ impl Key {
             (Key::Limit, _) => 10,
             (Key::CapMs, _) => 160_000,
             (Key::Outbox, _) => 536_870_912,
+            (Key::Sessions, _) => 64,
+            (Key::Memory, _) => 268_435_456,
+            (Key::AggregateMs, _) => 1000,
+            (Key::Remember, _) => 1_048_576,
+            (Key::RememberMs, _) => 3_600_000,
+            (Key::ResidueBlock, _) => 192,
+            (Key::WrapBlock, _) => 193,
             _ => 0,
         }
     }

@@ -21,7 +21,10 @@ mod showing;
 mod values;
 
 pub use fault::{ConfigFault, Refusal, Wanted, Within};
-pub use file::{Accept, Contact, Contacts, FaceConfig, GateFile, GatewayConfig};
+pub use file::{
+    Accept, Age, BlocksConfig, Contact, Contacts, FaceConfig, ForeignBlocks, GateFile,
+    GatewayConfig,
+};
 pub use keys::{Key, Kind, Section};
 pub use reading::{MOST_OCTETS, has_one_meaning, read};
 pub use showing::show;

@@ -158,6 +158,8 @@ impl Wanted {
             Wanted::Address => "an address of 1 to 64 octets is wanted",
             Wanted::Path => "a path of 1 to 4096 octets is wanted",
             Wanted::Accept => "address or port is wanted",
+            Wanted::Age => "raise or keep is wanted",
+            Wanted::ForeignBlocks => "wrap or drop is wanted",
             Wanted::Whole { .. } => "",
             Wanted::Tables => "1 to 4096 tables are wanted",
             Wanted::Moment => {
@@ -169,6 +171,8 @@ impl Wanted {
                 "a moment that isn't before the end of the contact before is wanted"
             }
             Wanted::OtherNumber => "another number than engine is wanted",
+            Wanted::NotWrap => "another number than 193 is wanted",
+            Wanted::NotResidue => "another number than 192 and residue_block is wanted",
             Wanted::OtherPath => "another path than journal is wanted",
         }
     }

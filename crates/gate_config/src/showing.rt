@@ -3,7 +3,7 @@
 ghost use Rattle.std.specs.Prelude.{◌≡◌, ◌++◌, IfOk, OnOk, option_map};
 ghost use Rattle.gate_config.specs.Shown as spec;
 
-use crate::file::{Contact, FaceConfig, GateFile, GatewayConfig};
+use crate::file::{BlocksConfig, Contact, FaceConfig, GateFile, GatewayConfig};
 use crate::keys::{Key, Section};
 use crate::output::{push_count, push_text, push_value};
 use endpoint::Octets;
@@ -25,8 +25,8 @@ fn push_file(alloc: Global, text: &mut Vec<u8>, file: &GateFile) -> Result<(), A
     ensures { OnOk result (text.new.items ≡ text.old.items ++ spec.shown file.now) }
 {
     push_gateway(alloc, text, &file.gateway)?;
-    push_face(text, Section::Old, &file.old)?;
-    push_face(text, Section::New, &file.new)
+    push_face(text, Section::Old, &file.old, None)?;
+    push_face(text, Section::New, &file.new, Some(file.blocks))
 }
 
 #[tactic(auto, unfolding(crate::specs::Shown::gateway_shown))]
@@ -41,6 +41,7 @@ fn push_gateway(
     let endpoint = gateway.endpoint.to_text(alloc)?;
     push_text(text, Key::Endpoint, endpoint.as_slice())?;
     push_count(text, Key::Cut, gateway.cut)?;
+    push_text(text, Key::Age, gateway.age.word().as_bytes())?;
     push_text_if(text, Key::Journal, &gateway.journal)?;
     push_text_if(text, Key::Metrics, &gateway.metrics)
 }
@@ -64,14 +65,19 @@ fn push_count_if(text: &mut Vec<u8>, key: Key, number: Option<u64>) -> Result<()
 }
 
 #[tactic(auto, unfolding(crate::specs::Shown::face_shown))]
-fn push_face(text: &mut Vec<u8>, face: Section, config: &FaceConfig) -> Result<(), AllocError>
-    ensures { OnOk result (text.new.items ≡ text.old.items ++ spec.face_shown face config.now) }
+fn push_face(
+    text: &mut Vec<u8>,
+    face: Section,
+    config: &FaceConfig,
+    blocks: Option<BlocksConfig>,
+) -> Result<(), AllocError>
+    ensures { OnOk result (text.new.items
+        ≡ text.old.items ++ spec.face_shown face config.now blocks) }
 {
     push_header(text, face)?;
     push_text(text, Key::Bind, config.bind.as_slice())?;
     push_text(text, Key::Peer, config.peer.as_slice())?;
-    push_timers(text, config)?;
-    push_rates(text, config)?;
+    push_settings(text, config, blocks)?;
     push_contacts(text, face, config.contacts.as_slice())
 }
 
@@ -82,6 +88,20 @@ fn push_header(text: &mut Vec<u8>, face: Section) -> Result<(), AllocError>
     text.extend_from_slice(b"\n[")?;
     text.extend_from_slice(face.key().name().as_bytes())?;
     text.extend_from_slice(b"]\n")
+}
+
+#[tactic(auto, unfolding(crate::specs::Shown::settings_shown))]
+fn push_settings(
+    text: &mut Vec<u8>,
+    config: &FaceConfig,
+    blocks: Option<BlocksConfig>,
+) -> Result<(), AllocError>
+    ensures { OnOk result (text.new.items ≡ text.old.items ++ spec.settings_shown config.now blocks) }
+{
+    push_timers(text, config)?;
+    push_rates(text, config)?;
+    push_bounds(text, config)?;
+    push_blocks_if(text, blocks)
 }
 
 #[tactic(auto, unfolding(crate::specs::Shown::timers_shown))]
@@ -104,6 +124,40 @@ fn push_rates(text: &mut Vec<u8>, config: &FaceConfig) -> Result<(), AllocError>
     push_count_if(text, Key::Rate, config.rate)?;
     push_count(text, Key::Outbox, config.outbox)?;
     push_text(text, Key::Accept, config.accept.word().as_bytes())
+}
+
+#[tactic(auto, unfolding(crate::specs::Shown::bounds_shown))]
+fn push_bounds(text: &mut Vec<u8>, config: &FaceConfig) -> Result<(), AllocError>
+    ensures { OnOk result (text.new.items ≡ text.old.items ++ spec.bounds_shown config.now) }
+{
+    push_count(text, Key::Sessions, config.sessions)?;
+    push_count(text, Key::Memory, config.memory)?;
+    push_count(text, Key::Aggregate, config.aggregate)?;
+    push_count(text, Key::AggregateMs, config.aggregate_ms)?;
+    push_count(text, Key::Remember, config.remember)?;
+    push_count(text, Key::RememberMs, config.remember_ms)
+}
+
+fn push_blocks_if(text: &mut Vec<u8>, blocks: Option<BlocksConfig>) -> Result<(), AllocError>
+    ensures { OnOk result (text.new.items ≡ text.old.items ++ spec.blocks_if blocks) }
+{
+    match blocks {
+        Some(blocks) => push_blocks(text, blocks),
+        None => Ok(()),
+    }
+}
+
+#[tactic(auto, unfolding(crate::specs::Shown::blocks_shown))]
+fn push_blocks(text: &mut Vec<u8>, blocks: BlocksConfig) -> Result<(), AllocError>
+    ensures { OnOk result (text.new.items ≡ text.old.items ++ spec.blocks_shown blocks) }
+{
+    push_count(text, Key::ResidueBlock, blocks.residue_block)?;
+    push_count(text, Key::WrapBlock, blocks.wrap_block)?;
+    push_text(
+        text,
+        Key::ForeignBlocks,
+        blocks.foreign_blocks.word().as_bytes(),
+    )
 }
 
 fn push_contacts(text: &mut Vec<u8>, face: Section, contacts: &[Contact]) -> Result<(), AllocError>

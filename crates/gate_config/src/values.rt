@@ -80,7 +80,12 @@ fn may_lack(kind: Kind) -> bool
 {
     matches!(
         kind,
-        Kind::Path | Kind::Accept | Kind::Whole { .. } | Kind::Contacts
+        Kind::Path
+            | Kind::Accept
+            | Kind::Age
+            | Kind::ForeignBlocks
+            | Kind::Whole { .. }
+            | Kind::Contacts
     )
 }
 
@@ -93,18 +98,20 @@ fn is_of(kind: Kind, value: &Value) -> bool
         Kind::Endpoint => is_endpoint(value.as_str()),
         Kind::Address => is_text(64, value.as_str()),
         Kind::Path => is_text(4096, value.as_str()),
-        Kind::Accept => is_accept(value.as_str()),
+        Kind::Accept => is_either("address", "port", value.as_str()),
+        Kind::Age => is_either("raise", "keep", value.as_str()),
+        Kind::ForeignBlocks => is_either("wrap", "drop", value.as_str()),
         Kind::Whole { low, high } => is_whole(low, high, whole_of(value)),
         Kind::Contacts => is_contacts(value.as_array()),
         Kind::Moment => moment_in(value).is_some(),
     }
 }
 
-fn is_accept(text: Option<&str>) -> bool
-    ensures { result ≡ spec.is_accept (option_map (λ t. t.now) text.entry) }
+fn is_either(one: &str, other: &str, text: Option<&str>) -> bool
+    ensures { result ≡ spec.is_either one.now other.now (option_map (λ t. t.now) text.entry) }
 {
     match text {
-        Some(text) => text == "address" || text == "port",
+        Some(text) => text == one || text == other,
         None => false,
     }
 }

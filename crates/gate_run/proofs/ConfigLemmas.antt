@@ -1,6 +1,6 @@
 -- A file that is read has all that a gateway wants of it.
 
-use Rattle.std.proofs.Common.{◌≡◌, ◌≢◌, ℕ, suc, ◌+◌, ◌^◌, ◌<◌, ◌≤◌, max, Bool, true, false, not, ◌==◌, nat_lt, List, [], ◌∷◌, length, Option, None, Some, IfSome, Result, Ok, Err, refl, arith, ℤ, pos, negsuc, if◌then◌else◌}
+use Rattle.std.proofs.Common.{◌≡◌, ◌≢◌, ℕ, suc, ◌+◌, ◌^◌, ◌<◌, ◌≤◌, max, Bool, true, false, not, ◌==◌, nat_lt, List, [], ◌∷◌, ◌++◌, length, Option, None, Some, IfSome, Result, Ok, Err, refl, arith, ℤ, pos, negsuc, if◌then◌else◌}
 use Rattle.std.specs.Prelude.{option_and_then, unwrap_or}
 use Rattle.std.proofs.lemmas.Bool.{eqb-false, ltb-false, le-leb, and_parts, leb-true, ltb-true}
 use Rattle.endpoint.specs.declared.name.Endpoint.{Endpoint}
@@ -27,10 +27,10 @@ use Rattle.gate_config.specs.declared.fault.Within.TheVariants as places
 use Rattle.gate_config.specs.declared.fault.Wanted.TheVariants as wants
 use Rattle.gate_config.specs.declared.fault.Refusal.{Refusal}
 use Rattle.gate_config.specs.declared.fault.Refusal.TheVariants as refusals
-use Rattle.gate_config.specs.Keys.{kind_of, default_of, face_keys, gateway_keys, file_keys}
+use Rattle.gate_config.specs.Keys.{kind_of, default_of, face_keys, blocks_keys, file_keys, keys_of}
 use Rattle.gate_config.specs.Refusals.{first_of}
 use Rattle.gate_config.specs.Values.{at, fits, is_of, whole_of, is_whole, number_at, text_at, moment_at, moment_in, contacts_at, is_contacts, item_count, is_endpoint, is_named}
-use Rattle.gate_config.specs.Meaning.{first_misfit, table_refusal, refuse_if, contact_refusal, contacts_refusal, number_in, cap_in, face_refusal, refusal_of, contacts_of, face_of, gateway_of, file_of, endpoint_or_null, section_of, same_text}
+use Rattle.gate_config.specs.Meaning.{first_misfit, table_refusal, refuse_if, contact_refusal, contacts_refusal, number_in, cap_in, face_refusal, blocks_refusal, refusal_of, contacts_of, face_of, gateway_of, file_of, endpoint_or_null, section_of, same_text}
 use Rattle.gateway_core.specs.Config.{IsGateConfig}
 use Rattle.gate_face.specs.Schedules.{HasPlan, windows_of}
 use Rattle.gate_half.specs.Setup.{IsFace, IsRunnable}
@@ -228,25 +228,52 @@ first-within : (first : Option ℕ) → InRange 1 4_294_967_295 first
 first-within None within = tt
 first-within (Some number) within = (within.0, omega (arith, within.1))
 
--- what a face leaves out
+-- what a face leaves out; and its keys are those of both faces, and more, of which the contacts are one
 pub record HasDefaults (face : Section) : Type 0 where
   pub segment : default_of face keys.Segment ≡ 1024
   pub timeout : default_of face keys.TimeoutMs ≡ 10_000
   pub limit : default_of face keys.Limit ≡ 10
   pub cap : default_of face keys.CapMs ≡ 160_000
+  pub rest : List Key
+  pub all : keys_of face ≡ face_keys ++ rest
+  pub contact : (place : Option Data) → AllFit rest place → fits kinds.Contacts (at keys.Contact place) ≡ true
+
+old-defaults : HasDefaults sections.Old
+old-defaults = record {
+  segment = refl;
+  timeout = refl;
+  limit = refl;
+  cap = refl;
+  rest = keys.Contact ∷ [];
+  all = refl;
+  contact = λ place fit. fit.0;
+}
+
+new-defaults : HasDefaults sections.New
+new-defaults = record {
+  segment = refl;
+  timeout = refl;
+  limit = refl;
+  cap = refl;
+  rest = blocks_keys ++ (keys.Contact ∷ []);
+  all = refl;
+  contact = λ place fit. let (residue, (wrap, (foreign, (contact, end)))) = fit in contact;
+}
 
 runnable-face : (face : Section) (place : Option Data) → HasDefaults face
     → face_refusal face place ≡ None → IsFace (face_of face place)
 unfolding face_refusal
 runnable-face face place defaults is =
-    let parts = fours (table_refusal (places.Table face) face_keys place)
+    let parts = fours (table_refusal (places.Table face) (keys_of face) place)
     (refuse_if (nat_lt (cap_in face place) (number_in face keys.TimeoutMs place))
     (refusals.Wrong (places.Table face) keys.CapMs wants.NotBelowTimeout))
     (contacts_refusal face 0 0 (contacts_at place))
     (refuse_if (number_in face keys.Engine place == number_in face keys.PeerEngine place)
     (refusals.Wrong (places.Table face) keys.PeerEngine wants.OtherNumber)) is in
-    let fit = table-fits (places.Table face) face_keys place parts.first in
-    let (bind, (peer, (engine, (peer_engine, (segment, (timeout, (limit, (cap, (first, (rate, (outbox, (accept, (contact, end))))))))))))) = fit in
+    let fit = rw defaults.all at (table-fits (places.Table face) (keys_of face) place parts.first) in
+    let (bind, (peer, (engine, (peer_engine, (segment, (timeout, (limit, (cap, (first, (rate, more)))))))))) = fit in
+    let (outbox, (accept, (sessions, (memory, (aggregate, (aggregate_ms, (remember, (remember_ms, others)))))))) = more in
+    let contact = defaults.contact place others in
     let sizes = or-default 512 8192 (default_of face keys.Segment) (number_at keys.Segment place)
     (whole-fits 512 8192 (at keys.Segment place) segment) (rw defaults.segment (omega arith)) (rw defaults.segment (omega arith)) in
     let times = or-default 1 3_600_000 (default_of face keys.TimeoutMs) (number_at keys.TimeoutMs place)
@@ -285,10 +312,10 @@ unfolding fits is_of
 endpoint-at None is = absurd (cc)
 endpoint-at (Some value) is = is
 
-runnable-gateway : (within : Within) (place : Option Data) → table_refusal within gateway_keys place ≡ None
+runnable-gateway : (within : Within) (place : Option Data) → table_refusal within (keys_of sections.Gateway) place ≡ None
     → IsGateConfig (gateway_of place).endpoint (gateway_of place).cut
 runnable-gateway within place is =
-    let (endpoint, (cut, (journal, (metrics, end)))) = table-fits within gateway_keys place is in
+    let (endpoint, (cut, (age, (journal, (metrics, end))))) = table-fits within (keys_of sections.Gateway) place is in
     let name = endpoint-legal (text_at keys.Endpoint place) (endpoint-at (at keys.Endpoint place) endpoint) in
     let cuts = or-default 1 4_000_000 65_536 (number_at keys.Cut place)
     (whole-fits 1 4_000_000 (at keys.Cut place) cut) (omega arith) (omega arith) in
@@ -300,24 +327,24 @@ runnable-document : (document : Option Data) → refusal_of document ≡ None �
 unfolding refusal_of
 runnable-document document is =
     let rest = firsts (table_refusal places.File file_keys document)
-    (first_of (table_refusal (places.Table sections.Gateway) gateway_keys (section_of sections.Gateway document))
+    (first_of (table_refusal (places.Table sections.Gateway) (keys_of sections.Gateway) (section_of sections.Gateway document))
     (first_of (face_refusal sections.Old (section_of sections.Old document))
     (first_of (face_refusal sections.New (section_of sections.New document))
+    (first_of (blocks_refusal (section_of sections.New document))
     (refuse_if (same_text (text_at keys.Journal (section_of sections.Gateway document))
     (text_at keys.Metrics (section_of sections.Gateway document)))
-    (refusals.Wrong (places.Table sections.Gateway) keys.Metrics wants.OtherPath))))) is in
-    let parts = fours (table_refusal (places.Table sections.Gateway) gateway_keys (section_of sections.Gateway document))
+    (refusals.Wrong (places.Table sections.Gateway) keys.Metrics wants.OtherPath)))))) is in
+    let parts = fours (table_refusal (places.Table sections.Gateway) (keys_of sections.Gateway) (section_of sections.Gateway document))
     (face_refusal sections.Old (section_of sections.Old document))
     (face_refusal sections.New (section_of sections.New document))
+    (first_of (blocks_refusal (section_of sections.New document))
     (refuse_if (same_text (text_at keys.Journal (section_of sections.Gateway document))
     (text_at keys.Metrics (section_of sections.Gateway document)))
-    (refusals.Wrong (places.Table sections.Gateway) keys.Metrics wants.OtherPath)) rest.1 in
+    (refusals.Wrong (places.Table sections.Gateway) keys.Metrics wants.OtherPath))) rest.1 in
     record {
       gateway = runnable-gateway (places.Table sections.Gateway) (section_of sections.Gateway document) parts.first;
-      old = runnable-face sections.Old (section_of sections.Old document)
-          record { segment = refl; timeout = refl; limit = refl; cap = refl } parts.second;
-      new = runnable-face sections.New (section_of sections.New document)
-          record { segment = refl; timeout = refl; limit = refl; cap = refl } parts.third;
+      old = runnable-face sections.Old (section_of sections.Old document) old-defaults parts.second;
+      new = runnable-face sections.New (section_of sections.New document) new-defaults parts.third;
     }
 
 pub runnable-read : IsRunnableAsRead

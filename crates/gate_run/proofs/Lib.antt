@@ -8,3 +8,4 @@ pub mod TurnLemmas
 pub mod RunLemmas
 pub mod WholeLemmas
 pub mod ConfigLemmas
+pub mod MeetsLemmas

@@ -8,10 +8,13 @@
 //! one order across all that is outside, or a front of them where it ends early (`specs/Outcome.antt`).
 //! Where an outside tells nothing, it is still told how the run ended, that nothing was written after a
 //! failed write, and that no call on the journal followed a failed one.
+//!
+//! A file may ask for more than a run does yet: [`meets`] says at which key.
 #![tactic(auto)]
 
 mod driven;
 pub mod laws;
+mod meeting;
 mod run;
 mod running;
 mod sending;
@@ -20,6 +23,7 @@ mod stop;
 mod storing;
 mod telling;
 
+pub use meeting::{Unmet, meets};
 pub use run::gate;
 pub use running::run_from;
 pub use status::GateStatus;

@@ -11,7 +11,7 @@ const LEAST: &str = "[gateway]\nendpoint = \"ipn:9.0\"\n[old]\nbind = \"a\"\npee
 [new]\nbind = \"c\"\npeer = \"d\"\n";
 
 /// The beginning of what it means.
-const FRONT: &str = "[gateway]\nendpoint = \"ipn:9.0\"\ncut = 65536\n\n[old]\n";
+const FRONT: &str = "[gateway]\nendpoint = \"ipn:9.0\"\ncut = 65536\nage = \"raise\"\n\n[old]\n";
 
 /// A file, a read of which fails or not, and a sink, whose first write fails or not.
 fn outside(alloc: Global, text: &str, fails: (bool, bool)) -> Result<(MemSource, MemSink), Fail> {
@@ -26,7 +26,7 @@ fn what_a_file_means_is_written(rt: HostRuntime) -> Result<(), Fail> {
     let (mut file, mut sink) = outside(alloc, LEAST, (false, false))?;
     assert!(rt; matches!(check(alloc, &mut file, &mut sink), Checked::Done));
     assert!(rt; sink.octets().starts_with(FRONT.as_bytes()));
-    assert_eq!(rt; sink.octets().len(), 353);
+    assert_eq!(rt; sink.octets().len(), 644);
     Ok(())
 }
 

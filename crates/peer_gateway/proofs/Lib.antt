@@ -15,3 +15,6 @@ pub mod WaitLemmas
 pub mod AnswerLemmas
 pub mod FaceLemmas
 pub mod GateLemmas
+pub mod PassLemmas
+pub mod AddedLemmas
+pub mod ReportLemmas

@@ -8,6 +8,7 @@ use Rattle.gate_cases.specs.declared.face.Face.{Face}
 use Rattle.gate_cases.specs.declared.face.Face.TheVariants as faces
 use Rattle.gate_cases.specs.declared.report.AskedReport.{AskedReport}
 use Rattle.gate_cases.specs.Faces.{other_of}
+use Rattle.gate_log.specs.Subjects.{subject_of}
 use Rattle.block_types.specs.declared.losing.LeftOut.{LeftOut}
 use Rattle.gateway_core.specs.Gate.{at_face}
 use Rattle.peer_cases.specs.declared.pieces.SizedPiece.{SizedPiece}
@@ -18,7 +19,7 @@ use Rattle.peer_cases.specs.Rows.{Item, a_bundle, an_end, came_in, items_of}
 use Rattle.peer_sessions.specs.Sessions.{SessionsStep, ticks}
 use Rattle.peer_gateway.specs.Keys.{PeerSetup}
 use Rattle.peer_gateway.specs.Gate.{PeerMoments, PeerGate, PeerStep, Told, stays_so, and_then, in_turn, tells, room_at}
-use Rattle.peer_gateway.specs.Gate.{told_case, told_left, told_reported, told_unreported, told_end}
+use Rattle.peer_gateway.specs.Gate.{told_bundle, told_case, told_left, told_reported, told_unreported, told_end}
 use Rattle.peer_gateway.specs.Going.{next_count, go, go_on, go_all, no_time, waits_too, adds, piece_at, due}
 use Rattle.peer_gateway.specs.Steps.{does_at, hears_at, adds_all, next_if, tells_left, report_piece, reports, answers, decides, decided_at, passes_came, passes_item, passes, has_ended, due_if, arrives_with, arrives_peer, ticks_face, ticks_peer, kept_piece, has_room_at, adds_kept, PeerEvent, a_datagram, a_tick, a_kept_piece, does}
 
@@ -126,7 +127,9 @@ came-keeps s m Holds kept face index session (Some came) g =
 item-keeps : (s : PeerSetup) (m : PeerMoments) (Holds : PeerGate → PeerStep → Type 0) → IsKept s m Holds
     → (face : Face) (session : ℕ) (item : Item) → Keeps Holds (passes_item s face m session item)
 item-keeps s m Holds kept face session (a_bundle index octets) g =
-    came-keeps s m Holds kept face index session (came_in s.settings face octets) g
+    let bundle = told_bundle (subject_of octets) in
+    kept.both g (tells face bundle g) (passes_came s face m index session (came_in s.settings face octets))
+    (kept.telling face bundle g) (came-keeps s m Holds kept face index session (came_in s.settings face octets) g)
 item-keeps s m Holds kept face session (an_end index end) g = kept.telling face (told_end index session end) g
 
 passes-keeps : (s : PeerSetup) (m : PeerMoments) (Holds : PeerGate → PeerStep → Type 0) → IsKept s m Holds

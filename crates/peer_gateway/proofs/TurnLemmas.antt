@@ -134,7 +134,8 @@ came-same s face m index session (Some came) g = decides-same s face m index ses
 
 item-same : (s : PeerSetup) (face : Face) (m : PeerMoments) (session : ℕ) (item : Item) (g : PeerGate)
     → without_places (passes_item s face m session item g) ≡ without_places (passes_item s face m session (placeless item) g)
-item-same s face m session (a_bundle index octets) g = came-same s face m index session (came_in s.settings face octets) g
+item-same s face m session (a_bundle index octets) g =
+    both-same _ _ _ _ refl (λ h. came-same s face m index session (came_in s.settings face octets) h)
 item-same s face m session (an_end index end) g = refl
 
 -- ---- items in turn

@@ -1,6 +1,8 @@
 -- What the code answers to an event, as the definition's effects.
 
-use Rattle.std.specs.Prelude.{List, [], ◌++◌, map}
+use Rattle.std.specs.Prelude.{ℕ, List, [], ◌∷◌, ◌++◌, map, Option, None, Some}
+use Rattle.gate_cases.specs.declared.face.Face.{Face}
+use Rattle.block_types.specs.declared.losing.LeftOut.{LeftOut}
 use Rattle.gateway_core.specs.declared.effects.Routed.{Routed}
 use Rattle.gateway_core.specs.Effects.{routed_of}
 use Rattle.peer_gateway.specs.declared.told.Remark.{Remark}
@@ -8,7 +10,7 @@ use Rattle.peer_gateway.specs.declared.told.Remark.TheVariants as remarks
 use Rattle.peer_gateway.specs.declared.told.RemarkAt.{RemarkAt}
 use Rattle.peer_gateway.specs.declared.told.Added.{Added}
 use Rattle.peer_gateway.specs.declared.told.BlockBegun.{BlockBegun}
-use Rattle.peer_gateway.specs.Gate.{Told, FaceTold, AddedAt, BegunAt, PeerEffects, told_engine, told_forgotten, told_green, told_began, told_case, told_left, told_reported, told_unreported, told_end}
+use Rattle.peer_gateway.specs.Gate.{Told, FaceTold, AddedAt, BegunAt, PeerEffects, told_engine, told_forgotten, told_green, told_began, told_bundle, told_case, told_left, told_reported, told_unreported, told_end}
 
 -- each segment as its datagram
 pub record Answered : Type 0 where
@@ -27,6 +29,7 @@ remark_seen (remarks.Engine note) = told_engine note
 remark_seen (remarks.Forgotten runs) = told_forgotten runs
 remark_seen (remarks.Green green) = told_green green
 remark_seen (remarks.Began pieces octets session) = told_began pieces octets session
+remark_seen (remarks.Bundle subject) = told_bundle subject
 remark_seen (remarks.Case index session case pieces first) = told_case index session case pieces first
 remark_seen (remarks.Left index session left) = told_left index session left
 remark_seen (remarks.Reported index session report) = told_reported index session report
@@ -67,3 +70,8 @@ with_added a added = record a { added = a.added ++ added }
 
 abbrev pub with_begun : Answered → List BegunAt → Answered
 with_begun a begun = record a { begun = a.begun ++ begun }
+
+-- what pieces lack, where they lack something
+abbrev pub left_told : Face → Option ℕ → ℕ → Option LeftOut → List FaceTold
+left_told face index session None = []
+left_told face index session (Some left) = record { face = face; told = told_left index session left } ∷ []

@@ -13,6 +13,7 @@ use Rattle.piece_gathering.specs.Gathered.{GatheringValue}
 use Rattle.gate_cases.specs.declared.case.GateCase.{GateCase}
 use Rattle.gate_cases.specs.declared.face.Face.{Face}
 use Rattle.gate_cases.specs.declared.face.Face.TheVariants as faces
+use Rattle.gate_log.specs.declared.subject.Subject.{Subject}
 use Rattle.block_types.specs.declared.losing.LeftOut.{LeftOut}
 use Rattle.bundle_rows.specs.declared.next.End.{End}
 use Rattle.face_room.specs.Faces.{load_of}
@@ -87,8 +88,8 @@ room_at k f = record {
 -- ---- what it tells
 
 -- A note of a face's engine; runs of closed numbers were forgotten before their time; a green piece came. A
--- block begins: how many pieces it has, how many octets, and the session. About a bundle, with its place in
--- its row and its session: the case, how many pieces go on, and the first of their sessions, where each has
+-- block begins: how many pieces it has, how many octets, and the session. A bundle comes, by its names; what
+-- is told of it follows, with its place in its row and its session: the case, how many pieces go on, and the first of their sessions, where each has
 -- one of its own; what they lack; that a report is sent, and its session; that it isn't. And the end of a
 -- row.
 pub data Told : Type 0 where
@@ -96,6 +97,7 @@ pub data Told : Type 0 where
   told_forgotten : ℕ → Told
   told_green : Green → Told
   told_began : ℕ → ℕ → ℕ → Told
+  told_bundle : Option Subject → Told
   told_case : Option ℕ → ℕ → GateCase → ℕ → Option ℕ → Told
   told_left : Option ℕ → ℕ → LeftOut → Told
   told_reported : Option ℕ → ℕ → Option ℕ → Told

@@ -34,7 +34,7 @@ use Rattle.peer_sessions.specs.Keys.{FaceKeys}
 use Rattle.peer_sessions.specs.Sessions.{SessionsStep, block_begins}
 use Rattle.peer_gateway.specs.Keys.{PeerSetup, AreKeys}
 use Rattle.peer_gateway.specs.Gate.{PeerMoments, PeerFace, PeerGate, PeerStep, Told, FaceTold, AddedAt, BegunAt, stays_so, and_then, in_turn, tells, is_at, octets_out}
-use Rattle.peer_gateway.specs.Gate.{told_engine, told_forgotten, told_green, told_began, told_case, told_left, told_reported, told_unreported, told_end}
+use Rattle.peer_gateway.specs.Gate.{told_engine, told_forgotten, told_green, told_began, told_bundle, told_case, told_left, told_reported, told_unreported, told_end}
 use Rattle.peer_gateway.specs.Going.{stay_of, going_octets, is_free, next_count, block_of, no_time, adds}
 use Rattle.peer_gateway.specs.Steps.{passes, has_ended, arrives_with, ticks_peer, PeerEvent, does}
 
@@ -190,6 +190,7 @@ without_place (told_engine note) = told_engine note
 without_place (told_forgotten runs) = told_forgotten runs
 without_place (told_green green) = told_green green
 without_place (told_began pieces octets session) = told_began pieces octets session
+without_place (told_bundle subject) = told_bundle subject
 without_place (told_case index session case pieces first) = told_case None session case pieces first
 without_place (told_left index session left) = told_left None session left
 without_place (told_reported index session report) = told_reported None session report

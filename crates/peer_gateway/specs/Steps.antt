@@ -11,6 +11,7 @@ use Rattle.gate_cases.specs.declared.face.Face.TheVariants as faces
 use Rattle.gate_cases.specs.declared.report.AskedReport.{AskedReport}
 use Rattle.gate_cases.specs.Faces.{other_of}
 use Rattle.gate_cases.specs.Bundles.{status_bundle}
+use Rattle.gate_log.specs.Subjects.{subject_of}
 use Rattle.block_types.specs.declared.losing.LeftOut.{LeftOut}
 use Rattle.gateway_core.specs.Gate.{at_face, with_face}
 use Rattle.peer_cases.specs.declared.pieces.SizedPiece.{SizedPiece}
@@ -23,7 +24,7 @@ use Rattle.peer_cases.specs.Rows.{Item, a_bundle, an_end, came_in, items_of}
 use Rattle.peer_gateway.specs.Keys.{PeerSetup}
 use Rattle.peer_sessions.specs.Sessions.{Sessions, SessionsStep, evictions, hears, ticks}
 use Rattle.peer_gateway.specs.Gate.{PeerMoments, PeerGate, PeerStep, Told, FaceTold, no_effects, stays_so, and_then, in_turn, tells, room_at, routed_at, octets_out}
-use Rattle.peer_gateway.specs.Gate.{told_engine, told_forgotten, told_green, told_case, told_left, told_reported, told_unreported, told_end}
+use Rattle.peer_gateway.specs.Gate.{told_engine, told_forgotten, told_green, told_bundle, told_case, told_left, told_reported, told_unreported, told_end}
 use Rattle.peer_gateway.specs.Going.{adds, piece_at, due, gathers, stayed_size}
 
 -- ---- a face's sessions
@@ -120,10 +121,11 @@ passes_came s face m index session (Some came) g = decides s face m index sessio
 
 -- ---- a block that came whole
 
--- a bundle of its row, or the end
+-- a bundle of its row, of which its names are told first, or the end
 abbrev pub passes_item : PeerSetup → Face → PeerMoments → ℕ → Item → PeerGate → PeerStep
 passes_item s face m session (a_bundle index octets) g =
-    passes_came s face m index session (came_in s.settings face octets) g
+    and_then (tells face (told_bundle (subject_of octets)) g)
+    (passes_came s face m index session (came_in s.settings face octets))
 passes_item s face m session (an_end index end) g = tells face (told_end index session end) g
 
 -- all that stands in it, in turn

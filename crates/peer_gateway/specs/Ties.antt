@@ -1,18 +1,28 @@
 -- A gateway of the code as the definition's gate, and what its parts do.
 
-use Rattle.std.specs.Prelude.{◌≡◌, ℕ, ◌≤◌, ◌^◌, Bool, false, List, ◌++◌}
+use Rattle.std.specs.Prelude.{◌≡◌, ℕ, ◌≤◌, ◌^◌, Bool, false, List, ◌++◌, map, Option, None, Some}
+use Rattle.ltp_engine.specs.Effects.{up_of}
 use Rattle.gate_cases.specs.declared.face.Face.{Face}
 use Rattle.gate_cases.specs.declared.face.Face.TheVariants as faces
+use Rattle.gate_cases.specs.declared.report.AskedReport.{AskedReport}
 use Rattle.gate_cases.specs.Faces.{other_of}
+use Rattle.gate_cases.specs.Promises.{IsAskable}
+use Rattle.gate_cases.specs.Reports.{face_of as face_for}
+use Rattle.face_room.specs.declared.bounds.TheConstants.{BLOCK_MAX}
 use Rattle.gateway_core.specs.Gate.{at_face, with_face}
 use Rattle.gateway_core.specs.Config.{IsGateConfig}
+use Rattle.peer_cases.specs.declared.pieces.SizedPiece.{SizedPiece}
+use Rattle.peer_cases.specs.declared.settings.PeerSettings.{PeerSettings}
+use Rattle.peer_sessions.specs.Sessions.{SessionsStep}
 use Rattle.peer_gateway.specs.declared.faces.FaceParts.{FaceParts}
+use Rattle.peer_gateway.specs.declared.faces.Heard.{Heard}
 use Rattle.peer_gateway.specs.declared.parts.Parts.{Parts}
 use Rattle.peer_gateway.specs.Keys.{PeerSetup}
 use Rattle.peer_gateway.specs.Gate.{PeerMoments, PeerGate, PeerEffects, PeerStep, no_effects, routed_at, starts_out}
-use Rattle.peer_gateway.specs.Steps.{PeerEvent, with_outboxes, peer_step}
+use Rattle.peer_gateway.specs.Going.{piece_at}
+use Rattle.peer_gateway.specs.Steps.{does_at, has_ended, PeerEvent, with_outboxes, peer_step}
 use Rattle.peer_gateway.specs.Answers.{Answered, answer_of, then_done}
-use Rattle.peer_gateway.specs.Faces.{FaceStep, keys_at, face_of, IsFace}
+use Rattle.peer_gateway.specs.Faces.{FaceStep, keys_at, face_of, IsSized, IsFace}
 
 -- ---- a gateway
 
@@ -68,6 +78,24 @@ pub record SameBut (face : Face) (old new : Parts) : Type 0 where
   pub gate : new.gate ≡ old.gate
   pub cut : new.cut ≡ old.cut
   pub counter : new.counter ≡ old.counter
+
+-- the sessions of a face heard something, and handed something up
+pub record HeardAt (old new : Parts) (before after : Answered) (face : Face) (step : SessionsStep) (heard : Heard) : Type 0 where
+  pub did : Did old new before after (does_at face (gate_of old) step)
+  pub ups : heard.ups ≡ map up_of (step.effects).ups
+  pub ended : heard.has_ended ≡ has_ended (at_face (gate_of old).faces face).sessions step
+
+-- ---- pieces that can be added
+
+-- a session carries a piece, whenever it is added and goes
+pub record CanBeAdded (s : PeerSettings) (to : Face) (piece : SizedPiece) : Type 0 where
+  pub small : piece.size ≤ BLOCK_MAX
+  pub sized : (m : PeerMoments) → IsSized s to (piece_at m to piece)
+
+-- a report that can be spelled goes back at the face
+abbrev pub IsReport : Face → Option AskedReport → Type 0
+IsReport face None = Unit {0}
+IsReport face (Some asked) = IsAskable asked × (face_for asked.creation ≡ face)
 
 -- ---- what a caller sees
 

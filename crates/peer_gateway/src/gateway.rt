@@ -1,8 +1,9 @@
 //! The gateway.
 
 ghost use Rattle.std.specs.Prelude.{◌≡◌, ◌<◌, false, true, length, IfOk, OnErr};
+ghost use Rattle.ltp_segment.specs.Reading.{segment_of};
 ghost use Rattle.peer_gateway.specs.Gate.{starts_peer_gate};
-ghost use Rattle.peer_gateway.specs.Steps.{a_tick, a_kept_piece};
+ghost use Rattle.peer_gateway.specs.Steps.{a_datagram, a_tick, a_kept_piece};
 ghost use Rattle.peer_gateway.specs.Views.{AreMoments, IsConfig, moments_of, setup_with};
 ghost use Rattle.peer_gateway.specs.Answers.{answer_of};
 ghost use Rattle.peer_gateway.specs.Ties.{PeerSteps, starts_effects};
@@ -64,6 +65,30 @@ impl PeerGateway {
             spent: false,
         };
         Ok((gateway, answer))
+    }
+
+    /// A datagram comes at a face: what its sessions do; each bundle of the blocks that they hand up goes on
+    /// at the other face, or not, and a report that is asked for goes back; and what is ready goes, where a
+    /// session ended that was being sent.
+    pub fn arrive(
+        &mut self,
+        face: Face,
+        datagram: &[u8],
+        moments: Moments,
+        outboxes: (u64, u64),
+    ) -> Result<PeerAnswer, AllocError>
+        requires whole { self.old.spent ≡ false }
+        requires moments { AreMoments moments }
+        ensures done { IfOk result (PeerSteps self.old self.new
+            (a_datagram face (segment_of datagram.now)) (moments_of moments) outboxes) }
+        ensures err { OnErr result (self.new.spent ≡ true) }
+    {
+        self.spent = true;
+        let mut answer = PeerAnswer::none(self.parts.alloc);
+        self.parts.find_outboxes(outboxes);
+        self.parts.arrive(face, datagram, moments, &mut answer)?;
+        self.spent = false;
+        Ok(answer)
     }
 
     /// Time has passed: the old face's sessions tick, and what is ready goes there; then the new face's.

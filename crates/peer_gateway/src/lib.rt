@@ -12,12 +12,13 @@
 //! ([`laws::heads_are_small`], [`laws::sized_for_any_stay`]). A block of several bundles passes as they do in
 //! blocks of their own ([`laws::rows_pass_in_turn`]), and an age is raised once ([`laws::age_raised_once`]).
 //!
-//! [`PeerGateway`] does the steps: it begins, time passes ([`PeerGateway::tick`]), and a piece is added that was
-//! kept ([`PeerGateway::add_kept`]). What it answers is a [`PeerAnswer`]. No code does yet what comes of a
-//! datagram.
+//! [`PeerGateway`] does the steps: it begins, a datagram comes ([`PeerGateway::arrive`]), time passes
+//! ([`PeerGateway::tick`]), and a piece is added that was kept ([`PeerGateway::add_kept`]). What it answers is a
+//! [`PeerAnswer`].
 #![tactic(auto)]
 
 mod answer;
+mod carrying;
 mod config;
 mod faces;
 mod gateway;
@@ -25,6 +26,7 @@ mod going;
 pub mod laws;
 mod moments;
 mod parts;
+mod passing;
 mod pushing;
 mod starting;
 mod staying;

@@ -4,6 +4,7 @@ use block_types::LeftOut;
 use bundle_rows::End;
 use endpoint::Octets;
 use gate_cases::{Face, GateCase};
+use gate_log::Subject;
 use ltp_segment::{Green, Note};
 use piece_gathering::Piece;
 
@@ -33,6 +34,11 @@ pub enum Remark {
         octets: usize,
         /// Its session.
         session: u64,
+    },
+    /// A bundle comes: what is told next about a bundle is about this one.
+    Bundle {
+        /// Its names, and how many octets its payload has.
+        subject: Option<Subject>,
     },
     /// What is decided about a bundle.
     Case {

@@ -1,5 +1,6 @@
 //! The tables of tests of a gateway among other implementations, over the public calls of the crates below:
-//! runs of a face's sessions, with numbers that are remembered and forgotten, and sessions that are closed.
+//! runs of a face's sessions, with numbers that are remembered and forgotten, and sessions that are closed;
+//! and of a whole gateway.
 //!
 //! What is told comes from the rules of such a face and is counted by hand, never from what the code
 //! answered. docs/vectors.md says for each table where its values come from.
@@ -9,6 +10,8 @@
 
 #[cfg(test)]
 mod face;
+#[cfg(test)]
+mod gateway;
 #[cfg(test)]
 mod memory;
 #[cfg(test)]

@@ -1,0 +1,9 @@
+pub mod MemoryLemmas
+pub mod KeptLemmas
+pub mod TimeLemmas
+pub mod UpLemmas
+pub mod OnceLemmas
+pub mod LawLemmas
+pub mod HeardLemmas
+pub mod PieceLemmas
+pub mod UseLemmas

@@ -1,0 +1,15 @@
+pub mod CountLemmas
+pub mod PendingLemmas
+pub mod DoneLemmas
+pub mod AddedLemmas
+pub mod GoingLemmas
+pub mod MarkLemmas
+pub mod StepLemmas
+pub mod HalfLemmas
+pub mod PieceLemmas
+pub mod AgainLemmas
+pub mod LeaveLemmas
+pub mod StartLemmas
+pub mod SessionLemmas
+pub mod HeldLemmas
+pub mod ExampleLemmas

@@ -23,7 +23,7 @@ SECTIONS = {"limits": "LIMITS", "status": "EXIT STATUS"}
 
 def constant(name):
     """A text of help.rt, which begins on the line after its name."""
-    with open(os.path.join(CRATE, "src", "help.rt"), encoding="utf-8") as file:
+    with open(os.path.join(ROOT, "crates", "console", "src", "help.rt"), encoding="utf-8") as file:
         found = re.search(rf'^pub const {name}: &str = "\\\n(.*?)^";$', file.read(), re.S | re.M)
     return re.sub(r'\\(["\\])', r"\1", found[1])
 

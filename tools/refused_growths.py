@@ -38,7 +38,7 @@ from live_nodes import GATE, Node, Queues, gate_words
 from ltp_model import Policy
 
 PROGRAM = os.path.join(rows.ROOT, "crates", "bundle_cli", "out", "bundle_cli")
-TABLE = os.path.join(rows.ROOT, "crates", "bundle_cli", "src", "table.rt")
+TABLE = os.path.join(rows.ROOT, "crates", "console", "src", "table.rt")
 MEMORY = 7
 UNWATCHED = 5
 LARGEST = 20_000        # octets of a row's input

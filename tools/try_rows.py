@@ -14,7 +14,10 @@ from concurrent.futures import ThreadPoolExecutor
 from machine import free_memory, processors
 from rows import ROOT, departs
 
-CRATE = os.path.join(ROOT, "crates", "bundle_cli")
+# The program, and that without sockets; what compiling each takes, and a row, in seconds of a processor.
+WHOLE, STREAMS = (os.path.join(ROOT, "crates", name) for name in ("bundle_cli", "stream_cli"))
+COMPILED, EACH = {WHOLE: 220, STREAMS: 60}, 0.4
+WITH_SOCKETS = (b"serve", b"gate")
 MOST_SIDE_BY_SIDE = 4
 MEMORY = 2_500_000_000     # of one `rt try`, most of it while the program is compiled
 SECONDS = 300              # of one run: beside other work some take more than a minute
@@ -83,11 +86,11 @@ def cases_of(run, names, ran):
     return found, said
 
 
-def tried(folder, rows, runs, ran):
-    """Each row of the cases in a folder, and what its run does that it shouldn't, in lines."""
+def tried(crate, folder, rows, runs, ran):
+    """Each row of the cases in a folder, and what the run of a crate does that it shouldn't, in lines."""
     words = ["rt", "try", "--steps", "1", "--seconds", str(SECONDS), "--cases", folder]
     with tempfile.TemporaryFile() as output:
-        run = subprocess.Popen(words, cwd=CRATE, stdin=subprocess.DEVNULL, stdout=output,
+        run = subprocess.Popen(words, cwd=crate, stdin=subprocess.DEVNULL, stdout=output,
                                stderr=subprocess.PIPE)
         runs.append(run)
         cases, rest = cases_of(run, rows, ran)
@@ -102,21 +105,36 @@ def tried(folder, rows, runs, ran):
             yield row, ["    it wasn't run:", *last]
 
 
+def shares_of(rows, count):
+    """The rows in shares, by their names, each with the crate that runs it: each row that needs no
+    sockets goes to the share that would be through first."""
+    whole = [row for row in rows if row.words[:1] and row.words[0] in WITH_SOCKETS]
+    shares = [(STREAMS, []) for _ in range(max(1, count - bool(whole)))]
+    shares += [(WHOLE, whole)] if whole else []
+    ends = [COMPILED[crate] + EACH * len(part) for crate, part in shares]
+    for row in rows:
+        if row not in whole:
+            at = ends.index(min(ends))
+            shares[at][1].append(row)
+            ends[at] += EACH
+    return [(crate, {f"row{at:05}": row for at, row in enumerate(part)})
+            for crate, part in shares if part]
+
+
 def answers(rows, ran):
     """Each row, and what its run does that it shouldn't, in lines. It calls ran for each run."""
     count = max(1, min(MOST_SIDE_BY_SIDE, processors(), free_memory() // MEMORY, len(rows)))
     runs, room = [], tempfile.TemporaryDirectory(prefix="fimdahol-rows-")
     with room as folder, ThreadPoolExecutor(count) as pool:
-        folders = [os.path.join(folder, str(at)) for at in range(count)]
-        shares = [{f"row{at:05}": rows[at] for at in range(first, len(rows), count)}
-                  for first in range(count)]
-        for it, share in zip(folders, shares):
+        shares = shares_of(rows, count)
+        folders = [os.path.join(folder, str(at)) for at in range(len(shares))]
+        for it, (_, share) in zip(folders, shares):
             os.mkdir(it)
             for name, row in share.items():
                 write_case(it, name, row)
         try:
-            found = [pool.submit(lambda *given: [*tried(*given)], it, share, runs, ran)
-                     for it, share in zip(folders, shares)]
+            found = [pool.submit(lambda *given: [*tried(*given)], crate, it, share, runs, ran)
+                     for it, (crate, share) in zip(folders, shares)]
             for answered in found:
                 yield from answered.result()
         finally:

@@ -1,7 +1,7 @@
 -- A gate among other implementations: a face at each of two links, a counter of its reports, and what it
 -- tells of a step.
 
-use Rattle.std.specs.Prelude.{ℕ, Bool, true, false, List, [], ◌∷◌, ◌++◌, map, length, Option}
+use Rattle.std.specs.Prelude.{ℕ, ◌+◌, Bool, true, false, List, [], ◌∷◌, ◌++◌, map, length, Option}
 use Rattle.std.specs.List.{sum_by}
 use Rattle.ltp_segment.specs.declared.session.Note.{Note}
 use Rattle.ltp_segment.specs.declared.session.Green.{Green}
@@ -16,7 +16,8 @@ use Rattle.gate_cases.specs.declared.face.Face.TheVariants as faces
 use Rattle.gate_log.specs.declared.subject.Subject.{Subject}
 use Rattle.block_types.specs.declared.losing.LeftOut.{LeftOut}
 use Rattle.bundle_rows.specs.declared.next.End.{End}
-use Rattle.face_room.specs.Faces.{load_of}
+use Rattle.face_room.specs.Bounds.{need}
+use Rattle.face_room.specs.Faces.{load_of, total, sizes_of}
 use Rattle.gateway_core.specs.Gate.{RoutedValue, segment_at}
 use Rattle.peer_cases.specs.declared.room.FaceRoom.{FaceRoom}
 use Rattle.peer_sessions.specs.Keys.{FaceKeys}
@@ -84,6 +85,13 @@ room_at k f = record {
     next_session = ((f.sessions).engine).next;
   });
 }
+
+-- what it keeps of what it sends, but for its outbox: the blocks that are being sent, and what the pieces that
+-- wait will need
+abbrev pub kept_inside : FaceKeys → PeerFace → ℕ
+kept_inside k f =
+    total (blocks_in ((f.sessions).engine).senders)
+    + sum_by (need (k.bounds).segment) (sizes_of (f.gathering).waiting)
 
 -- ---- what it tells
 

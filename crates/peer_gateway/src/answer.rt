@@ -15,6 +15,7 @@ use ltp_segment::Outs;
 use piece_gathering::Piece;
 use std::alloc::{AllocError, Global};
 use std::marker::Model;
+use std::mem;
 
 /// What a gateway answers to an event, in the order in which it comes to be.
 #[derive(Debug, Drop)]
@@ -81,6 +82,32 @@ impl PeerAnswer {
         ensures { map begun_seen result.now ≡ self.now.begun }
     {
         self.begun.as_slice()
+    }
+
+    // ---- what is taken out of it, so that it is moved and not copied; none of it takes memory
+
+    /// The datagrams that are to be sent.
+    pub fn take_out(&mut self, alloc: Global) -> Vec<Routed>
+        ensures taken { result.items ≡ self.old.out }
+        ensures left { self.new ≡ record self.old { out = [] } }
+    {
+        mem::replace(&mut self.out, Vec::new(alloc))
+    }
+
+    /// What is told.
+    pub fn take_told(&mut self, alloc: Global) -> Vec<RemarkAt>
+        ensures taken { map told_seen result.items ≡ self.old.told }
+        ensures left { self.new ≡ record self.old { told = [] } }
+    {
+        mem::replace(&mut self.told, Vec::new(alloc))
+    }
+
+    /// The sessions that began.
+    pub fn take_begun(&mut self, alloc: Global) -> Vec<BlockBegun>
+        ensures taken { map begun_seen result.items ≡ self.old.begun }
+        ensures left { self.new ≡ record self.old { begun = [] } }
+    {
+        mem::replace(&mut self.begun, Vec::new(alloc))
     }
 
     // ---- what is added to it

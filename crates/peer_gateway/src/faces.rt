@@ -1,11 +1,11 @@
 //! A face of the gateway: its sessions, and the pieces that wait there.
 
-ghost use Rattle.std.specs.Prelude.{◌≡◌, ◌≢◌, ◌<◌, ◌≤◌, ◌^◌, true, length, IfOk, OnOk};
+ghost use Rattle.std.specs.Prelude.{◌≡◌, ◌≢◌, ◌<◌, ◌≤◌, ◌-◌, ◌^◌, min, true, length, IfOk, OnOk};
 ghost use Rattle.ltp_segment.specs.Reading.{segment_of};
 ghost use Rattle.piece_gathering.specs.Gathered.{ready};
 ghost use Rattle.face_room.specs.declared.bounds.TheConstants.{BLOCK_MAX};
 ghost use Rattle.peer_sessions.specs.Sessions.{hears, ticks, block_begins};
-ghost use Rattle.peer_gateway.specs.Gate.{room_at};
+ghost use Rattle.peer_gateway.specs.Gate.{room_at, kept_inside};
 ghost use Rattle.peer_gateway.specs.Going.{is_free, next_count, gathers, told_if};
 
 use crate::answer::PeerAnswer;
@@ -64,6 +64,17 @@ impl FaceParts {
                 waiting: self.waits.waiting,
             },
         })
+    }
+
+    /// What it keeps of what it sends, but for its outbox: the octets of the blocks that are being sent, and
+    /// what the pieces that wait will need; up to the greatest number that 64 bits show.
+    pub fn kept(&self) -> u64
+        requires { IsFace self.now }
+        ensures { result ≡ min (kept_inside (keys_at self.now) (face_of self.now)) (2 ^ 64 - 1) }
+    {
+        self.sessions
+            .block_octets()
+            .saturating_add(self.waits.needs)
     }
 
     /// Whether a session is free.

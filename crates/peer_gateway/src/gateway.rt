@@ -1,8 +1,12 @@
 //! The gateway.
 
-ghost use Rattle.std.specs.Prelude.{◌≡◌, ◌<◌, false, true, length, IfOk, OnErr};
+ghost use Rattle.std.specs.Prelude.{◌≡◌, ◌<◌, ◌-◌, ◌^◌, min, false, true, length, IfOk, OnErr};
 ghost use Rattle.ltp_segment.specs.Reading.{segment_of};
-ghost use Rattle.peer_gateway.specs.Gate.{starts_peer_gate};
+ghost use Rattle.ltp_engine.specs.Sessions.{is_open, is_handed_up};
+ghost use Rattle.piece_gathering.specs.Gathered.{octets_waiting};
+ghost use Rattle.gateway_core.specs.Gate.{at_face};
+ghost use Rattle.peer_gateway.specs.Gate.{starts_peer_gate, kept_inside};
+ghost use Rattle.peer_gateway.specs.Going.{gathers};
 ghost use Rattle.peer_gateway.specs.Steps.{a_datagram, a_tick, a_kept_piece};
 ghost use Rattle.peer_gateway.specs.Views.{AreMoments, IsConfig, moments_of, setup_with};
 ghost use Rattle.peer_gateway.specs.Answers.{answer_of};
@@ -66,6 +70,87 @@ impl PeerGateway {
         };
         Ok((gateway, answer))
     }
+
+    // ---- what it is asked; none of it takes memory
+
+    /// The number of the next session that a face begins; 2^32 where none is left.
+    pub fn next_session(&self, face: Face) -> u64
+        ensures { result ≡ (at_face self.now.gate.faces face).sessions.engine.next }
+    {
+        self.parts.face(face).sessions.next_session()
+    }
+
+    /// How many sessions are being sent at a face, those that are cancelling counted.
+    pub fn sending(&self, face: Face) -> u64
+        requires { self.now.spent ≡ false }
+        ensures { result ≡ length (at_face self.now.gate.faces face).sessions.engine.senders }
+    {
+        let _ = self.spent;
+        self.parts.whole_face(face).sessions.sending()
+    }
+
+    /// How many sessions are being received at a face, those that are cancelling counted.
+    pub fn receiving(&self, face: Face) -> u64
+        requires { self.now.spent ≡ false }
+        ensures { result ≡ length (at_face self.now.gate.faces face).sessions.engine.receivers }
+    {
+        let _ = self.spent;
+        self.parts.whole_face(face).sessions.receiving()
+    }
+
+    /// Whether a session that a face began is open: it is kept, and isn't cancelling.
+    pub fn is_open(&self, face: Face, session: u64) -> bool
+        requires { self.now.spent ≡ false }
+        ensures { result ≡ is_open session (at_face self.now.gate.faces face).sessions.engine.senders }
+    {
+        let _ = self.spent;
+        self.parts.whole_face(face).sessions.is_open(session)
+    }
+
+    /// Whether a session of a face's peer is kept, and its red part was handed up.
+    pub fn is_handed_up(&self, face: Face, session: u64) -> bool
+        requires { self.now.spent ≡ false }
+        ensures { result ≡ is_handed_up session (at_face self.now.gate.faces face).sessions.engine.receivers }
+    {
+        let _ = self.spent;
+        self.parts.whole_face(face).sessions.is_handed_up(session)
+    }
+
+    /// Whether pieces gather at a face; else each has a session of its own.
+    pub fn gathers(&self, face: Face) -> bool
+        requires { self.now.spent ≡ false }
+        ensures { result ≡ gathers (at_face self.now.setup.keys face) }
+    {
+        let _ = self.spent;
+        self.parts.whole_face(face).gathers()
+    }
+
+    /// How many pieces wait at a face.
+    pub fn waiting(&self, face: Face) -> usize
+        ensures { result ≡ length (at_face self.now.gate.faces face).gathering.waiting }
+    {
+        self.parts.face(face).gathering.len()
+    }
+
+    /// How many octets they have, up to the greatest number that 64 bits show. It is a pass over them.
+    pub fn gathered(&self, face: Face) -> u64
+        ensures { result ≡ min (octets_waiting (at_face self.now.gate.faces face).gathering.waiting) (2 ^ 64 - 1) }
+    {
+        self.parts.face(face).gathering.octets()
+    }
+
+    /// What a face keeps of what it sends, but for its outbox: the octets of the blocks that are being sent,
+    /// and what the pieces that wait will need; up to the greatest number that 64 bits show.
+    pub fn kept(&self, face: Face) -> u64
+        requires { self.now.spent ≡ false }
+        ensures { result ≡ min (kept_inside (at_face self.now.setup.keys face) (at_face self.now.gate.faces face))
+            (2 ^ 64 - 1) }
+    {
+        let _ = self.spent;
+        self.parts.whole_face(face).kept()
+    }
+
+    // ---- events
 
     /// A datagram comes at a face: what its sessions do; each bundle of the blocks that they hand up goes on
     /// at the other face, or not, and a report that is asked for goes back; and what is ready goes, where a

@@ -39,7 +39,7 @@ pub(crate) struct Parts {
 }
 
 impl Parts {
-    ghost use Rattle.peer_gateway.specs.Faces.{IsSized};
+    ghost use Rattle.peer_gateway.specs.Faces.{IsFace, IsSized};
     ghost use Rattle.peer_gateway.specs.Views.{AreMoments, IsConfig, moments_of, setup_with};
     ghost use Rattle.peer_gateway.specs.Ties.{IsWhole, Did, IsFound, gate_of, setup_in, face_at};
 
@@ -101,6 +101,18 @@ impl Parts {
     /// A face, lent.
     pub fn face(&self, face: Face) -> &FaceParts
         ensures { result.now ≡ face_at self.now face }
+    {
+        match face {
+            Face::Old => &self.old_face,
+            Face::New => &self.new_face,
+        }
+    }
+
+    /// A face of a whole gateway, lent.
+    pub fn whole_face(&self, face: Face) -> &FaceParts
+        requires { IsWhole self.now }
+        ensures is { result.now ≡ face_at self.now face }
+        ensures whole { IsFace result.now }
     {
         match face {
             Face::Old => &self.old_face,

@@ -5,6 +5,7 @@ ghost use Rattle.ltp_segment.specs.declared.session.TheConstants.{BLOCK_MAX};
 ghost use Rattle.ltp_segment.specs.Reading.{seen, segment_of};
 ghost use Rattle.ltp_segment.specs.Views.{content_value};
 ghost use Rattle.ltp_session.specs.Engine.{next_deadline};
+ghost use Rattle.ltp_engine.specs.Sessions.{is_open, is_handed_up};
 ghost use Rattle.ltp_engine.specs.Sides.{IsFit};
 ghost use Rattle.face_room.specs.Faces.{total};
 ghost use Rattle.peer_sessions.specs.Sessions.{starts_sessions, hears, ticks, block_begins, blocks_in};
@@ -96,6 +97,33 @@ impl PeerSessions {
     {
         let _ = self.spent;
         self.parts.engine.sending() as u64
+    }
+
+    /// How many sessions are being received, those that are cancelling counted. It takes no memory.
+    pub fn receiving(&self) -> u64
+        requires { self.now.spent ≡ false }
+        ensures { result ≡ length self.now.sessions.engine.receivers }
+    {
+        let _ = self.spent;
+        self.parts.engine.receiving() as u64
+    }
+
+    /// Whether a session that the face began is open: it is kept, and isn't cancelling. It takes no memory.
+    pub fn is_open(&self, session: u64) -> bool
+        requires { self.now.spent ≡ false }
+        ensures { result ≡ is_open session self.now.sessions.engine.senders }
+    {
+        let _ = self.spent;
+        self.parts.engine.is_open(session)
+    }
+
+    /// Whether a session of the peer is kept, and its red part was handed up. It takes no memory.
+    pub fn is_handed_up(&self, session: u64) -> bool
+        requires { self.now.spent ≡ false }
+        ensures { result ≡ is_handed_up session self.now.sessions.engine.receivers }
+    {
+        let _ = self.spent;
+        self.parts.engine.is_handed_up(session)
     }
 
     /// How many octets the blocks have that are being sent. It takes no memory.

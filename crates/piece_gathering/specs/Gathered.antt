@@ -19,6 +19,10 @@ sizes pieces = sum_by (λ (piece : Piece). piece.size) pieces
 abbrev pub octets_of : List Piece → List ℕ
 octets_of pieces = flat_map (λ (piece : Piece). piece.octets) pieces
 
+-- and how many those are
+abbrev pub octets_waiting : List Piece → ℕ
+octets_waiting pieces = sum_by (λ (piece : Piece). length piece.octets) pieces
+
 -- ---- the pieces in front that go together
 
 -- how many they are, and their sizes together

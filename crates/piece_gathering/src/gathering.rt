@@ -1,10 +1,10 @@
 //! Pieces that wait until they go together.
 
-ghost use Rattle.std.specs.Prelude.{◌≡◌, ◌+◌, ◌^◌, ◌<◌, ◌≤◌, [], ◌∷◌, ◌++◌, length, take, drop, if◌then◌else◌, OnOk, OnErr, IfOk};
+ghost use Rattle.std.specs.Prelude.{◌≡◌, ◌+◌, ◌^◌, ◌<◌, ◌≤◌, [], ◌∷◌, ◌++◌, min, ◌-◌, length, take, drop, if◌then◌else◌, OnOk, OnErr, IfOk};
 ghost use Rattle.std.specs.VecDeque.{deque_len};
 ghost use Rattle.std.specs.Vec.{vec_len, vec_capacity};
 ghost use Rattle.std.specs.List.{All};
-ghost use Rattle.piece_gathering.specs.Gathered.{GatheringValue, Front as Fronts, with_piece, is_apart, front_of, front_in, is_complete, is_late, ready, nothing_waits, added_to, going, gone_from};
+ghost use Rattle.piece_gathering.specs.Gathered.{GatheringValue, Front as Fronts, with_piece, is_apart, front_of, front_in, is_complete, is_late, ready, nothing_waits, added_to, going, gone_from, octets_waiting};
 ghost use Rattle.piece_gathering.specs.Fronts.{front_value, front_after, AreWithin};
 
 use crate::piece::{BLOCK_MAX, Piece};
@@ -59,6 +59,17 @@ impl Gathering {
         ensures { result ≡ length self.now.waiting }
     {
         self.waiting.len()
+    }
+
+    /// How many octets the pieces have that wait, up to the greatest number that 64 bits show.
+    pub fn octets(&self) -> u64
+        ensures { result ≡ min (octets_waiting self.now.waiting) (2 ^ 64 - 1) }
+    {
+        let mut octets = 0u64;
+        'pieces: for piece in &self.waiting {
+            octets = octets.saturating_add(piece.octets.len() as u64);
+        }
+        octets
     }
 
     /// A piece waits after the others. Memory may be wanted; where it is, nothing changes.

@@ -7,7 +7,7 @@ use Rattle.gate_log.specs.declared.event.LinkEvent.TheVariants as links
 use Rattle.gate_metrics.specs.declared.gauges.LinkGauge.{LinkGauge}
 use Rattle.gate_metrics.specs.declared.gauges.LinkGauge.TheVariants as states
 use Rattle.outbox.specs.declared.reading.Reading.{Reading}
-use Rattle.outbox.specs.Outbox.{OutboxValue, after_putting, after_reading, after_sending, contact_of}
+use Rattle.outbox.specs.Outbox.{OutboxValue, after_putting, after_reading, after_refusing, after_sending, contact_of}
 use Rattle.outbox.specs.Outbox.{one_more}
 use Rattle.outbox.specs.FaceTime.{face_at}
 use Rattle.gate_face.specs.Faces.{FaceStanding}
@@ -24,6 +24,10 @@ after_clocks now f = record {
 -- a datagram is put into its outbox, or dropped where there is no room for it
 abbrev pub putting : List ℕ → FaceStanding → FaceStanding
 putting datagram f = record f { outbox = after_putting f.outbox datagram }
+
+-- one is dropped that isn't put, since others keep the room that it would take
+abbrev pub refusing : FaceStanding → FaceStanding
+refusing f = record f { outbox = after_refusing f.outbox }
 
 -- the datagram that may go next is taken out, where there is one
 abbrev pub taking : FaceStanding → FaceStanding

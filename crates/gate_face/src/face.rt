@@ -150,6 +150,14 @@ impl FaceRun {
         Ok(())
     }
 
+    /// A datagram is dropped and counted that isn't put, since others keep the room that it would take. It
+    /// takes no memory.
+    pub fn refuse(&mut self)
+        ensures { self.new ≡ spec.refusing self.old }
+    {
+        self.outbox.refuse();
+    }
+
     /// Takes out the datagram that goes next, if one may go now. It takes no memory.
     pub fn next(&mut self) -> Option<Octets>
         ensures next { result ≡ next_of (self.old).outbox }

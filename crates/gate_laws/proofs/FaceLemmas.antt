@@ -10,7 +10,7 @@ use Rattle.outbox.specs.FaceTime.{FaceMoment, face_at}
 use Rattle.outbox.specs.Laws.{GoesOutInOrder, IsOpenAt, KeepsPace, TimeGoesOn, TimeStays}
 use Rattle.outbox.specs.Outbox.{OutboxValue, after_reading, octets_in}
 use Rattle.outbox.specs.Run as box
-use Rattle.outbox.specs.Run.{Call, StaysIn, datagrams_of, last_monotonic, longest, puts, reads, sends}
+use Rattle.outbox.specs.Run.{Call, StaysIn, datagrams_of, last_monotonic, longest, puts, reads, refuses, sends}
 use Rattle.outbox.specs.Schedule.{ScheduleValue}
 use Rattle.gate_half.specs.Journals.{kept_in}
 use Rattle.gate_half.specs.Standing.{Standing, face_of, starts_empty}
@@ -130,6 +130,7 @@ schedule-run : (calls : List Call) (b : OutboxValue) → (box.run b calls).sched
 schedule-run [] b = refl
 schedule-run (reads now ∷ calls) b = schedule-run calls (box.after_call b (reads now))
 schedule-run (puts datagram ∷ calls) b = schedule-run calls (box.after_call b (puts datagram))
+schedule-run (refuses ∷ calls) b = schedule-run calls (box.after_call b refuses)
 schedule-run (sends ∷ calls) b = schedule-run calls (box.after_call b sends)
 
 pub schedule-half : (board : Bool) (at face : Face) (came : Came) (s : Standing)

@@ -11,7 +11,7 @@ use Rattle.gate_cases.specs.Faces.{other_of}
 use Rattle.outbox.specs.declared.reading.Reading.{Reading}
 use Rattle.outbox.specs.Outbox.{OutboxValue, after_putting, after_reading, after_sending, contact_of, fits, may_send, next_of, octets_in, rate_now}
 use Rattle.outbox.specs.Run as box
-use Rattle.outbox.specs.Run.{Call, puts, reads, sends}
+use Rattle.outbox.specs.Run.{Call, puts, reads, refuses, sends}
 use Rattle.outbox.specs.Schedule.{ScheduleValue, contact_in, rate_of}
 use Rattle.gate_face.specs.Halves.{taking}
 use Rattle.gate_half.specs.Standing.{Standing, doing_at, face_of, starts_empty}
@@ -170,6 +170,7 @@ limit-run : (calls : List Call) (b : OutboxValue) → (box.run b calls).limit �
 limit-run [] b = refl
 limit-run (reads now ∷ calls) b = limit-run calls (box.after_call b (reads now))
 limit-run (puts datagram ∷ calls) b = limit-run calls (box.after_call b (puts datagram))
+limit-run (refuses ∷ calls) b = limit-run calls (box.after_call b refuses)
 limit-run (sends ∷ calls) b = limit-run calls (box.after_call b sends)
 
 pub limit-half : (board : Bool) (at face : Face) (came : Came) (s : Standing)

@@ -10,7 +10,7 @@ use Rattle.contact_plan.proofs.ContactLemmas.{bool-cases, open-in-first, open-in
 use Rattle.outbox.specs.declared.reading.Reading.{Reading}
 use Rattle.outbox.specs.Laws.{GoesOutInContact, IsOpenAt}
 use Rattle.outbox.specs.Outbox.{OutboxValue, contact_by, first_of, is_paced, rate_now}
-use Rattle.outbox.specs.Run.{Call, Tried, after_call, puts, reads, sends, tried, tried_by, tries}
+use Rattle.outbox.specs.Run.{Call, Tried, after_call, puts, reads, refuses, sends, tried, tried_by, tries}
 use Rattle.outbox.specs.Schedule.{ScheduleValue, contact_in}
 
 -- a window that lies first is the plan of it alone
@@ -52,6 +52,7 @@ out-step s reading false false waiting is = tt
 out-call : (b : OutboxValue) (call : Call) → AllByRecursion (Out b.schedule) (tried_by b call)
 out-call b (reads now) = tt
 out-call b (puts datagram) = tt
+out-call b refuses = tt
 out-call b sends = out-step b.schedule b.reading (is_some (contact_by b.schedule b.reading)) (is_paced (rate_now b) b.debt) b.waiting refl
 
 all-append : {X : Type 0} (P : X → Type 0) (xs ys : List X) → AllByRecursion P xs → AllByRecursion P ys → AllByRecursion P (xs ++ ys)
@@ -62,6 +63,7 @@ all-append P (x ∷ xs) ys first rest = (first.0, all-append P xs ys first.1 res
 same-schedule : (b : OutboxValue) (call : Call) → (after_call b call).schedule ≡ b.schedule
 same-schedule b (reads now) = refl
 same-schedule b (puts datagram) = refl
+same-schedule b refuses = refl
 same-schedule b sends = refl
 
 pub goes-out-in-contact : GoesOutInContact

@@ -5,7 +5,7 @@ use Rattle.std.proofs.lemmas.List.{append-nil, map-append}
 use Rattle.outbox.specs.declared.reading.Reading.{Reading}
 use Rattle.outbox.specs.Laws.{GoesOutInOrder}
 use Rattle.outbox.specs.Outbox.{OutboxValue, first_of, fits, may_send, others_of}
-use Rattle.outbox.specs.Run.{Call, Tried, after_call, datagrams_of, kept, kept_by, puts, reads, run, sends, tried, tried_by, tries}
+use Rattle.outbox.specs.Run.{Call, Tried, after_call, datagrams_of, kept, kept_by, puts, reads, refuses, run, sends, tried, tried_by, tries}
 
 datagrams-append : (ts us : List Tried) → datagrams_of (ts ++ us) ≡ datagrams_of ts ++ datagrams_of us
 datagrams-append ts us = map-append (λ t. t.datagram) ts us
@@ -24,6 +24,7 @@ send-step false waiting reading = sym (append-nil waiting)
 order-step : (b : OutboxValue) (call : Call) → datagrams_of (tried_by b call) ++ (after_call b call).waiting ≡ b.waiting ++ kept_by b call
 order-step b (reads now) = sym (append-nil b.waiting)
 order-step b (puts datagram) = put-step (fits b datagram) b.waiting datagram
+order-step b refuses = sym (append-nil b.waiting)
 order-step b sends = send-step (may_send b) b.waiting b.reading
 
 -- one step before others

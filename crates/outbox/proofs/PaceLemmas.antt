@@ -7,7 +7,7 @@ use Rattle.std.proofs.Math.Nat.{le-div_iff_mul-le}
 use Rattle.outbox.specs.declared.reading.Reading.{Reading}
 use Rattle.outbox.specs.Laws.{KeepsPace}
 use Rattle.outbox.specs.Outbox.{OutboxValue, after_reading, after_sending, contact_by, contact_of, debt_at, first_of, is_paced, is_same, may_send, next_of, octets_in, owed, paid_off, rate_now, since}
-use Rattle.outbox.specs.Run.{Call, Rises, StaysIn, Tried, after_call, datagrams_of, last_monotonic, longest, puts, reads, sends, tried, tries}
+use Rattle.outbox.specs.Run.{Call, Rises, StaysIn, Tried, after_call, datagrams_of, last_monotonic, longest, puts, reads, refuses, sends, tried, tries}
 use Rattle.outbox.specs.Schedule.{contact_at, rate_of}
 use Rattle.outbox.proofs.TimeLemmas.{last-up}
 
@@ -100,6 +100,8 @@ pace-from b now contact rate (reads next ∷ calls) paced stays rises =
     (debt-in b now next contact rate paced stays.0) rest))
 pace-from b now contact rate (puts datagram ∷ calls) paced stays rises =
     pace-from (after_call b (puts datagram)) now contact rate calls (record { reading = paced.reading; lies_in = paced.lies_in; goes_at = paced.goes_at }) stays rises
+pace-from b now contact rate (refuses ∷ calls) paced stays rises =
+    pace-from (after_call b refuses) now contact rate calls (record { reading = paced.reading; lies_in = paced.lies_in; goes_at = paced.goes_at }) stays rises
 pace-from b now contact rate (sends ∷ calls) paced stays rises =
     let rest = pace-from (after_sending b) now contact rate calls (record { reading = paced.reading; lies_in = paced.lies_in; goes_at = paced.goes_at }) stays rises in
     send-bound (may_send b) b.waiting b.reading (tried (after_sending b) calls) b.debt rate (last_monotonic now.monotonic calls - now.monotonic)

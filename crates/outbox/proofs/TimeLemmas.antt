@@ -9,7 +9,7 @@ use Rattle.outbox.specs.declared.reading.Reading.{Reading}
 use Rattle.outbox.specs.FaceTime.{FaceMoment, face_at, gone_on, growth, open_time}
 use Rattle.outbox.specs.Laws.{IsHeldAt, TimeGoesOn, TimeStays}
 use Rattle.outbox.specs.Outbox.{OutboxValue}
-use Rattle.outbox.specs.Run.{Call, Rises, after_call, last_monotonic, puts, reads, sends, time_by}
+use Rattle.outbox.specs.Run.{Call, Rises, after_call, last_monotonic, puts, reads, refuses, sends, time_by}
 
 -- ---- it goes on
 
@@ -34,6 +34,7 @@ pub last-up : (m : ℕ) (calls : List Call) → Rises m calls → m ≤ last_mon
 last-up m [] rises = omega arith
 last-up m (reads now ∷ calls) rises = let rest = last-up now.monotonic calls rises.1 in let first = rises.0 in omega (arith, rest, first)
 last-up m (puts datagram ∷ calls) rises = last-up m calls rises
+last-up m (refuses ∷ calls) rises = last-up m calls rises
 last-up m (sends ∷ calls) rises = last-up m calls rises
 
 pub time-goes-on : TimeGoesOn
@@ -50,6 +51,7 @@ time-goes-on b face (reads now ∷ calls) rises =
     let rest_high = rest.1 in
     (omega (arith, low, rest_low), omega (arith, high, most, rest_high, up, first))
 time-goes-on b face (puts datagram ∷ calls) rises = time-goes-on (after_call b (puts datagram)) face calls rises
+time-goes-on b face (refuses ∷ calls) rises = time-goes-on (after_call b refuses) face calls rises
 time-goes-on b face (sends ∷ calls) rises = time-goes-on (after_call b sends) face calls rises
 
 -- ---- it stays
@@ -95,6 +97,7 @@ held-growth b face now held = elim held [
 held-step : (b : OutboxValue) (face : FaceMoment) (call : Call) → IsHeldAt b face call → (time_by b face call).moment ≡ face.moment
 held-step b face (reads now) held = gone-none face.moment (growth b.waiting (b.schedule).windows face.reading now) (held-growth b face now held)
 held-step b face (puts datagram) held = refl
+held-step b face refuses held = refl
 held-step b face sends held = refl
 
 pub time-stays : TimeStays

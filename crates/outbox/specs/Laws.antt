@@ -8,7 +8,7 @@ use Rattle.outbox.specs.declared.reading.Reading.{Reading}
 use Rattle.outbox.specs.FaceTime.{FaceMoment}
 use Rattle.outbox.specs.Outbox.{OutboxValue, after_reading, octets_in}
 use Rattle.outbox.specs.Run.{Call, Rises, StaysIn, after_call, datagrams_of, kept}
-use Rattle.outbox.specs.Run.{last_monotonic, longest, puts, reads, run, sends, time_by}
+use Rattle.outbox.specs.Run.{last_monotonic, longest, puts, reads, refuses, run, sends, time_by}
 use Rattle.outbox.specs.Run.{time_over, tried}
 use Rattle.outbox.specs.Schedule.{ScheduleValue, contact_at, rate_of}
 
@@ -67,6 +67,7 @@ abbrev pub IsHeldAt : OutboxValue → FaceMoment → Call → Type 0
 IsHeldAt b face (reads now) =
     (b.waiting ≢ []) ⊎ IsClosedFrom b.schedule (face.reading).wall now.wall
 IsHeldAt b face (puts datagram) = Unit {0}
+IsHeldAt b face refuses = Unit {0}
 IsHeldAt b face sends = Unit {0}
 
 abbrev pub IsHeld : OutboxValue → FaceMoment → List Call → Type 0

@@ -102,6 +102,10 @@ Puts old new datagram (Ok kept) =
     (kept ≡ fits old datagram) × (new ≡ after_putting old datagram)
 Puts old new datagram (Err error) = (fits old datagram ≡ true) × (new ≡ old)
 
+-- one isn't put, since others keep the room that it would take: it is dropped, and counted too
+abbrev pub after_refusing : OutboxValue → OutboxValue
+after_refusing b = record b { dropped = one_more b.dropped }
+
 -- ---- sending
 
 -- a debt is at most what the rate carries in 10 milliseconds

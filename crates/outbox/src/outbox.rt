@@ -2,7 +2,7 @@
 
 ghost use Rattle.std.specs.Prelude.{◌≡◌, ◌≤◌, ◌↔◌, [], length, IsTrue};
 ghost use Rattle.outbox.specs.FaceTime.{growth};
-ghost use Rattle.outbox.specs.Outbox.{Puts, after_reading, after_sending, contact_of};
+ghost use Rattle.outbox.specs.Outbox.{Puts, after_reading, after_refusing, after_sending, contact_of};
 ghost use Rattle.outbox.specs.Outbox.{next_of, octets_in, rate_now, starts};
 
 use crate::pace;
@@ -102,6 +102,14 @@ impl Outbox {
         self.waiting.push_back(datagram)?;
         self.octets += octets;
         Ok(true)
+    }
+
+    /// Drops and counts a datagram that isn't put, since others keep the room that it would take. It
+    /// takes no memory.
+    pub fn refuse(&mut self)
+        ensures { self.new ≡ after_refusing self.old }
+    {
+        self.dropped = self.dropped.saturating_add(1);
     }
 
     /// Whether no datagram waits.

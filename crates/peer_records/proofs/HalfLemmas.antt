@@ -77,7 +77,7 @@ reserves-apart face next reserved more are = by (nat_lt reserved next)
     by true = are
     by false = are
 
-both-apart : (kept : KeptValue) (old_next new_next : ℕ) → AreApart (reserved_records old_next new_next kept)
+pub both-apart : (kept : KeptValue) (old_next new_next : ℕ) → AreApart (reserved_records old_next new_next kept)
 both-apart kept old_next new_next = reserves-apart Old old_next kept.old_reserved (reserving New new_next kept.new_reserved) (by (nat_lt kept.new_reserved new_next))
   where
     by : (t : Bool) → AreApart (if t then a_reserved New (reserve_to new_next) ∷ [] else [])

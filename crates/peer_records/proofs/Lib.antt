@@ -13,3 +13,12 @@ pub mod StartLemmas
 pub mod SessionLemmas
 pub mod HeldLemmas
 pub mod ExampleLemmas
+pub mod OrderLemmas
+pub mod ToAddLemmas
+pub mod ToldLemmas
+pub mod SaidLemmas
+pub mod EndingLemmas
+pub mod FindLemmas
+pub mod EndedLemmas
+pub mod TiedLemmas
+pub mod RecordingLemmas

@@ -14,7 +14,7 @@ use Rattle.peer_gateway.specs.Gate.{AddedAt}
 use Rattle.peer_records.specs.Happened.{PeerHappened, notes_in, marking}
 use Rattle.peer_records.specs.Keeping.{Waiting, PeerKeeping, ids_in, ids_named, ids_pending, one_if, times}
 use Rattle.peer_records.specs.Records.{added_records, added_waiting, waits_at, done_records, named_left, begun_records, waiting_with, before_going, all_go, step_records, after_step}
-use Rattle.peer_records.specs.Laws.{IsKeeping, AreShort, IsToAdd, Fits, IsHeld}
+use Rattle.peer_records.specs.Laws.{IsKeeping, AreShort, IsToAdd, AddsWell, Fits, IsHeld}
 use Rattle.peer_records.proofs.CountLemmas.{times-append}
 use Rattle.peer_records.proofs.PendingLemmas.{pending-some, some-pending, rising-once}
 use Rattle.peer_records.proofs.DoneLemmas.{Leaves, ends-follow}
@@ -68,19 +68,6 @@ added-again kept id (a ∷ more) left w within free = record { may = tt; marks =
     one : (i : ℕ) → times i (ids_named left) + waits i (waits_at a.face (Some id) w) ≤ times i (ids_pending kept.pending)
     one i = let all = by i (id == i) refl in let more = waits-some i id a.face w in omega (arith, all, more)
 
-added-any : (again : Option ℕ) (kept : KeptValue) (raises : Bool) (added : List AddedAt) (left : List Named) (w : Waiting × Waiting) → kept.greatest + length added < 2 ^ 64 → AreShort raises added
-    → ((id : ℕ) → times id (ids_named left) + waits id w ≤ times id (ids_pending kept.pending))
-    → IfSome again (λ id. times id (ids_named left) + waits id w + 1 ≤ times id (ids_pending kept.pending))
-    → Added kept (added_records raises again kept.greatest added) left (added_waiting again kept.greatest added w)
-added-any None kept raises added left w small short within free = added-new kept raises added left w small short within
-added-any (Some id) kept raises added left w small short within free = added-again kept id added left w within free
-
--- ---- all of them
-
-record Steps (h : PeerHappened) (k : PeerKeeping) : Type 0 where
-  may : MayFollow k.kept (step_records h k)
-  within : (id : ℕ) → holds id (before_going h k) ≤ times id (ids_pending (kept_after k.kept (step_records h k)).pending)
-
 free-still : (k : PeerKeeping) (again : Option ℕ) (left : List Named) (pending : List Pending) → IfSome again (IsToAdd k)
     → ((id besides : ℕ) → times id (ids_named k.named) + besides ≤ times id (ids_pending (k.kept).pending) → times id (ids_named left) + besides ≤ times id (ids_pending pending))
     → IfSome again (λ id. times id (ids_named left) + waits id k.waiting + 1 ≤ times id (ids_pending pending))
@@ -90,6 +77,21 @@ free-still k (Some id) left pending is within =
     let free = is.free in
     let there = pending-some id (k.kept).pending is.pending in
     let still = within id (waits id k.waiting + 1) (omega (arith, parts, free, there)) in omega (arith, still)
+
+added-any : (again : Option ℕ) (k : PeerKeeping) (kept : KeptValue) (raises : Bool) (added : List AddedAt) (left : List Named) → kept.greatest ≡ (k.kept).greatest → AddsWell raises again added k
+    → ((id : ℕ) → times id (ids_named left) + waits id k.waiting ≤ times id (ids_pending kept.pending))
+    → ((id besides : ℕ) → times id (ids_named k.named) + besides ≤ times id (ids_pending (k.kept).pending) → times id (ids_named left) + besides ≤ times id (ids_pending kept.pending))
+    → Added kept (added_records raises again kept.greatest added) left (added_waiting again kept.greatest added k.waiting)
+added-any None k kept raises added left same well within still =
+    added-new kept raises added left k.waiting (subst (λ (g : ℕ). g + length added < 2 ^ 64) (sym same) well.0) well.1 within
+added-any (Some id) k kept raises added left same well within still =
+    added-again kept id added left k.waiting within (free-still k (Some id) left kept.pending well still)
+
+-- ---- all of them
+
+record Steps (h : PeerHappened) (k : PeerKeeping) : Type 0 where
+  may : MayFollow k.kept (step_records h k)
+  within : (id : ℕ) → holds id (before_going h k) ≤ times id (ids_pending (kept_after k.kept (step_records h k)).pending)
 
 step-follows : (h : PeerHappened) (k : PeerKeeping) → IsKeeping k → Fits h k → Steps h k
 unfolding step_records
@@ -104,9 +106,8 @@ step-follows h k is fits =
     let legal1 = legal-after k.kept ended is.legal one.may in
     let two : Added kept1 pieces left (added_waiting h.again (k.kept).greatest h.added k.waiting) =
     subst (λ (g : ℕ). Added kept1 (added_records h.raises h.again g h.added) left (added_waiting h.again g h.added k.waiting)) one.greatest
-    (added-any h.again kept1 h.raises h.added left k.waiting (subst (λ (g : ℕ). g + length h.added < 2 ^ 64) (sym one.greatest) fits.ids) fits.pieces
-    (λ id. one.within id (waits id k.waiting) (let within = is.held_once id in let parts = held-parts id k.named k.waiting in omega (arith, within, parts)))
-    (free-still k h.again left kept1.pending fits.again one.within)) in
+    (added-any h.again k kept1 h.raises h.added left one.greatest fits.added
+    (λ id. one.within id (waits id k.waiting) (let within = is.held_once id in let parts = held-parts id k.named k.waiting in omega (arith, within, parts))) one.within) in
     let kept2 : KeptValue = kept_after kept1 pieces in
     let legal2 = legal-after kept1 pieces legal1 two.may in
     let three : MayFollow kept2 marks = marks-same h k.kept kept2 (two.marks ∙ one.marks) (marks-may h kept2 legal2 fits.wall fits.sessions) in

@@ -1,8 +1,8 @@
 -- What holds of the records of each step and of each half, in other words than their definitions'. What holds
 -- of any records that follow one another, `gate_records` says: ids are used once, and marks stay.
 
-use Rattle.std.specs.Prelude.{◌≡◌, ℕ, ◌+◌, ◌^◌, ◌<◌, ◌≤◌, Bool, true, false, List, [], ◌∷◌, ◌++◌, length, None, Some, IfSome}
-use Rattle.std.specs.List.{list_any}
+use Rattle.std.specs.Prelude.{◌≡◌, ℕ, ◌+◌, ◌^◌, ◌<◌, ◌≤◌, Bool, true, false, not, ◌==◌, List, [], ◌∷◌, ◌++◌, length, Option, None, Some}
+use Rattle.std.specs.List.{filter, list_any}
 use Rattle.gate_cases.specs.declared.face.Face.{Face}
 use Rattle.gate_cases.specs.declared.face.Face.TheVariants as faces
 use Rattle.ltp_segment.specs.declared.session.Note.TheVariants as engine
@@ -47,12 +47,16 @@ pub record IsToAdd (k : PeerKeeping) (id : ℕ) : Type 0 where
   pub pending : is_pending id (k.kept).pending ≡ true
   pub free : times id (held k) ≡ 0
 
+-- New pieces have ids, of which there are as many left. One of an earlier run has its own.
+abbrev pub AddsWell : Bool → Option ℕ → List AddedAt → PeerKeeping → Type 0
+AddsWell raises None added k =
+    ((k.kept).greatest + length added < 2 ^ 64) × AreShort raises added
+AddsWell raises (Some id) added k = IsToAdd k id
+
 pub record Fits (h : PeerHappened) (k : PeerKeeping) : Type 0 where
   pub wall : h.wall < 2 ^ 64
-  pub ids : (k.kept).greatest + length h.added < 2 ^ 64
-  pub pieces : AreShort h.raises h.added
+  pub added : AddsWell h.raises h.again h.added k
   pub sessions : ReportSmall h.out
-  pub again : IfSome h.again (IsToAdd k)
 
 -- ---- the records of a step may be committed, and what is known is right after them
 
@@ -127,6 +131,18 @@ abbrev pub ToAddIsFree : Type 0
 ToAddIsFree =
     (face : Face) (k : PeerKeeping) (p : Pending) (more : List Pending) → to_add_at face k ≡ p ∷ more
     → IsToAdd k p.id × (same_face p.face face ≡ true)
+
+-- those that are still to be added after a step: not the one that it added, where there was room for that
+abbrev pub still_to_add : Option ℕ → List AddedAt → List Pending → List Pending
+still_to_add None added pending = pending
+still_to_add (Some id) [] pending = pending
+still_to_add (Some id) (a ∷ more) pending = filter (λ (p : Pending). not (p.id == id)) pending
+
+-- Whatever else a step does, they are to be added after it as before, and in the same order.
+abbrev pub ToAddStays : Type 0
+ToAddStays =
+    (h : PeerHappened) (k : PeerKeeping) (face : Face) → IsLegal k.kept
+    → to_add_at face (after_step h k) ≡ still_to_add h.again h.added (to_add_at face k)
 
 -- One that is added keeps its id, and takes no record. It is held once, so it is added no second time.
 abbrev pub AddedAgainOnce : Type 0

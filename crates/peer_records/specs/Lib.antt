@@ -7,3 +7,5 @@ pub mod Halves
 pub mod Laws
 -- What ties the code to it.
 pub mod Ties
+pub mod Told
+pub mod Said

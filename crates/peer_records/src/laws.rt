@@ -1,7 +1,7 @@
 //! What holds of the records of each step, and of those of each half. Each law is the contract of a
 //! function that does nothing.
 
-ghost use Rattle.peer_records.specs.Laws.{StepMayFollow, HeldOnce, HalfIsKept, HalfMayFollow, PiecesArePending, ReportsHaveNoId, ToAddIsFree, AddedAgainOnce, LeavesByItsEnd, EachIsDone, ReportIsMarked, OnlyOverIsCleared, NumbersAreReserved, RecoversWhatIsLegal, TwoPiecesEnd};
+ghost use Rattle.peer_records.specs.Laws.{StepMayFollow, HeldOnce, HalfIsKept, HalfMayFollow, PiecesArePending, ReportsHaveNoId, ToAddIsFree, ToAddStays, AddedAgainOnce, LeavesByItsEnd, EachIsDone, ReportIsMarked, OnlyOverIsCleared, NumbersAreReserved, RecoversWhatIsLegal, TwoPiecesEnd};
 
 /// The records of a step may follow what the journal says: each id is begun once, ids rise, and each is
 /// done at most once.
@@ -77,4 +77,9 @@ pub fn recovers_what_is_legal()
 /// Two pieces that gather are begun one after the other, go in one block, and end one after the other.
 pub fn two_pieces_end()
     ensures { TwoPiecesEnd }
+{}
+
+/// What is still to be added is so after each step, but for the piece that it added.
+pub fn to_add_stays()
+    ensures { ToAddStays }
 {}

@@ -12,12 +12,30 @@
 //! its `done` comes when that ends. A piece of an earlier run that is still pending is added again while there
 //! is room: it has its id, and no record.
 //!
-//! [`laws`] says what holds of the records. [`Held`] knows where each piece is: which wait at each face, and
-//! which are in a session. The records themselves are defined here, and not made yet.
+//! A run begins with what is [`gate_records::recovered`], and [`Keeping::new`] takes it. In each half the
+//! pieces of [`Keeping::next_kept`] are added as long as there is room; after each step of the gate comes
+//! [`Keeping::step`], and after the last one [`Keeping::reserve`]. What [`Keeping::records`] lends is
+//! committed before the half sends, and then [`Keeping::clear_records`] begins the next half.
+//! [`Keeping::kept`] is what a file is made anew of. Where each piece is, [`Held`] knows.
+//!
+//! [`laws`] says what holds of the records.
 #![tactic(auto)]
 
+mod ending;
 mod held;
+mod keeping;
 pub mod laws;
+mod marking;
+mod marks;
+mod pending;
+mod record;
+mod recording;
+mod said;
 mod sending;
+mod step;
+mod to_add;
+mod told;
 
 pub use held::Held;
+pub use keeping::Keeping;
+pub use step::StepDone;

@@ -1,0 +1,22 @@
+use Rattle.std.proofs.Common.{arith}
+use Rattle.gate_records.proofs.FitLemmas.{small-step, small-all}
+use Rattle.peer_records.specs.Happened.{marking}
+use Rattle.peer_records.specs.Said.{happened_by}
+use Rattle.peer_records.proofs.SaidLemmas.{reports, reports-step, reports-end}
+use Rattle.peer_records.proofs.said.Said.mark_all.Goals as goal
+
+pub out-preserved : goal.out-preserved
+out-preserved g c =
+    let h = marking (happened_by c.args.step.now (g.G.GateSessions.opened c.args.gate.now) (g.G.GateSessions.handed_up c.args.gate.now)) in (
+      reports-step h c.args.out.now c.out.routed-index c.routed-item.result c.out.self c.mark.new.self (reports h c.args.out.now c.args.self.now)
+          c.out-test.true c.routed-item.is c.in_ok-mark.ensures.ok c.out.invariant.0,
+      small-step c.args.out.now c.out.routed-index c.routed-item.result c.out-test.true c.routed-item.is c.out.invariant.1 c.in_ok-mark.ensures.small,
+    )
+
+pub returns-clause-ok : goal.returns-clause-ok
+returns-clause-ok g c =
+    let h = marking (happened_by c.args.step.now (g.G.GateSessions.opened c.args.gate.now) (g.G.GateSessions.handed_up c.args.gate.now)) in
+    reports-end h c.args.out.now c.out.routed-index c.out.self (reports h c.args.out.now c.args.self.now) (omega (arith, c.out-test.false)) c.out.invariant.0
+
+pub returns-clause-small : goal.returns-clause-small
+returns-clause-small g c = small-all c.args.out.now c.out.routed-index (omega (arith, c.out-test.false)) c.out.invariant.1

@@ -1,0 +1,12 @@
+use Rattle.std.proofs.Common.{◌≡◌, take, drop}
+use Rattle.gate_records.specs.Laws.{ReportSmall}
+use Rattle.peer_records.specs.Happened.{marking}
+use Rattle.peer_records.specs.Said.{happened_by}
+use Rattle.peer_records.proofs.SaidLemmas.{reports}
+use Rattle.peer_records.proofs.said.Said.mark_all.Given as goal
+
+abbrev pub invariant-out : goal.invariant-out
+invariant-out g l =
+    (reports (marking (happened_by l.step (g.G.GateSessions.opened l.gate) (g.G.GateSessions.handed_up l.gate))) (drop l.routed-index l.out) l.self
+    ≡ reports (marking (happened_by l.step (g.G.GateSessions.opened l.gate) (g.G.GateSessions.handed_up l.gate))) l.out l.initial.self)
+    × ReportSmall (take l.routed-index l.out)

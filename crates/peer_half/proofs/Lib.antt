@@ -1,0 +1,10 @@
+pub mod StandingLemmas
+pub mod SetupLemmas
+pub mod OrderLemmas
+pub mod ContactLemmas
+pub mod LeaveLemmas
+pub mod EventLemmas
+pub mod PutLemmas
+pub mod NumberLemmas
+pub mod ToAddLemmas
+pub mod ResumeLemmas

@@ -1,0 +1,135 @@
+//! Both faces.
+
+ghost use Rattle.std.specs.Prelude.{◌≡◌, IfOk, OnOk};
+ghost use Rattle.gateway_core.specs.Gate.{at_face, with_face};
+ghost use Rattle.gate_face.specs.Faces.{starts_face};
+ghost use Rattle.gate_face.specs.Halves.{losing, taking};
+ghost use Rattle.gate_face.specs.Schedules.{HasPlan};
+ghost use Rattle.outbox.specs.Outbox.{next_of};
+ghost use Rattle.peer_half.specs.Steps.{is_within, putting_all, putting_within};
+
+use endpoint::Octets;
+use gate_cases::Face;
+use gate_config::FaceConfig;
+use gate_face::FaceRun;
+use gateway_core::Routed;
+use outbox::Outbox;
+use std::alloc::{AllocError, Global};
+use std::marker::Model;
+
+/// Both faces of a run.
+#[derive(Debug, Drop)]
+pub struct Faces {
+    /// The old face.
+    pub old_face: FaceRun,
+    /// The new face.
+    pub new_face: FaceRun,
+}
+
+impl Model for Faces {
+    ghost use Rattle.gate_face.specs.Faces.{FaceStanding};
+
+    ghost Value = { FaceStanding × FaceStanding };
+
+    ghost view = { λ f. (f.old_face, f.new_face) };
+}
+
+impl Faces {
+    ghost use Rattle.peer_live.specs.Telling.{outboxes_of};
+
+    /// Faces at which nothing happened yet.
+    pub fn new(alloc: Global, old: &FaceConfig, new: &FaceConfig) -> Result<Faces, AllocError>
+        requires old { HasPlan old.now }
+        requires new { HasPlan new.now }
+        ensures { IfOk result (λ faces. faces ≡ (starts_face old.now, starts_face new.now)) }
+    {
+        let old_face = FaceRun::new(alloc, old)?;
+        let new_face = FaceRun::new(alloc, new)?;
+        Ok(Faces { old_face, new_face })
+    }
+
+    /// A face, lent.
+    pub fn at(&self, face: Face) -> &FaceRun
+        ensures { result.now ≡ at_face self.now face }
+    {
+        match face {
+            Face::Old => &self.old_face,
+            Face::New => &self.new_face,
+        }
+    }
+
+    /// How many octets wait in the outbox of each face. It walks through nothing.
+    pub fn octets(&self) -> (u64, u64)
+        ensures { result ≡ outboxes_of self.now }
+    {
+        let old = self.old_face.outbox().octets();
+        let new = self.new_face.outbox().octets();
+        (old, new)
+    }
+
+    /// Takes out the datagram that goes next at a face, if one may go. It takes no memory.
+    pub fn next(&mut self, face: Face) -> Option<Octets>
+        ensures next { result ≡ next_of (at_face self.old face).outbox }
+        ensures after { self.new ≡ with_face self.old face (taking (at_face self.old face)) }
+    {
+        match face {
+            Face::Old => self.old_face.next(),
+            Face::New => self.new_face.next(),
+        }
+    }
+
+    /// The send of a datagram failed at a face.
+    pub fn lose(&mut self, face: Face)
+        ensures { self.new ≡ with_face self.old face (losing (at_face self.old face)) }
+    {
+        match face {
+            Face::Old => self.old_face.lose(),
+            Face::New => self.new_face.lose(),
+        }
+    }
+
+    /// Datagrams wait from here on, each at its face, or are dropped. Of half of its memory a face has so
+    /// many octets left for its outbox, the old one first.
+    #[tactic(auto, unfolding(peer_half::specs::Steps::putting_all))]
+    pub fn put_all(&mut self, out: Vec<Routed>, left: (u64, u64)) -> Result<(), AllocError>
+        ensures { OnOk result (self.new ≡ putting_all left out.items self.old) }
+    {
+        'putting: for routed in out {
+            let Routed { face, datagram } = routed;
+            self.put(face, datagram, left)?;
+        }
+        Ok(())
+    }
+
+    /// A datagram waits at a face from here on, or is dropped.
+    fn put(&mut self, face: Face, datagram: Octets, left: (u64, u64)) -> Result<(), AllocError>
+        ensures { OnOk result (self.new ≡ with_face self.old face
+            (putting_within (at_face left face) datagram (at_face self.old face))) }
+    {
+        match face {
+            Face::Old => put_within(&mut self.old_face, left.0, datagram),
+            Face::New => put_within(&mut self.new_face, left.1, datagram),
+        }
+    }
+}
+
+/// A datagram waits at a face from here on, where at most so many octets wait there then; or it is dropped
+/// and counted, as one for which the outbox has no room.
+fn put_within(face: &mut FaceRun, most: u64, datagram: Octets) -> Result<(), AllocError>
+    ensures { OnOk result (face.new ≡ putting_within most datagram face.old) }
+{
+    if is_within(face.outbox(), most, datagram.as_slice()) {
+        face.put(datagram)
+    } else {
+        face.refuse();
+        Ok(())
+    }
+}
+
+/// Whether with a datagram at most so many octets wait.
+fn is_within(outbox: &Outbox, most: u64, datagram: &[u8]) -> bool
+    ensures { result ≡ is_within most outbox.now datagram.now }
+{
+    let octets = outbox.octets();
+    octets <= most && datagram.len() as u64 <= most - octets
+}

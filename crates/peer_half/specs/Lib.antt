@@ -10,4 +10,5 @@ pub mod Acts
 pub mod Parts
 pub mod Half
 pub mod Run
+pub mod Runs
 pub mod Laws

@@ -1,6 +1,6 @@
 -- The code's ids of pieces that are still to be added are those of the definition.
-use Rattle.std.proofs.Common.{◌≡◌, ℕ, ◌+◌, ◌^◌, ◌<◌, ◌≤◌, ◌==◌, ◌&&◌, Bool, true, false, not, nat_lt, nat_le, if◌then◌else◌, List, [], ◌∷◌, ◌++◌, map, take, drop, get_or, length, Bor, Option, None, Some, IfSome, IfNone, refl, sym, ap, ◌∙◌, subst, arith}
-use Rattle.std.proofs.lemmas.Bool.{and_parts, ltb-true, leb-true, le-leb, eq-eqb, ne_eqb}
+use Rattle.std.proofs.Common.{◌≡◌, ℕ, ◌+◌, ◌^◌, ◌<◌, ◌≤◌, ◌==◌, ◌&&◌, ◌||◌, Bool, true, false, not, nat_lt, if◌then◌else◌, List, [], ◌∷◌, ◌++◌, take, drop, get_or, length, Bor, Option, None, Some, IfSome, IfNone, refl, sym, ap, ◌∙◌, subst, arith}
+use Rattle.std.proofs.lemmas.Bool.{and_parts, ltb-true, leb-true, le-leb, eq-eqb, eqb-true, ne_eqb}
 use Rattle.std.proofs.lemmas.List.{take_more}
 use Rattle.std.proofs.lemmas.List.Elements.{filter_agree}
 use Rattle.std.specs.List.{Contains, filter, list_any}
@@ -16,13 +16,13 @@ use Rattle.gate_records.specs.Records.{reserved_records}
 use Rattle.gate_records.proofs.LeaveLemmas.{apart-pending}
 use Rattle.peer_gateway.specs.Gate.{AddedAt}
 use Rattle.peer_records.specs.Happened.{PeerHappened}
-use Rattle.peer_records.specs.Keeping.{PeerKeeping, ids_pending, held, times, is_to_add, to_add_at, starts_peer_keeping}
-use Rattle.peer_records.specs.Records.{Going, after_step}
+use Rattle.peer_records.specs.Keeping.{PeerKeeping, ids_pending, times, is_to_add, to_add_at, starts_peer_keeping}
+use Rattle.peer_records.specs.Records.{Going}
 use Rattle.peer_records.specs.Halves.{PeerRecorded, recording}
 use Rattle.peer_records.specs.Laws.{still_to_add}
-use Rattle.peer_records.specs.Said.{SaidValue, said_with, shown, AreRising, IsOrdered, rises, ids_at, Rise, IsTied, without_id, ids_left}
+use Rattle.peer_records.specs.Said.{SaidValue, said_with, shown, AreRising, IsOrdered, rises, ids_at, Rise, IsTied, AreToAdd, is_among, without_id, ids_left}
 use Rattle.peer_records.proofs.OrderLemmas.{rising-some}
-use Rattle.peer_records.proofs.ToAddLemmas.{After, after-it, apart-greatest}
+use Rattle.peer_records.proofs.ToAddLemmas.{After, after-it, apart-greatest, eq-comm}
 use Rattle.peer_records.proofs.HalfLemmas.{both-apart}
 use Rattle.peer_records.proofs.FindLemmas.{same-piece, any-contained, first-contained}
 
@@ -48,7 +48,7 @@ rise-ids n [] are = tt
 rise-ids n (p ∷ ps) (above, are) = (above, rise-ids p.id ps are)
 
 -- so those that are still to be added rise
-pub tied-rise : (s : SaidValue) (g : Going) (to_add : List ℕ × List ℕ) (face : Face) → IsTied s g to_add → Rise 0 (at_face to_add face)
+tied-rise : (s : SaidValue) (g : Going) (to_add : List ℕ × List ℕ) (face : Face) → IsTied s g to_add → Rise 0 (at_face to_add face)
 tied-rise s g to_add face is =
     let k : PeerKeeping = (shown s g).keeping in
     subst (λ (ids : List ℕ). Rise 0 ids) (sym (is.to_add face))
@@ -62,12 +62,115 @@ above-others id n (x ∷ ids) le (above, rise) =
     let apart : (x == id) ≡ false = ne_eqb x id (λ e. omega (arith, e, le, above)) in
     rw apart (ap (λ (l : List ℕ). x ∷ l) (above-others id x ids (omega (arith, le, above)) rise))
 
-pub front-out : (id : ℕ) (ids : List ℕ) → ids ≡ id ∷ drop 1 ids → Rise 0 ids → drop 1 ids ≡ without_id id ids
-front-out id [] is rise = absurd (cc)
-front-out id (x ∷ ids) is (above, rise) =
+front-out : (id : ℕ) (ids more : List ℕ) → ids ≡ id ∷ more → Rise 0 ids → more ≡ without_id id ids
+front-out id [] more is rise = absurd (cc)
+front-out id (x ∷ ids) more is (above, rise) =
     let same : x ≡ id = cc in
+    let left : ids ≡ more = cc in
     let there : (x == id) ≡ true = eq-eqb x id same in
-    rw there (sym (above-others id x ids (omega (arith, same)) rise))
+    rw there (sym left ∙ sym (above-others id x ids (omega (arith, same)) rise))
+
+none-out : (id : ℕ) (ids : List ℕ) → is_among ids id ≡ false → without_id id ids ≡ ids
+none-out id [] none = refl
+none-out id (x ∷ ids) none =
+    let other = neither (id == x) (is_among ids id) none in
+    let apart : (x == id) ≡ false = eq-comm x id ∙ other.0 in
+    rw apart (ap (λ (l : List ℕ). x ∷ l) (none-out id ids other.1))
+  where
+    neither : (a b : Bool) → (a || b) ≡ false → (a ≡ false) × (b ≡ false)
+    neither true b is = absurd (cc)
+    neither false b is = (refl, is)
+
+front-among : (id : ℕ) (ids more : List ℕ) → ids ≡ id ∷ more → is_among ids id ≡ true
+front-among id ids more is = rw (is, eq-eqb id id refl) refl
+
+abbrev two : List ℕ → List ℕ → List ℕ × List ℕ
+two old new = (old, new)
+
+-- the first of the old face, or of the new one, leaves
+first-old : (id : ℕ) (old new more : List ℕ) → AreToAdd (two old new) → old ≡ id ∷ more → two more new ≡ two (without_id id old) (without_id id new)
+first-old id old new more are is =
+    let left = front-out id old more is are.old in
+    let same = none-out id new (are.apart id (front-among id old more is)) in
+    ap (λ (l : List ℕ). two l new) left ∙ ap (λ (l : List ℕ). two (without_id id old) l) (sym same)
+
+first-new : (id : ℕ) (old new more : List ℕ) → AreToAdd (two old new) → new ≡ id ∷ more → two old more ≡ two (without_id id old) (without_id id new)
+first-new id old new more are is =
+    let left = front-out id new more is are.new in
+    let same = none-out id old (by (is_among old id) refl) in
+    ap (λ (l : List ℕ). two old l) left ∙ ap (λ (l : List ℕ). two l (without_id id new)) (sym same)
+  where
+    by : (b : Bool) → is_among old id ≡ b → is_among old id ≡ false
+    by true there = let no = are.apart id there in let yes = front-among id new more is in absurd (cc)
+    by false there = there
+
+pub old-out : (id : ℕ) (old new more : List ℕ) (t : List ℕ × List ℕ) → two old new ≡ t → old ≡ id ∷ more → AreToAdd t → two more new ≡ two (without_id id t.0) (without_id id t.1)
+old-out id old new more t view is are =
+    subst (λ (u : List ℕ × List ℕ). two more new ≡ two (without_id id u.0) (without_id id u.1)) view
+    (first-old id old new more (subst (λ (u : List ℕ × List ℕ). AreToAdd u) (sym view) are) is)
+
+pub new-out : (id : ℕ) (old new more : List ℕ) (t : List ℕ × List ℕ) → two old new ≡ t → new ≡ id ∷ more → AreToAdd t → two old more ≡ two (without_id id t.0) (without_id id t.1)
+new-out id old new more t view is are =
+    subst (λ (u : List ℕ × List ℕ). two old more ≡ two (without_id id u.0) (without_id id u.1)) view
+    (first-new id old new more (subst (λ (u : List ℕ × List ℕ). AreToAdd u) (sym view) are) is)
+
+-- ---- no id is of both faces
+
+none-below : (id n : ℕ) (test : Pending → Bool) (ps : List Pending) → id ≤ n → AreRising n ps → is_among (ids_pending (filter test ps)) id ≡ false
+none-below id n test [] le are = refl
+none-below id n test (p ∷ ps) le (above, are) = by (test p) (none-below id p.id test ps (omega (arith, le, above)) are)
+  where
+    apart : (id == p.id) ≡ false
+    apart = ne_eqb id p.id (λ e. omega (arith, e, le, above))
+
+    by : (t : Bool) → is_among (ids_pending (filter test ps)) id ≡ false → is_among (ids_pending (if t then p ∷ filter test ps else filter test ps)) id ≡ false
+    by true rest = rw (apart, rest) refl
+    by false rest = rest
+
+-- where no piece passes both tests
+once-passes : (id n : ℕ) (test other : Pending → Bool) (ps : List Pending) → ((p : Pending) → test p ≡ true → other p ≡ false) → AreRising n ps
+    → is_among (ids_pending (filter test ps)) id ≡ true → is_among (ids_pending (filter other ps)) id ≡ false
+once-passes id n test other [] never are there = absurd (cc)
+once-passes id n test other (p ∷ ps) never (above, are) there =
+    by (test p) refl (id == p.id) refl there (λ later. once-passes id p.id test other ps never are later)
+  where
+    later_other : (a : Bool) → other p ≡ a → (id == p.id) ≡ false → is_among (ids_pending (filter other ps)) id ≡ false
+        → is_among (ids_pending (if a then p ∷ filter other ps else filter other ps)) id ≡ false
+    later_other true is apart rest = rw (apart, rest) refl
+    later_other false is apart rest = rest
+
+    by : (t : Bool) → test p ≡ t → (e : Bool) → (id == p.id) ≡ e → is_among (ids_pending (if t then p ∷ filter test ps else filter test ps)) id ≡ true
+        → (is_among (ids_pending (filter test ps)) id ≡ true → is_among (ids_pending (filter other ps)) id ≡ false)
+        → is_among (ids_pending (filter other (p ∷ ps))) id ≡ false
+    by true passes true same there rest =
+        let fails = never p passes in
+        let is = eqb-true id p.id same in
+        rw fails (none-below id p.id other ps (omega (arith, is)) are)
+    by true passes false apart there rest = later_other (other p) refl apart (rest (ap (λ (b : Bool). b || is_among (ids_pending (filter test ps)) id) (sym apart) ∙ there))
+    by false fails true same there rest =
+        let is = eqb-true id p.id same in
+        let none = none-below id p.id test ps (omega (arith, is)) are in absurd (cc)
+    by false fails false apart there rest = later_other (other p) refl apart (rest there)
+
+pub tied-apart : (s : SaidValue) (g : Going) (to_add : List ℕ × List ℕ) → IsTied s g to_add → AreToAdd to_add
+tied-apart s g to_add is = record {
+  old = tied-rise s g to_add Old is;
+  new = tied-rise s g to_add New is;
+  apart = λ id there.
+      subst (λ (ids : List ℕ). is_among ids id ≡ false) (sym (is.to_add New))
+      (once-passes id 0 (to_add_at_is Old) (to_add_at_is New) (s.kept).pending other_face (is.ordered).rising
+      (subst (λ (ids : List ℕ). is_among ids id ≡ true) (is.to_add Old) there));
+}
+  where
+    to_add_at_is : Face → Pending → Bool
+    to_add_at_is face p = same_face p.face face && is_to_add (shown s g).keeping p
+
+    not_both : (f : Face) (b : Bool) → (same_face f Old && b) ≡ true → (same_face f New && b) ≡ false
+    not_both Old b is = refl
+    not_both New b is = absurd (cc)
+
+    other_face : (p : Pending) → to_add_at_is Old p ≡ true → to_add_at_is New p ≡ false
+    other_face p is = not_both p.face (is_to_add (shown s g).keeping p) is
 
 ids-in : (face : Face) (qs : List Pending) (p : Pending) → same_face p.face face ≡ true → ids_at face (qs ++ p ∷ []) ≡ ids_at face qs ++ p.id ∷ []
 ids-in face [] p is = rw is refl
@@ -118,7 +221,7 @@ same-and : (b : Bool) → (b && true) ≡ b
 same-and true = refl
 same-and false = refl
 
-all-to-add : (face : Face) (kept : KeptValue) → to_add_at face (starts_peer_keeping kept) ≡ filter (λ (p : Pending). same_face p.face face) kept.pending
+pub all-to-add : (face : Face) (kept : KeptValue) → to_add_at face (starts_peer_keeping kept) ≡ filter (λ (p : Pending). same_face p.face face) kept.pending
 unfolding times
 all-to-add face kept = filter_agree (λ (p : Pending). same_face p.face face && true) (λ (p : Pending). same_face p.face face) (λ p. same-and (same_face p.face face)) kept.pending
 
@@ -199,8 +302,8 @@ tied-reserved old_next new_next s now g to_add is does =
 -- ---- after a step
 
 pub tied-step : (h : PeerHappened) (s now : SaidValue) (g after : Going) (to_add left : List ℕ × List ℕ) → IsTied s g to_add → shown now after ≡ recording h (shown s g)
-    → left.0 ≡ ids_left h.again h.added to_add.0 → left.1 ≡ ids_left h.again h.added to_add.1 → IsTied now after left
-tied-step h s now g after to_add left is does old new = record {
+    → left ≡ (ids_left h.again h.added to_add.0, ids_left h.again h.added to_add.1) → IsTied now after left
+tied-step h s now g after to_add left is does leaves = record {
   ordered = subst (λ (j : KeptValue). IsOrdered j) (sym (ap (λ (r : PeerRecorded). (r.keeping).kept) does)) (step Old).ordered;
   to_add = by;
 }
@@ -219,8 +322,8 @@ tied-step h s now g after to_add left is does old new = record {
         ∙ sym (ap (λ (r : PeerRecorded). ids_pending (to_add_at face r.keeping)) does)
 
     by : (face : Face) → at_face left face ≡ ids_pending (to_add_at face (shown now after).keeping)
-    by Old = old ∙ after_ids Old
-    by New = new ∙ after_ids New
+    by Old = ap (λ (ids : List ℕ × List ℕ). ids.0) leaves ∙ after_ids Old
+    by New = ap (λ (ids : List ℕ × List ℕ). ids.1) leaves ∙ after_ids New
 
 -- ---- the first that is still to be added
 

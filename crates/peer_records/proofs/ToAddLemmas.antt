@@ -1,8 +1,8 @@
 -- What is still to be added stays so, but for the piece that a step adds.
-use Rattle.std.proofs.Common.{◌≡◌, ℕ, ◌+◌, ◌<◌, ◌≤◌, ◌==◌, ◌&&◌, ◌||◌, Bool, true, false, not, if◌then◌else◌, List, [], ◌∷◌, ◌++◌, Option, None, Some, refl, sym, ap, ◌∙◌, subst, arith}
+use Rattle.std.proofs.Common.{◌≡◌, ℕ, ◌+◌, ◌<◌, ◌==◌, ◌&&◌, ◌||◌, Bool, true, false, not, if◌then◌else◌, List, [], ◌∷◌, ◌++◌, Option, None, Some, refl, sym, ap, ◌∙◌, subst, arith}
 use Rattle.std.proofs.lemmas.Bool.{eqb-true, eqb-false, eq-eqb, ne_eqb}
 use Rattle.std.proofs.lemmas.List.Elements.{filter_agree}
-use Rattle.std.specs.List.{filter, list_any}
+use Rattle.std.specs.List.{filter}
 use Rattle.gate_cases.specs.declared.face.Face.{Face}
 use Rattle.gate_cases.specs.declared.face.Face.TheVariants.{Old, New}
 use Rattle.gateway_core.specs.declared.effects.FaceNote.{FaceNote}
@@ -20,16 +20,16 @@ use Rattle.gate_records.specs.Records.{marks_after}
 use Rattle.gate_records.proofs.LeaveLemmas.{AreApart, others-apart}
 use Rattle.peer_gateway.specs.Gate.{AddedAt}
 use Rattle.peer_records.specs.Happened.{PeerHappened, notes_in, marking}
-use Rattle.peer_records.specs.Keeping.{Waiting, PeerKeeping, ids_named, ids_pending, held, one_if, times, to_add_at}
+use Rattle.peer_records.specs.Keeping.{Waiting, PeerKeeping, ids_named, held, one_if, times, to_add_at}
 use Rattle.peer_records.specs.Records.{ids_of, others_than, all_done, end_done, end_leaves, done_records, named_left, pending_with, begun_records, waits_at, waiting_with, added_records, added_waiting, before_going, all_go, step_records, after_step}
 use Rattle.peer_records.specs.Laws.{still_to_add}
 use Rattle.peer_records.specs.Said.{is_among, pending_without, AreRising, IsOrdered}
 use Rattle.peer_records.proofs.CountLemmas.{named-apart}
 use Rattle.peer_records.proofs.AddedLemmas.{waits, waits-some, waits-none}
-use Rattle.peer_records.proofs.GoingLemmas.{holds, all-hold}
+use Rattle.peer_records.proofs.GoingLemmas.{all-hold}
 use Rattle.peer_records.proofs.MarkLemmas.{mark_part, marks-pending}
 use Rattle.peer_records.proofs.StepLemmas.{held-parts}
-use Rattle.peer_records.proofs.OrderLemmas.{both-filter, rising-from, rising-push, up-to-push, done-kept, ordered-some}
+use Rattle.peer_records.proofs.OrderLemmas.{both-filter, rising-push, up-to-push, done-kept, ordered-some}
 
 -- ---- those that are held never
 
@@ -43,7 +43,7 @@ free-same face hold now ps same =
 
 -- ---- an id among others
 
-eq-comm : (a b : ℕ) → (a == b) ≡ (b == a)
+pub eq-comm : (a b : ℕ) → (a == b) ≡ (b == a)
 eq-comm a b = by (a == b) refl
   where
     by : (t : Bool) → (a == b) ≡ t → t ≡ (b == a)
@@ -264,7 +264,7 @@ pub record After (h : PeerHappened) (k : PeerKeeping) (face : Face) : Type 0 whe
   pub to_add : to_add_at face (after_step h k) ≡ still_to_add h.again h.added (to_add_at face k)
 
 -- what is held after it
-held-after : (h : PeerHappened) (k : PeerKeeping) (id : ℕ)
+pub held-after : (h : PeerHappened) (k : PeerKeeping) (id : ℕ)
     → times id (held (after_step h k)) ≡ times id (ids_named (named_left h.is_open (notes_in h.told) k.named)) + waits id (added_waiting h.again (k.kept).greatest h.added k.waiting)
 unfolding after_step
 held-after h k id =
@@ -300,7 +300,7 @@ after-it h k face is =
 
 -- ---- what is legal is in order
 
-begun-rising : (n : ℕ) (ps : List Pending) → AreBegun n ps → AreRising n ps
+pub begun-rising : (n : ℕ) (ps : List Pending) → AreBegun n ps → AreRising n ps
 begun-rising n [] are = tt
 begun-rising n (p ∷ ps) (above, small, short, moment, rest) = (above, begun-rising p.id ps rest)
 

@@ -1,6 +1,6 @@
 -- What the journal says, and the records of a half, as the code makes them: one kind after the other.
 
-use Rattle.std.specs.Prelude.{◌≡◌, ℕ, ◌<◌, ◌==◌, Bool, not, ◌&&◌, nat_lt, nat_le, List, [], ◌∷◌, ◌++◌, map, Option, None, Some}
+use Rattle.std.specs.Prelude.{◌≡◌, ℕ, ◌<◌, ◌==◌, Bool, true, false, not, ◌&&◌, nat_lt, nat_le, List, [], ◌∷◌, ◌++◌, map, Option, None, Some}
 use Rattle.std.specs.List.{filter, list_any}
 use Rattle.gate_cases.specs.declared.face.Face.{Face}
 use Rattle.gateway_core.specs.Gate.{at_face}
@@ -16,7 +16,7 @@ use Rattle.peer_records.specs.declared.record.StepRecord.TheVariants as records
 use Rattle.peer_records.specs.declared.step.StepDone.{StepDone}
 use Rattle.peer_records.specs.declared.ending.Ended.{Ended}
 use Rattle.peer_records.specs.Happened.{PeerHappened}
-use Rattle.peer_records.specs.Keeping.{PeerKeeping, ids_pending, to_add_at}
+use Rattle.peer_records.specs.Keeping.{ids_pending, to_add_at}
 use Rattle.peer_records.specs.Records.{Going}
 use Rattle.peer_records.specs.Halves.{PeerRecorded}
 
@@ -107,6 +107,12 @@ Rise n (id ∷ ids) = (n < id) × Rise id ids
 pub record IsTied (s : SaidValue) (g : Going) (ids : List ℕ × List ℕ) : Type 0 where
   pub ordered : IsOrdered s.kept
   pub to_add : (face : Face) → at_face ids face ≡ ids_pending (to_add_at face (shown s g).keeping)
+
+-- those of each face rise, and none is of both
+pub record AreToAdd (ids : List ℕ × List ℕ) : Type 0 where
+  pub old : Rise 0 ids.0
+  pub new : Rise 0 ids.1
+  pub apart : (id : ℕ) → is_among ids.0 id ≡ true → is_among ids.1 id ≡ false
 
 -- after a step: without the one that it was to add, where there was room for it
 abbrev pub without_id : ℕ → List ℕ → List ℕ

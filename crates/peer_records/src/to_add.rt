@@ -1,10 +1,10 @@
 //! Pieces of earlier runs that are still to be added.
 
-ghost use Rattle.std.specs.Prelude.{◌≡◌, true, ◌++◌, ◌∷◌, [], drop, map, IfOk, IfSome, IfNone, OnOk, OnErr};
+ghost use Rattle.std.specs.Prelude.{◌≡◌, true, false, ◌++◌, ◌∷◌, [], drop, map, IfOk, IfSome, IfNone, OnOk, OnErr};
 ghost use Rattle.gate_cases.specs.declared.face.Face.TheVariants.{Old, New};
 ghost use Rattle.gateway_core.specs.Gate.{at_face, with_face};
 ghost use Rattle.peer_gateway.specs.Answers.{added_seen};
-ghost use Rattle.peer_records.specs.Said.{Rise, ids_at, ids_left, without_id};
+ghost use Rattle.peer_records.specs.Said.{AreToAdd, ids_at, ids_left, without_id};
 
 use gate_cases::Face;
 use journal_file::Pending;
@@ -76,17 +76,31 @@ impl ToAdd {
 
     /// A step was to add this one, if any, and added it where there was room.
     pub fn step(&mut self, again: Option<u64>, added: &[Added])
-        ensures old { Rise 0 self.old.0
-            → self.new.0 ≡ ids_left again (map added_seen added.now) self.old.0 }
-        ensures new { Rise 0 self.old.1
-            → self.new.1 ≡ ids_left again (map added_seen added.now) self.old.1 }
+        ensures { AreToAdd self.old → self.new ≡ (
+          ids_left again (map added_seen added.now) self.old.0,
+          ids_left again (map added_seen added.now) self.old.1,
+        ) }
     {
         if let Some(id) = again {
             if !added.is_empty() {
-                remove(&mut self.at_old, id);
-                remove(&mut self.at_new, id);
+                self.remove(id);
             }
         }
+    }
+
+    /// One leaves, if it is there. It is looked for at the front of each face first, and no further where it is
+    /// there.
+    fn remove(&mut self, id: u64)
+        ensures { AreToAdd self.old → self.new ≡ (without_id id self.old.0, without_id id self.old.1) }
+    {
+        if take_first(&mut self.at_old, id) {
+            return;
+        }
+        if take_first(&mut self.at_new, id) {
+            return;
+        }
+        remove(&mut self.at_old, id);
+        remove(&mut self.at_new, id);
     }
 }
 
@@ -101,15 +115,16 @@ fn first_in(ids: &VecDeque<u64>) -> Option<u64>
     }
 }
 
-/// One leaves, if it is there. It is looked for at the front first, and no further where it is there.
-fn remove(ids: &mut VecDeque<u64>, id: u64)
-    ensures { Rise 0 ids.old.items → ids.new.items ≡ without_id id ids.old.items }
+/// Whether one is the first of them; then it leaves.
+fn take_first(ids: &mut VecDeque<u64>, id: u64) -> bool
+    ensures first { result ≡ true → ids.old.items ≡ id ∷ ids.new.items }
+    ensures other { result ≡ false → ids.new.items ≡ ids.old.items }
 {
-    if is_first(ids, id) {
-        let _ = ids.pop_front();
-        return;
+    if !is_first(ids, id) {
+        return false;
     }
-    ids.retain(|one| *one != id);
+    let _ = ids.pop_front();
+    true
 }
 
 /// Whether it is the first of them.
@@ -120,4 +135,11 @@ fn is_first(ids: &VecDeque<u64>, id: u64) -> bool
         Some(first) => first == id,
         None => false,
     }
+}
+
+/// One leaves, if it is there.
+fn remove(ids: &mut VecDeque<u64>, id: u64)
+    ensures { ids.new.items ≡ without_id id ids.old.items }
+{
+    ids.retain(|one| *one != id);
 }

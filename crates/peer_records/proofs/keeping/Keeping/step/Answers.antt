@@ -1,8 +1,7 @@
 use Rattle.std.proofs.Common.{List, ap, ◌∙◌}
-use Rattle.gate_cases.specs.declared.face.Face.TheVariants.{Old, New}
 use Rattle.peer_gateway.specs.Gate.{AddedAt}
 use Rattle.peer_records.specs.Said.{happened_by, ids_left}
-use Rattle.peer_records.proofs.TiedLemmas.{tied-rise, tied-step}
+use Rattle.peer_records.proofs.TiedLemmas.{tied-apart, tied-step}
 use Rattle.peer_records.proofs.keeping.Keeping.step.Goals as goal
 
 pub invariant_of-self : goal.invariant_of-self
@@ -12,5 +11,5 @@ invariant_of-self g c =
     let held = c.self.inside.held in
     let ids = c.self.inside.to_add in
     tied-step h s c.record.new.said held c.record.new.held ids c.step.new.self c.self.invariant c.in-Ok.ensures.ok
-    (c.step.ensures.old (tied-rise s held ids Old c.self.invariant) ∙ ap (λ (xs : List AddedAt). ids_left h.again xs ids.0) c.added.ensures)
-    (c.step.ensures.new (tied-rise s held ids New c.self.invariant) ∙ ap (λ (xs : List AddedAt). ids_left h.again xs ids.1) c.added.ensures)
+    (c.step.ensures (tied-apart s held ids c.self.invariant)
+    ∙ ap (λ (xs : List AddedAt). (ids_left h.again xs ids.0, ids_left h.again xs ids.1)) c.added.ensures)

@@ -1,10 +1,6 @@
 -- Pieces that end, one after the other, and their ids.
-use Rattle.std.proofs.Common.{◌≡◌, ℕ, ◌+◌, ◌<◌, ◌≤◌, ◌==◌, not, Bool, true, false, List, [], ◌∷◌, ◌++◌, length, map, drop, take, get_or, refl, sym, ap, ◌∙◌, append_assoc, arith}
+use Rattle.std.proofs.Common.{◌≡◌, ℕ, ◌+◌, ◌<◌, ◌≤◌, List, [], ◌∷◌, ◌++◌, length, map, drop, get_or, refl, sym, ap, ◌∙◌, append_assoc}
 use Rattle.std.proofs.lemmas.List.{append-nil, at_drop_more, drop_all}
-use Rattle.std.proofs.lemmas.Bool.{eqb-true, eq-eqb, ne_eqb}
-use Rattle.std.proofs.lemmas.List.Sorted.{IsPermutation-keeps}
-use Rattle.std.specs.List.{list_any}
-use Rattle.gate_cases.specs.declared.face.Face.{Face}
 use Rattle.gate_events.specs.Own.{OpenAt}
 use Rattle.journal_file.specs.Values.{RecordValue}
 use Rattle.peer_gateway.specs.declared.told.RemarkAt.{RemarkAt}

@@ -90,7 +90,7 @@ before is_open at (Some end) face session id named some = by (is_open at end.0) 
         among zero none = left (rw is (let parts = named-within id face at session end.0 named in omega (arith, parts, none, some)))
         among (suc n) more = done_before (rw is (all-done-each id end.1 (ids_of at end.0 named) (omega (arith, more))))
 
-notes-done : (is_open : OpenAt) (earlier : List FaceNote) (n : FaceNote) (after : List FaceNote) (session : ℕ) (how : How) (named : List Named) (id : ℕ)
+pub notes-done : (is_open : OpenAt) (earlier : List FaceNote) (n : FaceNote) (after : List FaceNote) (session : ℕ) (how : How) (named : List Named) (id : ℕ)
     → note_ends n.note ≡ Some (session, how) → is_open n.face session ≡ false → 0 < times id (ids_of n.face session named)
     → ends_one id (done_records is_open (earlier ++ n ∷ after) named) ≡ true
 unfolding done_records

@@ -22,3 +22,4 @@ pub mod FindLemmas
 pub mod EndedLemmas
 pub mod TiedLemmas
 pub mod RecordingLemmas
+pub mod WantedLemmas

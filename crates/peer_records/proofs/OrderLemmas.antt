@@ -2,7 +2,7 @@
 use Rattle.std.proofs.Common.{◌≡◌, ℕ, ◌+◌, ◌<◌, ◌≤◌, ◌==◌, ◌&&◌, ◌||◌, Bool, true, false, not, if◌then◌else◌, List, [], ◌∷◌, ◌++◌, length, map, refl, sym, ap, ◌∙◌, subst, arith}
 use Rattle.std.proofs.lemmas.Bool.{eqb-true, ne_eqb}
 use Rattle.std.proofs.lemmas.List.Elements.{filter_agree}
-use Rattle.std.specs.List.{filter, list_any}
+use Rattle.std.specs.List.{filter}
 use Rattle.journal_file.specs.declared.kept.Pending.{Pending}
 use Rattle.journal_file.specs.declared.record.How.{How}
 use Rattle.journal_file.specs.Values.{KeptValue, RecordValue, a_done}
@@ -57,10 +57,10 @@ up-to-push g (q ∷ ps) p (first, up) le = (omega (arith, first, le), up-to-push
 
 -- ---- one ends
 
-abbrev other : ℕ → Pending → Bool
+abbrev pub other : ℕ → Pending → Bool
 other x p = not (p.id == x)
 
-above-all : (x n : ℕ) (ps : List Pending) → x ≤ n → AreRising n ps → filter (other x) ps ≡ ps
+pub above-all : (x n : ℕ) (ps : List Pending) → x ≤ n → AreRising n ps → filter (other x) ps ≡ ps
 above-all x n [] le are = refl
 above-all x n (p ∷ ps) le (above, are) =
     let apart : (p.id == x) ≡ false = ne_eqb p.id x (λ e. omega (arith, e, le, above)) in
@@ -76,7 +76,7 @@ first-out x n (p ∷ ps) (above, are) = by (p.id == x) refl (first-out x p.id ps
     by true is rest = let same = eqb-true p.id x is in sym (above-all x p.id ps (omega (arith, same)) are)
     by false is rest = ap (λ (l : List Pending). p ∷ l) rest
 
-one-out : (x n : ℕ) (ps : List Pending) → AreRising n ps → without_first (has_id x) ps ≡ filter (other x) ps
+pub one-out : (x n : ℕ) (ps : List Pending) → AreRising n ps → without_first (has_id x) ps ≡ filter (other x) ps
 one-out x n ps are = drop_first-is (has_id x) ps ∙ first-out x n ps are
 
 -- ---- many end

@@ -14,9 +14,9 @@ use Rattle.gate_records.specs.Happened.{Happened, note_ends, reports_on}
 use Rattle.gate_records.specs.Records.{due_mark, mark_with, marks_then, mark_records, marks_after, clear_records}
 use Rattle.peer_gateway.specs.Gate.{AddedAt}
 use Rattle.peer_records.specs.Happened.{PeerHappened, notes_in, marking}
-use Rattle.peer_records.specs.Keeping.{PeerKeeping, Waiting}
+use Rattle.peer_records.specs.Keeping.{PeerKeeping}
 use Rattle.peer_records.specs.Records.{ids_of, all_done, end_done, end_leaves, done_records, named_left, pending_with, begun_records, added_records, added_waiting, Going, all_go, step_records, after_step}
-use Rattle.peer_records.specs.Halves.{PeerRecorded, recording}
+use Rattle.peer_records.specs.Halves.{recording}
 use Rattle.peer_records.specs.Laws.{IsToAdd, AddsWell}
 use Rattle.peer_records.specs.Said.{SaidValue, said_with, shown}
 use Rattle.peer_records.specs.Ties.{with_waiting, with_named}
@@ -101,6 +101,18 @@ pub record Parts (h : PeerHappened) (s s1 s2 s3 s4 : SaidValue) (g g1 g2 g3 : Go
   pub reported : s3 ≡ said_with (mark_records (marking h) h.out (s2.kept).marks) s2
   pub over : s4 ≡ said_with (clear_records (marking h) (s3.kept).marks) s3
 
+-- the marks before and after those of a step's reports
+pub pieces-marks : (h : PeerHappened) (s s1 s2 : SaidValue) (named : List Named) → s1 ≡ said_with (done_records h.is_open (notes_in h.told) named) s
+    → s2 ≡ said_with (added_records h.raises h.again (s1.kept).greatest h.added) s1 → (s2.kept).marks ≡ (s.kept).marks
+pieces-marks h s s1 s2 named ended added =
+    ap (λ (t : SaidValue). (t.kept).marks) added ∙ same-added s1.kept h.raises h.again (s1.kept).greatest h.added
+    ∙ ap (λ (t : SaidValue). (t.kept).marks) ended ∙ (same-ends s.kept h.is_open (notes_in h.told) named).marks
+
+pub reports-marks : (h : PeerHappened) (s s2 s3 : SaidValue) → (s2.kept).marks ≡ (s.kept).marks → s3 ≡ said_with (mark_records (marking h) h.out (s2.kept).marks) s2
+    → (s3.kept).marks ≡ marks_after (marking h) h.out (s.kept).marks
+reports-marks h s s2 s3 same reported =
+    ap (λ (t : SaidValue). (t.kept).marks) reported ∙ marked-all (marking h) s2.kept h.out ∙ ap (marks_after (marking h) h.out) same
+
 steps : (h : PeerHappened) (s : SaidValue) (g : Going) (ended : SaidValue) (greatest : ℕ) (after_pieces after_marks : List Mark)
     → ended ≡ said_with (done_records h.is_open (notes_in h.told) g.named) s
     → greatest ≡ (s.kept).greatest → after_pieces ≡ (s.kept).marks → after_marks ≡ marks_after (marking h) h.out (s.kept).marks
@@ -116,7 +128,7 @@ steps h s g ended greatest after_pieces after_marks is same p m =
 pub parts-recorded : (h : PeerHappened) (s s1 s2 s3 s4 : SaidValue) (g g1 g2 g3 : Going) → Parts h s s1 s2 s3 s4 g g1 g2 g3 → shown s4 g3 ≡ recording h (shown s g)
 parts-recorded h s s1 s2 s3 s4 g g1 g2 g3 is =
     rw (is.over, is.going, is.reported, is.waits, is.added, is.left)
-    (steps h s g s1 (s1.kept).greatest (two.kept).marks (three.kept).marks is.ended greatest p m)
+    (steps h s g s1 (s1.kept).greatest (two.kept).marks (three.kept).marks is.ended greatest marks (reports-marks h s two three marks refl))
   where
     two : SaidValue
     two = said_with (added_records h.raises h.again (s1.kept).greatest h.added) s1
@@ -124,17 +136,11 @@ parts-recorded h s s1 s2 s3 s4 g g1 g2 g3 is =
     three : SaidValue
     three = said_with (mark_records (marking h) h.out (two.kept).marks) two
 
-    same : Same s.kept s1.kept
-    same = subst (λ (t : SaidValue). Same s.kept t.kept) (sym is.ended) (same-ends s.kept h.is_open (notes_in h.told) g.named)
-
     greatest : (s1.kept).greatest ≡ (s.kept).greatest
-    greatest = same.greatest
+    greatest = ap (λ (t : SaidValue). (t.kept).greatest) is.ended ∙ ends-greatest s.kept h.is_open (notes_in h.told) g.named
 
-    p : (two.kept).marks ≡ (s.kept).marks
-    p = same-added s1.kept h.raises h.again (s1.kept).greatest h.added ∙ same.marks
-
-    m : (three.kept).marks ≡ marks_after (marking h) h.out (s.kept).marks
-    m = marked-all (marking h) two.kept h.out ∙ ap (marks_after (marking h) h.out) p
+    marks : (two.kept).marks ≡ (s.kept).marks
+    marks = pieces-marks h s s1 two g.named is.ended refl
 
 -- ---- what is added fits, as it does after the ends
 

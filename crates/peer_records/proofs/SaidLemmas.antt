@@ -8,7 +8,7 @@ use Rattle.journal_file.specs.Values.{KeptValue, RecordValue, a_begun}
 use Rattle.journal_file.specs.Keeping.{kept_with, kept_after}
 use Rattle.journal_file.proofs.AnewLemmas.{after-append}
 use Rattle.gate_records.specs.Happened.{Happened, reports_on}
-use Rattle.gate_records.specs.Records.{due_mark, mark_with, marks_then, mark_records, marks_after, clear_records}
+use Rattle.gate_records.specs.Records.{due_mark, mark_with, marks_then, mark_records}
 use Rattle.gate_records.specs.Ties.{clear_of}
 use Rattle.peer_gateway.specs.declared.told.Added.{Added}
 use Rattle.peer_gateway.specs.Answers.{added_seen}
@@ -77,7 +77,7 @@ unfolding kept_with
 marked k None = refl
 marked k (Some m) = refl
 
-abbrev report_one : Happened → Routed → SaidValue → SaidValue
+abbrev pub report_one : Happened → Routed → SaidValue → SaidValue
 report_one h routed s = said_with (mark_with (due_mark h routed.face (reports_on routed.datagram) (s.kept).marks)) s
 
 reports-next : (h : Happened) (routed : Routed) (more : List Routed) (s : SaidValue) → reports h more (report_one h routed s) ≡ reports h (routed ∷ more) s

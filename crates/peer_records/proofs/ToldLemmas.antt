@@ -1,19 +1,16 @@
 -- What is told, one after the other, as notes of engines and as blocks that came whole.
-use Rattle.std.proofs.Common.{◌≡◌, ℕ, suc, ◌+◌, ◌<◌, ◌≤◌, ◌==◌, ◌||◌, not, Bool, true, false, List, [], ◌∷◌, ◌++◌, length, map, drop, get_or, Option, None, Some, is_some, refl, sym, ap, ◌∙◌}
+use Rattle.std.proofs.Common.{◌≡◌, ℕ, suc, ◌+◌, ◌<◌, ◌≤◌, ◌==◌, ◌||◌, not, Bool, true, false, List, [], ◌∷◌, ◌++◌, length, map, drop, get_or, Option, None, is_some, refl, sym, ap, ◌∙◌}
 use Rattle.std.proofs.lemmas.List.{at_drop_more, drop_all}
 use Rattle.std.specs.List.{list_any}
 use Rattle.gate_cases.specs.declared.face.Face.{Face}
 use Rattle.gateway_core.specs.declared.effects.FaceNote.{FaceNote}
 use Rattle.gateway_core.specs.declared.note.GateNote.TheVariants as notes
-use Rattle.gate_events.specs.declared.own.Own.{Own}
 use Rattle.gate_events.specs.Own.{OpenAt}
 use Rattle.journal_file.specs.declared.record.How.{How}
 use Rattle.gate_records.specs.declared.named.Named.{Named}
 use Rattle.gate_records.specs.Happened.{note_ends, came_whole}
-use Rattle.gate_records.specs.Ties.{own_of, cancels, left_after, cancelled_by, end_cancels, cancels_any, may_be_over}
+use Rattle.gate_records.specs.Ties.{cancels, left_after, cancelled_by, end_cancels, cancels_any, may_be_over}
 use Rattle.gate_records.proofs.CancelLemmas.{some-left}
-use Rattle.peer_events.specs.declared.own.OwnBlock.{OwnBlock}
-use Rattle.peer_events.specs.Own.{own_seen}
 use Rattle.peer_gateway.specs.declared.told.RemarkAt.{RemarkAt}
 use Rattle.peer_gateway.specs.Answers.{told_seen}
 use Rattle.peer_gateway.specs.Gate.{Told, FaceTold, told_engine, told_forgotten, told_green, told_began, told_bundle, told_case, told_left, told_reported, told_unreported, told_end}

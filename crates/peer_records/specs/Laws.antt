@@ -58,6 +58,14 @@ pub record Fits (h : PeerHappened) (k : PeerKeeping) : Type 0 where
   pub added : AddsWell h.raises h.again h.added k
   pub sessions : ReportSmall h.out
 
+-- ---- a step that does nothing of which the journal has to know: it adds no piece, begins no block, and has no
+-- record
+
+pub record DoesNothing (h : PeerHappened) (k : PeerKeeping) : Type 0 where
+  pub added : h.added ≡ []
+  pub begun : h.begun ≡ []
+  pub records : step_records h k ≡ []
+
 -- ---- the records of a step may be committed, and what is known is right after them
 
 -- Each id is begun once, and ids rise: a record that begins a piece has one above all before. Each is done

@@ -1,6 +1,6 @@
 //! Pieces whose session ended.
 
-ghost use Rattle.std.specs.Prelude.{◌≡◌, ◌++◌, map, IfOk, OnOk};
+ghost use Rattle.std.specs.Prelude.{◌≡◌, ◌++◌, [], map, IfOk, OnOk, OnErr};
 ghost use Rattle.std.specs.List.Sorted.{IsNonDecreasing, IsPermutation};
 ghost use Rattle.peer_gateway.specs.Answers.{remark_seen, told_seen};
 ghost use Rattle.peer_records.specs.Happened.{notes_in};
@@ -24,7 +24,7 @@ pub(crate) struct Ended {
     pub how: How,
 }
 
-/// The pieces of own sessions that ended, in their order.
+/// The pieces of own sessions that ended, in their order. Memory is wanted only where there are some.
 pub(crate) fn ends<G: GateSessions>(
     alloc: Global,
     held: &mut Held,
@@ -35,6 +35,8 @@ pub(crate) fn ends<G: GateSessions>(
         (G.opened gate.now) (notes_in (map told_seen told.now)) (held.old).named) }
     ensures left { OnOk result (held.new ≡ with_named held.old (named_left
         (G.opened gate.now) (notes_in (map told_seen told.now)) (held.old).named)) }
+    ensures wanted { OnErr result (done_records
+        (G.opened gate.now) (notes_in (map told_seen told.now)) (held.old).named ≡ [] → ⊥) }
 {
     let mut ended = Vec::new(alloc);
     'told: for one in told {
@@ -55,6 +57,8 @@ fn end_by<G: GateSessions>(
         (G.opened gate.now) (told.now).face (ends_told (remark_seen (told.now).remark)) (held.old).named) }
     ensures left { OnOk result (held.new ≡ with_named held.old (end_leaves
         (G.opened gate.now) (told.now).face (ends_told (remark_seen (told.now).remark)) (held.old).named)) }
+    ensures wanted { OnErr result (end_done
+        (G.opened gate.now) (told.now).face (ends_told (remark_seen (told.now).remark)) (held.old).named ≡ [] → ⊥) }
 {
     match ends_told(told) {
         Some((session, how)) if !gate.is_open(told.face, session) => {
@@ -67,8 +71,9 @@ fn end_by<G: GateSessions>(
 
 /// Pieces of one session.
 fn push_all(ended: &mut Vec<Ended>, ids: &[u64], how: How) -> Result<(), AllocError>
-    ensures { OnOk result (map done_of ended.new.items
+    ensures ended { OnOk result (map done_of ended.new.items
         ≡ map done_of ended.old.items ++ all_done how ids.now) }
+    ensures wanted { OnErr result (ids.now ≡ [] → ⊥) }
 {
     'ids: for id in ids {
         ended.push(Ended { id: *id, how })?;

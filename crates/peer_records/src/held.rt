@@ -1,6 +1,6 @@
 //! Where the pieces are that have ids.
 
-ghost use Rattle.std.specs.Prelude.{◌≡◌, ◌+◌, [], map, take, drop, IfOk, OnOk};
+ghost use Rattle.std.specs.Prelude.{◌≡◌, ◌+◌, [], map, take, drop, IfOk, OnOk, OnErr};
 ghost use Rattle.gateway_core.specs.Gate.{at_face, with_face};
 ghost use Rattle.peer_gateway.specs.Answers.{added_seen, begun_seen};
 ghost use Rattle.peer_records.specs.Keeping.{ids_in};
@@ -54,7 +54,8 @@ impl Held {
     /// Pieces are added at their faces, in order, where this is the greatest id that was given: each has the
     /// next one, and a report none.
     pub fn add_all(&mut self, greatest: u64, added: &[Added]) -> Result<(), AllocError>
-        ensures { OnOk result (self.new ≡ added_all greatest added.now self.old) }
+        ensures ok { OnOk result (self.new ≡ added_all greatest added.now self.old) }
+        ensures wanted { OnErr result (added.now ≡ [] → ⊥) }
     {
         let mut last = greatest;
         'added: for one in added {
@@ -80,8 +81,9 @@ impl Held {
 
     /// A piece of an earlier run has its id from before, and is added where there was room for it.
     pub fn add_again(&mut self, id: u64, added: &[Added]) -> Result<(), AllocError>
-        ensures { OnOk result (self.new ≡ with_waiting self.old
+        ensures ok { OnOk result (self.new ≡ with_waiting self.old
             (waiting_again id (map added_seen added.now) (self.old).waiting)) }
+        ensures wanted { OnErr result (added.now ≡ [] → ⊥) }
     {
         match added.first() {
             None => Ok(()),
@@ -103,7 +105,8 @@ impl Held {
 
     /// Blocks begin, in order: each takes so many pieces from the front of those that wait at its face.
     pub fn begin_all(&mut self, alloc: Global, begun: &[BlockBegun]) -> Result<(), AllocError>
-        ensures { OnOk result (self.new ≡ begun_all begun.now self.old) }
+        ensures ok { OnOk result (self.new ≡ begun_all begun.now self.old) }
+        ensures wanted { OnErr result (begun.now ≡ [] → ⊥) }
     {
         'begun: for one in begun {
             self.begin(alloc, one)?;
@@ -136,10 +139,11 @@ impl Held {
         }
     }
 
-    /// A session is over. Answers the ids of its pieces, in order.
+    /// A session is over. Answers the ids of its pieces, in order. Memory is wanted only where it has some.
     pub fn end(&mut self, alloc: Global, face: Face, session: u64) -> Result<Vec<u64>, AllocError>
         ensures ids { IfOk result (λ ids. ids.items ≡ ids_of face session (self.old).named) }
         ensures left { OnOk result (self.new ≡ with_named self.old (others_than face session (self.old).named)) }
+        ensures wanted { OnErr result (ids_of face session (self.old).named ≡ [] → ⊥) }
     {
         let ids = ids_of(alloc, self.sessions.as_slice(), face, session)?;
         remove(&mut self.sessions, face, session);

@@ -43,7 +43,8 @@ impl Model for Keeping {
 
 impl Keeping {
     ghost use Rattle.peer_records.specs.Halves.{starts_half, recording, ends_half};
-    ghost use Rattle.peer_records.specs.Laws.{IsToAdd, Fits};
+    ghost use Rattle.gate_records.specs.Records.{reserved_records};
+    ghost use Rattle.peer_records.specs.Laws.{IsToAdd, DoesNothing, Fits};
     ghost use Rattle.peer_records.specs.Said.{happened_by};
 
     /// What is known before the first half, where this is kept from an earlier run
@@ -67,10 +68,11 @@ impl Keeping {
 
     /// A step of the gate was done, and `gate` says which sessions are kept after it: its records are
     /// appended, and done to what is kept. It fails for want of memory, or where pieces were added and there
-    /// are not as many ids below 2^64 left.
+    /// are not as many ids below 2^64 left. Memory is wanted only where a piece was added, a block began, or
+    /// there is a record.
     ///
-    /// A step that added and ended nothing, and sends no report, takes no memory and walks through its own
-    /// datagrams and what it tells alone.
+    /// A step that added and ended nothing, and sends no report, walks through its own datagrams and what it
+    /// tells alone.
     pub fn step<G: GateSessions>(
         &mut self,
         alloc: Global,
@@ -82,6 +84,8 @@ impl Keeping {
         // So its records may follow those before, where a piece that it was to add again was still to be.
         ensures fits { OnOk result (IfSome (step.now).again (IsToAdd (self.old).keeping) → Fits
             (happened_by step.now (G.opened gate.now) (G.handed_up gate.now)) (self.old).keeping) }
+        ensures wanted { OnErr result (DoesNothing
+            (happened_by step.now (G.opened gate.now) (G.handed_up gate.now)) (self.old).keeping → ⊥) }
     {
         match record(alloc, &mut self.said, &mut self.held, step, gate) {
             Ok(()) => {
@@ -98,9 +102,11 @@ impl Keeping {
     }
 
     /// The half ends, with the next numbers of the two engines: numbers are reserved where these are
-    /// above what is.
+    /// above what is. Memory is wanted only there.
     pub fn reserve(&mut self, alloc: Global, old_next: u64, new_next: u64) -> Result<(), AllocError>
-        ensures { OnOk result (self.new ≡ ends_half old_next new_next self.old) }
+        ensures ok { OnOk result (self.new ≡ ends_half old_next new_next self.old) }
+        ensures wanted { OnErr result
+            (reserved_records old_next new_next ((self.old).keeping).kept ≡ [] → ⊥) }
     {
         match self.said.reserve_all(alloc, old_next, new_next) {
             Ok(()) => Ok(()),

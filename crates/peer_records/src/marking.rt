@@ -1,6 +1,6 @@
 //! The records of marks, and of numbers.
 
-ghost use Rattle.std.specs.Prelude.{◌≡◌, ◌^◌, ◌<◌, ◌∷◌, [], map, IfSome, OnOk};
+ghost use Rattle.std.specs.Prelude.{◌≡◌, ◌^◌, ◌<◌, ◌∷◌, [], map, IfSome, OnOk, OnErr};
 ghost use Rattle.gate_records.specs.Happened.{reports_on};
 ghost use Rattle.gate_records.specs.Keeping.{reserve_to};
 ghost use Rattle.gate_records.specs.Laws.{ReportSmall};
@@ -39,6 +39,9 @@ impl Said {
             (marking (happened_by step.now (G.opened gate.now) (G.handed_up gate.now)))
             out.now ((self.old).kept).marks) self.old) }
         ensures small { OnOk result (ReportSmall out.now) }
+        ensures wanted { OnErr result (mark_records
+            (marking (happened_by step.now (G.opened gate.now) (G.handed_up gate.now)))
+            out.now ((self.old).kept).marks ≡ [] → ⊥) }
     {
         'out: for routed in out {
             self.mark(alloc, step, gate, routed)?;
@@ -58,6 +61,9 @@ impl Said {
             (marking (happened_by step.now (G.opened gate.now) (G.handed_up gate.now)))
             (routed.now).face (reports_on (routed.now).datagram) ((self.old).kept).marks)) self.old) }
         ensures small { IfSome (reports_on (routed.now).datagram) (λ session. session < 2 ^ 64) }
+        ensures wanted { OnErr result (mark_with (due_mark
+            (marking (happened_by step.now (G.opened gate.now) (G.handed_up gate.now)))
+            (routed.now).face (reports_on (routed.now).datagram) ((self.old).kept).marks) ≡ [] → ⊥) }
     {
         match due_mark(gate, step.wall, routed, self.kept.marks.as_slice()) {
             Some(mark) => self.append(alloc, StepRecord::Marked(mark)),
@@ -72,9 +78,12 @@ impl Said {
         step: &StepDone<'_>,
         gate: &G,
     ) -> Result<(), AllocError>
-        ensures { OnOk result (self.new ≡ said_with (clear_records
+        ensures ok { OnOk result (self.new ≡ said_with (clear_records
             (marking (happened_by step.now (G.opened gate.now) (G.handed_up gate.now)))
             ((self.old).kept).marks) self.old) }
+        ensures wanted { OnErr result (clear_records
+            (marking (happened_by step.now (G.opened gate.now) (G.handed_up gate.now)))
+            ((self.old).kept).marks ≡ [] → ⊥) }
     {
         let over = over_marks(alloc, step, gate, self.kept.marks.as_slice())?;
         self.clear_all(alloc, over.as_slice())
@@ -82,7 +91,8 @@ impl Said {
 
     /// These marks are cleared.
     fn clear_all(&mut self, alloc: Global, over: &[Mark]) -> Result<(), AllocError>
-        ensures { OnOk result (self.new ≡ said_with (map clear_of over.now) self.old) }
+        ensures ok { OnOk result (self.new ≡ said_with (map clear_of over.now) self.old) }
+        ensures wanted { OnErr result (over.now ≡ [] → ⊥) }
     {
         'over: for mark in over {
             let Mark { face, session, .. } = *mark;
@@ -98,8 +108,9 @@ impl Said {
         old_next: u64,
         new_next: u64,
     ) -> Result<(), AllocError>
-        ensures { OnOk result (self.new
+        ensures ok { OnOk result (self.new
             ≡ said_with (reserved_records old_next new_next (self.old).kept) self.old) }
+        ensures wanted { OnErr result (reserved_records old_next new_next (self.old).kept ≡ [] → ⊥) }
     {
         let old = self.kept.old_reserved;
         let new = self.kept.new_reserved;
@@ -115,7 +126,8 @@ impl Said {
         next: u64,
         reserved: u64,
     ) -> Result<(), AllocError>
-        ensures { OnOk result (self.new ≡ said_with (reserving face next reserved) self.old) }
+        ensures ok { OnOk result (self.new ≡ said_with (reserving face next reserved) self.old) }
+        ensures wanted { OnErr result (reserving face next reserved ≡ [] → ⊥) }
     {
         if next <= reserved {
             return Ok(());

@@ -1,6 +1,6 @@
 //! Marks: which are due, and which are cleared.
 
-ghost use Rattle.std.specs.Prelude.{◌≡◌, ◌^◌, ◌<◌, ◌∷◌, ◌++◌, [], IfOk, IfSome, OnOk, map};
+ghost use Rattle.std.specs.Prelude.{◌≡◌, ◌^◌, ◌<◌, ◌∷◌, ◌++◌, [], IfOk, IfSome, OnOk, OnErr, map};
 ghost use Rattle.journal_file.specs.Keeping.{is_about};
 ghost use Rattle.gate_records.specs.Happened.{Happened, reports_on};
 ghost use Rattle.gate_records.specs.Records.{is_marked, due_mark, clear_records};
@@ -52,15 +52,17 @@ fn is_about(mark: Mark, face: Face, session: u64) -> bool
     mark.face == face && mark.session == session
 }
 
-/// The marks that are cleared with a step.
+/// The marks that are cleared with a step. Memory is wanted only where there are some.
 pub(crate) fn over_marks<G: GateSessions>(
     alloc: Global,
     step: &StepDone<'_>,
     gate: &G,
     marks: &[Mark],
 ) -> Result<Vec<Mark>, AllocError>
-    ensures { IfOk result (λ over. map clear_of over.items ≡ clear_records
+    ensures over { IfOk result (λ over. map clear_of over.items ≡ clear_records
         (marking (happened_by step.now (G.opened gate.now) (G.handed_up gate.now))) marks.now) }
+    ensures wanted { OnErr result (clear_records
+        (marking (happened_by step.now (G.opened gate.now) (G.handed_up gate.now))) marks.now ≡ [] → ⊥) }
 {
     if step.may_be_over() {
         return all_over(alloc, step, gate, marks);
@@ -75,8 +77,10 @@ fn all_over<G: GateSessions>(
     gate: &G,
     marks: &[Mark],
 ) -> Result<Vec<Mark>, AllocError>
-    ensures { IfOk result (λ over. map clear_of over.items ≡ clear_records
+    ensures over { IfOk result (λ over. map clear_of over.items ≡ clear_records
         (marking (happened_by step.now (G.opened gate.now) (G.handed_up gate.now))) marks.now) }
+    ensures wanted { OnErr result (clear_records
+        (marking (happened_by step.now (G.opened gate.now) (G.handed_up gate.now))) marks.now ≡ [] → ⊥) }
 {
     let mut over = Vec::new(alloc);
     'marks: for mark in marks {
@@ -93,8 +97,10 @@ fn add_over<G: GateSessions>(
     mark: Mark,
     over: &mut Vec<Mark>,
 ) -> Result<(), AllocError>
-    ensures { OnOk result (map clear_of over.new.items ≡ map clear_of over.old.items ++ clear_records
+    ensures over { OnOk result (map clear_of over.new.items ≡ map clear_of over.old.items ++ clear_records
         (marking (happened_by step.now (G.opened gate.now) (G.handed_up gate.now))) (mark ∷ [])) }
+    ensures wanted { OnErr result (clear_records
+        (marking (happened_by step.now (G.opened gate.now) (G.handed_up gate.now))) (mark ∷ []) ≡ [] → ⊥) }
 {
     if !step.is_over(gate, mark.face, mark.session) {
         return Ok(());

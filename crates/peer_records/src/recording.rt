@@ -1,10 +1,10 @@
 //! What a step did to what is known.
 
-ghost use Rattle.std.specs.Prelude.{◌≡◌, ◌+◌, ◌^◌, ◌<◌, ◌≤◌, length, map, IfSome, OnOk, OnErr};
+ghost use Rattle.std.specs.Prelude.{◌≡◌, ◌+◌, ◌^◌, ◌<◌, ◌≤◌, [], length, map, IfSome, OnOk, OnErr};
 ghost use Rattle.peer_gateway.specs.Answers.{added_seen, told_seen};
 ghost use Rattle.peer_records.specs.Happened.{notes_in};
 ghost use Rattle.peer_records.specs.Halves.{recording};
-ghost use Rattle.peer_records.specs.Laws.{IsToAdd, AddsWell, Fits};
+ghost use Rattle.peer_records.specs.Laws.{IsToAdd, AddsWell, DoesNothing, Fits};
 ghost use Rattle.peer_records.specs.Records.{done_records, named_left, added_records, added_waiting};
 ghost use Rattle.peer_records.specs.Said.{IsOrdered, happened_by, said_with, shown};
 ghost use Rattle.peer_records.specs.Ties.{with_waiting, with_named};
@@ -31,6 +31,9 @@ pub(crate) fn record<G: GateSessions>(
     ensures fits { OnOk result (IfSome (step.now).again (IsToAdd (shown said.old held.old).keeping)
         → Fits (happened_by step.now (G.opened gate.now) (G.handed_up gate.now))
         (shown said.old held.old).keeping) }
+    ensures wanted { OnErr result (DoesNothing
+        (happened_by step.now (G.opened gate.now) (G.handed_up gate.now))
+        (shown said.old held.old).keeping → ⊥) }
 {
     let _ = step.wall();
     record_ends(alloc, said, held, step.told(), gate)?;
@@ -53,6 +56,8 @@ fn record_ends<G: GateSessions>(
         (G.opened gate.now) (notes_in (map told_seen told.now)) (held.old).named) said.old) }
     ensures left { OnOk result (held.new ≡ with_named held.old (named_left
         (G.opened gate.now) (notes_in (map told_seen told.now)) (held.old).named)) }
+    ensures wanted { OnErr result (done_records
+        (G.opened gate.now) (notes_in (map told_seen told.now)) (held.old).named ≡ [] → ⊥) }
 {
     let ended = ends(alloc, held, told, gate)?;
     said.end_all(alloc, ended.as_slice())
@@ -74,6 +79,7 @@ fn record_added(
     ensures fits { OnOk result (IfSome (step.now).again (IsToAdd (shown said.old held.old).keeping)
         → AddsWell (step.now).raises (step.now).again (map added_seen added.now)
         (shown said.old held.old).keeping) }
+    ensures wanted { OnErr result (added.now ≡ [] → ⊥) }
 {
     match step.again {
         Some(id) => held.add_again(id, added),

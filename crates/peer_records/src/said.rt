@@ -71,10 +71,12 @@ impl Said {
 
     // ---- pieces that end
 
-    /// `done` for each of these pieces. It walks through the pending ones once.
+    /// `done` for each of these pieces. It walks through the pending ones once. Memory is wanted only where there
+    /// are some.
     pub fn end_all(&mut self, alloc: Global, ended: &[Ended]) -> Result<(), AllocError>
         requires { IsOrdered (self.old).kept }
-        ensures { OnOk result (self.new ≡ said_with (map done_of ended.now) self.old) }
+        ensures ok { OnOk result (self.new ≡ said_with (map done_of ended.now) self.old) }
+        ensures wanted { OnErr result (ended.now ≡ [] → ⊥) }
     {
         if ended.is_empty() {
             return Ok(());
@@ -98,6 +100,7 @@ impl Said {
         ensures ok { OnOk result (self.new ≡ said_with
             (begun_records raises ((self.old).kept).greatest (map added_seen added.now)) self.old) }
         ensures short { OnOk result (AreShort raises (map added_seen added.now)) }
+        ensures wanted { OnErr result (added.now ≡ [] → ⊥) }
     {
         'added: for one in added {
             self.add(alloc, raises, one)?;

@@ -1,6 +1,6 @@
 //! The own sessions with a block, and which pieces each has.
 
-ghost use Rattle.std.specs.Prelude.{◌≡◌, ◌++◌, ◌∷◌, [], ◌==◌, false, not, take, drop, IfOk, OnOk};
+ghost use Rattle.std.specs.Prelude.{◌≡◌, ◌++◌, ◌∷◌, [], ◌==◌, false, not, take, drop, IfOk, OnOk, OnErr};
 ghost use Rattle.std.specs.List.{filter};
 ghost use Rattle.gateway_core.specs.Comings.{if_same};
 ghost use Rattle.peer_records.specs.Keeping.{ids_in};
@@ -29,7 +29,8 @@ impl Sending {
 
     /// Its ids are added to others, where it is the session of a face with this number.
     fn add_if(&self, face: Face, session: u64, ids: &mut Vec<u64>) -> Result<(), AllocError>
-        ensures { OnOk result (ids.new.items ≡ ids.old.items ++ ids_of face session (named_of self.now)) }
+        ensures ids { OnOk result (ids.new.items ≡ ids.old.items ++ ids_of face session (named_of self.now)) }
+        ensures wanted { OnErr result (ids_of face session (named_of self.now) ≡ [] → ⊥) }
     {
         if !self.is_of(face, session) {
             return Ok(());
@@ -39,14 +40,15 @@ impl Sending {
     }
 }
 
-/// The ids of a session's pieces, in order.
+/// The ids of a session's pieces, in order. Memory is wanted only where it has some.
 pub(crate) fn ids_of(
     alloc: Global,
     sessions: &[Sending],
     face: Face,
     session: u64,
 ) -> Result<Vec<u64>, AllocError>
-    ensures { IfOk result (λ ids. ids.items ≡ ids_of face session (named_all sessions.now)) }
+    ensures ids { IfOk result (λ ids. ids.items ≡ ids_of face session (named_all sessions.now)) }
+    ensures wanted { OnErr result (ids_of face session (named_all sessions.now) ≡ [] → ⊥) }
 {
     let mut ids = Vec::new(alloc);
     'sessions: for one in sessions {

@@ -1,5 +1,6 @@
-use Rattle.std.proofs.Common.{◌≡◌, take, drop}
+use Rattle.std.proofs.Common.{◌≡◌, [], take, drop}
 use Rattle.gate_records.specs.Laws.{ReportSmall}
+use Rattle.gate_records.specs.Records.{mark_records}
 use Rattle.peer_records.specs.Happened.{marking}
 use Rattle.peer_records.specs.Said.{happened_by}
 use Rattle.peer_records.proofs.SaidLemmas.{reports}
@@ -10,3 +11,5 @@ invariant-out g l =
     (reports (marking (happened_by l.step (g.G.GateSessions.opened l.gate) (g.G.GateSessions.handed_up l.gate))) (drop l.routed-index l.out) l.self
     ≡ reports (marking (happened_by l.step (g.G.GateSessions.opened l.gate) (g.G.GateSessions.handed_up l.gate))) l.out l.initial.self)
     × ReportSmall (take l.routed-index l.out)
+    × (mark_records (marking (happened_by l.step (g.G.GateSessions.opened l.gate) (g.G.GateSessions.handed_up l.gate))) l.out ((l.initial.self).kept).marks ≡ []
+    → mark_records (marking (happened_by l.step (g.G.GateSessions.opened l.gate) (g.G.GateSessions.handed_up l.gate))) (drop l.routed-index l.out) ((l.self).kept).marks ≡ [])

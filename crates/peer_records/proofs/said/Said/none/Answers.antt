@@ -1,4 +1,4 @@
-use Rattle.std.proofs.Common.{sym, ap, ◌∙◌}
+use Rattle.std.proofs.Common.{sym, ap}
 use Rattle.journal_file.specs.Values.{KeptValue}
 use Rattle.gate_records.specs.Keeping.{octets_of}
 use Rattle.peer_records.proofs.said.Said.none.Goals as goal

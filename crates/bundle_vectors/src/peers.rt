@@ -166,6 +166,7 @@ fn piece(alloc: Global, added: u64) -> Piece
         size: 41,
         came: 0,
         added,
+        is_dated: false,
     }
 }
 

@@ -1,6 +1,6 @@
 -- A record as it goes out at a face among other implementations.
 
-use Rattle.std.specs.Prelude.{ℕ, ◌-◌, ◌^◌, if◌then◌else◌, List, length}
+use Rattle.std.specs.Prelude.{ℕ, ◌-◌, ◌^◌, ◌&&◌, if◌then◌else◌, List, length}
 use Rattle.bundle6.specs.Spelling.{canon6}
 use Rattle.bundle7.specs.Spelling.{octets7}
 use Rattle.bundle_meaning.specs.declared.full.Full.{Full}
@@ -9,7 +9,7 @@ use Rattle.translate.specs.View7.{view7_of}
 use Rattle.gate_cases.specs.declared.face.Face.{Face}
 use Rattle.gate_cases.specs.declared.face.Face.TheVariants.{Old, New}
 use Rattle.block_types.specs.Relabelled.{relabelled6, relabelled7}
-use Rattle.bundle_age.specs.Raised.{raised_by}
+use Rattle.bundle_age.specs.Raised.{has_age, raised_by}
 use Rattle.peer_cases.specs.declared.settings.PeerSettings.{PeerSettings}
 use Rattle.peer_cases.specs.declared.pieces.SizedPiece.{SizedPiece}
 
@@ -26,5 +26,10 @@ oldest s full = if s.raises then raised_by (2 ^ 64 - 1) full else full
 abbrev pub greatest_size : PeerSettings → Face → Full → ℕ
 greatest_size s to full = length (wire_octets s to (oldest s full))
 
+-- its age grows while it waits, where ages are raised and it has one
 abbrev pub piece_of : PeerSettings → Face → Full → SizedPiece
-piece_of s to full = record { octets = wire_octets s to full; size = greatest_size s to full }
+piece_of s to full = record {
+  octets = wire_octets s to full;
+  size = greatest_size s to full;
+  is_dated = s.raises && has_age full;
+}

@@ -1,6 +1,6 @@
 //! The pieces of a record that goes on, made one after the other as long as there is room for them.
 
-ghost use Rattle.std.specs.Prelude.{◌≡◌, ◌<◌, true, None, Some, if◌then◌else◌, IfOk, [], ◌∷◌};
+ghost use Rattle.std.specs.Prelude.{◌≡◌, ◌<◌, ◌&&◌, true, None, Some, if◌then◌else◌, IfOk, [], ◌∷◌};
 ghost use Rattle.std.specs.List.{All, list_all};
 ghost use Rattle.translate.specs.Sound.{IsSound};
 ghost use Rattle.gate_cases.specs.Faces.{fits_at};
@@ -8,6 +8,7 @@ ghost use Rattle.gate_cases.specs.Names.{over_at};
 ghost use Rattle.gate_cases.specs.Passage.{pieces_on};
 ghost use Rattle.face_room.specs.Bounds.{AreBounds};
 ghost use Rattle.face_room.specs.Loads.{is_within, has_room, with_pieces};
+ghost use Rattle.bundle_age.specs.Raised.{has_age};
 ghost use Rattle.peer_cases.specs.Pieces.{greatest_size, piece_of};
 ghost use Rattle.peer_cases.specs.Sending.{if_room};
 
@@ -15,6 +16,7 @@ use crate::pieces::{SizedPiece, SizedPieces};
 use crate::room::FaceRoom;
 use crate::settings::PeerSettings;
 use crate::wire::{greatest_size, wire_octets};
+use bundle_age::has_age;
 use bundle_meaning::Full;
 use face_room::{Bounds, Load, has_room, is_within, with_piece};
 use fragments::Cutter;
@@ -126,6 +128,13 @@ fn with_room(bounds: Bounds, load: Load, size: u64) -> Option<Load>
     }
 }
 
+/// Whether the age of a record grows while it waits.
+fn is_dated(settings: PeerSettings, full: &Full) -> bool
+    ensures { result ≡ (settings.raises && has_age full.now) }
+{
+    settings.raises && has_age(full)
+}
+
 /// The piece that a record is at a face.
 fn sized_piece(
     alloc: Global,
@@ -138,6 +147,11 @@ fn sized_piece(
     ensures { IfOk result (λ piece. piece ≡ piece_of settings to full) }
 {
     let octets = wire_octets(alloc, settings, to, &full)?;
+    let is_dated = is_dated(settings, &full);
     let size = greatest_size(alloc, settings, to, full, octets.len())?;
-    Ok(SizedPiece { octets, size })
+    Ok(SizedPiece {
+        octets,
+        size,
+        is_dated,
+    })
 }

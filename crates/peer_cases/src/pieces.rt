@@ -13,6 +13,8 @@ pub struct SizedPiece {
     pub octets: Octets,
     /// How many octets it may have when it goes: while it waits its age may grow.
     pub size: u64,
+    /// Whether its age grows while it waits: ages are raised, and it has one.
+    pub is_dated: bool,
 }
 
 /// Pieces that go on, in order.

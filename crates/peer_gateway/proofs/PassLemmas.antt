@@ -211,22 +211,22 @@ item-so p q a b c face m index session octets subject (Ok x) whole is says did =
 -- ---- a piece that is made now
 
 made-sized : (s : PeerSettings) (to : Face) (m : Moments) (piece : SizedPiece) (at : FaceMoments) → at ≡ at_face (m.old, m.new) to → CanBeAdded s to piece
-    → IsSized s to (record { octets = piece.octets; size = piece.size; came = m.wall; added = at.at })
+    → IsSized s to (record { octets = piece.octets; size = piece.size; came = m.wall; added = at.at; is_dated = piece.is_dated })
 made-sized s to m piece at is can =
-    subst (λ (x : FaceMoments). IsSized s to (record { octets = piece.octets; size = piece.size; came = m.wall; added = x.at })) (sym is)
+    subst (λ (x : FaceMoments). IsSized s to (record { octets = piece.octets; size = piece.size; came = m.wall; added = x.at; is_dated = piece.is_dated })) (sym is)
     (can.sized (moments_of m))
 
 pub report-sized : (s : PeerSettings) (to : Face) (m : Moments) (octets : List ℕ) (size : ℕ) (at : FaceMoments) → at ≡ at_face (m.old, m.new) to
-    → size ≡ length octets → CanBeAdded s to (record { octets = octets; size = length octets })
-    → IsSized s to (record { octets = octets; size = size; came = m.wall; added = at.at })
+    → size ≡ length octets → CanBeAdded s to (record { octets = octets; size = length octets; is_dated = false })
+    → IsSized s to (record { octets = octets; size = size; came = m.wall; added = at.at; is_dated = false })
 report-sized s to m octets size at is size_is can =
-    subst (λ (n : ℕ). IsSized s to (record { octets = octets; size = n; came = m.wall; added = at.at })) (sym size_is)
-    (made-sized s to m (record { octets = octets; size = length octets }) at is can)
+    subst (λ (n : ℕ). IsSized s to (record { octets = octets; size = n; came = m.wall; added = at.at; is_dated = false })) (sym size_is)
+    (made-sized s to m (record { octets = octets; size = length octets; is_dated = false }) at is can)
 
 -- the piece that comes next of some
 pub next-sized : (s : PeerSettings) (to : Face) (m : Moments) (before left : List SizedPiece) (piece : SizedPiece) (at : FaceMoments)
     → before ≡ piece ∷ left → at ≡ at_face (m.old, m.new) to → All (CanBeAdded s to) before
-    → IsSized s to (record { octets = piece.octets; size = piece.size; came = m.wall; added = at.at })
+    → IsSized s to (record { octets = piece.octets; size = piece.size; came = m.wall; added = at.at; is_dated = piece.is_dated })
 next-sized s to m before left piece at is at_is can =
     made-sized s to m piece at at_is (All-head (CanBeAdded s to) piece left (subst (All (CanBeAdded s to)) is can))
 
@@ -244,11 +244,11 @@ adds_one to m s piece g = adds s to (moments_of m) false (piece_at (moments_of m
 
 pub pieces-next : (to : Face) (m : Moments) (p q r : Parts) (a b c : Answered) (all before left : List SizedPiece) (piece : SizedPiece) (at : FaceMoments)
     → before ≡ piece ∷ left → at ≡ at_face (m.old, m.new) to → Turns (adds_one to m) p q a b all before
-    → Did q r b c (adds (setup_in q) to (moments_of m) false (record { octets = piece.octets; size = piece.size; came = m.wall; added = at.at }) (gate_of q))
+    → Did q r b c (adds (setup_in q) to (moments_of m) false (record { octets = piece.octets; size = piece.size; came = m.wall; added = at.at; is_dated = piece.is_dated }) (gate_of q))
     → Turns (adds_one to m) p r a c all left
 pieces-next to m p q r a b c all before left piece at is at_is turns did =
     turns-next (adds_one to m) p q r a b c all before left piece is turns
-    (subst (λ (x : FaceMoments). Did q r b c (adds (setup_in q) to (moments_of m) false (record { octets = piece.octets; size = piece.size; came = m.wall; added = x.at }) (gate_of q)))
+    (subst (λ (x : FaceMoments). Did q r b c (adds (setup_in q) to (moments_of m) false (record { octets = piece.octets; size = piece.size; came = m.wall; added = x.at; is_dated = piece.is_dated }) (gate_of q)))
     at_is did)
 
 -- ---- reports
@@ -257,14 +257,14 @@ pub reports-so : {A E : Type 0} (p r : Parts) (a b c : Answered) (face : Face) (
     (octets : List ℕ) (size : ℕ) (at : FaceMoments) (result : Result A E) → next ≡ next_if (setup_in p) face (gate_of p) → size ≡ length octets
     → at ≡ at_face (m.old, m.new) face
     → Did (record p { counter = p.counter + 1 }) r a b (adds (setup_in p) face (moments_of m) true
-    (record { octets = octets; size = size; came = m.wall; added = at.at }) (record (gate_of p) { counter = p.counter + 1 }))
+    (record { octets = octets; size = size; came = m.wall; added = at.at; is_dated = false }) (record (gate_of p) { counter = p.counter + 1 }))
     → OnOk result (c ≡ with_told b (record { face = face; told = told_reported index session next } ∷ []))
-    → OnOk result (Did p r a c (reports (setup_in p) face (moments_of m) index session (record { octets = octets; size = length octets }) (gate_of p)))
+    → OnOk result (Did p r a c (reports (setup_in p) face (moments_of m) index session (record { octets = octets; size = length octets; is_dated = false }) (gate_of p)))
 reports-so p r a b c face m index session next octets size at (Err e) is size_is at_is added says = tt
 reports-so p r a b c face m index session next octets size at (Ok x) is size_is at_is added says =
     let told = told_reported index session (next_if (setup_in p) face (gate_of p)) in
-    let one : Piece = record { octets = octets; size = size; came = m.wall; added = at.at } in
-    let made : Piece = piece_at (moments_of m) face (record { octets = octets; size = length octets }) in
+    let one : Piece = record { octets = octets; size = size; came = m.wall; added = at.at; is_dated = false } in
+    let made : Piece = piece_at (moments_of m) face (record { octets = octets; size = length octets; is_dated = false }) in
     let same : one ≡ made = rw (size_is, at_is) refl in
     let step = adds (setup_in p) face (moments_of m) true made (record (gate_of p) { counter = p.counter + 1 }) in
     let did = subst (λ (y : Piece). Did (record p { counter = p.counter + 1 }) r a b
@@ -332,13 +332,13 @@ pub reported-so : {A E : Type 0} (p q : Parts) (a b : Answered) (face : Face) (m
     (asked : AskedReport) (octets : List ℕ) (size : ℕ) (f : FaceParts) (room : FaceRoom) (t : Bool) (result : Result A E) → report ≡ Some asked
     → octets ≡ status_bundle p.gate p.counter m.wall asked → size ≡ length octets → f ≡ face_at p face → room ≡ room_at (keys_at f) (face_of f)
     → t ≡ is_unreported room size m.wall p.counter → t ≡ false
-    → OnOk result (Did p q a b (reports (setup_in p) face m index session (record { octets = octets; size = length octets }) (gate_of p)))
+    → OnOk result (Did p q a b (reports (setup_in p) face m index session (record { octets = octets; size = length octets; is_dated = false }) (gate_of p)))
     → OnOk result (Did p q a b (answers (setup_in p) face m index session report (gate_of p)))
 unfolding answers unreported_at
 reported-so p q a b face m index session report asked octets size f room t (Err e) is octets_are size_is f_is room_is so not_so did = tt
 reported-so p q a b face m index session report asked octets size f room t (Ok x) is octets_are size_is f_is room_is so not_so did =
     let here = unreported-there p face m asked octets size f room t octets_are size_is f_is room_is so ∙ not_so in
-    rw (is, here) (subst (λ (w : List ℕ). Did p q a b (reports (setup_in p) face m index session (record { octets = w; size = length w }) (gate_of p))) octets_are did)
+    rw (is, here) (subst (λ (w : List ℕ). Did p q a b (reports (setup_in p) face m index session (record { octets = w; size = length w; is_dated = false }) (gate_of p))) octets_are did)
 
 -- ---- a datagram
 

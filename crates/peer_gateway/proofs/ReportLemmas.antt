@@ -137,12 +137,12 @@ reads-status s gate counter now report (creations.Seven subject) askable legal f
 
 report-added : (s : PeerSettings) (face : Face) (gate : Endpoint) (counter now : ℕ) (report : AskedReport) → IsReport face (Some report)
     → IsEndpoint gate → counter < 2 ^ 32 → now < 2 ^ 62 → IsBlock (status_bundle gate counter now report)
-    → CanBeAdded s face (record { octets = status_bundle gate counter now report; size = length (status_bundle gate counter now report) })
+    → CanBeAdded s face (record { octets = status_bundle gate counter now report; size = length (status_bundle gate counter now report); is_dated = false })
 unfolding status_bundle
 report-added s face gate counter now report goes legal few soon block = record {
   small = block.small;
   sized = λ m leaves early.
-      let piece : SizedPiece = record { octets = status_bundle gate counter now report; size = length (status_bundle gate counter now report) } in
+      let piece : SizedPiece = record { octets = status_bundle gate counter now report; size = length (status_bundle gate counter now report); is_dated = false } in
       sized-at s face leaves (piece_at m face piece) block.some block.small early (λ kept. omega arith)
       (λ raises. subst (λ (f : Face). ReadsWithin s f (status_octets gate counter now report report.creation)
       (length (status_octets gate counter now report report.creation)) (came_in s f (status_octets gate counter now report report.creation))) goes.1
@@ -152,9 +152,9 @@ report-added s face gate counter now report goes legal few soon block = record {
 -- as the code has it
 pub report-made : (s : PeerSettings) (face : Face) (gate : Endpoint) (counter now : ℕ) (reports : Option AskedReport) (report : AskedReport) (octets : List ℕ)
     → reports ≡ Some report → IsReport face reports → IsEndpoint gate → counter < 2 ^ 32 → now < 2 ^ 62 → octets ≡ status_bundle gate counter now report
-    → IsBlock octets → CanBeAdded s face (record { octets = octets; size = length octets })
+    → IsBlock octets → CanBeAdded s face (record { octets = octets; size = length octets; is_dated = false })
 report-made s face gate counter now reports report octets some goes legal few soon is block =
-    subst (λ (w : List ℕ). CanBeAdded s face (record { octets = w; size = length w })) (sym is)
+    subst (λ (w : List ℕ). CanBeAdded s face (record { octets = w; size = length w; is_dated = false })) (sym is)
     (report-added s face gate counter now report (subst (IsReport face) some goes) legal few soon (subst IsBlock is block))
 
 -- ---- it goes back at the face at which its bundle came

@@ -136,7 +136,13 @@ adds s face m is_report piece g = and_then (waits_too face piece is_report g) (g
 
 -- a piece that was made now
 abbrev pub piece_at : PeerMoments → Face → SizedPiece → Piece
-piece_at m face piece = record { octets = piece.octets; size = piece.size; came = m.wall; added = m.at face }
+piece_at m face piece = record {
+  octets = piece.octets;
+  size = piece.size;
+  came = m.wall;
+  added = m.at face;
+  is_dated = piece.is_dated;
+}
 
 -- ---- time
 

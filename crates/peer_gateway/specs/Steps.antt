@@ -2,6 +2,7 @@
 -- that was kept from an earlier run.
 
 use Rattle.std.specs.Prelude.{ℕ, ◌+◌, Bool, true, false, nat_lt, if◌then◌else◌, List, [], ◌∷◌, ◌++◌, map, length, Option, Some, None, Result}
+use Rattle.std.specs.Option.{is_some}
 use Rattle.ltp_segment.specs.declared.fault.SegmentCause.{SegmentCause}
 use Rattle.ltp_segment.specs.Values.{SegmentValue}
 use Rattle.ltp_session.specs.Engine.{UpValue}
@@ -85,6 +86,7 @@ abbrev pub report_piece : PeerSetup → PeerMoments → AskedReport → PeerGate
 report_piece s m asked g = record {
   octets = status_bundle s.gate g.counter m.wall asked;
   size = length (status_bundle s.gate g.counter m.wall asked);
+  is_dated = false;
 }
 
 -- it is made with the counter's number, which rises, and goes back as a piece of the face at which the
@@ -170,13 +172,14 @@ came_or now None = now
 came_or now (Some came) = came
 
 -- A piece that a journal kept, by its octets and what its record says of when it came. It has as many octets
--- at most as after the longest stay, and it is added now.
+-- at most as after the longest stay, and it is added now. It is dated as its record is.
 abbrev pub kept_piece : PeerSetup → Face → List ℕ → Option ℕ → PeerMoments → Piece
 kept_piece s face octets came m = record {
   octets = octets;
   size = stayed_size s.settings face octets;
   came = came_or m.wall came;
   added = m.at face;
+  is_dated = is_some came;
 }
 
 abbrev pub has_room_at : FaceRoom → ℕ → Bool

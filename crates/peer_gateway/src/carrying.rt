@@ -1,6 +1,6 @@
 //! What is done once it is decided about a bundle.
 
-ghost use Rattle.std.specs.Prelude.{◌≡◌, ◌<◌, ◌^◌, length, IfOk, OnOk};
+ghost use Rattle.std.specs.Prelude.{◌≡◌, ◌<◌, ◌^◌, false, length, IfOk, OnOk};
 ghost use Rattle.std.specs.List.{All};
 ghost use Rattle.gate_cases.specs.Faces.{other_of};
 ghost use Rattle.peer_gateway.specs.Steps.{adds_all, next_if, reports, answers, decides};
@@ -85,6 +85,7 @@ impl Parts {
                 size: sized.size,
                 came: moments.wall,
                 added,
+                is_dated: sized.is_dated,
             };
             self.add(face, moments, false, piece, answer)?;
         }
@@ -148,10 +149,10 @@ impl Parts {
     ) -> Result<(), AllocError>
         requires whole { IsWhole self.old }
         requires moments { AreMoments moments }
-        requires sized { CanBeAdded self.old.settings face (record { octets = octets; size = length octets }) }
+        requires sized { CanBeAdded self.old.settings face (record { octets = octets; size = length octets; is_dated = false }) }
         requires counter { self.old.counter < 2 ^ 32 }
         ensures { OnOk result (Did self.old self.new answer.old answer.new (reports (setup_in self.old) face
-            (moments_of moments) index session (record { octets = octets; size = length octets }) (gate_of self.old))) }
+            (moments_of moments) index session (record { octets = octets; size = length octets; is_dated = false }) (gate_of self.old))) }
     {
         let report = self.next_if(face)?;
         let piece = Piece {
@@ -159,6 +160,7 @@ impl Parts {
             octets,
             came: moments.wall,
             added: moments.of(face).at,
+            is_dated: false,
         };
         self.counter += 1;
         self.add(face, moments, true, piece, answer)?;

@@ -183,6 +183,7 @@ impl FaceParts {
             size: piece.size,
             came: piece.came,
             added: piece.added,
+            is_dated: piece.is_dated,
         };
         self.waits = self.waits.with(self.bounds, piece.size)?;
         self.gathering.add(piece)?;

@@ -301,6 +301,7 @@ impl Parts {
             size,
             came: came.unwrap_or(moments.wall),
             added: moments.of(face).at,
+            is_dated: came.is_some(),
         };
         self.add(face, moments, false, piece, answer)
     }

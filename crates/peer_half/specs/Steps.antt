@@ -100,7 +100,6 @@ happens_with event journal s =
 abbrev pub happened_in : Option ℕ → PeerEvent → Standing → PeerHappened
 happened_in again event s = record {
   wall = (s.moments).wall;
-  raises = ((s.setup).settings).raises;
   own = map own_seen s.own;
   is_open = opens_in (step_of event s).gate;
   is_handed_up = ups_in (step_of event s).gate;

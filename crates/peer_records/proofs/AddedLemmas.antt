@@ -53,28 +53,28 @@ adds-piece kept p records face w v may rest = record {
   besides = λ id. let more = rest.besides id in let one = waits-some id p.id face w in let last = pending-append id kept.pending (p ∷ []) in omega (arith, more, one, last);
 }
 
-may-begin : (kept : KeptValue) (raises : Bool) (a : AddedAt) (n : ℕ) → kept.greatest + suc n < 2 ^ 64 → length (a.piece).octets < 2 ^ 64 → IsSmall (came_if raises a.piece)
-    → MayCome kept (a_begun (pending_with raises (kept.greatest + 1) a))
-may-begin kept raises a n small short moment = (omega arith, omega (arith, small), short, moment)
+may-begin : (kept : KeptValue) (a : AddedAt) (n : ℕ) → kept.greatest + suc n < 2 ^ 64 → length (a.piece).octets < 2 ^ 64 → IsSmall (came_if a.piece)
+    → MayCome kept (a_begun (pending_with (kept.greatest + 1) a))
+may-begin kept a n small short moment = (omega arith, omega (arith, small), short, moment)
 
-pub adds-follow : (kept : KeptValue) (raises : Bool) (added : List AddedAt) (w : Waiting × Waiting) → kept.greatest + length added < 2 ^ 64 → AreShort raises added
-    → Adds kept (begun_records raises kept.greatest added) w (waiting_with kept.greatest added w)
+pub adds-follow : (kept : KeptValue) (added : List AddedAt) (w : Waiting × Waiting) → kept.greatest + length added < 2 ^ 64 → AreShort added
+    → Adds kept (begun_records kept.greatest added) w (waiting_with kept.greatest added w)
 unfolding begun_records waiting_with kept_with
-adds-follow kept raises [] w small shorts = record { may = tt; marks = refl; besides = λ id. refl }
-adds-follow kept raises (a ∷ added) w small (short, moment, shorts) =
-    let p = pending_with raises (kept.greatest + 1) a in
+adds-follow kept [] w small shorts = record { may = tt; marks = refl; besides = λ id. refl }
+adds-follow kept (a ∷ added) w small (short, moment, shorts) =
+    let p = pending_with (kept.greatest + 1) a in
     by a.is_report
-    (adds-report kept (begun_records raises kept.greatest added) a.face w (waiting_with kept.greatest added (waits_at a.face None w))
-    (adds-follow kept raises added (waits_at a.face None w) (omega (arith, small)) shorts))
-    (adds-piece kept p (begun_records raises (kept.greatest + 1) added) a.face w (waiting_with (kept.greatest + 1) added (waits_at a.face (Some (kept.greatest + 1)) w))
-    (may-begin kept raises a (length added) small short moment)
-    (adds-follow (kept_with kept (a_begun p)) raises added (waits_at a.face (Some (kept.greatest + 1)) w) (omega (arith, small)) shorts))
+    (adds-report kept (begun_records kept.greatest added) a.face w (waiting_with kept.greatest added (waits_at a.face None w))
+    (adds-follow kept added (waits_at a.face None w) (omega (arith, small)) shorts))
+    (adds-piece kept p (begun_records (kept.greatest + 1) added) a.face w (waiting_with (kept.greatest + 1) added (waits_at a.face (Some (kept.greatest + 1)) w))
+    (may-begin kept a (length added) small short moment)
+    (adds-follow (kept_with kept (a_begun p)) added (waits_at a.face (Some (kept.greatest + 1)) w) (omega (arith, small)) shorts))
   where
     by : (t : Bool)
-        → Adds kept (begun_records raises kept.greatest added) w (waiting_with kept.greatest added (waits_at a.face None w))
-        → Adds kept (a_begun (pending_with raises (kept.greatest + 1) a) ∷ begun_records raises (kept.greatest + 1) added) w
+        → Adds kept (begun_records kept.greatest added) w (waiting_with kept.greatest added (waits_at a.face None w))
+        → Adds kept (a_begun (pending_with (kept.greatest + 1) a) ∷ begun_records (kept.greatest + 1) added) w
         (waiting_with (kept.greatest + 1) added (waits_at a.face (Some (kept.greatest + 1)) w))
-        → Adds kept (if t then begun_records raises kept.greatest added else a_begun (pending_with raises (kept.greatest + 1) a) ∷ begun_records raises (kept.greatest + 1) added) w
+        → Adds kept (if t then begun_records kept.greatest added else a_begun (pending_with (kept.greatest + 1) a) ∷ begun_records (kept.greatest + 1) added) w
         (if t then waiting_with kept.greatest added (waits_at a.face None w) else waiting_with (kept.greatest + 1) added (waits_at a.face (Some (kept.greatest + 1)) w))
     by true report piece = report
     by false report piece = piece
@@ -154,23 +154,23 @@ report-waits greatest (b ∷ before) a after w is =
     by true report piece = report
     by false report piece = piece
 
-report-records : (raises : Bool) (greatest : ℕ) (before : List AddedAt) (a : AddedAt) (after : List AddedAt) → a.is_report ≡ true
-    → begun_records raises greatest (before ++ a ∷ after) ≡ begun_records raises greatest (before ++ after)
+report-records : (greatest : ℕ) (before : List AddedAt) (a : AddedAt) (after : List AddedAt) → a.is_report ≡ true
+    → begun_records greatest (before ++ a ∷ after) ≡ begun_records greatest (before ++ after)
 unfolding begun_records
-report-records raises greatest [] a after is = rw is refl
-report-records raises greatest (b ∷ before) a after is =
-    by b.is_report (report-records raises greatest before a after is) (report-records raises (greatest + 1) before a after is)
+report-records greatest [] a after is = rw is refl
+report-records greatest (b ∷ before) a after is =
+    by b.is_report (report-records greatest before a after is) (report-records (greatest + 1) before a after is)
   where
-    by : (t : Bool) → begun_records raises greatest (before ++ a ∷ after) ≡ begun_records raises greatest (before ++ after)
-        → begun_records raises (greatest + 1) (before ++ a ∷ after) ≡ begun_records raises (greatest + 1) (before ++ after)
-        → (if t then begun_records raises greatest (before ++ a ∷ after) else a_begun (pending_with raises (greatest + 1) b) ∷ begun_records raises (greatest + 1) (before ++ a ∷ after))
-        ≡ (if t then begun_records raises greatest (before ++ after) else a_begun (pending_with raises (greatest + 1) b) ∷ begun_records raises (greatest + 1) (before ++ after))
+    by : (t : Bool) → begun_records greatest (before ++ a ∷ after) ≡ begun_records greatest (before ++ after)
+        → begun_records (greatest + 1) (before ++ a ∷ after) ≡ begun_records (greatest + 1) (before ++ after)
+        → (if t then begun_records greatest (before ++ a ∷ after) else a_begun (pending_with (greatest + 1) b) ∷ begun_records (greatest + 1) (before ++ a ∷ after))
+        ≡ (if t then begun_records greatest (before ++ after) else a_begun (pending_with (greatest + 1) b) ∷ begun_records (greatest + 1) (before ++ after))
     by true report piece = report
-    by false report piece = ap (λ (l : List RecordValue). a_begun (pending_with raises (greatest + 1) b) ∷ l) piece
+    by false report piece = ap (λ (l : List RecordValue). a_begun (pending_with (greatest + 1) b) ∷ l) piece
 
-pub reports-have-no-id : (raises : Bool) (greatest : ℕ) (before : List AddedAt) (a : AddedAt) (after : List AddedAt) (w : Waiting × Waiting) → a.is_report ≡ true
-    → (begun_records raises greatest (before ++ a ∷ after) ≡ begun_records raises greatest (before ++ after))
+pub reports-have-no-id : (greatest : ℕ) (before : List AddedAt) (a : AddedAt) (after : List AddedAt) (w : Waiting × Waiting) → a.is_report ≡ true
+    → (begun_records greatest (before ++ a ∷ after) ≡ begun_records greatest (before ++ after))
     × (ids_in (waiting_with greatest (before ++ a ∷ after) w).0 ≡ ids_in (waiting_with greatest (before ++ after) w).0)
     × (ids_in (waiting_with greatest (before ++ a ∷ after) w).1 ≡ ids_in (waiting_with greatest (before ++ after) w).1)
-reports-have-no-id raises greatest before a after w is =
-    let same = report-waits greatest before a after w is in (report-records raises greatest before a after is, same.old, same.new)
+reports-have-no-id greatest before a after w is =
+    let same = report-waits greatest before a after w is in (report-records greatest before a after is, same.old, same.new)

@@ -116,7 +116,7 @@ pub each-is-done : (h : PeerHappened) (k : PeerKeeping) (earlier : List FaceNote
     → list_any (λ said. is_end id (ends_of said)) (step_records h k) ≡ true
 unfolding step_records
 each-is-done h k earlier n after session how id told is closed some =
-    ends-front id (done_records h.is_open (notes_in h.told) k.named) (added_records h.raises h.again (k.kept).greatest h.added ++ mark_part h k.kept)
+    ends-front id (done_records h.is_open (notes_in h.told) k.named) (added_records h.again (k.kept).greatest h.added ++ mark_part h k.kept)
     (rw told (notes-done h.is_open earlier n after session how k.named id is closed some))
 
 -- ---- clears
@@ -144,24 +144,24 @@ ends-clear h is_open (n ∷ notes) named =
     all-append h (end_done is_open n.face (note_ends n.note) named) (done_records is_open notes (end_leaves is_open n.face (note_ends n.note) named))
     (note-clear h is_open n.face (note_ends n.note) named) (ends-clear h is_open notes (end_leaves is_open n.face (note_ends n.note) named))
 
-begun-clear : (h : Happened) (raises : Bool) (greatest : ℕ) (added : List AddedAt) → AllClearIfOver h (begun_records raises greatest added)
+begun-clear : (h : Happened) (greatest : ℕ) (added : List AddedAt) → AllClearIfOver h (begun_records greatest added)
 unfolding begun_records
-begun-clear h raises greatest [] = tt
-begun-clear h raises greatest (a ∷ added) = by a.is_report (begun-clear h raises greatest added) (begun-clear h raises (greatest + 1) added)
+begun-clear h greatest [] = tt
+begun-clear h greatest (a ∷ added) = by a.is_report (begun-clear h greatest added) (begun-clear h (greatest + 1) added)
   where
-    by : (t : Bool) → AllClearIfOver h (begun_records raises greatest added) → AllClearIfOver h (begun_records raises (greatest + 1) added)
-        → AllClearIfOver h (if t then begun_records raises greatest added else a_begun (pending_with raises (greatest + 1) a) ∷ begun_records raises (greatest + 1) added)
+    by : (t : Bool) → AllClearIfOver h (begun_records greatest added) → AllClearIfOver h (begun_records (greatest + 1) added)
+        → AllClearIfOver h (if t then begun_records greatest added else a_begun (pending_with (greatest + 1) a) ∷ begun_records (greatest + 1) added)
     by true report piece = report
     by false report piece = (tt, piece)
 
-added-clear : (h : Happened) (raises : Bool) (again : Option ℕ) (greatest : ℕ) (added : List AddedAt) → AllClearIfOver h (added_records raises again greatest added)
-added-clear h raises None greatest added = begun-clear h raises greatest added
-added-clear h raises (Some id) greatest added = tt
+added-clear : (h : Happened) (again : Option ℕ) (greatest : ℕ) (added : List AddedAt) → AllClearIfOver h (added_records again greatest added)
+added-clear h None greatest added = begun-clear h greatest added
+added-clear h (Some id) greatest added = tt
 
 pub only-over-is-cleared : (h : PeerHappened) (k : PeerKeeping) → AllClearIfOver (marking h) (step_records h k)
 unfolding step_records
 only-over-is-cleared h k =
     let ended = done_records h.is_open (notes_in h.told) k.named in
-    let pieces = added_records h.raises h.again (k.kept).greatest h.added in
+    let pieces = added_records h.again (k.kept).greatest h.added in
     all-append (marking h) ended (pieces ++ mark_part h k.kept) (ends-clear (marking h) h.is_open (notes_in h.told) k.named)
-    (all-append (marking h) pieces (mark_part h k.kept) (added-clear (marking h) h.raises h.again (k.kept).greatest h.added) (marks-clear h k.kept))
+    (all-append (marking h) pieces (mark_part h k.kept) (added-clear (marking h) h.again (k.kept).greatest h.added) (marks-clear h k.kept))

@@ -60,20 +60,20 @@ same-ends k o (n ∷ ns) named =
 pub ends-greatest : (k : KeptValue) (o : OpenAt) (ns : List FaceNote) (named : List Named) → (kept_after k (done_records o ns named)).greatest ≡ k.greatest
 ends-greatest k o ns named = (same-ends k o ns named).greatest
 
-same-pieces : (k : KeptValue) (raises : Bool) (g : ℕ) (added : List AddedAt) → (kept_after k (begun_records raises g added)).marks ≡ k.marks
+same-pieces : (k : KeptValue) (g : ℕ) (added : List AddedAt) → (kept_after k (begun_records g added)).marks ≡ k.marks
 unfolding begun_records kept_with
-same-pieces k raises g [] = refl
-same-pieces k raises g (a ∷ added) = by a.is_report (same-pieces k raises g added) (same-pieces (kept_with k (a_begun (pending_with raises (g + 1) a))) raises (g + 1) added)
+same-pieces k g [] = refl
+same-pieces k g (a ∷ added) = by a.is_report (same-pieces k g added) (same-pieces (kept_with k (a_begun (pending_with (g + 1) a))) (g + 1) added)
   where
-    by : (t : Bool) → (kept_after k (begun_records raises g added)).marks ≡ k.marks
-        → (kept_after (kept_with k (a_begun (pending_with raises (g + 1) a))) (begun_records raises (g + 1) added)).marks ≡ k.marks
-        → (kept_after k (if t then begun_records raises g added else a_begun (pending_with raises (g + 1) a) ∷ begun_records raises (g + 1) added)).marks ≡ k.marks
+    by : (t : Bool) → (kept_after k (begun_records g added)).marks ≡ k.marks
+        → (kept_after (kept_with k (a_begun (pending_with (g + 1) a))) (begun_records (g + 1) added)).marks ≡ k.marks
+        → (kept_after k (if t then begun_records g added else a_begun (pending_with (g + 1) a) ∷ begun_records (g + 1) added)).marks ≡ k.marks
     by true report piece = report
     by false report piece = piece
 
-same-added : (k : KeptValue) (raises : Bool) (again : Option ℕ) (g : ℕ) (added : List AddedAt) → (kept_after k (added_records raises again g added)).marks ≡ k.marks
-same-added k raises None g added = same-pieces k raises g added
-same-added k raises (Some id) g added = refl
+same-added : (k : KeptValue) (again : Option ℕ) (g : ℕ) (added : List AddedAt) → (kept_after k (added_records again g added)).marks ≡ k.marks
+same-added k None g added = same-pieces k g added
+same-added k (Some id) g added = refl
 
 marked-all : (h : Happened) (k : KeptValue) (out : List Routed) → (kept_after k (mark_records h out k.marks)).marks ≡ marks_after h out k.marks
 unfolding mark_records marks_after
@@ -95,7 +95,7 @@ four rs qs ps os s = with-with ps os (said_with qs (said_with rs s)) ∙ with-wi
 pub record Parts (h : PeerHappened) (s s1 s2 s3 s4 : SaidValue) (g g1 g2 g3 : Going) : Type 0 where
   pub ended : s1 ≡ said_with (done_records h.is_open (notes_in h.told) g.named) s
   pub left : g1 ≡ with_named g (named_left h.is_open (notes_in h.told) g.named)
-  pub added : s2 ≡ said_with (added_records h.raises h.again (s1.kept).greatest h.added) s1
+  pub added : s2 ≡ said_with (added_records h.again (s1.kept).greatest h.added) s1
   pub waits : g2 ≡ with_waiting g1 (added_waiting h.again (s1.kept).greatest h.added g1.waiting)
   pub going : g3 ≡ all_go h.begun g2
   pub reported : s3 ≡ said_with (mark_records (marking h) h.out (s2.kept).marks) s2
@@ -103,9 +103,9 @@ pub record Parts (h : PeerHappened) (s s1 s2 s3 s4 : SaidValue) (g g1 g2 g3 : Go
 
 -- the marks before and after those of a step's reports
 pub pieces-marks : (h : PeerHappened) (s s1 s2 : SaidValue) (named : List Named) → s1 ≡ said_with (done_records h.is_open (notes_in h.told) named) s
-    → s2 ≡ said_with (added_records h.raises h.again (s1.kept).greatest h.added) s1 → (s2.kept).marks ≡ (s.kept).marks
+    → s2 ≡ said_with (added_records h.again (s1.kept).greatest h.added) s1 → (s2.kept).marks ≡ (s.kept).marks
 pieces-marks h s s1 s2 named ended added =
-    ap (λ (t : SaidValue). (t.kept).marks) added ∙ same-added s1.kept h.raises h.again (s1.kept).greatest h.added
+    ap (λ (t : SaidValue). (t.kept).marks) added ∙ same-added s1.kept h.again (s1.kept).greatest h.added
     ∙ ap (λ (t : SaidValue). (t.kept).marks) ended ∙ (same-ends s.kept h.is_open (notes_in h.told) named).marks
 
 pub reports-marks : (h : PeerHappened) (s s2 s3 : SaidValue) → (s2.kept).marks ≡ (s.kept).marks → s3 ≡ said_with (mark_records (marking h) h.out (s2.kept).marks) s2
@@ -116,13 +116,13 @@ reports-marks h s s2 s3 same reported =
 steps : (h : PeerHappened) (s : SaidValue) (g : Going) (ended : SaidValue) (greatest : ℕ) (after_pieces after_marks : List Mark)
     → ended ≡ said_with (done_records h.is_open (notes_in h.told) g.named) s
     → greatest ≡ (s.kept).greatest → after_pieces ≡ (s.kept).marks → after_marks ≡ marks_after (marking h) h.out (s.kept).marks
-    → shown (said_with (clear_records (marking h) after_marks) (said_with (mark_records (marking h) h.out after_pieces) (said_with (added_records h.raises h.again greatest h.added) ended)))
+    → shown (said_with (clear_records (marking h) after_marks) (said_with (mark_records (marking h) h.out after_pieces) (said_with (added_records h.again greatest h.added) ended)))
     (all_go h.begun (record { waiting = added_waiting h.again greatest h.added g.waiting; named = named_left h.is_open (notes_in h.told) g.named }))
     ≡ recording h (shown s g)
 unfolding step_records after_step
 steps h s g ended greatest after_pieces after_marks is same p m =
     let going = all_go h.begun (record { waiting = added_waiting h.again (s.kept).greatest h.added g.waiting; named = named_left h.is_open (notes_in h.told) g.named }) in
-    rw (is, same, p, m) (ap (λ (t : SaidValue). shown t going) (four (done_records h.is_open (notes_in h.told) g.named) (added_records h.raises h.again (s.kept).greatest h.added)
+    rw (is, same, p, m) (ap (λ (t : SaidValue). shown t going) (four (done_records h.is_open (notes_in h.told) g.named) (added_records h.again (s.kept).greatest h.added)
     (mark_records (marking h) h.out (s.kept).marks) (clear_records (marking h) (marks_after (marking h) h.out (s.kept).marks)) s))
 
 pub parts-recorded : (h : PeerHappened) (s s1 s2 s3 s4 : SaidValue) (g g1 g2 g3 : Going) → Parts h s s1 s2 s3 s4 g g1 g2 g3 → shown s4 g3 ≡ recording h (shown s g)
@@ -131,7 +131,7 @@ parts-recorded h s s1 s2 s3 s4 g g1 g2 g3 is =
     (steps h s g s1 (s1.kept).greatest (two.kept).marks (three.kept).marks is.ended greatest marks (reports-marks h s two three marks refl))
   where
     two : SaidValue
-    two = said_with (added_records h.raises h.again (s1.kept).greatest h.added) s1
+    two = said_with (added_records h.again (s1.kept).greatest h.added) s1
 
     three : SaidValue
     three = said_with (mark_records (marking h) h.out (two.kept).marks) two
@@ -144,8 +144,8 @@ parts-recorded h s s1 s2 s3 s4 g g1 g2 g3 is =
 
 -- ---- what is added fits, as it does after the ends
 
-pub adds-well : (raises : Bool) (again : Option ℕ) (added : List AddedAt) (k now : PeerKeeping) → (now.kept).greatest ≡ (k.kept).greatest
-    → (IfSome again (IsToAdd now) → AddsWell raises again added now) → IfSome again (IsToAdd k) → AddsWell raises again added k
-adds-well raises None added k now same well free =
+pub adds-well : (again : Option ℕ) (added : List AddedAt) (k now : PeerKeeping) → (now.kept).greatest ≡ (k.kept).greatest
+    → (IfSome again (IsToAdd now) → AddsWell again added now) → IfSome again (IsToAdd k) → AddsWell again added k
+adds-well None added k now same well free =
     let (ids, short) = well tt in (subst (λ (g : ℕ). g + length added < 2 ^ 64) same ids, short)
-adds-well raises (Some id) added k now same well free = free
+adds-well (Some id) added k now same well free = free

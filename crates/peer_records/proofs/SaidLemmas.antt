@@ -27,44 +27,44 @@ with-none s = rw (append-nil s.records) refl
 
 -- ---- pieces
 
-abbrev pub begins : Bool → List AddedAt → SaidValue → SaidValue
-begins raises added s = said_with (begun_records raises (s.kept).greatest added) s
+abbrev pub begins : List AddedAt → SaidValue → SaidValue
+begins added s = said_with (begun_records (s.kept).greatest added) s
 
-begins-next : (raises : Bool) (a : AddedAt) (more : List AddedAt) (s : SaidValue) → begins raises more (begins raises (a ∷ []) s) ≡ begins raises (a ∷ more) s
+begins-next : (a : AddedAt) (more : List AddedAt) (s : SaidValue) → begins more (begins (a ∷ []) s) ≡ begins (a ∷ more) s
 unfolding begun_records kept_with
-begins-next raises a more s = by a.is_report
+begins-next a more s = by a.is_report
   where
     g : ℕ
     g = (s.kept).greatest
 
     one : RecordValue
-    one = a_begun (pending_with raises (g + 1) a)
+    one = a_begun (pending_with (g + 1) a)
 
-    by : (t : Bool) → begins raises more (said_with (if t then [] else one ∷ []) s) ≡ said_with (if t then begun_records raises g more else one ∷ begun_records raises (g + 1) more) s
+    by : (t : Bool) → begins more (said_with (if t then [] else one ∷ []) s) ≡ said_with (if t then begun_records g more else one ∷ begun_records (g + 1) more) s
     by true = rw (append-nil s.records) refl
-    by false = with-with (one ∷ []) (begun_records raises (g + 1) more) s
+    by false = with-with (one ∷ []) (begun_records (g + 1) more) s
 
-pub begins-step : (raises : Bool) (xs : List Added) (i : ℕ) (a : Added) (s now whole : SaidValue) → i < length xs → a ≡ get_or xs i a
-    → now ≡ begins raises (added_seen a ∷ []) s → begins raises (map added_seen (drop i xs)) s ≡ whole → begins raises (map added_seen (drop (i + 1) xs)) now ≡ whole
-begins-step raises xs i a s now whole low at is so_far =
-    ap (λ (r : SaidValue). begins raises (map added_seen (drop (i + 1) xs)) r) is ∙ begins-next raises (added_seen a) (map added_seen (drop (i + 1) xs)) s
-    ∙ ap (λ (b : Added). begins raises (map added_seen (b ∷ drop (i + 1) xs)) s) at
-    ∙ sym (at_drop_more (λ (l : List Added). begins raises (map added_seen l) s) xs i a low) ∙ so_far
+pub begins-step : (xs : List Added) (i : ℕ) (a : Added) (s now whole : SaidValue) → i < length xs → a ≡ get_or xs i a
+    → now ≡ begins (added_seen a ∷ []) s → begins (map added_seen (drop i xs)) s ≡ whole → begins (map added_seen (drop (i + 1) xs)) now ≡ whole
+begins-step xs i a s now whole low at is so_far =
+    ap (λ (r : SaidValue). begins (map added_seen (drop (i + 1) xs)) r) is ∙ begins-next (added_seen a) (map added_seen (drop (i + 1) xs)) s
+    ∙ ap (λ (b : Added). begins (map added_seen (b ∷ drop (i + 1) xs)) s) at
+    ∙ sym (at_drop_more (λ (l : List Added). begins (map added_seen l) s) xs i a low) ∙ so_far
 
-pub begins-end : (raises : Bool) (xs : List Added) (i : ℕ) (s whole : SaidValue) → length xs ≤ i → begins raises (map added_seen (drop i xs)) s ≡ whole → s ≡ whole
+pub begins-end : (xs : List Added) (i : ℕ) (s whole : SaidValue) → length xs ≤ i → begins (map added_seen (drop i xs)) s ≡ whole → s ≡ whole
 unfolding begun_records
-begins-end raises xs i s whole high so_far = sym (ap (λ (l : List Added). begins raises (map added_seen l) s) (drop_all i xs high) ∙ with-none s) ∙ so_far
+begins-end xs i s whole high so_far = sym (ap (λ (l : List Added). begins (map added_seen l) s) (drop_all i xs high) ∙ with-none s) ∙ so_far
 
 -- a report of the gateway
-pub report-none : (raises : Bool) (a : AddedAt) (s : SaidValue) → a.is_report ≡ true → s ≡ begins raises (a ∷ []) s
+pub report-none : (a : AddedAt) (s : SaidValue) → a.is_report ≡ true → s ≡ begins (a ∷ []) s
 unfolding begun_records
-report-none raises a s is = rw is (sym (with-none s))
+report-none a s is = rw is (sym (with-none s))
 
 -- a piece
-pub piece-begun : (raises : Bool) (a : AddedAt) (s : SaidValue) (id : ℕ) (p : Pending) → a.is_report ≡ false → id ≡ (s.kept).greatest + 1 → p ≡ pending_with raises id a
-    → said_with (a_begun p ∷ []) s ≡ begins raises (a ∷ []) s
+pub piece-begun : (a : AddedAt) (s : SaidValue) (id : ℕ) (p : Pending) → a.is_report ≡ false → id ≡ (s.kept).greatest + 1 → p ≡ pending_with id a
+    → said_with (a_begun p ∷ []) s ≡ begins (a ∷ []) s
 unfolding begun_records
-piece-begun raises a s id p is next this = rw (this, next, is) refl
+piece-begun a s id p is next this = rw (this, next, is) refl
 
 -- ---- marks
 
@@ -115,15 +115,15 @@ clears-end over i s whole high so_far = sym (ap (λ (xs : List Mark). clears xs 
 
 -- ---- what pieces name has a spelling
 
-short-push : (raises : Bool) (xs : List Added) (a : Added) → AreShort raises (map added_seen xs) → AreShort raises (added_seen a ∷ []) → AreShort raises (map added_seen (xs ++ a ∷ []))
-short-push raises [] a are short = short
-short-push raises (x ∷ xs) a (first, small, are) short = (first, small, short-push raises xs a are short)
+short-push : (xs : List Added) (a : Added) → AreShort (map added_seen xs) → AreShort (added_seen a ∷ []) → AreShort (map added_seen (xs ++ a ∷ []))
+short-push [] a are short = short
+short-push (x ∷ xs) a (first, small, are) short = (first, small, short-push xs a are short)
 
-pub short-step : (raises : Bool) (xs : List Added) (i : ℕ) (a : Added) → i < length xs → a ≡ get_or xs i a → AreShort raises (map added_seen (take i xs)) → AreShort raises (added_seen a ∷ [])
-    → AreShort raises (map added_seen (take (i + 1) xs))
-short-step raises xs i a low at are short =
-    subst (λ (l : List Added). AreShort raises (map added_seen l)) (sym (take_more xs i a low))
-    (short-push raises (take i xs) (get_or xs i a) are (subst (λ (b : Added). AreShort raises (added_seen b ∷ [])) at short))
+pub short-step : (xs : List Added) (i : ℕ) (a : Added) → i < length xs → a ≡ get_or xs i a → AreShort (map added_seen (take i xs)) → AreShort (added_seen a ∷ [])
+    → AreShort (map added_seen (take (i + 1) xs))
+short-step xs i a low at are short =
+    subst (λ (l : List Added). AreShort (map added_seen l)) (sym (take_more xs i a low))
+    (short-push (take i xs) (get_or xs i a) are (subst (λ (b : Added). AreShort (added_seen b ∷ [])) at short))
 
-pub short-all : (raises : Bool) (xs : List Added) (i : ℕ) → length xs ≤ i → AreShort raises (map added_seen (take i xs)) → AreShort raises (map added_seen xs)
-short-all raises xs i high are = subst (λ (l : List Added). AreShort raises (map added_seen l)) (take_all i xs high) are
+pub short-all : (xs : List Added) (i : ℕ) → length xs ≤ i → AreShort (map added_seen (take i xs)) → AreShort (map added_seen xs)
+short-all xs i high are = subst (λ (l : List Added). AreShort (map added_seen l)) (take_all i xs high) are

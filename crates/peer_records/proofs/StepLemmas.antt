@@ -44,11 +44,11 @@ record Added (kept : KeptValue) (records : List RecordValue) (left : List Named)
   marks : (kept_after kept records).marks ≡ kept.marks
   within : (id : ℕ) → times id (ids_named left) + waits id v ≤ times id (ids_pending (kept_after kept records).pending)
 
-added-new : (kept : KeptValue) (raises : Bool) (added : List AddedAt) (left : List Named) (w : Waiting × Waiting) → kept.greatest + length added < 2 ^ 64 → AreShort raises added
+added-new : (kept : KeptValue) (added : List AddedAt) (left : List Named) (w : Waiting × Waiting) → kept.greatest + length added < 2 ^ 64 → AreShort added
     → ((id : ℕ) → times id (ids_named left) + waits id w ≤ times id (ids_pending kept.pending))
-    → Added kept (begun_records raises kept.greatest added) left (waiting_with kept.greatest added w)
-added-new kept raises added left w small short within =
-    let adds = adds-follow kept raises added w small short in record {
+    → Added kept (begun_records kept.greatest added) left (waiting_with kept.greatest added w)
+added-new kept added left w small short within =
+    let adds = adds-follow kept added w small short in record {
       may = adds.may;
       marks = adds.marks;
       within = λ id. let more = adds.besides id in let before = within id in omega (arith, more, before);
@@ -78,13 +78,13 @@ free-still k (Some id) left pending is within =
     let there = pending-some id (k.kept).pending is.pending in
     let still = within id (waits id k.waiting + 1) (omega (arith, parts, free, there)) in omega (arith, still)
 
-added-any : (again : Option ℕ) (k : PeerKeeping) (kept : KeptValue) (raises : Bool) (added : List AddedAt) (left : List Named) → kept.greatest ≡ (k.kept).greatest → AddsWell raises again added k
+added-any : (again : Option ℕ) (k : PeerKeeping) (kept : KeptValue) (added : List AddedAt) (left : List Named) → kept.greatest ≡ (k.kept).greatest → AddsWell again added k
     → ((id : ℕ) → times id (ids_named left) + waits id k.waiting ≤ times id (ids_pending kept.pending))
     → ((id besides : ℕ) → times id (ids_named k.named) + besides ≤ times id (ids_pending (k.kept).pending) → times id (ids_named left) + besides ≤ times id (ids_pending kept.pending))
-    → Added kept (added_records raises again kept.greatest added) left (added_waiting again kept.greatest added k.waiting)
-added-any None k kept raises added left same well within still =
-    added-new kept raises added left k.waiting (subst (λ (g : ℕ). g + length added < 2 ^ 64) (sym same) well.0) well.1 within
-added-any (Some id) k kept raises added left same well within still =
+    → Added kept (added_records again kept.greatest added) left (added_waiting again kept.greatest added k.waiting)
+added-any None k kept added left same well within still =
+    added-new kept added left k.waiting (subst (λ (g : ℕ). g + length added < 2 ^ 64) (sym same) well.0) well.1 within
+added-any (Some id) k kept added left same well within still =
     added-again kept id added left k.waiting within (free-still k (Some id) left kept.pending well still)
 
 -- ---- all of them
@@ -98,15 +98,15 @@ unfolding step_records
 step-follows h k is fits =
     let ended = done_records h.is_open (notes_in h.told) k.named in
     let left : List Named = named_left h.is_open (notes_in h.told) k.named in
-    let pieces = added_records h.raises h.again (k.kept).greatest h.added in
+    let pieces = added_records h.again (k.kept).greatest h.added in
     let marks = mark_part h k.kept in
     let one : Leaves k.kept ended k.named left = ends-follow k.kept h.is_open (notes_in h.told) k.named is.legal
     (λ id. let within = is.held_once id in let parts = held-parts id k.named k.waiting in omega (arith, within, parts)) in
     let kept1 : KeptValue = kept_after k.kept ended in
     let legal1 = legal-after k.kept ended is.legal one.may in
     let two : Added kept1 pieces left (added_waiting h.again (k.kept).greatest h.added k.waiting) =
-    subst (λ (g : ℕ). Added kept1 (added_records h.raises h.again g h.added) left (added_waiting h.again g h.added k.waiting)) one.greatest
-    (added-any h.again k kept1 h.raises h.added left one.greatest fits.added
+    subst (λ (g : ℕ). Added kept1 (added_records h.again g h.added) left (added_waiting h.again g h.added k.waiting)) one.greatest
+    (added-any h.again k kept1 h.added left one.greatest fits.added
     (λ id. one.within id (waits id k.waiting) (let within = is.held_once id in let parts = held-parts id k.named k.waiting in omega (arith, within, parts))) one.within) in
     let kept2 : KeptValue = kept_after kept1 pieces in
     let legal2 = legal-after kept1 pieces legal1 two.may in

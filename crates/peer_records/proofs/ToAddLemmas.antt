@@ -161,16 +161,16 @@ begins-one face kept p hold after next is ordered = record {
   free = one-held face hold after kept.greatest p kept.pending is ordered.up_to (omega (arith, next));
 }
 
-begins-all : (face : Face) (kept : KeptValue) (raises : Bool) (added : List AddedAt) (w : Waiting × Waiting) (n : ℕ → ℕ) → IsOrdered kept
-    → Begins face kept (kept_after kept (begun_records raises kept.greatest added)) (λ id. n id + waits id w) (λ id. n id + waits id (waiting_with kept.greatest added w))
+begins-all : (face : Face) (kept : KeptValue) (added : List AddedAt) (w : Waiting × Waiting) (n : ℕ → ℕ) → IsOrdered kept
+    → Begins face kept (kept_after kept (begun_records kept.greatest added)) (λ id. n id + waits id w) (λ id. n id + waits id (waiting_with kept.greatest added w))
 unfolding begun_records waiting_with kept_with
-begins-all face kept raises [] w n is = record { ordered = is; free = refl }
-begins-all face kept raises (a ∷ added) w n is =
-    by a.is_report (begins-all face kept raises added (waits_at a.face None w) n is)
-    (begins-all face (kept_with kept (a_begun (pending_with raises (kept.greatest + 1) a))) raises added (waits_at a.face (Some (kept.greatest + 1)) w) n one.ordered)
+begins-all face kept [] w n is = record { ordered = is; free = refl }
+begins-all face kept (a ∷ added) w n is =
+    by a.is_report (begins-all face kept added (waits_at a.face None w) n is)
+    (begins-all face (kept_with kept (a_begun (pending_with (kept.greatest + 1) a))) added (waits_at a.face (Some (kept.greatest + 1)) w) n one.ordered)
   where
     p : Pending
-    p = pending_with raises (kept.greatest + 1) a
+    p = pending_with (kept.greatest + 1) a
 
     hold : ℕ → ℕ
     hold id = n id + waits id w
@@ -180,18 +180,18 @@ begins-all face kept raises (a ∷ added) w n is =
         begins-one face kept p hold (λ id. n id + waits id (waits_at a.face (Some (kept.greatest + 1)) w)) refl
         (λ id. let more = waits-some id (kept.greatest + 1) a.face w in omega (arith, more)) is
 
-    report : Begins face kept (kept_after kept (begun_records raises kept.greatest added)) (λ id. n id + waits id (waits_at a.face None w)) (λ id. n id + waits id (waiting_with kept.greatest added (waits_at a.face None w)))
-        → Begins face kept (kept_after kept (begun_records raises kept.greatest added)) hold (λ id. n id + waits id (waiting_with kept.greatest added (waits_at a.face None w)))
+    report : Begins face kept (kept_after kept (begun_records kept.greatest added)) (λ id. n id + waits id (waits_at a.face None w)) (λ id. n id + waits id (waiting_with kept.greatest added (waits_at a.face None w)))
+        → Begins face kept (kept_after kept (begun_records kept.greatest added)) hold (λ id. n id + waits id (waiting_with kept.greatest added (waits_at a.face None w)))
     report rest = record {
       ordered = rest.ordered;
       free = rest.free ∙ free-same face (λ id. n id + waits id (waits_at a.face None w)) hold kept.pending (λ id. ap (λ (m : ℕ). n id + m) (waits-none id a.face w));
     }
 
     by : (t : Bool)
-        → Begins face kept (kept_after kept (begun_records raises kept.greatest added)) (λ id. n id + waits id (waits_at a.face None w)) (λ id. n id + waits id (waiting_with kept.greatest added (waits_at a.face None w)))
-        → Begins face (kept_with kept (a_begun p)) (kept_after (kept_with kept (a_begun p)) (begun_records raises (kept.greatest + 1) added))
+        → Begins face kept (kept_after kept (begun_records kept.greatest added)) (λ id. n id + waits id (waits_at a.face None w)) (λ id. n id + waits id (waiting_with kept.greatest added (waits_at a.face None w)))
+        → Begins face (kept_with kept (a_begun p)) (kept_after (kept_with kept (a_begun p)) (begun_records (kept.greatest + 1) added))
         (λ id. n id + waits id (waits_at a.face (Some (kept.greatest + 1)) w)) (λ id. n id + waits id (waiting_with (kept.greatest + 1) added (waits_at a.face (Some (kept.greatest + 1)) w)))
-        → Begins face kept (kept_after kept (if t then begun_records raises kept.greatest added else a_begun p ∷ begun_records raises (kept.greatest + 1) added)) hold
+        → Begins face kept (kept_after kept (if t then begun_records kept.greatest added else a_begun p ∷ begun_records (kept.greatest + 1) added)) hold
         (λ id. n id + waits id (if t then waiting_with kept.greatest added (waits_at a.face None w) else waiting_with (kept.greatest + 1) added (waits_at a.face (Some (kept.greatest + 1)) w)))
     by true rest piece = report rest
     by false rest piece = record { ordered = piece.ordered; free = piece.free ∙ one.free }
@@ -231,12 +231,12 @@ record Adds (face : Face) (kept now : KeptValue) (n : ℕ → ℕ) (again : Opti
   ordered : IsOrdered now
   free : free_at face (λ id. n id + waits id v) now.pending ≡ still_to_add again added (free_at face (λ id. n id + waits id w) kept.pending)
 
-adds-any : (face : Face) (kept : KeptValue) (raises : Bool) (again : Option ℕ) (added : List AddedAt) (w : Waiting × Waiting) (n : ℕ → ℕ) → IsOrdered kept
-    → Adds face kept (kept_after kept (added_records raises again kept.greatest added)) n again added w (added_waiting again kept.greatest added w)
-adds-any face kept raises None added w n is =
-    let all = begins-all face kept raises added w n is in record { ordered = all.ordered; free = all.free }
-adds-any face kept raises (Some id) [] w n is = record { ordered = is; free = refl }
-adds-any face kept raises (Some id) (a ∷ more) w n is = record { ordered = is; free = again-free face id a.face w n kept.pending }
+adds-any : (face : Face) (kept : KeptValue) (again : Option ℕ) (added : List AddedAt) (w : Waiting × Waiting) (n : ℕ → ℕ) → IsOrdered kept
+    → Adds face kept (kept_after kept (added_records again kept.greatest added)) n again added w (added_waiting again kept.greatest added w)
+adds-any face kept None added w n is =
+    let all = begins-all face kept added w n is in record { ordered = all.ordered; free = all.free }
+adds-any face kept (Some id) [] w n is = record { ordered = is; free = refl }
+adds-any face kept (Some id) (a ∷ more) w n is = record { ordered = is; free = again-free face id a.face w n kept.pending }
 
 -- ---- marks
 
@@ -276,15 +276,15 @@ after-it h k face is =
     let ended = done_records h.is_open (notes_in h.told) k.named in
     let left : List Named = named_left h.is_open (notes_in h.told) k.named in
     let n : ℕ → ℕ = λ id. times id (ids_named left) in
-    let pieces = added_records h.raises h.again (k.kept).greatest h.added in
+    let pieces = added_records h.again (k.kept).greatest h.added in
     let marks = mark_part h k.kept in
     let v = added_waiting h.again (k.kept).greatest h.added k.waiting in
     let kept1 : KeptValue = kept_after k.kept ended in
     let kept2 : KeptValue = kept_after kept1 pieces in
     let one = ends-all face k.kept h.is_open (notes_in h.told) k.named (λ id. waits id k.waiting) is in
     let two : Adds face kept1 kept2 n h.again h.added k.waiting v =
-    subst (λ (g : ℕ). Adds face kept1 (kept_after kept1 (added_records h.raises h.again g h.added)) n h.again h.added k.waiting (added_waiting h.again g h.added k.waiting)) one.greatest
-    (adds-any face kept1 h.raises h.again h.added k.waiting n one.ordered) in
+    subst (λ (g : ℕ). Adds face kept1 (kept_after kept1 (added_records h.again g h.added)) n h.again h.added k.waiting (added_waiting h.again g h.added k.waiting)) one.greatest
+    (adds-any face kept1 h.again h.added k.waiting n one.ordered) in
     let rest : kept_after k.kept (ended ++ (pieces ++ marks)) ≡ kept_after kept2 marks = after-append k.kept ended (pieces ++ marks) ∙ after-append kept1 pieces marks in
     let pending : (kept_after kept2 marks).pending ≡ kept2.pending = marks-pending h k.kept kept2 in
     let apart : AreApart marks = others-apart (marking h) h.out (k.kept).marks (marks_after (marking h) h.out (k.kept).marks) in

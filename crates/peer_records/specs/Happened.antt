@@ -15,8 +15,6 @@ use Rattle.peer_gateway.specs.Gate.{Told, FaceTold, AddedAt, BegunAt, told_engin
 pub record PeerHappened : Type 0 where
   -- what the wall clock shows
   pub wall : ℕ
-  -- ages are raised, so a record says when its piece came
-  pub raises : Bool
   -- the own sessions that were open before it, and which are open after it
   pub own : List Own
   pub is_open : OpenAt

@@ -37,10 +37,10 @@ pub record IsKeeping (k : PeerKeeping) : Type 0 where
 
 -- ---- a step that fits: what it names has a spelling
 
-abbrev pub AreShort : Bool → List AddedAt → Type 0
-AreShort raises [] = Unit {0}
-AreShort raises (a ∷ more) =
-    (length (a.piece).octets < 2 ^ 64) × IsSmall (came_if raises a.piece) × AreShort raises more
+abbrev pub AreShort : List AddedAt → Type 0
+AreShort [] = Unit {0}
+AreShort (a ∷ more) =
+    (length (a.piece).octets < 2 ^ 64) × IsSmall (came_if a.piece) × AreShort more
 
 -- a piece that is to be added again is pending, and neither waits nor is in a session
 pub record IsToAdd (k : PeerKeeping) (id : ℕ) : Type 0 where
@@ -48,14 +48,14 @@ pub record IsToAdd (k : PeerKeeping) (id : ℕ) : Type 0 where
   pub free : times id (held k) ≡ 0
 
 -- New pieces have ids, of which there are as many left. One of an earlier run has its own.
-abbrev pub AddsWell : Bool → Option ℕ → List AddedAt → PeerKeeping → Type 0
-AddsWell raises None added k =
-    ((k.kept).greatest + length added < 2 ^ 64) × AreShort raises added
-AddsWell raises (Some id) added k = IsToAdd k id
+abbrev pub AddsWell : Option ℕ → List AddedAt → PeerKeeping → Type 0
+AddsWell None added k =
+    ((k.kept).greatest + length added < 2 ^ 64) × AreShort added
+AddsWell (Some id) added k = IsToAdd k id
 
 pub record Fits (h : PeerHappened) (k : PeerKeeping) : Type 0 where
   pub wall : h.wall < 2 ^ 64
-  pub added : AddsWell h.raises h.again h.added k
+  pub added : AddsWell h.again h.added k
   pub sessions : ReportSmall h.out
 
 -- ---- a step that does nothing of which the journal has to know: it adds no piece, begins no block, and has no
@@ -107,26 +107,26 @@ HalfMayFollow =
 -- ---- pieces
 
 -- a piece that was added is among those that are pending, under an id that waits or is in a session
-pub record IsKeptPiece (raises : Bool) (a : AddedAt) (k : PeerKeeping) : Type 0 where
+pub record IsKeptPiece (a : AddedAt) (k : PeerKeeping) : Type 0 where
   pub id : ℕ
   pub earlier : List Pending
   pub later : List Pending
-  pub pending : (k.kept).pending ≡ earlier ++ pending_with raises id a ∷ later
+  pub pending : (k.kept).pending ≡ earlier ++ pending_with id a ∷ later
   pub is_held : 0 < times id (held k)
 
 abbrev pub PiecesArePending : Type 0
 PiecesArePending =
     (h : PeerHappened) (k : PeerKeeping) (before : List AddedAt) (a : AddedAt) (after : List AddedAt)
     → h.again ≡ None → h.added ≡ before ++ a ∷ after → a.is_report ≡ false
-    → IsKeptPiece h.raises a (after_step h k)
+    → IsKeptPiece a (after_step h k)
 
 -- a report of the gateway has no record, and takes no id: the others have the same records and ids as if it
 -- weren't there
 abbrev pub ReportsHaveNoId : Type 0
 ReportsHaveNoId =
-    (raises : Bool) (greatest : ℕ) (before : List AddedAt) (a : AddedAt) (after : List AddedAt)
+    (greatest : ℕ) (before : List AddedAt) (a : AddedAt) (after : List AddedAt)
     (waiting : Waiting × Waiting) → a.is_report ≡ true
-    → (begun_records raises greatest (before ++ a ∷ after) ≡ begun_records raises greatest (before ++ after))
+    → (begun_records greatest (before ++ a ∷ after) ≡ begun_records greatest (before ++ after))
     × (ids_in (waiting_with greatest (before ++ a ∷ after) waiting).0
     ≡ ids_in (waiting_with greatest (before ++ after) waiting).0)
     × (ids_in (waiting_with greatest (before ++ a ∷ after) waiting).1
@@ -225,10 +225,9 @@ abbrev pub at_first : KeptValue
 at_first = record { pending = []; marks = []; old_reserved = 4097; new_reserved = 4097; greatest = 0 }
 
 -- a step that begins a block of two pieces, which are added with it, in session 1 of the new face
-abbrev pub two_go : Bool → Piece → Piece → List ℕ → PeerHappened
-two_go raises p q block = record {
+abbrev pub two_go : Piece → Piece → List ℕ → PeerHappened
+two_go p q block = record {
   wall = 1000;
-  raises = raises;
   own = [];
   is_open = λ face session. true;
   is_handed_up = λ face session. true;
@@ -241,10 +240,9 @@ two_go raises p q block = record {
 }
 
 -- a step in which that session ends, since all of it arrived
-abbrev pub both_arrive : Bool → PeerHappened
-both_arrive raises = record {
+abbrev pub both_arrive : PeerHappened
+both_arrive = record {
   wall = 2000;
-  raises = raises;
   own = [];
   is_open = λ face session. false;
   is_handed_up = λ face session. true;
@@ -258,8 +256,8 @@ both_arrive raises = record {
 -- each piece is begun under an id of its own, and each is done
 abbrev pub TwoPiecesEnd : Type 0
 TwoPiecesEnd =
-    (raises : Bool) (p q : Piece) (block : List ℕ)
-    → (half_records (two_go raises p q block ∷ both_arrive raises ∷ []) 1 2 (starts_peer_keeping at_first)).records
-    ≡ a_begun (record { id = 1; face = faces.New; came = came_if raises p; block = p.octets })
-    ∷ a_begun (record { id = 2; face = faces.New; came = came_if raises q; block = q.octets })
+    (p q : Piece) (block : List ℕ)
+    → (half_records (two_go p q block ∷ both_arrive ∷ []) 1 2 (starts_peer_keeping at_first)).records
+    ≡ a_begun (record { id = 1; face = faces.New; came = came_if p; block = p.octets })
+    ∷ a_begun (record { id = 2; face = faces.New; came = came_if q; block = q.octets })
     ∷ a_done 1 hows.Sent ∷ a_done 2 hows.Sent ∷ []

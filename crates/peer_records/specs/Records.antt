@@ -56,19 +56,19 @@ named_left is_open (n ∷ more) named =
 
 -- ---- `begun` for each piece that is added, with the next id; a report of the gateway has none
 
--- where ages are raised, with the moment at which its bundle came
-abbrev pub came_if : Bool → Piece → Option ℕ
-came_if raises piece = if raises then Some piece.came else None
+-- where its age grows while it waits, with the moment at which its bundle came
+abbrev pub came_if : Piece → Option ℕ
+came_if piece = if piece.is_dated then Some piece.came else None
 
-abbrev pub pending_with : Bool → ℕ → AddedAt → Pending
-pending_with raises id a =
-    record { id = id; face = a.face; came = came_if raises a.piece; block = (a.piece).octets }
+abbrev pub pending_with : ℕ → AddedAt → Pending
+pending_with id a =
+    record { id = id; face = a.face; came = came_if a.piece; block = (a.piece).octets }
 
-unfoldable pub begun_records : Bool → ℕ → List AddedAt → List RecordValue
-begun_records raises greatest [] = []
-begun_records raises greatest (a ∷ more) =
-    if a.is_report then begun_records raises greatest more
-    else a_begun (pending_with raises (greatest + 1) a) ∷ begun_records raises (greatest + 1) more
+unfoldable pub begun_records : ℕ → List AddedAt → List RecordValue
+begun_records greatest [] = []
+begun_records greatest (a ∷ more) =
+    if a.is_report then begun_records greatest more
+    else a_begun (pending_with (greatest + 1) a) ∷ begun_records (greatest + 1) more
 
 -- one waits at a face after the others
 abbrev pub waits_at : Face → Option ℕ → Waiting × Waiting → Waiting × Waiting
@@ -86,9 +86,9 @@ abbrev pub waiting_again : ℕ → List AddedAt → Waiting × Waiting → Waiti
 waiting_again id [] waiting = waiting
 waiting_again id (a ∷ more) waiting = waits_at a.face (Some id) waiting
 
-abbrev pub added_records : Bool → Option ℕ → ℕ → List AddedAt → List RecordValue
-added_records raises None greatest added = begun_records raises greatest added
-added_records raises (Some id) greatest added = []
+abbrev pub added_records : Option ℕ → ℕ → List AddedAt → List RecordValue
+added_records None greatest added = begun_records greatest added
+added_records (Some id) greatest added = []
 
 abbrev pub added_waiting : Option ℕ → ℕ → List AddedAt → Waiting × Waiting → Waiting × Waiting
 added_waiting None greatest added waiting = waiting_with greatest added waiting
@@ -124,7 +124,7 @@ abbrev pub ended_records : PeerHappened → PeerKeeping → List RecordValue
 ended_records h k = done_records h.is_open (notes_in h.told) k.named
 
 abbrev pub piece_records : PeerHappened → PeerKeeping → List RecordValue
-piece_records h k = added_records h.raises h.again (k.kept).greatest h.added
+piece_records h k = added_records h.again (k.kept).greatest h.added
 
 abbrev pub report_records : PeerHappened → PeerKeeping → List RecordValue
 report_records h k = mark_records (marking h) h.out (k.kept).marks

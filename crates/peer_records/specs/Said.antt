@@ -24,7 +24,6 @@ use Rattle.peer_records.specs.Halves.{PeerRecorded}
 abbrev pub happened_by : StepDone → OpenAt → OpenAt → PeerHappened
 happened_by s is_open is_handed_up = record {
   wall = s.wall;
-  raises = s.raises;
   own = map own_seen s.own.now;
   is_open = is_open;
   is_handed_up = is_handed_up;

@@ -66,30 +66,25 @@ pub(crate) fn next_id(greatest: u64) -> Result<u64, AllocError>
     }
 }
 
-/// A piece that is begun, under this id, with a copy of its octets, and where ages are raised with the moment
-/// at which it came.
-pub(crate) fn pending_of(
-    alloc: Global,
-    raises: bool,
-    id: u64,
-    added: &Added,
-) -> Result<Pending, AllocError>
-    ensures { IfOk result (λ p. p ≡ pending_with raises id (added_seen added.now)) }
+/// A piece that is begun, under this id, with a copy of its octets, and where it is dated with the moment at
+/// which it came.
+pub(crate) fn pending_of(alloc: Global, id: u64, added: &Added) -> Result<Pending, AllocError>
+    ensures { IfOk result (λ p. p ≡ pending_with id (added_seen added.now)) }
 {
     Ok(Pending {
         id,
         face: added.face,
-        came: came_of(raises, added),
+        came: came_of(added),
         block: added.piece.octets.copy(alloc)?,
     })
 }
 
-/// When a piece came, where ages are raised.
-pub(crate) fn came_of(raises: bool, added: &Added) -> Option<u64>
-    ensures came { result ≡ came_if raises ((added_seen added.now).piece) }
-    ensures small { IsSmall (came_if raises ((added_seen added.now).piece)) }
+/// When a piece came, where it is dated.
+pub(crate) fn came_of(added: &Added) -> Option<u64>
+    ensures came { result ≡ came_if ((added_seen added.now).piece) }
+    ensures small { IsSmall (came_if ((added_seen added.now).piece)) }
 {
-    if !raises {
+    if !added.piece.is_dated {
         return None;
     }
     Some(moment_of(added))

@@ -72,12 +72,12 @@ fn record_added(
     step: &StepDone<'_>,
     added: &[Added],
 ) -> Result<(), AllocError>
-    ensures said { OnOk result (said.new ≡ said_with (added_records (step.now).raises (step.now).again
+    ensures said { OnOk result (said.new ≡ said_with (added_records (step.now).again
         ((said.old).kept).greatest (map added_seen added.now)) said.old) }
     ensures waits { OnOk result (held.new ≡ with_waiting held.old (added_waiting (step.now).again
         ((said.old).kept).greatest (map added_seen added.now) (held.old).waiting)) }
     ensures fits { OnOk result (IfSome (step.now).again (IsToAdd (shown said.old held.old).keeping)
-        → AddsWell (step.now).raises (step.now).again (map added_seen added.now)
+        → AddsWell (step.now).again (map added_seen added.now)
         (shown said.old held.old).keeping) }
     ensures wanted { OnErr result (added.now ≡ [] → ⊥) }
 {
@@ -86,7 +86,7 @@ fn record_added(
         None => {
             let greatest = said.kept.greatest;
             want_ids(greatest, added.len())?;
-            said.begin_all(alloc, step.raises, added)?;
+            said.begin_all(alloc, added)?;
             held.add_all(greatest, added)
         }
     }

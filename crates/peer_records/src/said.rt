@@ -91,54 +91,43 @@ impl Said {
     // ---- pieces that are added
 
     /// `begun` for each piece that is added, under the next id.
-    pub fn begin_all(
-        &mut self,
-        alloc: Global,
-        raises: bool,
-        added: &[Added],
-    ) -> Result<(), AllocError>
+    pub fn begin_all(&mut self, alloc: Global, added: &[Added]) -> Result<(), AllocError>
         ensures ok { OnOk result (self.new ≡ said_with
-            (begun_records raises ((self.old).kept).greatest (map added_seen added.now)) self.old) }
-        ensures short { OnOk result (AreShort raises (map added_seen added.now)) }
+            (begun_records ((self.old).kept).greatest (map added_seen added.now)) self.old) }
+        ensures short { OnOk result (AreShort (map added_seen added.now)) }
         ensures wanted { OnErr result (added.now ≡ [] → ⊥) }
     {
         'added: for one in added {
-            self.add(alloc, raises, one)?;
+            self.add(alloc, one)?;
         }
         Ok(())
     }
 
     /// A report of the gateway has no record.
-    fn add(&mut self, alloc: Global, raises: bool, added: &Added) -> Result<(), AllocError>
+    fn add(&mut self, alloc: Global, added: &Added) -> Result<(), AllocError>
         ensures ok { OnOk result (self.new ≡ said_with
-            (begun_records raises ((self.old).kept).greatest (added_seen added.now ∷ [])) self.old) }
-        ensures short { AreShort raises (added_seen added.now ∷ []) }
+            (begun_records ((self.old).kept).greatest (added_seen added.now ∷ [])) self.old) }
+        ensures short { AreShort (added_seen added.now ∷ []) }
     {
         let octets = added.piece.octets.len();
-        let _ = came_of(raises, added);
+        let _ = came_of(added);
         if added.is_report {
             return Ok(());
         }
-        self.begin(alloc, raises, added, octets)
+        self.begin(alloc, added, octets)
     }
 
     /// A piece, which has so many octets, is begun under the next id.
-    fn begin(
-        &mut self,
-        alloc: Global,
-        raises: bool,
-        added: &Added,
-        octets: usize,
-    ) -> Result<(), AllocError>
+    fn begin(&mut self, alloc: Global, added: &Added, octets: usize) -> Result<(), AllocError>
         requires piece { (added.now).is_report ≡ false }
         requires octets { octets ≡ length ((added.now).piece).octets }
         ensures { OnOk result (self.new ≡ said_with
-            (begun_records raises ((self.old).kept).greatest (added_seen added.now ∷ [])) self.old) }
+            (begun_records ((self.old).kept).greatest (added_seen added.now ∷ [])) self.old) }
     {
         let id = next_id(self.kept.greatest)?;
         let all = with_octets(self.octets, octets)?;
-        let pending = pending_of(alloc, raises, id, added)?;
-        let recorded = pending_of(alloc, raises, id, added)?;
+        let pending = pending_of(alloc, id, added)?;
+        let recorded = pending_of(alloc, id, added)?;
         self.put(pending, recorded, all)
     }
 

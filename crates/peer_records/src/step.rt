@@ -20,8 +20,6 @@ use peer_gateway::{Added, BlockBegun, PeerAnswer, RemarkAt};
 pub struct StepDone<'a> {
     /// What the wall clock shows, in ms since 2000.
     pub wall: u64,
-    /// Whether ages are raised: then the record of a piece says when that came.
-    pub raises: bool,
     /// The own sessions that were open before it.
     pub own: &'a [OwnBlock],
     /// What it answered: the datagrams that it sends, what it tells, the pieces that were added, and the

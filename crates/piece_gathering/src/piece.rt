@@ -16,4 +16,6 @@ pub struct Piece {
     pub came: u64,
     /// The face's moment at which it was added, in milliseconds.
     pub added: u64,
+    /// Whether a journal's record of it says when its bundle came: where its age grows while it waits.
+    pub is_dated: bool,
 }

@@ -29,7 +29,7 @@ returns-clause-ok g c =
     (record {
       ended = c.in_ok-record_ends.ensures.said ∙ ap (λ (ts : List FaceTold). said_with (done_records h.is_open (notes_in ts) g0.named) s) c.told.ensures;
       left = c.in_ok-record_ends.ensures.left ∙ ap (λ (ts : List FaceTold). with_named g0 (named_left h.is_open (notes_in ts) g0.named)) c.told.ensures;
-      added = c.in_ok-record_added.ensures.said ∙ ap (λ (xs : List AddedAt). said_with (added_records h.raises h.again (ended.kept).greatest xs) ended) c.added.ensures;
+      added = c.in_ok-record_added.ensures.said ∙ ap (λ (xs : List AddedAt). said_with (added_records h.again (ended.kept).greatest xs) ended) c.added.ensures;
       waits = c.in_ok-record_added.ensures.waits ∙ ap (λ (xs : List AddedAt). with_waiting left (added_waiting h.again (ended.kept).greatest xs left.waiting)) c.added.ensures;
       going = c.in_ok-begin_all.ensures.ok ∙ ap (λ (bs : List BegunAt). all_go bs c.record_added.new.held) c.begun.ensures;
       reported = c.in_ok-mark_all.ensures.ok ∙ ap (λ (out : List Routed). said_with (mark_records (marking h) out ((c.record_added.new.said).kept).marks) c.record_added.new.said) c.out.ensures;
@@ -53,7 +53,7 @@ returns-in_err-mark_all-clause-wanted g c =
     let ended = c.record_ends.new.said in
     let pieces = c.record_added.new.said in
     let ended_is = c.in_ok-record_ends.ensures.said ∙ ap (λ (ts : List FaceTold). said_with (done_records h.is_open (notes_in ts) k.named) s) c.told.ensures in
-    let added_is = c.in_ok-record_added.ensures.said ∙ ap (λ (xs : List AddedAt). said_with (added_records h.raises h.again (ended.kept).greatest xs) ended) c.added.ensures in
+    let added_is = c.in_ok-record_added.ensures.said ∙ ap (λ (xs : List AddedAt). said_with (added_records h.again (ended.kept).greatest xs) ended) c.added.ensures in
     let no : DoesNothing h k → ⊥ = λ does.
     c.in_err-mark_all.ensures.wanted
     (ap (λ (out : List Routed). mark_records (marking h) out (pieces.kept).marks) c.out.ensures
@@ -68,7 +68,7 @@ returns-clause-wanted g c =
     let ended = c.record_ends.new.said in
     let pieces = c.record_added.new.said in
     let ended_is = c.in_ok-record_ends.ensures.said ∙ ap (λ (ts : List FaceTold). said_with (done_records h.is_open (notes_in ts) k.named) s) c.told.ensures in
-    let added_is = c.in_ok-record_added.ensures.said ∙ ap (λ (xs : List AddedAt). said_with (added_records h.raises h.again (ended.kept).greatest xs) ended) c.added.ensures in
+    let added_is = c.in_ok-record_added.ensures.said ∙ ap (λ (xs : List AddedAt). said_with (added_records h.again (ended.kept).greatest xs) ended) c.added.ensures in
     let marks_are = c.in_ok-mark_all.ensures.ok ∙ ap (λ (out : List Routed). said_with (mark_records (marking h) out (pieces.kept).marks) pieces) c.out.ensures in
     on_err_weaker c.clear_over.result
     (λ wanted does. wanted
@@ -83,10 +83,10 @@ returns-clause-fits g c =
     on_ok_weaker c.clear_over.result
     (λ over. λ free. record {
       wall = subst (λ (n : ℕ). n < 2 ^ 64) c.wall.ensures c.wall.type_inv;
-      added = adds-well h.raises h.again h.added k now
+      added = adds-well h.again h.added k now
           (ap (λ (t : SaidValue). (t.kept).greatest) c.in_ok-record_ends.ensures.said
           ∙ ends-greatest (c.args.said.now).kept h.is_open (notes_in (map told_seen c.told.result.now)) (c.args.held.now).named)
-          (subst (λ (xs : List AddedAt). IfSome h.again (IsToAdd now) → AddsWell h.raises h.again xs now) c.added.ensures c.in_ok-record_added.ensures.fits) free;
+          (subst (λ (xs : List AddedAt). IfSome h.again (IsToAdd now) → AddsWell h.again xs now) c.added.ensures c.in_ok-record_added.ensures.fits) free;
       sessions = subst (λ (out : List Routed). ReportSmall out) c.out.ensures c.in_ok-mark_all.ensures.small;
     })
     c.clear_over.ensures.ok

@@ -28,7 +28,13 @@ add-requires-clause-size c =
 pub add-requires-clause-sized : goal.add-requires-clause-sized
 add-requires-clause-sized c =
     subst (λ (s : PeerSettings). IsSized s c.args.face
-    (record { octets = c.in-Some.sized.octets; size = c.in-Some.sized.size; came = c.args.moments.wall; added = c.of-added.result.at }))
+    (record {
+      octets = c.in-Some.sized.octets;
+      size = c.in-Some.sized.size;
+      came = c.args.moments.wall;
+      added = c.of-added.result.at;
+      is_dated = c.in-Some.sized.is_dated;
+    }))
     (sym c.adding.invariant.1)
     (next-sized c.args.self.now.settings c.args.face c.args.moments c.adding.sized-iterator.rest.items c.next.new.self.rest.items c.in-Some.sized
     c.of-added.result (search rules) c.of-added.ensures c.adding.invariant.2)

@@ -3,4 +3,4 @@ use Rattle.peer_records.proofs.SaidLemmas.{report-none}
 use Rattle.peer_records.proofs.said.Said.add.Goals as goal
 
 pub returns-then-added-clause-ok : goal.returns-then-added-clause-ok
-returns-then-added-clause-ok c = report-none c.args.raises (added_seen c.args.added.now) c.args.self.now c.if-added.true
+returns-then-added-clause-ok c = report-none (added_seen c.args.added.now) c.args.self.now c.if-added.true

@@ -6,5 +6,5 @@ use Rattle.peer_records.proofs.said.Said.begin_all.Given as goal
 
 abbrev pub invariant-added : goal.invariant-added
 invariant-added l =
-    (begins l.raises (map added_seen (drop l.one-index l.added)) l.self ≡ begins l.raises (map added_seen l.added) l.initial.self)
-    × AreShort l.raises (map added_seen (take l.one-index l.added))
+    (begins (map added_seen (drop l.one-index l.added)) l.self ≡ begins (map added_seen l.added) l.initial.self)
+    × AreShort (map added_seen (take l.one-index l.added))

@@ -1,0 +1,2 @@
+-- What a reader must believe, in this order.
+pub mod Gate

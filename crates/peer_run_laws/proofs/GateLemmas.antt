@@ -1,8 +1,7 @@
 -- The gate of a run is that of its events.
 
-use Rattle.std.proofs.Common.{◌≡◌, ℕ, Bool, List, [], ◌∷◌, Option, refl, ap, sym, ◌∙◌}
+use Rattle.std.proofs.Common.{◌≡◌, List, [], ◌∷◌, Option, refl, ap, sym, ◌∙◌}
 use Rattle.gate_cases.specs.declared.face.Face.TheVariants as faces
-use Rattle.outbox.specs.declared.reading.Reading.{Reading}
 use Rattle.peer_gateway.specs.Gate.{PeerGate}
 use Rattle.peer_gateway.specs.Keys.{PeerSetup}
 use Rattle.peer_gateway.specs.Steps.{PeerEvent, peer_gate_after, peer_step}
@@ -10,9 +9,8 @@ use Rattle.peer_half.specs.Journals.{Journalled}
 use Rattle.peer_half.specs.Standing.{Standing}
 use Rattle.peer_half.specs.Starts.{starts_at}
 use Rattle.peer_half.specs.Steps.{outboxes_in}
-use Rattle.peer_half.specs.Half.{Came, answers}
 use Rattle.peer_half.specs.Runs.{EventIn, Run, begins_at, event_at, events_of, first_gate, setup_of, stands_at}
-use Rattle.peer_half.proofs.StandingLemmas.{after_event, quiet_of}
+use Rattle.peer_half.proofs.StandingLemmas.{after_event}
 use Rattle.peer_run_laws.specs.Gate.{GateIsOfEvents}
 use Rattle.peer_run_laws.proofs.WalkLemmas.{Core, Keeps, KeepsHalves, core-answers, keeps-halves}
 

@@ -24,7 +24,7 @@ use Rattle.peer_half.specs.Parts as parts
 use Rattle.peer_half.specs.Parts.{arrives_all, resumes_within, sends_within, tries}
 use Rattle.peer_half.specs.Half.{Came, answers, half, hears}
 use Rattle.peer_half.specs.Run.{halves}
-use Rattle.peer_half.specs.Runs.{EventIn, after_events, after_halves, arrived_in, event_at, events_in, heard_in, resumed_at, resumed_each, resumed_in}
+use Rattle.peer_half.specs.Runs.{EventIn, after_events, after_halves, arrived_in, event_at, events_in, resumed_at, resumed_each, resumed_in}
 use Rattle.peer_half.proofs.StandingLemmas.{after_event, happens-rest, quiet_of, reads-rest}
 
 -- ---- an event

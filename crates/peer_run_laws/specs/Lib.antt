@@ -1,2 +1,3 @@
 -- What a reader must believe, in this order.
 pub mod Gate
+pub mod Faces

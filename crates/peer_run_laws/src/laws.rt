@@ -2,9 +2,75 @@
 //! a gateway and of an outbox.
 
 ghost use Rattle.peer_run_laws.specs.Gate.{GateIsOfEvents};
+ghost use Rattle.peer_run_laws.specs.Faces.{GoesAtOnceInRuns, GoesInContactInRuns, GoesOnceInOrder};
+ghost use Rattle.peer_run_laws.specs.Faces.{KeepsPaceInRuns, PutsAllWithRoom};
+ghost use Rattle.peer_run_laws.specs.Faces.{TimeIsHeld, TimeIsOfHalf, TimeRises};
 
 /// The gate of a run is what its ticks, its datagrams and the pieces of earlier runs make of a gate at its
 /// beginning.
 pub fn gate_is_of_events()
     ensures { GateIsOfEvents }
 {}
+
+// ---- what a face sends
+
+/// What went out at a face in a run, sent or lost, and after it what still waits, is what was put there, in order:
+/// each goes out once. What was put first are the cancels of the sessions that were marked when the run began. Of what
+/// is sent at a face a datagram is put there unless more octets would wait then than may, or than are left for them of
+/// half of the face's memory.
+pub fn goes_once_in_order()
+    ensures { GoesOnceInOrder }
+{
+    outbox::laws::goes_out_in_order();
+}
+
+/// Where there is room for all that is sent at a face in a half, all of it is put there, and nothing is dropped.
+pub fn puts_all_with_room()
+    ensures { PutsAllWithRoom }
+{}
+
+/// Where the file has no contacts and no rate for a face, nothing waits there after a half: what waited before it, and
+/// what the half's events put there, goes out in it, in order.
+pub fn goes_at_once_in_runs()
+    ensures { GoesAtOnceInRuns }
+{
+    outbox::laws::goes_out_in_order();
+}
+
+/// A datagram goes out at a face only in a half at whose reading the face's link is open, by the run's
+/// file.
+pub fn goes_in_contact_in_runs()
+    ensures { GoesInContactInRuns }
+{
+    peer_half::laws::goes_in_contact();
+}
+
+/// In halves whose readings lie in one contact that has a rate, no more octets go out than the rate
+/// carries in the time and 10 milliseconds more, but for those of the longest datagram.
+pub fn keeps_pace_in_runs()
+    ensures { KeepsPaceInRuns }
+{
+    outbox::laws::keeps_pace();
+}
+
+// ---- a face's time
+
+/// A face's moment in a half is the one at which the half's events come to its sessions.
+pub fn time_is_of_half()
+    ensures { TimeIsOfHalf }
+{}
+
+/// From one half to the next a face's moment never falls, and grows by no more than the monotonic
+/// clock does.
+pub fn time_rises()
+    ensures { TimeRises }
+{
+    outbox::laws::time_goes_on();
+}
+
+/// It stays where datagrams waited at the end of the half before, or the link was closed since.
+pub fn time_is_held()
+    ensures { TimeIsHeld }
+{
+    outbox::laws::time_stays();
+}

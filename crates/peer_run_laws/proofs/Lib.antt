@@ -4,3 +4,6 @@ pub mod BoxLemmas
 pub mod FaceLemmas
 pub mod OrderLemmas
 pub mod WaitLemmas
+pub mod AheadLemmas
+pub mod RestLemmas
+pub mod TickLemmas

@@ -1,3 +1,4 @@
 -- What a reader must believe, in this order.
 pub mod Gate
 pub mod Faces
+pub mod Ticks

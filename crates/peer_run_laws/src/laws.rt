@@ -5,6 +5,7 @@ ghost use Rattle.peer_run_laws.specs.Gate.{GateIsOfEvents};
 ghost use Rattle.peer_run_laws.specs.Faces.{GoesAtOnceInRuns, GoesInContactInRuns, GoesOnceInOrder};
 ghost use Rattle.peer_run_laws.specs.Faces.{KeepsPaceInRuns, PutsAllWithRoom};
 ghost use Rattle.peer_run_laws.specs.Faces.{TimeIsHeld, TimeIsOfHalf, TimeRises};
+ghost use Rattle.peer_run_laws.specs.Ticks.{TicksOnce};
 
 /// The gate of a run is what its ticks, its datagrams and the pieces of earlier runs make of a gate at its
 /// beginning.
@@ -73,4 +74,14 @@ pub fn time_is_held()
     ensures { TimeIsHeld }
 {
     outbox::laws::time_stays();
+}
+
+/// Where a face's moment is that of the half before, the half's tick does nothing at the face: what was due went with
+/// the tick before, or when a session was free again, and what was added since isn't due.
+pub fn ticks_once()
+    ensures { TicksOnce }
+{
+    peer_sessions::laws::none_is_stale();
+    peer_gateway::laws::complete_goes();
+    peer_gateway::laws::ready_goes();
 }

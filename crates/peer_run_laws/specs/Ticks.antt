@@ -1,0 +1,51 @@
+-- A tick at a face's moment at which one came before does nothing at the face.
+
+use Rattle.std.specs.Prelude.{◌≡◌, ◌≤◌, List, [], Some}
+use Rattle.std.specs.List.{filter}
+use Rattle.ltp_laws.specs.Deadlines.{Waits}
+use Rattle.gate_cases.specs.declared.face.Face.{Face}
+use Rattle.gateway_core.specs.Gate.{at_face}
+use Rattle.outbox.specs.FaceTime.{FaceMoment}
+use Rattle.peer_sessions.specs.Keys.{FaceKeys}
+use Rattle.peer_gateway.specs.Gate.{FaceTold, PeerEffects, is_at}
+use Rattle.peer_gateway.specs.Steps.{a_tick}
+use Rattle.peer_gateway.specs.Answers.{answer_of}
+use Rattle.peer_gateway.specs.Laws.{added_at, begun_at}
+use Rattle.peer_half.specs.Standing.{Standing, face_of}
+use Rattle.peer_half.specs.Steps.{step_of}
+use Rattle.peer_half.specs.Parts.{reads, resumes}
+use Rattle.peer_half.specs.Half.{Came}
+use Rattle.peer_half.specs.Runs.{Run, setup_of, stands_at}
+use Rattle.peer_half.specs.Laws.{datagrams_at}
+use Rattle.peer_run_laws.specs.Faces.{moments_in}
+
+-- what waits at a face waits for some time: the timers of its sessions, the memory of those that are over, and pieces
+pub record TimersWait (k : FaceKeys) : Type 0 where
+  pub sessions : Waits (k.party).policy
+  pub memory : 1 ≤ k.remember_ms
+  pub pieces : 1 ≤ k.wait_ms
+
+-- of what is told that about a face
+abbrev pub told_of_face : Face → List FaceTold → List FaceTold
+told_of_face at told = filter (λ (t : FaceTold). is_at at t.face) told
+
+-- nothing is sent at a face, nothing is told about it, no piece is added there, and none goes in a block
+pub record IsQuietAt (at : Face) (effects : PeerEffects) : Type 0 where
+  pub sends : datagrams_at at (answer_of effects).out ≡ []
+  pub tells : told_of_face at effects.told ≡ []
+  pub adds : added_at at effects.added ≡ []
+  pub begins : begun_at at effects.begun ≡ []
+
+-- how it stands before the tick of the next half: pieces of earlier runs are added then
+abbrev pub before_tick : Came → Run → Standing
+before_tick came r = resumes (reads came.reading (stands_at r))
+
+-- if a face's moment in the next half is that of the half before, the next half's tick does nothing there: what was
+-- due at that moment went with the tick before, or when a session was free again, and what was added since isn't due
+abbrev pub TicksOnce : Type 0
+TicksOnce =
+    (r : Run) (at : Face) (before : FaceMoment) (came : Came)
+    → TimersWait (at_face (setup_of r).keys at)
+    → (face_of at (stands_at r)).time ≡ Some before
+    → (moments_in came (stands_at r)).at at ≡ before.moment
+    → IsQuietAt at (step_of a_tick (before_tick came r)).effects

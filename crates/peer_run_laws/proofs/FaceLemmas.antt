@@ -1,14 +1,16 @@
 -- When what goes out at a face goes, and how the face's time goes, by the laws of its outbox.
 
-use Rattle.std.proofs.Common.{◌≡◌, ℕ, ◌≤◌, ◌+◌, ◌-◌, ◌*◌, ◌/◌, Bool, List, [], ◌∷◌, ◌++◌, Option, Some, ◌⊎◌, refl, ap, ◌∙◌, sym, subst, append_assoc}
+use Rattle.std.proofs.Common.{◌≡◌, ℕ, ◌≤◌, ◌+◌, ◌-◌, ◌*◌, ◌/◌, Bool, List, [], ◌∷◌, ◌++◌, Option, Some, ◌⊎◌, refl, ap, ◌∙◌, sym, subst, arith, append_assoc}
 use Rattle.std.proofs.lemmas.List.{map-append}
 use Rattle.std.specs.Prelude.{IsSomeAnd}
 use Rattle.std.specs.List.{AllByRecursion}
 use Rattle.gate_cases.specs.declared.face.Face.{Face}
 use Rattle.gate_cases.specs.declared.face.Face.TheVariants as faces
 use Rattle.gate_cases.specs.Faces.{other_of}
-use Rattle.outbox.specs.FaceTime.{FaceMoment, face_at}
-use Rattle.outbox.specs.Laws.{IsOpenAt, KeepsPace, TimeGoesOn, TimeStays}
+use Rattle.contact_plan.specs.declared.window.Window.{Window}
+use Rattle.outbox.specs.declared.reading.Reading.{Reading}
+use Rattle.outbox.specs.FaceTime.{FaceMoment, face_at, gone_on, growth}
+use Rattle.outbox.specs.Laws.{IsOpenAt, KeepsPace, TimeStays}
 use Rattle.outbox.specs.Outbox.{OutboxValue, after_reading, octets_in}
 use Rattle.outbox.specs.Run as box
 use Rattle.outbox.specs.Run.{Call, StaysIn, datagrams_of, last_monotonic, longest, puts, reads, refuses, sends}
@@ -68,10 +70,24 @@ face-time : (board : Bool) (face : Face) (came : Came) (s : Standing) (at : Face
 face-time board face came s at before is =
     (half-is board at face came s).time_is ∙ ap (λ (t : Option FaceMoment). Some (face_at (face_of at s).outbox t came.reading)) is
 
-pub time-rises : TimeGoesOn → TimeRises
-time-rises law s at before board face came is up =
+-- a face's moment grows by no more than the monotonic clock does
+grown : (waiting : List (List ℕ)) (windows : List Window) (before now : Reading) → growth waiting windows before now ≤ now.monotonic - before.monotonic
+grown [] [] before now = omega arith
+grown [] (window ∷ windows) before now = omega arith
+grown (datagram ∷ datagrams) windows before now = omega arith
+
+-- it goes on by so much, but not past the last one
+rises-by : (moment time most : ℕ) → time ≤ most → (moment ≤ gone_on moment time) × (gone_on moment time ≤ moment + most)
+rises-by moment time most few = (omega arith, omega (arith, few))
+
+pub time-rises : TimeRises
+time-rises s at before board face came is =
+    let b = (face_of at s).outbox in
+    let now = came.reading in
+    let windows = (b.schedule).windows in
     subst (λ (t : Option FaceMoment). IsSomeAnd t (λ now. (before.moment ≤ now.moment) × (now.moment ≤ before.moment + ((came.reading).monotonic - (before.reading).monotonic))))
-    (sym (face-time board face came s at before is)) (law (face_of at s).outbox before (reads came.reading ∷ []) (up, tt))
+    (sym (face-time board face came s at before is))
+    (rises-by before.moment (growth b.waiting windows before.reading now) (now.monotonic - (before.reading).monotonic) (grown b.waiting windows before.reading now))
 
 pub time-is-held : TimeStays → TimeIsHeld
 time-is-held law s at before board face came is held =

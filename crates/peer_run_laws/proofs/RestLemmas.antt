@@ -9,6 +9,7 @@ use Rattle.ltp_session.specs.Engine.{EngineStep, UpValue}
 use Rattle.piece_gathering.specs.declared.piece.Piece.{Piece}
 use Rattle.piece_gathering.specs.Gathered.{GatheringValue, front_in, is_complete, is_late, ready}
 use Rattle.piece_gathering.specs.Laws.{AreSince, NoneWaitsLate}
+use Rattle.piece_gathering.proofs.FrontLemmas.{is-front}
 use Rattle.gate_cases.specs.declared.face.Face.{Face}
 use Rattle.gate_cases.specs.declared.face.Face.TheVariants as faces
 use Rattle.gate_cases.specs.declared.report.AskedReport.{AskedReport}
@@ -28,7 +29,7 @@ use Rattle.peer_gateway.specs.Gate.{PeerFace, PeerGate, PeerMoments, PeerStep, a
 use Rattle.peer_gateway.specs.Going.{adds, after_block, block_of, go, go_all, go_on, is_free, next_count, no_time, piece_at, waits_too}
 use Rattle.peer_gateway.specs.Steps.{PeerEvent, a_datagram, a_kept_piece, a_tick, adds_all, adds_kept, answers, arrives_peer, arrives_with, decided_at, decides, does, does_at, due_if, has_ended, has_room_at, hears_at, kept_piece, passes, passes_came, passes_item, peer_step, report_piece, reports, tells_left, ticks_face, ticks_peer, with_outboxes}
 use Rattle.peer_gateway.specs.Laws.{CompleteGoes, ReadyGoes}
-use Rattle.peer_run_laws.specs.Ticks.{TimersWait}
+use Rattle.peer_run_laws.specs.Ticks.{NothingIsDue, TimersWait}
 use Rattle.peer_run_laws.proofs.AheadLemmas.{IsAhead, begins-ahead, hears-ahead_at, ticks-ahead}
 
 -- ---- pieces that were added one after the other, till a moment
@@ -60,14 +61,14 @@ since-are from to (piece ∷ pieces) so = (so.0, since-are piece.added to pieces
 
 -- ---- a face
 
--- its pieces were added one after the other, till this moment, and may wait for some time
-pub record IsSorted (now : ℕ) (f : PeerFace) : Type 0 where
+-- its pieces were added one after the other, till this moment, and may wait for so long
+pub record IsSorted (wait now : ℕ) (f : PeerFace) : Type 0 where
   pub since : Since 0 now (f.gathering).waiting
-  pub wait : 1 ≤ (f.gathering).wait_ms
+  pub wait_is : (f.gathering).wait_ms ≡ wait
 
 -- besides, its deadlines are after the moment, and none of its sessions is stale
 pub record IsCalm (k : FaceKeys) (now : ℕ) (f : PeerFace) : Type 0 where
-  pub sorted : IsSorted now f
+  pub sorted : IsSorted k.wait_ms now f
   pub ahead : IsAhead now ((f.sessions).engine).next (f.sessions).engine
   pub unstale : stale k now f.sessions ≡ []
 
@@ -200,53 +201,53 @@ events-stay s m Holds kept (a_kept_piece face octets came) g so = kept-stays s m
 
 -- ---- its pieces stay sorted
 
-abbrev pub SortedAt : PeerMoments → Face → PeerGate → Type 0
-SortedAt m at g = IsSorted (m.at at) (at_face g.faces at)
+abbrev pub SortedAt : PeerSetup → PeerMoments → Face → PeerGate → Type 0
+SortedAt s m at g = IsSorted (at_face s.keys at).wait_ms (m.at at) (at_face g.faces at)
 
-sorted-block : (now : ℕ) (f : PeerFace) (until : ℕ) (step : EngineStep) → IsSorted now f → IsSorted now (after_block f until step)
-sorted-block now f until step so =
-    record { since = since-drop 0 now (ready f.gathering until) (f.gathering).waiting so.since; wait = so.wait }
+sorted-block : (wait now : ℕ) (f : PeerFace) (until : ℕ) (step : EngineStep) → IsSorted wait now f → IsSorted wait now (after_block f until step)
+sorted-block wait now f until step so =
+    record { since = since-drop 0 now (ready f.gathering until) (f.gathering).waiting so.since; wait_is = so.wait_is }
 
-sorted-go : (s : PeerSetup) (m : PeerMoments) (at face : Face) (until : ℕ) (g : PeerGate) → SortedAt m at g → SortedAt m at (go s face m until g).gate
+sorted-go : (s : PeerSetup) (m : PeerMoments) (at face : Face) (until : ℕ) (g : PeerGate) → SortedAt s m at g → SortedAt s m at (go s face m until g).gate
 unfolding go
-sorted-go s m faces.Old faces.Old until g so = sorted-block (m.at faces.Old) g.faces.0 until (block_begins s.keys.0 ((g.faces.0.sessions).engine) (block_of s faces.Old m until g.faces.0) (m.at faces.Old)) so
+sorted-go s m faces.Old faces.Old until g so = sorted-block s.keys.0.wait_ms (m.at faces.Old) g.faces.0 until (block_begins s.keys.0 ((g.faces.0.sessions).engine) (block_of s faces.Old m until g.faces.0) (m.at faces.Old)) so
 sorted-go s m faces.Old faces.New until g so = so
 sorted-go s m faces.New faces.Old until g so = so
-sorted-go s m faces.New faces.New until g so = sorted-block (m.at faces.New) g.faces.1 until (block_begins s.keys.1 ((g.faces.1.sessions).engine) (block_of s faces.New m until g.faces.1) (m.at faces.New)) so
+sorted-go s m faces.New faces.New until g so = sorted-block s.keys.1.wait_ms (m.at faces.New) g.faces.1 until (block_begins s.keys.1 ((g.faces.1.sessions).engine) (block_of s faces.New m until g.faces.1) (m.at faces.New)) so
 
-sorted-waits : (m : PeerMoments) (at face : Face) (is_report : Bool) (piece : Piece) (g : PeerGate) → piece.added ≡ m.at face → SortedAt m at g
-    → SortedAt m at (waits_too face piece is_report g).gate
-sorted-waits m faces.Old faces.Old is_report piece g is so =
-    record { since = since-push 0 (m.at faces.Old) (g.faces.0.gathering).waiting piece is so.since; wait = so.wait }
-sorted-waits m faces.Old faces.New is_report piece g is so = so
-sorted-waits m faces.New faces.Old is_report piece g is so = so
-sorted-waits m faces.New faces.New is_report piece g is so =
-    record { since = since-push 0 (m.at faces.New) (g.faces.1.gathering).waiting piece is so.since; wait = so.wait }
+sorted-waits : (s : PeerSetup) (m : PeerMoments) (at face : Face) (is_report : Bool) (piece : Piece) (g : PeerGate) → piece.added ≡ m.at face → SortedAt s m at g
+    → SortedAt s m at (waits_too face piece is_report g).gate
+sorted-waits s m faces.Old faces.Old is_report piece g is so =
+    record { since = since-push 0 (m.at faces.Old) (g.faces.0.gathering).waiting piece is so.since; wait_is = so.wait_is }
+sorted-waits s m faces.Old faces.New is_report piece g is so = so
+sorted-waits s m faces.New faces.Old is_report piece g is so = so
+sorted-waits s m faces.New faces.New is_report piece g is so =
+    record { since = since-push 0 (m.at faces.New) (g.faces.1.gathering).waiting piece is so.since; wait_is = so.wait_is }
 
-sorted-adds : (s : PeerSetup) (m : PeerMoments) (at face : Face) (is_report : Bool) (piece : Piece) (g : PeerGate) → piece.added ≡ m.at face → SortedAt m at g
-    → SortedAt m at (adds s face m is_report piece g).gate
+sorted-adds : (s : PeerSetup) (m : PeerMoments) (at face : Face) (is_report : Bool) (piece : Piece) (g : PeerGate) → piece.added ≡ m.at face → SortedAt s m at g
+    → SortedAt s m at (adds s face m is_report piece g).gate
 unfolding adds and_then
 sorted-adds s m at face is_report piece g is so =
     let h = (waits_too face piece is_report g).gate in
-    going-stays s m (SortedAt m at) face no_time (λ (x : PeerGate) (y : SortedAt m at x). sorted-go s m at face no_time x y)
-    (length ((at_face h.faces face).gathering).waiting) h (sorted-waits m at face is_report piece g is so)
+    going-stays s m (SortedAt s m at) face no_time (λ (x : PeerGate) (y : SortedAt s m at x). sorted-go s m at face no_time x y)
+    (length ((at_face h.faces face).gathering).waiting) h (sorted-waits s m at face is_report piece g is so)
 
 -- what its sessions do doesn't touch them
-sorted-does : (m : PeerMoments) (at face : Face) (step : SessionsStep) (g : PeerGate) → SortedAt m at g → SortedAt m at (does_at face g step).gate
-sorted-does m faces.Old faces.Old step g so = record { since = so.since; wait = so.wait }
-sorted-does m faces.Old faces.New step g so = so
-sorted-does m faces.New faces.Old step g so = so
-sorted-does m faces.New faces.New step g so = record { since = so.since; wait = so.wait }
+sorted-does : (s : PeerSetup) (m : PeerMoments) (at face : Face) (step : SessionsStep) (g : PeerGate) → SortedAt s m at g → SortedAt s m at (does_at face g step).gate
+sorted-does s m faces.Old faces.Old step g so = record { since = so.since; wait_is = so.wait_is }
+sorted-does s m faces.Old faces.New step g so = so
+sorted-does s m faces.New faces.Old step g so = so
+sorted-does s m faces.New faces.New step g so = record { since = so.since; wait_is = so.wait_is }
 
-sorted-kept : (s : PeerSetup) (m : PeerMoments) (at : Face) → IsKept s m (SortedAt m at)
+sorted-kept : (s : PeerSetup) (m : PeerMoments) (at : Face) → IsKept s m (SortedAt s m at)
 sorted-kept s m at = record {
   adding = record {
     counting = λ g so. so;
     adding = λ face is_report piece g is so. sorted-adds s m at face is_report piece g is so;
   };
   going = λ face until g so. sorted-go s m at face until g so;
-  hearing = λ face read g so. sorted-does m at face (hears_at s face g read (m.at face)) g so;
-  ticking = λ face g so. sorted-does m at face (ticks (at_face s.keys face) (at_face g.faces face).sessions (m.at face)) g so;
+  hearing = λ face read g so. sorted-does s m at face (hears_at s face g read (m.at face)) g so;
+  ticking = λ face g so. sorted-does s m at face (ticks (at_face s.keys face) (at_face g.faces face).sessions (m.at face)) g so;
 }
 
 -- ---- its sessions stay calm
@@ -260,7 +261,7 @@ ahead-so now n x ahead = record { senders = ahead.senders; receivers = ahead.rec
 calm-block : (k : FaceKeys) (now : ℕ) (f : PeerFace) (until : ℕ) (block : List ℕ) → TimersWait k → IsCalm k now f
     → IsCalm k now (after_block f until (block_begins k (f.sessions).engine block now))
 calm-block k now f until block wait so = record {
-  sorted = sorted-block now f until (block_begins k (f.sessions).engine block now) so.sorted;
+  sorted = sorted-block k.wait_ms now f until (block_begins k (f.sessions).engine block now) so.sorted;
   ahead = begins-ahead k (f.sessions).engine now ((f.sessions).engine).next block now wait.sessions (omega arith) so.ahead;
   unstale = so.unstale;
 }
@@ -275,11 +276,11 @@ calm-go s m faces.New faces.New until g wait so = calm-block s.keys.1 (m.at face
 calm-waits : (s : PeerSetup) (m : PeerMoments) (at face : Face) (is_report : Bool) (piece : Piece) (g : PeerGate) → piece.added ≡ m.at face → CalmAt s m at g
     → CalmAt s m at (waits_too face piece is_report g).gate
 calm-waits s m faces.Old faces.Old is_report piece g is so =
-    record { sorted = sorted-waits m faces.Old faces.Old is_report piece g is so.sorted; ahead = so.ahead; unstale = so.unstale }
+    record { sorted = sorted-waits s m faces.Old faces.Old is_report piece g is so.sorted; ahead = so.ahead; unstale = so.unstale }
 calm-waits s m faces.Old faces.New is_report piece g is so = so
 calm-waits s m faces.New faces.Old is_report piece g is so = so
 calm-waits s m faces.New faces.New is_report piece g is so =
-    record { sorted = sorted-waits m faces.New faces.New is_report piece g is so.sorted; ahead = so.ahead; unstale = so.unstale }
+    record { sorted = sorted-waits s m faces.New faces.New is_report piece g is so.sorted; ahead = so.ahead; unstale = so.unstale }
 
 calm-adds : (s : PeerSetup) (m : PeerMoments) (at face : Face) (is_report : Bool) (piece : Piece) (g : PeerGate) → TimersWait (at_face s.keys at) → piece.added ≡ m.at face → CalmAt s m at g
     → CalmAt s m at (adds s face m is_report piece g).gate
@@ -290,17 +291,17 @@ calm-adds s m at face is_report piece g wait is so =
     (length ((at_face h.faces face).gathering).waiting) h (calm-waits s m at face is_report piece g is so)
 
 -- after a step that leaves them so
-calm-does : (s : PeerSetup) (m : PeerMoments) (at face : Face) (step : SessionsStep) (g : PeerGate) → SortedAt m at g
+calm-does : (s : PeerSetup) (m : PeerMoments) (at face : Face) (step : SessionsStep) (g : PeerGate) → SortedAt s m at g
     → (at ≡ face → IsAhead (m.at at) ((step.sessions).engine).next (step.sessions).engine × (stale (at_face s.keys at) (m.at at) step.sessions ≡ []))
     → (CalmAt s m at g ⊎ (at ≡ face)) → CalmAt s m at (does_at face g step).gate
 calm-does s m faces.Old faces.Old step g sorted leaves so =
-    let (ahead, unstale) = leaves refl in record { sorted = record { since = sorted.since; wait = sorted.wait }; ahead = ahead; unstale = unstale }
+    let (ahead, unstale) = leaves refl in record { sorted = record { since = sorted.since; wait_is = sorted.wait_is }; ahead = ahead; unstale = unstale }
 calm-does s m faces.Old faces.New step g sorted leaves (inl so) = so
 calm-does s m faces.Old faces.New step g sorted leaves (inr same) = absurd (cc)
 calm-does s m faces.New faces.Old step g sorted leaves (inl so) = so
 calm-does s m faces.New faces.Old step g sorted leaves (inr same) = absurd (cc)
 calm-does s m faces.New faces.New step g sorted leaves so =
-    let (ahead, unstale) = leaves refl in record { sorted = record { since = sorted.since; wait = sorted.wait }; ahead = ahead; unstale = unstale }
+    let (ahead, unstale) = leaves refl in record { sorted = record { since = sorted.since; wait_is = sorted.wait_is }; ahead = ahead; unstale = unstale }
 
 heard-leaves : NoneIsStale → (s : PeerSetup) (m : PeerMoments) (at face : Face) (read : Result SegmentValue (ℕ × SegmentCause)) (g : PeerGate) → TimersWait (at_face s.keys at) → CalmAt s m at g
     → at ≡ face → IsAhead (m.at at) ((hears_at s face g read (m.at face)).sessions.engine).next (hears_at s face g read (m.at face)).sessions.engine
@@ -401,10 +402,10 @@ early-waits m wait faces.New is_report piece g is some so = record {
   all = All-push (IsEarly (m.at faces.New) wait) (g.faces.1.gathering).waiting piece so.all (omega (arith, is, some));
 }
 
-settled-adds : CompleteGoes → NoneWaitsLate → (s : PeerSetup) (m : PeerMoments) (at : Face) (is_report : Bool) (piece : Piece) (g : PeerGate) → piece.added ≡ m.at at → RestedAt s m at g
+settled-adds : CompleteGoes → NoneWaitsLate → (s : PeerSetup) (m : PeerMoments) (at : Face) (is_report : Bool) (piece : Piece) (g : PeerGate) → TimersWait (at_face s.keys at) → piece.added ≡ m.at at → RestedAt s m at g
     → IsSettled (at_face s.keys at) (m.at at) (at_face (adds s at m is_report piece g).gate.faces at)
 unfolding adds and_then
-settled-adds complete law s m at is_report piece g is so = by (is_free k f) refl
+settled-adds complete law s m at is_report piece g wait is so = by (is_free k f) refl
   where
     k : FaceKeys
     k = at_face s.keys at
@@ -418,12 +419,15 @@ settled-adds complete law s m at is_report piece g is so = by (is_free k f) refl
     i : PeerGate
     i = (go_all s at m no_time h).gate
 
+    some : 1 ≤ (f.gathering).wait_ms
+    some = let long = wait.pieces in let same = ((so.calm).sorted).wait_is in omega (arith, long, same)
+
     -- a session is free: nothing that waited is late, and neither is what was added
     early : is_free k f ≡ true → EarlyAt m (f.gathering).wait_ms at i
     early free =
         going-stays s m (EarlyAt m (f.gathering).wait_ms at) at no_time (λ (x : PeerGate) (y : EarlyAt m (f.gathering).wait_ms at x). early-go s m (f.gathering).wait_ms at at no_time x y)
         (length ((at_face h.faces at).gathering).waiting) h
-        (early-waits m (f.gathering).wait_ms at is_report piece g is ((so.calm).sorted).wait (record {
+        (early-waits m (f.gathering).wait_ms at is_report piece g is some (record {
           wait_is = refl;
           all = law f.gathering (m.at at) (since-are 0 (m.at at) (f.gathering).waiting ((so.calm).sorted).since) (so.settled free);
         }))
@@ -441,6 +445,31 @@ settled-adds complete law s m at is_report piece g is so = by (is_free k f) refl
       where
         differ : (t : Bool) → t ≡ true → t ≡ false → ⊥
         differ t is also = cc
+
+-- ---- nothing is due
+
+-- nothing is ready, so no block is complete
+incomplete-where : (g : GatheringValue) (now : ℕ) → ready g now ≡ 0 → (g.waiting ≡ []) ⊎ (is_complete g ≡ false)
+unfolding ready
+incomplete-where g now none = by g.waiting refl (is_complete g) refl
+  where
+    by : (pieces : List Piece) → g.waiting ≡ pieces → (complete : Bool) → is_complete g ≡ complete → (g.waiting ≡ []) ⊎ (is_complete g ≡ false)
+    by [] is complete how = inl is
+    by (piece ∷ pieces) is false how = inr how
+    by (piece ∷ pieces) is true how =
+        let some : 0 < length g.waiting = rw is (omega arith) in
+        let count = (is-front g.wanted g.waiting).some some in
+        let zero_so : (front_in g).count ≡ 0 = ap (λ (t : Bool). if t || is_late g.wait_ms now g.waiting then (front_in g).count else 0) (sym how) ∙ none in
+        absurd (omega (arith, count, zero_so))
+
+pub nothing-due : NoneWaitsLate → (k : FaceKeys) (now : ℕ) (f : PeerFace) → IsRested k now f → is_free k f ≡ true → NothingIsDue k now f
+nothing-due law k now f so free =
+    let sorted = (so.calm).sorted in
+    let none = so.settled free in
+    record {
+      incomplete = incomplete-where f.gathering now none;
+      early = subst (λ (w : ℕ). All (IsEarly now w) (f.gathering).waiting) sorted.wait_is (law f.gathering now (since-are 0 now (f.gathering).waiting sorted.since) none);
+    }
 
 -- ---- at rest: what no session ends
 
@@ -465,13 +494,13 @@ rested-adds : CompleteGoes → NoneWaitsLate → (s : PeerSetup) (m : PeerMoment
     → piece.added ≡ m.at face → RestedAt s m at g → RestedAt s m at (adds s face m is_report piece g).gate
 rested-adds complete law s m faces.Old faces.Old is_report piece g wait is so = record {
   calm = calm-adds s m faces.Old faces.Old is_report piece g wait is so.calm;
-  settled = settled-adds complete law s m faces.Old is_report piece g is so;
+  settled = settled-adds complete law s m faces.Old is_report piece g wait is so;
 }
 rested-adds complete law s m faces.Old faces.New is_report piece g wait is so = other-adds s m faces.Old is_report piece g so
 rested-adds complete law s m faces.New faces.Old is_report piece g wait is so = other-adds s m faces.New is_report piece g so
 rested-adds complete law s m faces.New faces.New is_report piece g wait is so = record {
   calm = calm-adds s m faces.New faces.New is_report piece g wait is so.calm;
-  settled = settled-adds complete law s m faces.New is_report piece g is so;
+  settled = settled-adds complete law s m faces.New is_report piece g wait is so;
 }
 
 rested-kept : CompleteGoes → NoneWaitsLate → (s : PeerSetup) (m : PeerMoments) (at : Face) → TimersWait (at_face s.keys at) → KeptByAdding s m (RestedAt s m at)
@@ -586,48 +615,48 @@ rested-arrives laws s m faces.New faces.New read g wait so = record {
 }
 
 -- a tick at whatever moment
-ticked-calm : NoneIsStale → (s : PeerSetup) (m : PeerMoments) (at : Face) (g : PeerGate) → TimersWait (at_face s.keys at) → SortedAt m at g → CalmAt s m at (ticks_face s m at g).gate
+ticked-calm : NoneIsStale → (s : PeerSetup) (m : PeerMoments) (at : Face) (g : PeerGate) → TimersWait (at_face s.keys at) → SortedAt s m at g → CalmAt s m at (ticks_face s m at g).gate
 unfolding and_then
 ticked-calm law s m at g wait so =
     let step = ticks (at_face s.keys at) (at_face g.faces at).sessions (m.at at) in
     all-stay s m (CalmAt s m at) (calm-kept law s m at wait) at (m.at at) (does_at at g step).gate
     (calm-does s m at at step g so (ticked-leaves law s m at at g wait) (inr refl))
 
-calm-ticks : NoneIsStale → (s : PeerSetup) (m : PeerMoments) (at : Face) (g : PeerGate) → TimersWait (at_face s.keys at) → SortedAt m at g → CalmAt s m at (does s a_tick m g).gate
+calm-ticks : NoneIsStale → (s : PeerSetup) (m : PeerMoments) (at : Face) (g : PeerGate) → TimersWait (at_face s.keys at) → SortedAt s m at g → CalmAt s m at (does s a_tick m g).gate
 unfolding ticks_peer and_then
 calm-ticks law s m faces.Old g wait so =
     tick-stays s m (CalmAt s m faces.Old) (calm-kept law s m faces.Old wait) faces.New (ticks_face s m faces.Old g).gate (ticked-calm law s m faces.Old g wait so)
 calm-ticks law s m faces.New g wait so =
-    ticked-calm law s m faces.New (ticks_face s m faces.Old g).gate wait (tick-stays s m (SortedAt m faces.New) (sorted-kept s m faces.New) faces.Old g so)
+    ticked-calm law s m faces.New (ticks_face s m faces.Old g).gate wait (tick-stays s m (SortedAt s m faces.New) (sorted-kept s m faces.New) faces.Old g so)
 
-rested-ticks : Cited → (s : PeerSetup) (m : PeerMoments) (at : Face) (g : PeerGate) → TimersWait (at_face s.keys at) → SortedAt m at g
+rested-ticks : Cited → (s : PeerSetup) (m : PeerMoments) (at : Face) (g : PeerGate) → TimersWait (at_face s.keys at) → SortedAt s m at g
     → RestedAt s m at (does s a_tick m g).gate
 rested-ticks laws s m at g wait so = record { calm = calm-ticks laws.stale s m at g wait so; settled = (laws.ready).ticked s m at g }
 
-sorted-found : (m : PeerMoments) (at : Face) (octets : ℕ × ℕ) (g : PeerGate) → SortedAt m at g → SortedAt m at (with_outboxes octets g)
-sorted-found m faces.Old octets g so = record { since = so.since; wait = so.wait }
-sorted-found m faces.New octets g so = record { since = so.since; wait = so.wait }
+sorted-found : (s : PeerSetup) (m : PeerMoments) (at : Face) (octets : ℕ × ℕ) (g : PeerGate) → SortedAt s m at g → SortedAt s m at (with_outboxes octets g)
+sorted-found s m faces.Old octets g so = record { since = so.since; wait_is = so.wait_is }
+sorted-found s m faces.New octets g so = record { since = so.since; wait_is = so.wait_is }
 
 pub rested-found : (s : PeerSetup) (m : PeerMoments) (at : Face) (octets : ℕ × ℕ) (g : PeerGate) → RestedAt s m at g → RestedAt s m at (with_outboxes octets g)
 rested-found s m faces.Old octets g so = record {
-  calm = record { sorted = sorted-found m faces.Old octets g (so.calm).sorted; ahead = (so.calm).ahead; unstale = (so.calm).unstale };
+  calm = record { sorted = sorted-found s m faces.Old octets g (so.calm).sorted; ahead = (so.calm).ahead; unstale = (so.calm).unstale };
   settled = so.settled;
 }
 rested-found s m faces.New octets g so = record {
-  calm = record { sorted = sorted-found m faces.New octets g (so.calm).sorted; ahead = (so.calm).ahead; unstale = (so.calm).unstale };
+  calm = record { sorted = sorted-found s m faces.New octets g (so.calm).sorted; ahead = (so.calm).ahead; unstale = (so.calm).unstale };
   settled = so.settled;
 }
 
-pub sorted-event : (s : PeerSetup) (m : PeerMoments) (at : Face) (event : PeerEvent) (octets : ℕ × ℕ) (g : PeerGate) → SortedAt m at g
-    → SortedAt m at (peer_step s event m octets g).gate
+pub sorted-event : (s : PeerSetup) (m : PeerMoments) (at : Face) (event : PeerEvent) (octets : ℕ × ℕ) (g : PeerGate) → SortedAt s m at g
+    → SortedAt s m at (peer_step s event m octets g).gate
 unfolding peer_step
 sorted-event s m at event octets g so =
-    events-stay s m (SortedAt m at) (sorted-kept s m at) event (with_outboxes octets g) (sorted-found m at octets g so)
+    events-stay s m (SortedAt s m at) (sorted-kept s m at) event (with_outboxes octets g) (sorted-found s m at octets g so)
 
-pub rested-tick : Cited → (s : PeerSetup) (m : PeerMoments) (at : Face) (octets : ℕ × ℕ) (g : PeerGate) → TimersWait (at_face s.keys at) → SortedAt m at g
+pub rested-tick : Cited → (s : PeerSetup) (m : PeerMoments) (at : Face) (octets : ℕ × ℕ) (g : PeerGate) → TimersWait (at_face s.keys at) → SortedAt s m at g
     → RestedAt s m at (peer_step s a_tick m octets g).gate
 unfolding peer_step
-rested-tick laws s m at octets g wait so = rested-ticks laws s m at (with_outboxes octets g) wait (sorted-found m at octets g so)
+rested-tick laws s m at octets g wait so = rested-ticks laws s m at (with_outboxes octets g) wait (sorted-found s m at octets g so)
 
 pub rested-event : Cited → (s : PeerSetup) (m : PeerMoments) (at : Face) (event : PeerEvent) (octets : ℕ × ℕ) (g : PeerGate) → TimersWait (at_face s.keys at) → RestedAt s m at g
     → RestedAt s m at (peer_step s event m octets g).gate
@@ -635,6 +664,6 @@ unfolding peer_step
 rested-event laws s m at (a_datagram face read) octets g wait so =
     rested-arrives laws s m at face read (with_outboxes octets g) wait (rested-found s m at octets g so)
 rested-event laws s m at a_tick octets g wait so =
-    rested-ticks laws s m at (with_outboxes octets g) wait (sorted-found m at octets g (so.calm).sorted)
+    rested-ticks laws s m at (with_outboxes octets g) wait (sorted-found s m at octets g (so.calm).sorted)
 rested-event laws s m at (a_kept_piece face octets came) found g wait so =
     kept-stays s m (RestedAt s m at) (rested-kept laws.complete laws.late s m at wait) face octets came (with_outboxes found g) (rested-found s m at found g so)

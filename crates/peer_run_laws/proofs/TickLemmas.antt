@@ -33,13 +33,13 @@ use Rattle.peer_half.specs.Runs.{EventIn, Run, after_events, arrived_in, begins_
 use Rattle.peer_half.specs.Laws.{datagrams_at}
 use Rattle.peer_half.proofs.StandingLemmas.{after_event, reads-rest}
 use Rattle.peer_run_laws.specs.Faces.{moments_in}
-use Rattle.peer_run_laws.specs.Ticks.{IsQuietAt, TicksOnce, TimersWait, before_tick, told_of_face}
+use Rattle.peer_run_laws.specs.Ticks.{IsQuietAt, NoneWaitsLateInRuns, TicksOnce, TimersWait, before_tick, told_of_face}
 use Rattle.peer_run_laws.proofs.WalkLemmas.{Core, Keeps, core-answers, events-append, keeps-each, keeps-hears}
 use Rattle.peer_run_laws.proofs.BoxLemmas.{Box, fed-begins, starts_box}
 use Rattle.peer_run_laws.proofs.OrderLemmas.{at-both, at-other}
 use Rattle.peer_run_laws.proofs.FaceLemmas.{time-is-of-half}
 use Rattle.peer_run_laws.proofs.AheadLemmas.{are-still}
-use Rattle.peer_run_laws.proofs.RestLemmas.{Cited, IsRested, IsSorted, RestedAt, SortedAt, other-does, other-due, rested-event, rested-found, rested-tick, since-later, sorted-event}
+use Rattle.peer_run_laws.proofs.RestLemmas.{Cited, IsRested, IsSorted, RestedAt, SortedAt, nothing-due, other-does, other-due, rested-event, rested-found, rested-tick, since-later, sorted-event}
 
 -- ---- quiet steps
 
@@ -213,7 +213,7 @@ step-as setup m event s setup_is moments_is =
 record IsResting (setup : PeerSetup) (at : Face) (m : PeerMoments) (s : Standing) (events : List EventIn) : Type 0 where
   setup_is : s.setup ≡ setup
   moments_is : s.moments ≡ m
-  sorted : SortedAt m at s.gate
+  sorted : SortedAt setup m at s.gate
   rested : HasTick events → RestedAt setup m at s.gate
 
 resting-event : Cited → (setup : PeerSetup) (at : Face) (m : PeerMoments) → TimersWait (at_face setup.keys at) → (event : PeerEvent) (journal : Option Journalled) (s : Standing) (earlier : List EventIn)
@@ -221,7 +221,7 @@ resting-event : Cited → (setup : PeerSetup) (at : Face) (m : PeerMoments) → 
 resting-event laws setup at m wait event journal s earlier so = record {
   setup_is = so.setup_is;
   moments_is = so.moments_is;
-  sorted = subst (λ (x : PeerStep). SortedAt m at x.gate) (sym same) (sorted-event setup m at event (outboxes_in s) s.gate so.sorted);
+  sorted = subst (λ (x : PeerStep). SortedAt setup m at x.gate) (sym same) (sorted-event setup m at event (outboxes_in s) s.gate so.sorted);
   rested = λ has. subst (λ (x : PeerStep). RestedAt setup m at x.gate) (sym same) (by event has);
 } where
   same : step_of event s ≡ peer_step setup event m (outboxes_in s) s.gate
@@ -239,7 +239,7 @@ resting-keeps laws setup at m wait = record {
   quiet = λ s t earlier same so. record {
     setup_is = ap (λ (x : Standing). x.setup) (sym same) ∙ so.setup_is;
     moments_is = ap (λ (x : Standing). x.moments) (sym same) ∙ so.moments_is;
-    sorted = subst (λ (g : PeerGate). SortedAt m at g) (ap (λ (x : Standing). x.gate) same) so.sorted;
+    sorted = subst (λ (g : PeerGate). SortedAt setup m at g) (ap (λ (x : Standing). x.gate) same) so.sorted;
     rested = λ has. subst (λ (g : PeerGate). RestedAt setup m at g) (ap (λ (x : Standing). x.gate) same) (so.rested has);
   };
   event = resting-event laws setup at m wait;
@@ -249,7 +249,7 @@ resting-keeps laws setup at m wait = record {
 
 -- a face is at rest at its moment, where it has one
 abbrev AtTime : FaceKeys → Option FaceMoment → PeerFace → Type 0
-AtTime k None f = IsSorted 0 f
+AtTime k None f = IsSorted k.wait_ms 0 f
 AtTime k (Some t) f = IsRested k t.moment f
 
 record IsAtRest (setup : PeerSetup) (at : Face) (s : Standing) : Type 0 where
@@ -260,14 +260,14 @@ record IsAtRest (setup : PeerSetup) (at : Face) (s : Standing) : Type 0 where
 further : (moment time : ℕ) → moment ≤ moment + time
 further moment time = omega arith
 
-sorted-read : (k : FaceKeys) (b : OutboxValue) (time : Option FaceMoment) (now : Reading) (f : PeerFace) → AtTime k time f → IsSorted (moment_at b time now) f
-sorted-read k b None now f so = record { since = since-later 0 0 now.wall (f.gathering).waiting (omega arith) so.since; wait = so.wait }
+sorted-read : (k : FaceKeys) (b : OutboxValue) (time : Option FaceMoment) (now : Reading) (f : PeerFace) → AtTime k time f → IsSorted k.wait_ms (moment_at b time now) f
+sorted-read k b None now f so = record { since = since-later 0 0 now.wall (f.gathering).waiting (omega arith) so.since; wait_is = so.wait_is }
 sorted-read k b (Some t) now f so =
     let sorted = (so.calm).sorted in
     let grown = growth b.waiting (b.schedule).windows t.reading now in
-    record { since = since-later 0 t.moment (gone_on t.moment grown) (f.gathering).waiting (further t.moment (min grown (last_moment - t.moment))) sorted.since; wait = sorted.wait }
+    record { since = since-later 0 t.moment (gone_on t.moment grown) (f.gathering).waiting (further t.moment (min grown (last_moment - t.moment))) sorted.since; wait_is = sorted.wait_is }
 
-sorted-in : (setup : PeerSetup) (at : Face) (came : Came) (s : Standing) → IsAtRest setup at s → SortedAt (moments_in came s) at s.gate
+sorted-in : (setup : PeerSetup) (at : Face) (came : Came) (s : Standing) → IsAtRest setup at s → SortedAt setup (moments_in came s) at s.gate
 sorted-in setup faces.Old came s so = sorted-read setup.keys.0 (s.faces.0).outbox (s.faces.0).time came.reading (s.gate).faces.0 so.rest
 sorted-in setup faces.New came s so = sorted-read setup.keys.1 (s.faces.1).outbox (s.faces.1).time came.reading (s.gate).faces.1 so.rest
 
@@ -299,9 +299,9 @@ rest-halves laws setup at wait board face [] s so = so
 rest-halves laws setup at wait board face (came ∷ more) s so =
     rest-halves laws setup at wait board (other_of face) more (half board face came s).standing (rest-half laws setup at wait board face came s so)
 
-rest-begins : (r : Run) (at : Face) → TimersWait (at_face (setup_of r).keys at) → IsAtRest (setup_of r) at (begins_at r)
+rest-begins : (r : Run) (at : Face) → IsAtRest (setup_of r) at (begins_at r)
 unfolding starts_at
-rest-begins r at wait = record { setup_is = refl; rest = subst (λ (t : Option FaceMoment). AtTime (at_face (setup_of r).keys at) t (at_face (first_gate r).faces at)) (sym none) (by at wait) }
+rest-begins r at = record { setup_is = refl; rest = subst (λ (t : Option FaceMoment). AtTime (at_face (setup_of r).keys at) t (at_face (first_gate r).faces at)) (sym none) (by at) }
   where
     none : (face_of at (begins_at r)).time ≡ None
     none = ap (λ (b : Box). b.1) (fed-begins r at).box_is ∙ at_first at
@@ -310,9 +310,18 @@ rest-begins r at wait = record { setup_is = refl; rest = subst (λ (t : Option F
         at_first faces.Old = refl
         at_first faces.New = refl
 
-    by : (at : Face) → TimersWait (at_face (setup_of r).keys at) → IsSorted 0 (at_face (first_gate r).faces at)
-    by faces.Old wait = record { since = omega arith; wait = wait.pieces }
-    by faces.New wait = record { since = omega arith; wait = wait.pieces }
+    by : (at : Face) → IsSorted (at_face (setup_of r).keys at).wait_ms 0 (at_face (first_gate r).faces at)
+    by faces.Old = record { since = omega arith; wait_is = refl }
+    by faces.New = record { since = omega arith; wait_is = refl }
+
+rest-run : Cited → (r : Run) (at : Face) → TimersWait (at_face (setup_of r).keys at) → IsAtRest (setup_of r) at (stands_at r)
+rest-run laws r at wait = rest-halves laws (setup_of r) at wait r.board faces.Old r.comes (begins_at r) (rest-begins r at)
+
+pub none-waits-late-in-runs : Cited → NoneWaitsLateInRuns
+none-waits-late-in-runs laws r at now wait is free =
+    let k = at_face (setup_of r).keys at in
+    let f = at_face ((stands_at r).gate).faces at in
+    nothing-due laws.late k now.moment f (subst (λ (t : Option FaceMoment). AtTime k t f) is (rest-run laws r at wait).rest) free
 
 -- ---- the tick of the next half
 
@@ -350,7 +359,7 @@ ticks-once laws r at before came wait is same =
     let m = moments_in came s in
     let k = at_face setup.keys at in
     let f = at_face (s.gate).faces at in
-    let end = rest-halves laws setup at wait r.board faces.Old r.comes (begins_at r) (rest-begins r at wait) in
+    let end = rest-run laws r at wait in
     let held : IsRested k before.moment f = subst (λ (t : Option FaceMoment). AtTime k t f) is end.rest in
     let read : StaysRested setup at m (reads came.reading s) [] =
     (rested-keeps laws setup at m wait).quiet (reading_clocks came.reading s) (reads came.reading s) [] (sym (reads-rest came.reading s)) (record {

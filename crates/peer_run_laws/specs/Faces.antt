@@ -207,12 +207,12 @@ abbrev pub TimeIsOfHalf : Type 0
 TimeIsOfHalf =
     (board : Bool) (face : Face) (came : Came) (s : Standing) (at : Face) → IsOfHalf board face came s at
 
--- from one half to the next it never falls, and grows by no more than the monotonic clock does
+-- from one half to the next it never falls, and grows by no more than the monotonic clock does, whatever the clocks
+-- show
 abbrev pub TimeRises : Type 0
 TimeRises =
     (s : Standing) (at : Face) (before : FaceMoment) (board : Bool) (face : Face) (came : Came)
     → (face_of at s).time ≡ Some before
-    → (before.reading).monotonic ≤ (came.reading).monotonic
     → IsSomeAnd (face_of at (half board face came s).standing).time (λ now.
     (before.moment ≤ now.moment)
     × (now.moment ≤ before.moment + ((came.reading).monotonic - (before.reading).monotonic)))

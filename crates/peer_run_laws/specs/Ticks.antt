@@ -1,13 +1,16 @@
--- A tick at a face's moment at which one came before does nothing at the face.
+-- What is due at a face goes in the half in which it is due: nothing is left to a tick at the same moment.
 
-use Rattle.std.specs.Prelude.{◌≡◌, ◌≤◌, List, [], Some}
-use Rattle.std.specs.List.{filter}
+use Rattle.std.specs.Prelude.{◌≡◌, ℕ, ◌-◌, ◌<◌, ◌≤◌, ◌⊎◌, false, true, List, [], Some}
+use Rattle.std.specs.List.{All, filter}
 use Rattle.ltp_laws.specs.Deadlines.{Waits}
 use Rattle.gate_cases.specs.declared.face.Face.{Face}
 use Rattle.gateway_core.specs.Gate.{at_face}
 use Rattle.outbox.specs.FaceTime.{FaceMoment}
+use Rattle.piece_gathering.specs.declared.piece.Piece.{Piece}
+use Rattle.piece_gathering.specs.Gathered.{is_complete}
 use Rattle.peer_sessions.specs.Keys.{FaceKeys}
-use Rattle.peer_gateway.specs.Gate.{FaceTold, PeerEffects, is_at}
+use Rattle.peer_gateway.specs.Gate.{FaceTold, PeerEffects, PeerFace, is_at}
+use Rattle.peer_gateway.specs.Going.{is_free}
 use Rattle.peer_gateway.specs.Steps.{a_tick}
 use Rattle.peer_gateway.specs.Answers.{answer_of}
 use Rattle.peer_gateway.specs.Laws.{added_at, begun_at}
@@ -49,3 +52,19 @@ TicksOnce =
     → (face_of at (stands_at r)).time ≡ Some before
     → (moments_in came (stands_at r)).at at ≡ before.moment
     → IsQuietAt at (step_of a_tick (before_tick came r)).effects
+
+-- ---- after a half
+
+-- while a session is free at a face, no block is complete there, and no piece has waited as long as it may
+pub record NothingIsDue (k : FaceKeys) (now : ℕ) (f : PeerFace) : Type 0 where
+  pub incomplete : ((f.gathering).waiting ≡ []) ⊎ (is_complete f.gathering ≡ false)
+  pub early : All (λ (piece : Piece). now - piece.added < k.wait_ms) (f.gathering).waiting
+
+-- by the face's moment, after each half of a run
+abbrev pub NoneWaitsLateInRuns : Type 0
+NoneWaitsLateInRuns =
+    (r : Run) (at : Face) (now : FaceMoment)
+    → TimersWait (at_face (setup_of r).keys at)
+    → (face_of at (stands_at r)).time ≡ Some now
+    → is_free (at_face (setup_of r).keys at) (at_face ((stands_at r).gate).faces at) ≡ true
+    → NothingIsDue (at_face (setup_of r).keys at) now.moment (at_face ((stands_at r).gate).faces at)

@@ -5,7 +5,7 @@ ghost use Rattle.peer_run_laws.specs.Gate.{GateIsOfEvents};
 ghost use Rattle.peer_run_laws.specs.Faces.{GoesAtOnceInRuns, GoesInContactInRuns, GoesOnceInOrder};
 ghost use Rattle.peer_run_laws.specs.Faces.{KeepsPaceInRuns, PutsAllWithRoom};
 ghost use Rattle.peer_run_laws.specs.Faces.{TimeIsHeld, TimeIsOfHalf, TimeRises};
-ghost use Rattle.peer_run_laws.specs.Ticks.{TicksOnce};
+ghost use Rattle.peer_run_laws.specs.Ticks.{NoneWaitsLateInRuns, TicksOnce};
 
 /// The gate of a run is what its ticks, its datagrams and the pieces of earlier runs make of a gate at its
 /// beginning.
@@ -62,12 +62,10 @@ pub fn time_is_of_half()
 {}
 
 /// From one half to the next a face's moment never falls, and grows by no more than the monotonic
-/// clock does.
+/// clock does, whatever the clocks show.
 pub fn time_rises()
     ensures { TimeRises }
-{
-    outbox::laws::time_goes_on();
-}
+{}
 
 /// It stays where datagrams waited at the end of the half before, or the link was closed since.
 pub fn time_is_held()
@@ -80,6 +78,16 @@ pub fn time_is_held()
 /// the tick before, or when a session was free again, and what was added since isn't due.
 pub fn ticks_once()
     ensures { TicksOnce }
+{
+    peer_sessions::laws::none_is_stale();
+    peer_gateway::laws::complete_goes();
+    peer_gateway::laws::ready_goes();
+}
+
+/// After a half, while a session is free at a face, no block is complete there, and no piece has waited as long as it
+/// may, by the face's moment.
+pub fn none_waits_late_in_runs()
+    ensures { NoneWaitsLateInRuns }
 {
     peer_sessions::laws::none_is_stale();
     peer_gateway::laws::complete_goes();

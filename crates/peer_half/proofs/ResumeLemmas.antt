@@ -62,12 +62,12 @@ unfolding adds and_then
 any-adds s face m piece g = refl
 
 -- by the room for it
-record Tried (p : Pending) (s : Standing) : Type 0 where
-  quiet : notes_in ((step_of (begin_of p) s).effects).told ≡ []
+pub record Tried (p : Pending) (s : Standing) : Type 0 where
+  pub quiet : notes_in ((step_of (begin_of p) s).effects).told ≡ []
   -- where none was added, nothing was done
-  stays : is_added p s ≡ false → step_of (begin_of p) s ≡ stays_so (with_outboxes (outboxes_in s) s.gate)
+  pub stays : is_added p s ≡ false → step_of (begin_of p) s ≡ stays_so (with_outboxes (outboxes_in s) s.gate)
 
-tried : (p : Pending) (s : Standing) → Tried p s
+pub tried : (p : Pending) (s : Standing) → Tried p s
 unfolding peer_step
 tried p s = record { quiet = quiet-by room; stays = λ out. stays-by room out }
   where
@@ -118,7 +118,7 @@ none-added-of : (id i : ℕ) (added : List AddedAt) → any_added added ≡ fals
 none-added-of id i [] any = refl
 none-added-of id i (a ∷ more) any = absurd (cc)
 
-one-more : (p : Pending) (s : Standing) (k : PeerKeeping) → is_added p s ≡ true → OneAdded p.id k (after_step (happened p s) k)
+pub one-more : (p : Pending) (s : Standing) (k : PeerKeeping) → is_added p s ≡ true → OneAdded p.id k (after_step (happened p s) k)
 one-more p s k any = record {
   held_is = λ i.
       let more = held-again (happened p s) k p.id refl (tried p s).quiet i in
@@ -126,7 +126,7 @@ one-more p s k any = record {
   pending = pending-again (happened p s) k p.id refl (tried p s).quiet;
 }
 
-no-more : (p : Pending) (s : Standing) (k : PeerKeeping) → is_added p s ≡ false → NoneAdded k (after_step (happened p s) k)
+pub no-more : (p : Pending) (s : Standing) (k : PeerKeeping) → is_added p s ≡ false → NoneAdded k (after_step (happened p s) k)
 no-more p s k any = record {
   held_is = λ i.
       let more = held-again (happened p s) k p.id refl (tried p s).quiet i in

@@ -43,7 +43,7 @@ held-again h k id again quiet i =
     let named : times i (ids_named (before_going h k).named) ≡ times i (ids_named k.named) = rw quiet refl in
     omega (arith, parts, before, same, waited, one, named)
 
-records-again : (h : PeerHappened) (k : PeerKeeping) (id : ℕ) → h.again ≡ Some id → notes_in h.told ≡ [] → step_records h k ≡ mark_part h k.kept
+pub records-again : (h : PeerHappened) (k : PeerKeeping) (id : ℕ) → h.again ≡ Some id → notes_in h.told ≡ [] → step_records h k ≡ mark_part h k.kept
 unfolding step_records done_records
 records-again h k id again quiet = rw (again, quiet) refl
 

@@ -1,0 +1,9 @@
+pub mod JournalLemmas
+pub mod KeepsLemmas
+pub mod NumberLemmas
+pub mod StepLemmas
+pub mod PieceLemmas
+pub mod AgainLemmas
+pub mod ResumeLemmas
+pub mod MarkLemmas
+pub mod GoneLemmas

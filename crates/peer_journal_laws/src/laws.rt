@@ -1,0 +1,62 @@
+//! What holds of the journal over each run. Each law is the contract of a function that does
+//! nothing but cite laws of one step.
+
+ghost use Rattle.peer_journal_laws.specs.Keeps.{KeepsBeforeItSends, NumbersAreKept};
+ghost use Rattle.peer_journal_laws.specs.Marks.{MarksAreKept};
+ghost use Rattle.peer_journal_laws.specs.Pieces.{EarlierAreKept, EndedAreGone, PiecesAreKept};
+ghost use Rattle.peer_journal_laws.specs.Resumes.{AddsAgainInOrder, AddsAgainOnce, ResumesWhatIsKept};
+
+/// In each half of a run, at each datagram that goes out, sent or lost, what the acts so far say is
+/// kept is what the run knows after all steps of that half, whatever they say of the greatest id.
+pub fn keeps_before_it_sends()
+    ensures { KeepsBeforeItSends }
+{}
+
+/// After all steps of a half the number of a face's next session isn't above what is reserved, so
+/// each number that was given is below that when a datagram goes out.
+pub fn numbers_are_kept()
+    ensures { NumbersAreKept }
+{
+    peer_records::laws::numbers_are_reserved();
+}
+
+/// Each piece that a step of a run adds is pending under an id of its own, and stays so until a
+/// step with which the session of its block ended. So does each that was pending when the run
+/// began.
+pub fn pieces_are_kept()
+    ensures added { PiecesAreKept }
+    ensures earlier { EarlierAreKept }
+{
+    peer_records::laws::pieces_are_pending();
+}
+
+/// Once the session of a piece's block has ended with a step of a run, the piece is pending no
+/// longer, whatever comes after it. What earlier runs kept is legal, as what is read of a journal
+/// is.
+pub fn ended_are_gone()
+    ensures { EndedAreGone }
+{}
+
+/// What a half of a run adds of earlier runs are pieces that are pending, each once in the half.
+/// The same are pending after it, and no piece is recorded with that.
+pub fn resumes_what_is_kept()
+    ensures { ResumesWhatIsKept }
+{}
+
+/// At each face a run adds the pieces that earlier runs kept in the order of their ids, each once,
+/// and what it hasn't added is still to be. What earlier runs kept is legal, as what is read of a
+/// journal is.
+pub fn adds_again_once()
+    ensures in_order { AddsAgainInOrder }
+    ensures once { AddsAgainOnce }
+{}
+
+/// A session of the peer on which a report went out before it was handed up is marked, until a step
+/// with which it was over, or 1,024 later marks of its face.
+pub fn marks_are_kept()
+    ensures { MarksAreKept }
+{
+    peer_records::laws::report_is_marked();
+    gate_records::laws::mark_stays();
+    peer_records::laws::only_over_is_cleared();
+}

@@ -160,27 +160,27 @@ ends-are-done is_open (n ∷ notes) named =
 
 -- ---- what is begun has an id above all before
 
-gone-begun : (id : ℕ) (raises : Bool) (added : List AddedAt) (kept : KeptValue) (given : ℕ) → id ≤ given → Gone id kept → Gone id (kept_after kept (begun_records raises given added))
+gone-begun : (id : ℕ) (added : List AddedAt) (kept : KeptValue) (given : ℕ) → id ≤ given → Gone id kept → Gone id (kept_after kept (begun_records given added))
 unfolding begun_records kept_with
-gone-begun id raises [] kept given le none = none
-gone-begun id raises (a ∷ added) kept given le none =
-    by a.is_report (gone-begun id raises added kept given le none) (gone-begun id raises added (kept_with kept (a_begun p)) (given + 1) (omega (arith, le)) (gone-push id p kept.pending apart none))
+gone-begun id [] kept given le none = none
+gone-begun id (a ∷ added) kept given le none =
+    by a.is_report (gone-begun id added kept given le none) (gone-begun id added (kept_with kept (a_begun p)) (given + 1) (omega (arith, le)) (gone-push id p kept.pending apart none))
   where
     p : Pending
-    p = pending_with raises (given + 1) a
+    p = pending_with (given + 1) a
 
     apart : (p.id == id) ≡ false
     apart = ne_eqb (given + 1) id (λ e. omega (arith, e, le))
 
-    by : (t : Bool) → Gone id (kept_after kept (begun_records raises given added)) → Gone id (kept_after (kept_with kept (a_begun p)) (begun_records raises (given + 1) added))
-        → Gone id (kept_after kept (if t then begun_records raises given added else a_begun p ∷ begun_records raises (given + 1) added))
+    by : (t : Bool) → Gone id (kept_after kept (begun_records given added)) → Gone id (kept_after (kept_with kept (a_begun p)) (begun_records (given + 1) added))
+        → Gone id (kept_after kept (if t then begun_records given added else a_begun p ∷ begun_records (given + 1) added))
     by true report piece = report
     by false report piece = piece
 
-gone-added : (id : ℕ) (raises : Bool) (again : Option ℕ) (added : List AddedAt) (kept : KeptValue) (given : ℕ) → id ≤ given → Gone id kept
-    → Gone id (kept_after kept (added_records raises again given added))
-gone-added id raises None added kept given le none = gone-begun id raises added kept given le none
-gone-added id raises (Some other_id) added kept given le none = none
+gone-added : (id : ℕ) (again : Option ℕ) (added : List AddedAt) (kept : KeptValue) (given : ℕ) → id ≤ given → Gone id kept
+    → Gone id (kept_after kept (added_records again given added))
+gone-added id None added kept given le none = gone-begun id added kept given le none
+gone-added id (Some other_id) added kept given le none = none
 
 -- ---- the greatest id that was given
 
@@ -200,26 +200,26 @@ given-up given (a ∷ added) = by a.is_report (given-up given added) (given-up (
     by true same more = same
     by false same more = omega (arith, more)
 
-begun-greatest : (raises : Bool) (added : List AddedAt) (kept : KeptValue) (given : ℕ) → kept.greatest ≡ given → (kept_after kept (begun_records raises given added)).greatest ≡ given_with given added
+begun-greatest : (added : List AddedAt) (kept : KeptValue) (given : ℕ) → kept.greatest ≡ given → (kept_after kept (begun_records given added)).greatest ≡ given_with given added
 unfolding begun_records kept_with
-begun-greatest raises [] kept given is = is
-begun-greatest raises (a ∷ added) kept given is =
-    by a.is_report (begun-greatest raises added kept given is) (begun-greatest raises added (kept_with kept (a_begun (pending_with raises (given + 1) a))) (given + 1) refl)
+begun-greatest [] kept given is = is
+begun-greatest (a ∷ added) kept given is =
+    by a.is_report (begun-greatest added kept given is) (begun-greatest added (kept_with kept (a_begun (pending_with (given + 1) a))) (given + 1) refl)
   where
     p : Pending
-    p = pending_with raises (given + 1) a
+    p = pending_with (given + 1) a
 
-    by : (t : Bool) → (kept_after kept (begun_records raises given added)).greatest ≡ given_with given added
-        → (kept_after (kept_with kept (a_begun p)) (begun_records raises (given + 1) added)).greatest ≡ given_with (given + 1) added
-        → (kept_after kept (if t then begun_records raises given added else a_begun p ∷ begun_records raises (given + 1) added)).greatest
+    by : (t : Bool) → (kept_after kept (begun_records given added)).greatest ≡ given_with given added
+        → (kept_after (kept_with kept (a_begun p)) (begun_records (given + 1) added)).greatest ≡ given_with (given + 1) added
+        → (kept_after kept (if t then begun_records given added else a_begun p ∷ begun_records (given + 1) added)).greatest
         ≡ (if t then given_with given added else given_with (given + 1) added)
     by true report piece = report
     by false report piece = piece
 
-added-greatest : (raises : Bool) (again : Option ℕ) (added : List AddedAt) (kept : KeptValue) (given : ℕ) → kept.greatest ≡ given
-    → (kept_after kept (added_records raises again given added)).greatest ≡ given_after again given added
-added-greatest raises None added kept given is = begun-greatest raises added kept given is
-added-greatest raises (Some id) added kept given is = is
+added-greatest : (again : Option ℕ) (added : List AddedAt) (kept : KeptValue) (given : ℕ) → kept.greatest ≡ given
+    → (kept_after kept (added_records again given added)).greatest ≡ given_after again given added
+added-greatest None added kept given is = begun-greatest added kept given is
+added-greatest (Some id) added kept given is = is
 
 -- ---- a step: what is kept after its ends, its pieces, and the rest
 
@@ -244,7 +244,7 @@ step-greatest : (h : PeerHappened) (k : PeerKeeping) → ((after_step h k).kept)
 step-greatest h k =
     ap (λ (j : KeptValue). j.greatest) (step-kept h k)
     ∙ apart-greatest (kept_added h k) (rest_records h k) (rest-apart h k)
-    ∙ added-greatest h.raises h.again h.added (kept_ended h k) (k.kept).greatest (ends-greatest k.kept h.is_open (notes_in h.told) k.named)
+    ∙ added-greatest h.again h.added (kept_ended h k) (k.kept).greatest (ends-greatest k.kept h.is_open (notes_in h.told) k.named)
 
 given-more : (again : Option ℕ) (given : ℕ) (added : List AddedAt) → given ≤ given_after again given added
 given-more None given added = given-up given added
@@ -254,7 +254,7 @@ gone-rest : (id : ℕ) (h : PeerHappened) (k : PeerKeeping) → id ≤ (k.kept).
 gone-rest id h k le none =
     ap (λ (j : KeptValue). among id j.pending) (step-kept h k)
     ∙ ap (among id) (apart-pending (kept_added h k) (rest_records h k) (rest-apart h k))
-    ∙ gone-added id h.raises h.again h.added (kept_ended h k) (k.kept).greatest le none
+    ∙ gone-added id h.again h.added (kept_ended h k) (k.kept).greatest le none
 
 gone-step : (id : ℕ) (h : PeerHappened) (k : PeerKeeping) → IsOrdered k.kept → id ≤ (k.kept).greatest → Gone id k.kept → Gone id (after_step h k).kept
 gone-step id h k is le none =

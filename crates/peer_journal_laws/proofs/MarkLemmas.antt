@@ -90,19 +90,19 @@ ended-still opened (n ∷ more) named =
     let left = end_leaves opened n.face (note_ends n.note) named in
     still-join (end_done opened n.face (note_ends n.note) named) (done_records opened more left) (end-still opened n.face (note_ends n.note) named) (ended-still opened more left)
 
-begun-still : (raises : Bool) (greatest : ℕ) (added : List AddedAt) → AreStill (begun_records raises greatest added)
+begun-still : (greatest : ℕ) (added : List AddedAt) → AreStill (begun_records greatest added)
 unfolding begun_records
-begun-still raises greatest [] = tt
-begun-still raises greatest (a ∷ added) = by a.is_report (begun-still raises greatest added) (begun-still raises (greatest + 1) added)
+begun-still greatest [] = tt
+begun-still greatest (a ∷ added) = by a.is_report (begun-still greatest added) (begun-still (greatest + 1) added)
   where
-    by : (t : Bool) → AreStill (begun_records raises greatest added) → AreStill (begun_records raises (greatest + 1) added)
-        → AreStill (if t then begun_records raises greatest added else a_begun (pending_with raises (greatest + 1) a) ∷ begun_records raises (greatest + 1) added)
+    by : (t : Bool) → AreStill (begun_records greatest added) → AreStill (begun_records (greatest + 1) added)
+        → AreStill (if t then begun_records greatest added else a_begun (pending_with (greatest + 1) a) ∷ begun_records (greatest + 1) added)
     by true report piece = report
     by false report piece = piece
 
-pieces-still : (raises : Bool) (again : Option ℕ) (greatest : ℕ) (added : List AddedAt) → AreStill (added_records raises again greatest added)
-pieces-still raises None greatest added = begun-still raises greatest added
-pieces-still raises (Some id) greatest added = tt
+pieces-still : (again : Option ℕ) (greatest : ℕ) (added : List AddedAt) → AreStill (added_records again greatest added)
+pieces-still None greatest added = begun-still greatest added
+pieces-still (Some id) greatest added = tt
 
 reserved-still : (rs : List RecordValue) → AreReserved rs → AreStill rs
 reserved-still [] are = tt
@@ -274,7 +274,7 @@ midst law face session step out after out_is = record {
   kept = kept_after k.kept front;
   marks_are = ap (λ (x : KeptValue). x.marks) (after-append k.kept ended (pieces ++ first) ∙ after-append (kept_after k.kept ended) pieces first)
       ∙ marks-are (marking h) out (kept_after (kept_after k.kept ended) pieces) marks
-      (still-marks (kept_after k.kept ended) pieces (pieces-still h.raises h.again (k.kept).greatest h.added) ∙ still-marks k.kept ended (ended-still h.is_open (notes_in h.told) k.named));
+      (still-marks (kept_after k.kept ended) pieces (pieces-still h.again (k.kept).greatest h.added) ∙ still-marks k.kept ended (ended-still h.is_open (notes_in h.told) k.named));
   reach = record {
     records = rest;
     to_is = ap (kept_after k.kept) split ∙ after-append k.kept front rest;

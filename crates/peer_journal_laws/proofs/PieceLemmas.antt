@@ -91,19 +91,19 @@ apart-ends id (a_mark m ∷ rs) are = apart-ends id rs are
 apart-ends id (a_clear face session ∷ rs) are = apart-ends id rs are
 apart-ends id (a_reserved face n ∷ rs) are = apart-ends id rs are
 
-begun-ends : (id : ℕ) (raises : Bool) (greatest : ℕ) (added : List AddedAt) → ends_one id (begun_records raises greatest added) ≡ false
+begun-ends : (id : ℕ) (greatest : ℕ) (added : List AddedAt) → ends_one id (begun_records greatest added) ≡ false
 unfolding begun_records
-begun-ends id raises greatest [] = refl
-begun-ends id raises greatest (a ∷ added) = by a.is_report (begun-ends id raises greatest added) (begun-ends id raises (greatest + 1) added)
+begun-ends id greatest [] = refl
+begun-ends id greatest (a ∷ added) = by a.is_report (begun-ends id greatest added) (begun-ends id (greatest + 1) added)
   where
-    by : (t : Bool) → ends_one id (begun_records raises greatest added) ≡ false → ends_one id (begun_records raises (greatest + 1) added) ≡ false
-        → ends_one id (if t then begun_records raises greatest added else a_begun (pending_with raises (greatest + 1) a) ∷ begun_records raises (greatest + 1) added) ≡ false
+    by : (t : Bool) → ends_one id (begun_records greatest added) ≡ false → ends_one id (begun_records (greatest + 1) added) ≡ false
+        → ends_one id (if t then begun_records greatest added else a_begun (pending_with (greatest + 1) a) ∷ begun_records (greatest + 1) added) ≡ false
     by true report piece = report
     by false report piece = piece
 
-added-ends : (id : ℕ) (raises : Bool) (again : Option ℕ) (greatest : ℕ) (added : List AddedAt) → ends_one id (added_records raises again greatest added) ≡ false
-added-ends id raises None greatest added = begun-ends id raises greatest added
-added-ends id raises (Some other) greatest added = refl
+added-ends : (id : ℕ) (again : Option ℕ) (greatest : ℕ) (added : List AddedAt) → ends_one id (added_records again greatest added) ≡ false
+added-ends id None greatest added = begun-ends id greatest added
+added-ends id (Some other) greatest added = refl
 
 -- by a note, of whose session it was
 record Noted (id : ℕ) (is_open : OpenAt) (notes : List FaceNote) (named : List Named) : Type 0 where
@@ -213,7 +213,7 @@ step-ends id step is =
     none = apart-ends id others (others-apart (marking h) h.out (k.kept).marks (marks_after (marking h) h.out (k.kept).marks))
 
     not_piece : ends_one id (piece_records h k) ≡ false
-    not_piece = added-ends id h.raises h.again (k.kept).greatest h.added
+    not_piece = added-ends id h.again (k.kept).greatest h.added
 
     by_piece : (ends_one id (piece_records h k) ≡ true) ⊎ (ends_one id others ≡ true) → EndsPiece id step
     by_piece (inl piece) = absurd (cc (piece, not_piece))
@@ -281,7 +281,7 @@ among-middle p (x ∷ earlier) later = inr (among-middle p earlier later)
 pub pieces-are-kept : PiecesArePending → PiecesAreKept
 pieces-are-kept law r face came kept is earlier step later steps_are new before a after added piece =
     let there = law step.happened step.keeping before a after new added piece in
-    let p : Pending = pending_with (step.happened).raises there.id a in
+    let p : Pending = pending_with there.id a in
     let known = known-run r face came kept is in
     let chain = subst (λ xs. Chain (keeping_of known.first) xs known.last) steps_are known.chain in
     record {

@@ -46,10 +46,10 @@ IsEnded id (step ∷ more) = EndsPiece id step ⊎ IsEnded id more
 
 -- A piece that was added with a step: it is pending then, under an id that waits or is in a session. And it is pending
 -- in what is kept, or with a later step its session ended.
-pub record IsPieceKept (raises : Bool) (a : AddedAt) (step : JournalStep) (later : List JournalStep)
+pub record IsPieceKept (a : AddedAt) (step : JournalStep) (later : List JournalStep)
     (kept : KeptValue) : Type 0 where
-  pub piece : IsKeptPiece raises a (known_then step)
-  pub stays : IsAmong (pending_with raises piece.id a) kept.pending ⊎ IsEnded piece.id later
+  pub piece : IsKeptPiece a (known_then step)
+  pub stays : IsAmong (pending_with piece.id a) kept.pending ⊎ IsEnded piece.id later
 
 -- So it is with each piece that a step of a run with a journal adds, once the records of the step's half or of a
 -- later one are committed, and so at each datagram from then on.
@@ -61,7 +61,7 @@ PiecesAreKept =
     → steps_of face came r ≡ earlier ++ step ∷ later → (step.happened).again ≡ None
     → (before : List AddedAt) (a : AddedAt) (after : List AddedAt)
     → (step.happened).added ≡ before ++ a ∷ after → a.is_report ≡ false
-    → IsPieceKept (step.happened).raises a step later kept
+    → IsPieceKept a step later kept
 
 -- ---- pieces of earlier runs
 

@@ -41,7 +41,8 @@ octets_out segments = sum_by (λ (segment : SegmentValue). length (segment_octet
 
 -- ---- a gate
 
--- a face's sessions; the pieces that wait there; and how many octets wait in its outbox
+-- A face's sessions; the pieces that wait there; and how many octets are in its outbox: those that an event
+-- finds there, and those of each datagram that was made since.
 pub record PeerFace : Type 0 where
   pub sessions : Sessions
   pub gathering : GatheringValue
@@ -51,8 +52,8 @@ pub record PeerGate : Type 0 where
   pub faces : PeerFace × PeerFace
   pub counter : ℕ
 
--- sessions of the peer that were acknowledged in an earlier run can't be handed up in this one: each is
--- cancelled once at the start, in order, and the cancels wait in the outbox
+-- sessions of the peer of which an earlier run had claimed a part, and no whole block, aren't handed up in this
+-- one: each is cancelled once at the start, in order, and the cancels wait in the outbox
 abbrev pub cancel_of : FaceKeys → ℕ → SegmentValue
 cancel_of k mark =
     record { originator = (k.party).peer; session = mark; content = a_receiver_cancel by_system }

@@ -46,8 +46,8 @@ abbrev pub first_in : FaceConfig → Option ℕ → ℕ → ℕ
 first_in c None wall = first_session c.first_session wall
 first_in c (Some reserved) wall = first_of (first_session c.first_session wall) reserved
 
--- The engines of both ends, and as many sessions each way as the file says. Closed numbers are remembered
--- elsewhere: there is room for as many runs of them here as 32 bits count.
+-- The engines of both ends, and as many sessions each way as the file says. How many runs of closed numbers an
+-- engine keeps isn't looked at here: they are remembered beside it.
 abbrev pub party_in : FaceConfig → Option ℕ → ℕ → Party
 party_in c reserved wall =
     wide_party c.engine c.peer_engine (first_in c reserved wall) (policy_in c) c.sessions (2 ^ 32 - 1)
@@ -143,8 +143,11 @@ pub record IsFace (c : FaceConfig) : Type 0 where
   pub memory_most : c.memory ≤ 2 ^ 40
   pub aggregate_most : c.aggregate ≤ 4194304
   pub aggregate_ms_least : 1 ≤ c.aggregate_ms
+  pub aggregate_ms_most : c.aggregate_ms ≤ 60000
   pub remember_least : 4096 ≤ c.remember
   pub remember_most : c.remember ≤ 16777216
+  pub remember_ms_least : 1000 ≤ c.remember_ms
+  pub remember_ms_most : c.remember_ms ≤ 604800000
   pub plan : HasPlan c
 
 pub record IsRunnable (file : GateFile) : Type 0 where

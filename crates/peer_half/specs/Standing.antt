@@ -37,7 +37,7 @@ pub record Standing : Type 0 where
   pub journal : Option Journalled
   -- whether the line `start` was said
   pub started : Bool
-  -- what the wall clock showed when the metrics were written last
+  -- what the wall clock showed when the metrics were last to be put in place
   pub shown : Option ℕ
 
 -- ---- before the first half

@@ -10,8 +10,8 @@ use Rattle.peer_half.specs.Standing.{Standing, starts_empty, with_faces}
 use Rattle.peer_half.specs.Steps.{left_in, putting_all}
 
 -- A session that earlier runs had claimed in part isn't handed up, so that no two runs claim parts of one
--- block; and its peer is told by a cancel: reason 4, which is "by the system" (RFC 5326, section 3.2.4). Those
--- of the old face first.
+-- block; and its peer is told by a cancel of reason 4, SYS_CNCLD: the system ends the session (RFC 5326,
+-- section 3.2.4). Those of the old face first.
 abbrev pub cancels_in : Standing → Answered
 cancels_in s = answer_of (starts_effects s.setup (marked_each s.journal))
 

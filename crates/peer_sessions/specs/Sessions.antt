@@ -190,8 +190,8 @@ moments_met k s segment now =
 
 -- ---- too many octets
 
--- the sessions that are closed for want of memory: from the longest untouched on, while the others have
--- more octets than half the memory
+-- the sessions that are closed for want of memory: from the longest untouched on, while all that are still kept
+-- have more octets than half the memory
 unfoldable pub trimmed : ℕ → List ℕ → List (ℕ × Receiving) → List ℕ
 trimmed most [] receivers = []
 trimmed most (n ∷ numbers) receivers =

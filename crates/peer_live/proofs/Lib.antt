@@ -1,1 +1,6 @@
 pub mod SetupLemmas
+pub mod KeptLemmas
+pub mod ShowsLemmas
+pub mod PartLemmas
+pub mod ResumeLemmas
+pub mod StartLemmas

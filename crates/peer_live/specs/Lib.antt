@@ -1,2 +1,3 @@
--- What public clauses cite.
+-- What public clauses cite, in reading order.
 pub mod Telling
+pub mod Shows

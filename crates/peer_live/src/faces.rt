@@ -19,10 +19,8 @@ use std::marker::Model;
 
 /// Both faces of a run.
 #[derive(Debug, Drop)]
-pub struct Faces {
-    /// The old face.
+pub(crate) struct Faces {
     pub old_face: FaceRun,
-    /// The new face.
     pub new_face: FaceRun,
 }
 

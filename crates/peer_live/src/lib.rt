@@ -1,15 +1,30 @@
-//! The gateway among other implementations at work: how it is set up by a file, the moments of a half, and
-//! both of its faces.
+//! The gateway among other implementations at work: what does the parts of a half of a run.
 //!
-//! [`setup::config_of`] says how the gateway of `peer_gateway` is set up, and [`setup::used_up`] whether
-//! session numbers are left. [`moments::read_face`] reads the clocks at a face. What the gateway sends waits
-//! in the outbox of its face ([`faces::Faces::put_all`]), where that and half of the face's memory have room
-//! for it, or is dropped and counted.
+//! A [`LiveGate`] is set up by a file, and drives the gateway of `peer_gateway` through the halves of a
+//! run, part by part, as `peer_parts` names them: it has the gateway, a face of `gate_face` on each side,
+//! the sessions of its own and the log of `gate_events`. Datagrams that the gateway sends are moved into
+//! the outbox of their face, where that and half of the face's memory have room for them; what it tells
+//! becomes lines; and what came, went and was lost is counted.
 //!
-//! What does all parts of a half, as `peer_parts` names them, is to stand on this. Nothing outside is known
-//! here.
+//! Where a journal is kept, what each step did is handed to `peer_records` before its datagrams are moved,
+//! so that the records of a half are there when it sends. A run that goes on from what earlier runs kept
+//! first cancels the sessions of its peers that these had claimed in part, and adds the pieces that wait
+//! as soon as there is room for them.
+//!
+//! Nothing outside is known here: who drives it reads the clocks, polls, commits, sends and writes.
 #![tactic(auto)]
 
-pub mod faces;
-pub mod moments;
-pub mod setup;
+mod faces;
+mod journal;
+mod kept;
+mod live;
+mod marked;
+mod moments;
+mod opened;
+mod recording;
+mod resuming;
+mod setup;
+mod work;
+
+pub use live::LiveGate;
+pub use setup::used_up;

@@ -14,7 +14,7 @@ use outbox::{Outbox, Reading};
 use peer_gateway::{FaceMoments, Moments};
 
 /// Before the first half, where the wall clock shows this at its reading.
-pub fn same(wall: u64) -> Moments
+pub(crate) fn same(wall: u64) -> Moments
     requires { wall < 2 ^ 62 }
     ensures moments { moments_of result ≡ spec.same wall }
     ensures legal { AreMoments result }
@@ -32,7 +32,7 @@ pub fn same(wall: u64) -> Moments
 
 /// A half begins at a face: the clocks are read there. Answers the face's moments, and what there is to
 /// tell of its contacts. It takes no memory.
-pub fn read_face(face: &mut FaceRun, reading: Reading) -> (FaceMoments, Option<LinkEvent>)
+pub(crate) fn read_face(face: &mut FaceRun, reading: Reading) -> (FaceMoments, Option<LinkEvent>)
     requires { reading.wall < 2 ^ 62 }
     ensures moments { result.0 ≡ spec.face_moments reading face.old }
     ensures small { (result.0).at < 2 ^ 62 }

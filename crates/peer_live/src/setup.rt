@@ -4,15 +4,17 @@ ghost use Rattle.std.specs.Prelude.{◌≡◌, None, IfOk, IfSome, option_map, �
 ghost use Rattle.block_types.specs.Pair.{IsPair};
 ghost use Rattle.journal_file.specs.Ties.{kept_of};
 ghost use Rattle.ltp_segment.specs.PolicyViews.{policy_value};
+ghost use Rattle.peer_half.specs.Journals.{starts_journal};
 ghost use Rattle.peer_half.specs.Setup as spec;
 ghost use Rattle.peer_gateway.specs.Views.{AreFaceKeys, IsConfig, setup_with};
 ghost use Rattle.peer_sessions.specs.Views.{face_keys};
 
+use crate::journal::Journal;
 use block_types::BlockTypes;
 use face_room::Bounds;
 use gate_cases::Face;
 use gate_config::{Age, BlocksConfig, FaceConfig, ForeignBlocks, GateFile};
-use gate_records::first_of;
+use gate_records::{first_of, recovered};
 use journal_file::Kept;
 use ltp_segment::Policy;
 use peer_cases::PeerSettings;
@@ -22,7 +24,7 @@ use std::alloc::{AllocError, Global};
 
 /// How the gateway is set up, where the wall clock shows this at first, and earlier runs kept this, if a
 /// journal is kept.
-pub fn config_of(
+pub(crate) fn config_of(
     alloc: Global,
     file: &GateFile,
     kept: &Option<Kept>,
@@ -57,6 +59,25 @@ pub fn used_up(file: &GateFile, kept: &Option<Kept>, wall: u64) -> Option<Face>
         return Some(Face::New);
     }
     None
+}
+
+/// The journal at the beginning, where one is kept.
+pub(crate) fn journal_of(
+    alloc: Global,
+    file: &GateFile,
+    kept: Option<Kept>,
+    wall: u64,
+) -> Result<Option<Journal>, AllocError>
+    requires { spec.IsRunnable file.now }
+    ensures { IfOk result (λ journal.
+        journal ≡ starts_journal file.now wall (option_map kept_of kept)) }
+{
+    let Some(kept) = kept else {
+        return Ok(None);
+    };
+    let old = first_session(file.old.first_session, wall);
+    let new = first_session(file.new.first_session, wall);
+    Ok(Some(Journal::new(alloc, recovered(kept, wall, old, new))?))
 }
 
 // ---- a face

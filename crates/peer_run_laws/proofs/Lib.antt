@@ -3,6 +3,7 @@ pub mod GateLemmas
 pub mod BoxLemmas
 pub mod FaceLemmas
 pub mod OrderLemmas
+pub mod CountLemmas
 pub mod WaitLemmas
 pub mod AheadLemmas
 pub mod RestLemmas

@@ -12,6 +12,7 @@ use Rattle.gateway_core.specs.declared.effects.Routed.{Routed}
 use Rattle.gateway_core.specs.Comings.{if_same}
 use Rattle.gateway_core.specs.Effects.{routed_of}
 use Rattle.gateway_core.specs.Gate.{RoutedValue, at_face, with_face}
+use Rattle.outbox.specs.declared.reading.Reading.{Reading}
 use Rattle.outbox.specs.Laws.{GoesOutInOrder}
 use Rattle.outbox.specs.Outbox.{OutboxValue, fits, octets_in}
 use Rattle.outbox.specs.Run as box
@@ -40,10 +41,10 @@ use Rattle.peer_run_laws.proofs.GateLemmas.{IsGateOf, gate-begins, gate-event, g
 
 -- ---- what is put
 
-abbrev limit_of : FaceStanding → ℕ
+abbrev pub limit_of : FaceStanding → ℕ
 limit_of f = (f.outbox).limit
 
-abbrev waits_at : FaceStanding → List (List ℕ)
+abbrev pub waits_at : FaceStanding → List (List ℕ)
 waits_at f = (f.outbox).waiting
 
 limit-within : (left : ℕ) (datagram : List ℕ) (f : FaceStanding) → limit_of (putting_within left datagram f) ≡ limit_of f
@@ -57,7 +58,7 @@ octets-append : (xs ys : List (List ℕ)) → octets_in (xs ++ ys) ≡ octets_in
 octets-append [] ys = omega arith
 octets-append (x ∷ xs) ys = let rest = octets-append xs ys in omega (arith, rest)
 
-octets-push : (waiting : List (List ℕ)) (datagram : List ℕ) → octets_in (waiting ++ datagram ∷ []) ≡ octets_in waiting + length datagram
+pub octets-push : (waiting : List (List ℕ)) (datagram : List ℕ) → octets_in (waiting ++ datagram ∷ []) ≡ octets_in waiting + length datagram
 octets-push waiting datagram = let more = octets-append waiting (datagram ∷ []) in omega (arith, more)
 
 -- one, and then others
@@ -80,7 +81,7 @@ put-one left datagram more f = by (is_within left f.outbox datagram) refl (fits 
     by true within false fit = rw (within, fit) refl
     by false within fit is = rw within refl
 
-abbrev putting_at : ℕ × ℕ → Face → List ℕ → FaceStanding × FaceStanding → FaceStanding × FaceStanding
+abbrev pub putting_at : ℕ × ℕ → Face → List ℕ → FaceStanding × FaceStanding → FaceStanding × FaceStanding
 putting_at most face datagram fs = with_face fs face (putting_within (at_face most face) datagram (at_face fs face))
 
 put-at : (at face : Face) (most : ℕ × ℕ) (datagram : List ℕ) (more : List (List ℕ)) (fs : FaceStanding × FaceStanding)
@@ -92,7 +93,7 @@ put-at faces.Old faces.New most datagram more fs = refl
 put-at faces.New faces.Old most datagram more fs = refl
 put-at faces.New faces.New most datagram more fs = put-one most.1 datagram more fs.1
 
-limit-at : (at face : Face) (most : ℕ × ℕ) (datagram : List ℕ) (fs : FaceStanding × FaceStanding)
+pub limit-at : (at face : Face) (most : ℕ × ℕ) (datagram : List ℕ) (fs : FaceStanding × FaceStanding)
     → limit_of (at_face (putting_at most face datagram fs) at) ≡ limit_of (at_face fs at)
 limit-at faces.Old faces.Old most datagram fs = limit-within most.0 datagram fs.0
 limit-at faces.Old faces.New most datagram fs = refl
@@ -111,7 +112,7 @@ put-all at most (routed ∷ more) fs =
     (limit-at at routed.face most routed.datagram fs)
     ∙ put-at at routed.face most routed.datagram (datagrams_at at more) fs)
 
-limit-all : (at : Face) (most : ℕ × ℕ) (out : List Routed) (fs : FaceStanding × FaceStanding) → limit_of (at_face (putting_all most out fs) at) ≡ limit_of (at_face fs at)
+pub limit-all : (at : Face) (most : ℕ × ℕ) (out : List Routed) (fs : FaceStanding × FaceStanding) → limit_of (at_face (putting_all most out fs) at) ≡ limit_of (at_face fs at)
 unfolding putting_all
 limit-all at most [] fs = refl
 limit-all at most (routed ∷ more) fs =
@@ -160,9 +161,9 @@ put-keeps setup limit at start first before = record {
 }
 
 -- the clocks are read
-limit-read : (at : Face) (came : Came) (s : Standing) → limit_of (face_of at (reading_clocks came.reading s)) ≡ limit_of (face_of at s)
-limit-read faces.Old came s = refl
-limit-read faces.New came s = refl
+pub limit-read : (at : Face) (now : Reading) (s : Standing) → limit_of (face_of at (reading_clocks now s)) ≡ limit_of (face_of at s)
+limit-read faces.Old now s = refl
+limit-read faces.New now s = refl
 
 waits-read : (at : Face) (came : Came) (s : Standing) → waiting_at at (reading_clocks came.reading s) ≡ waiting_at at s
 waits-read faces.Old came s = refl
@@ -173,7 +174,7 @@ put-hears : (setup : PeerSetup) (limit : ℕ) (at : Face) (start : PeerGate) (fi
 put-hears setup limit at start first before face came s earlier so =
     keeps-hears (IsPut setup limit at start first before) (put-keeps setup limit at start first before) face came s earlier (record {
       of_gate = record { setup_is = (so.of_gate).setup_is; gate_is = (so.of_gate).gate_is };
-      limit_is = limit-read at came s ∙ so.limit_is;
+      limit_is = limit-read at came.reading s ∙ so.limit_is;
       waits = ap (λ ds. before ++ ds) (waits-read at came s) ∙ so.waits;
     })
 
@@ -197,7 +198,7 @@ order-answers law at board came s =
     ∙ (law b (many_sends sent.count)
     ∙ (ap (λ ds. b.waiting ++ ds) (kept-sends sent.count b) ∙ append-nil b.waiting)))
 
-limit-answers : (at : Face) (board : Bool) (came : Came) (s : Standing) → limit_of (face_of at (answers board came s).standing) ≡ limit_of (face_of at s)
+pub limit-answers : (at : Face) (board : Bool) (came : Came) (s : Standing) → limit_of (face_of at (answers board came s).standing) ≡ limit_of (face_of at s)
 limit-answers at board came s =
     let sent = sent-answers at board came s in
     ap (λ (x : Box). x.0.limit) sent.box_is ∙ limit-sends sent.count (face_of at s).outbox
@@ -252,7 +253,7 @@ at-both at (x ∷ xs) ys =
     ap (λ ds. if_same x.face at (segment_octets x.segment ∷ []) [] ++ ds) (at-both at xs ys)
     ∙ sym (append_assoc (if_same x.face at (segment_octets x.segment ∷ []) []) (datagrams_at at (map routed_of xs)) (datagrams_at at (map routed_of ys)))
 
-cancels-are : (r : Run) (at : Face) → datagrams_at at (cancels_in (starts_empty r.file r.kept r.wall)).out ≡ cancels_at at r
+pub cancels-are : (r : Run) (at : Face) → datagrams_at at (cancels_in (starts_empty r.file r.kept r.wall)).out ≡ cancels_at at r
 cancels-are r faces.Old =
     let old = starts_out (setup_of r).keys.0 (marked_before r).0 in
     let new = starts_out (setup_of r).keys.1 (marked_before r).1 in
@@ -266,7 +267,7 @@ cancels-are r faces.New =
     ∙ (ap (λ ds. ds ++ datagrams_at faces.New (map routed_of (routed_at faces.New new))) (at-other faces.New old)
     ∙ at-same faces.New new)
 
-limit-starts : (r : Run) (at : Face) → limit_of (face_of at (starts_empty r.file r.kept r.wall)) ≡ (config_of r at).outbox
+pub limit-starts : (r : Run) (at : Face) → limit_of (face_of at (starts_empty r.file r.kept r.wall)) ≡ (config_of r at).outbox
 limit-starts r faces.Old = refl
 limit-starts r faces.New = refl
 
@@ -372,7 +373,7 @@ puts-all-with-room at face came s room =
     (keeps-hears (IsSentAll s.setup limit at s.gate (waiting_at at s)) (all-keeps s.setup limit at s.gate (waiting_at at s)) face came s [] (record {
       put = record {
         of_gate = record { setup_is = refl; gate_is = (start.of_gate).gate_is };
-        limit_is = limit-read at came s;
+        limit_is = limit-read at came.reading s;
         waits = waits-read at came s ∙ start.waits;
       };
       all = λ none. refl;

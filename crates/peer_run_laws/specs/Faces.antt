@@ -1,6 +1,6 @@
 -- What a face sends in a run, and how its time goes.
 
-use Rattle.std.specs.Prelude.{◌≡◌, ℕ, ◌+◌, ◌-◌, ◌*◌, ◌/◌, ◌≤◌, nat_le, Bool, ◌&&◌, if◌then◌else◌, List, [], ◌∷◌, ◌++◌, length, ◌⊎◌, map}
+use Rattle.std.specs.Prelude.{◌≡◌, ℕ, ◌+◌, ◌-◌, ◌*◌, ◌/◌, ◌≤◌, ◌^◌, min, nat_le, Bool, ◌&&◌, if◌then◌else◌, List, [], ◌∷◌, ◌++◌, length, ◌⊎◌, map}
 use Rattle.std.specs.Prelude.{None, Some, IsSomeAnd}
 use Rattle.std.specs.List.{AllByRecursion}
 use Rattle.ltp_segment.specs.Spelling.{segment_octets}
@@ -80,15 +80,31 @@ abbrev pub put_first : Face → Run → List (List ℕ)
 put_first at r =
     put_in (config_of r at).outbox (at_face (left_in (setup_of r) (first_gate r)) at) 0 (cancels_at at r)
 
+-- all that is put into a face's outbox in a run
+abbrev pub put_into : Face → Run → List (List ℕ)
+put_into at r =
+    put_first at r ++ put_over (setup_of r) (config_of r at).outbox at (first_gate r) (events_of r)
+
 -- ---- what goes out
 
 -- what went out at a face in a run, sent or lost, and after it what still waits, is what was put there, in order:
 -- each goes out once
 abbrev pub GoesOnceInOrder : Type 0
 GoesOnceInOrder =
+    (r : Run) (at : Face) → tried_at at (acts_of r) ++ waiting_at at (stands_at r) ≡ put_into at r
+
+-- ---- what is dropped
+
+-- all that is sent at a face in a run, the cancels first
+abbrev pub sent_in : Face → Run → List (List ℕ)
+sent_in at r = cancels_at at r ++ sent_over (setup_of r) at (first_gate r) (events_of r)
+
+-- what was sent at a face and not put there is counted, up to the greatest number of 64 bits
+abbrev pub CountsDropped : Type 0
+CountsDropped =
     (r : Run) (at : Face)
-    → tried_at at (acts_of r) ++ waiting_at at (stands_at r)
-    ≡ put_first at r ++ put_over (setup_of r) (config_of r at).outbox at (first_gate r) (events_of r)
+    → ((face_of at (stands_at r)).outbox).dropped
+    ≡ min (length (sent_in at r) - length (put_into at r)) (2 ^ 64 - 1)
 
 -- ---- in a half
 

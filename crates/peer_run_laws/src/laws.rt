@@ -2,7 +2,8 @@
 //! a gateway and of an outbox.
 
 ghost use Rattle.peer_run_laws.specs.Gate.{GateIsOfEvents};
-ghost use Rattle.peer_run_laws.specs.Faces.{GoesAtOnceInRuns, GoesInContactInRuns, GoesOnceInOrder};
+ghost use Rattle.peer_run_laws.specs.Faces.{CountsDropped, GoesAtOnceInRuns, GoesInContactInRuns};
+ghost use Rattle.peer_run_laws.specs.Faces.{GoesOnceInOrder};
 ghost use Rattle.peer_run_laws.specs.Faces.{KeepsPaceInRuns, PutsAllWithRoom};
 ghost use Rattle.peer_run_laws.specs.Faces.{TimeIsHeld, TimeIsOfHalf, TimeRises};
 ghost use Rattle.peer_run_laws.specs.Ticks.{NoneWaitsLateInRuns, TicksOnce};
@@ -24,6 +25,11 @@ pub fn goes_once_in_order()
 {
     outbox::laws::goes_out_in_order();
 }
+
+/// What is sent at a face in a run and isn't put there is counted by the face's outbox.
+pub fn counts_dropped()
+    ensures { CountsDropped }
+{}
 
 /// Where there is room for all that is sent at a face in a half, all of it is put there, and nothing is dropped.
 pub fn puts_all_with_room()

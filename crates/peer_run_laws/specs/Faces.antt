@@ -1,7 +1,7 @@
 -- What a face sends in a run, and how its time goes.
 
-use Rattle.std.specs.Prelude.{◌≡◌, ℕ, ◌+◌, ◌-◌, ◌*◌, ◌/◌, ◌≤◌, ◌^◌, min, nat_le, Bool, ◌&&◌, if◌then◌else◌, List, [], ◌∷◌, ◌++◌, length, ◌⊎◌, map}
-use Rattle.std.specs.Prelude.{None, Some, IsSomeAnd}
+use Rattle.std.specs.Prelude.{◌≡◌, ℕ, ◌+◌, ◌-◌, ◌*◌, ◌/◌, ◌≤◌, ◌^◌, min, nat_le, Bool, ◌&&◌, if◌then◌else◌}
+use Rattle.std.specs.Prelude.{List, [], ◌∷◌, ◌++◌, length, map, ◌⊎◌, None, Some, IsSomeAnd}
 use Rattle.std.specs.List.{AllByRecursion}
 use Rattle.ltp_segment.specs.Spelling.{segment_octets}
 use Rattle.gate_cases.specs.declared.face.Face.{Face}
@@ -24,7 +24,8 @@ use Rattle.peer_half.specs.Standing.{Standing, face_of}
 use Rattle.peer_half.specs.Steps.{left_in}
 use Rattle.peer_half.specs.Half.{Came, half}
 use Rattle.peer_half.specs.Run.{halves}
-use Rattle.peer_half.specs.Runs.{EventIn, Run, acts_of, after_events, begins_at, events_in, events_of, first_gate, marked_before, setup_of, stands_at}
+use Rattle.peer_half.specs.Runs.{EventIn, Run, acts_of, after_events, begins_at, events_in, events_of, first_gate}
+use Rattle.peer_half.specs.Runs.{marked_before, setup_of, stands_at}
 use Rattle.peer_half.specs.Laws.{datagrams_at, tried_at, waiting_at}
 
 -- ---- what is put into a face's outbox

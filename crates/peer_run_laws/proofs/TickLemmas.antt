@@ -325,32 +325,12 @@ none-waits-late-in-runs laws r at now wait is free =
 
 -- ---- the tick of the next half
 
--- it is at rest, whatever comes at its moment
-record StaysRested (setup : PeerSetup) (at : Face) (m : PeerMoments) (s : Standing) (events : List EventIn) : Type 0 where
-  setup_is : s.setup ≡ setup
-  moments_is : s.moments ≡ m
-  rested : RestedAt setup m at s.gate
-
-rested-keeps : Cited → (setup : PeerSetup) (at : Face) (m : PeerMoments) → TimersWait (at_face setup.keys at) → Keeps (StaysRested setup at m)
-rested-keeps laws setup at m wait = record {
-  quiet = λ s t earlier same so. record {
-    setup_is = ap (λ (x : Standing). x.setup) (sym same) ∙ so.setup_is;
-    moments_is = ap (λ (x : Standing). x.moments) (sym same) ∙ so.moments_is;
-    rested = subst (λ (g : PeerGate). RestedAt setup m at g) (ap (λ (x : Standing). x.gate) same) so.rested;
-  };
-  event = λ event journal s earlier so. record {
-    setup_is = so.setup_is;
-    moments_is = so.moments_is;
-    rested = subst (λ (x : PeerStep). RestedAt setup m at x.gate) (sym (step-as setup m event s so.setup_is so.moments_is))
-        (rested-event laws setup m at event (outboxes_in s) s.gate wait so.rested);
-  };
-}
-
-quiet-next : (setup : PeerSetup) (at : Face) (m : PeerMoments) (s : Standing) (events : List EventIn) → StaysRested setup at m s events → IsQuietAt at (step_of a_tick s).effects
+quiet-next : (setup : PeerSetup) (at : Face) (m : PeerMoments) (s : Standing) (events : List EventIn) → IsResting setup at m s events → HasTick events
+    → IsQuietAt at (step_of a_tick s).effects
 unfolding peer_step
-quiet-next setup at m s events so =
+quiet-next setup at m s events so has =
     subst (λ (x : PeerStep). IsQuietAt at x.effects) (sym (step-as setup m a_tick s so.setup_is so.moments_is))
-    (quiet-tick setup m at (with_outboxes (outboxes_in s) s.gate) (rested-found setup m at (outboxes_in s) s.gate so.rested))
+    (quiet-tick setup m at (with_outboxes (outboxes_in s) s.gate) (rested-found setup m at (outboxes_in s) s.gate (so.rested has)))
 
 pub ticks-once : Cited → TicksOnce
 ticks-once laws r at before came wait is same =
@@ -361,11 +341,16 @@ ticks-once laws r at before came wait is same =
     let f = at_face (s.gate).faces at in
     let end = rest-run laws r at wait in
     let held : IsRested k before.moment f = subst (λ (t : Option FaceMoment). AtTime k t f) is end.rest in
-    let read : StaysRested setup at m (reads came.reading s) [] =
-    (rested-keeps laws setup at m wait).quiet (reading_clocks came.reading s) (reads came.reading s) [] (sym (reads-rest came.reading s)) (record {
+    let rested : RestedAt setup m at s.gate = subst (λ (n : ℕ). IsRested k n f) (sym same) held in
+    let ticked : List EventIn = event_at a_tick s ∷ [] in
+    let read : IsResting setup at m (reads came.reading s) ticked =
+    (resting-keeps laws setup at m wait).quiet (reading_clocks came.reading s) (reads came.reading s) ticked (sym (reads-rest came.reading s)) (record {
       setup_is = end.setup_is;
       moments_is = refl;
-      rested = subst (λ (n : ℕ). IsRested k n f) (sym same) held;
+      sorted = (rested.calm).sorted;
+      rested = λ has. rested;
     }) in
-    quiet-next setup at m (before_tick came r) (after_events (resumed_each (reads came.reading s)) [])
-    (keeps-each (StaysRested setup at m) (rested-keeps laws setup at m wait) (reads came.reading s) [] read)
+    let again = resumed_each (reads came.reading s) in
+    quiet-next setup at m (before_tick came r) (after_events again ticked)
+    (keeps-each (IsResting setup at m) (resting-keeps laws setup at m wait) (reads came.reading s) ticked read)
+    (has-after again ticked (inl tt))

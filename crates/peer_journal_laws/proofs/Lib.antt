@@ -4,6 +4,8 @@ pub mod NumberLemmas
 pub mod StepLemmas
 pub mod PieceLemmas
 pub mod AgainLemmas
+pub mod ReportLemmas
+pub mod QuietLemmas
 pub mod ResumeLemmas
 pub mod MarkLemmas
 pub mod GoneLemmas

@@ -1,30 +1,27 @@
--- What a half adds of earlier runs: pieces that are pending, each once, and without a record of its own.
+-- What a half adds of earlier runs: pieces that are pending, each once, and without a record.
 
-use Rattle.std.proofs.Common.{◌≡◌, ℕ, zero, suc, ◌+◌, Bool, true, false, ◌==◌, ◌&&◌, List, [], ◌∷◌, ◌++◌, map, Option, None, Some, if◌then◌else◌, refl, ap, ◌∙◌, sym, subst, arith, append_assoc}
+use Rattle.std.proofs.Common.{◌≡◌, ℕ, zero, suc, ◌+◌, Bool, true, false, ◌==◌, ◌&&◌, List, [], ◌∷◌, ◌++◌, map, Option, None, Some, if◌then◌else◌, refl, ap, ◌∙◌, sym, subst, arith}
 use Rattle.std.proofs.lemmas.Bool.{eqb-true}
 use Rattle.std.proofs.lemmas.List.{append-nil, map-append}
 use Rattle.std.specs.List.{AllByRecursion}
 use Rattle.gate_cases.specs.declared.face.Face.{Face}
 use Rattle.gate_cases.specs.declared.face.Face.TheVariants as faces
 use Rattle.journal_file.specs.declared.kept.Pending.{Pending}
-use Rattle.journal_file.specs.Values.{RecordValue, a_begun, a_done, a_mark, a_clear, a_reserved}
-use Rattle.journal_file.specs.Keeping.{same_face}
-use Rattle.gate_records.proofs.LeaveLemmas.{AreApart, others-apart}
-use Rattle.gate_records.specs.Records.{marks_after}
-use Rattle.peer_records.specs.Happened.{PeerHappened, marking}
+use Rattle.journal_file.specs.Values.{KeptValue}
+use Rattle.journal_file.specs.Keeping.{kept_after, same_face}
+use Rattle.peer_records.specs.Happened.{PeerHappened}
 use Rattle.peer_records.specs.Keeping.{PeerKeeping, held, is_to_add, one_if, times, to_add_at}
 use Rattle.peer_records.specs.Records.{after_step, step_records}
-use Rattle.peer_records.proofs.MarkLemmas.{mark_part}
 use Rattle.peer_half.specs.Journals.{Journalled, kept_in, records_in}
 use Rattle.peer_half.specs.Standing.{Standing}
 use Rattle.peer_half.specs.Steps.{happened_in, recorded_with}
 use Rattle.peer_half.specs.Parts.{begin_of, first_pending, first_waiting, is_added, next_resumed, pending_in, reads, resumed, resumes, resumes_at, resumes_within, tries, where_some}
 use Rattle.peer_half.specs.Runs.{EventIn, event_at, resumed_in, resumed_at, stands_at}
-use Rattle.peer_half.proofs.ResumeLemmas.{no-more, one-more, tried}
-use Rattle.peer_half.proofs.ToAddLemmas.{pending-again, records-again}
+use Rattle.peer_half.proofs.ResumeLemmas.{no-more, one-more}
 use Rattle.peer_journal_laws.specs.Pieces.{IsAmong}
-use Rattle.peer_journal_laws.specs.Resumes.{AddsAgain, AreOnce, IsOfNoPiece, ResumesWhatIsKept, added_at, added_in, event_of, pending_of, tried_at, tried_in}
+use Rattle.peer_journal_laws.specs.Resumes.{AddsAgain, AreOnce, ResumesWhatIsKept, added_at, added_in, event_of, pending_of, tried_at, tried_in}
 use Rattle.peer_journal_laws.proofs.JournalLemmas.{journal-tries}
+use Rattle.peer_journal_laws.proofs.QuietLemmas.{none-recorded}
 use Rattle.peer_journal_laws.proofs.StepLemmas.{keeping_of, passes-among}
 
 -- ---- one that is to be added
@@ -36,35 +33,16 @@ held_in id (Some j) = times id (held (keeping_of j))
 abbrev kept_pending : Option Journalled → List Pending
 kept_pending journal = pending_of (kept_in journal)
 
-apart-none : (rs : List RecordValue) → AreApart rs → AllByRecursion IsOfNoPiece rs
-apart-none [] are = tt
-apart-none (a_begun p ∷ rs) are = absurd are
-apart-none (a_done id how ∷ rs) are = absurd are
-apart-none (a_mark m ∷ rs) are = (refl, apart-none rs are)
-apart-none (a_clear face session ∷ rs) are = (refl, apart-none rs are)
-apart-none (a_reserved face n ∷ rs) are = (refl, apart-none rs are)
-
--- the same are pending, and no piece is recorded
+-- nothing is recorded, and the same is kept
 record Quiet (from to : Option Journalled) : Type 0 where
-  pending : kept_pending to ≡ kept_pending from
-  more : List RecordValue
-  records : records_in to ≡ records_in from ++ more
-  of_none : AllByRecursion IsOfNoPiece more
+  kept : kept_in to ≡ kept_in from
+  records : records_in to ≡ records_in from
 
 quiet-not : (journal : Option Journalled) → Quiet journal journal
-quiet-not journal = record { pending = refl; more = []; records = sym (append-nil (records_in journal)); of_none = tt }
-
-none-join : (rs qs : List RecordValue) → AllByRecursion IsOfNoPiece rs → AllByRecursion IsOfNoPiece qs → AllByRecursion IsOfNoPiece (rs ++ qs)
-none-join [] qs are be = be
-none-join (r ∷ rs) qs (first, are) be = (first, none-join rs qs are be)
+quiet-not journal = record { kept = refl; records = refl }
 
 quiet-then : (a b c : Option Journalled) → Quiet a b → Quiet b c → Quiet a c
-quiet-then a b c first next = record {
-  pending = next.pending ∙ first.pending;
-  more = first.more ++ next.more;
-  records = next.records ∙ (ap (λ rs. rs ++ next.more) first.records ∙ append_assoc (records_in a) first.more next.more);
-  of_none = none-join first.more next.more first.of_none next.of_none;
-}
+quiet-then a b c first next = record { kept = next.kept ∙ first.kept; records = next.records ∙ first.records }
 
 record Try (p : Pending) (s : Standing) : Type 0 where
   there : IsAmong p (kept_pending s.journal)
@@ -83,6 +61,10 @@ no-one false n none = (omega (arith, none), refl)
 both-second : (a b : Bool) → (a && b) ≡ true → b ≡ true
 both-second true b is = is
 both-second false b is = absurd (cc)
+
+same-kept : (h : PeerHappened) (k : PeerKeeping) → step_records h k ≡ [] → (after_step h k).kept ≡ k.kept
+unfolding after_step
+same-kept h k is = ap (kept_after k.kept) is
 
 try-it : (face : Face) (s : Standing) (p : Pending) → next_resumed face s ≡ Some p → Try p s
 try-it face s p next = by s.journal refl next
@@ -103,6 +85,9 @@ try-it face s p next = by s.journal refl next
         then_is : (tries p s).journal ≡ Some after
         then_is = journal-tries p s ∙ ap (recorded_with h) is
 
+        no_record : step_records h k ≡ []
+        no_record = none-recorded p s k
+
         held_then : (id : ℕ) → held_in id (tries p s).journal ≡ times id (held (after_step h k))
         held_then id = ap (held_in id) then_is
 
@@ -112,11 +97,8 @@ try-it face s p next = by s.journal refl next
         is_quiet : Quiet s.journal (tries p s).journal
         is_quiet = subst (λ (from : Option Journalled). Quiet from (tries p s).journal) (sym is)
             (subst (Quiet (Some j)) (sym then_is) (record {
-              pending = pending-again h k p.id refl (tried p s).quiet;
-              more = step_records h k;
-              records = refl;
-              of_none = subst (λ rs. AllByRecursion IsOfNoPiece rs) (sym (records-again h k p.id refl (tried p s).quiet))
-                  (apart-none (mark_part h k.kept) (others-apart (marking h) h.out (k.kept).marks (marks_after (marking h) h.out (k.kept).marks)));
+              kept = ap (λ (x : KeptValue). Some x) (same-kept h k no_record);
+              records = ap (λ rs. (j.recorded).records ++ rs) no_record ∙ append-nil (j.recorded).records;
             }))
 
         by_added : (t : Bool) → is_added p s ≡ t → (id : ℕ) → times id (held (after_step h k)) ≡ 0 → times id (held k) ≡ 0
@@ -185,7 +167,7 @@ leaves-within (suc n) face s =
     let rest = leaves-within n face (resumed p s) in
     record {
       quiet = quiet-then s.journal (tries p s).journal (resumes_within n face (resumed p s)).journal one.quiet rest.quiet;
-      pending = (one.there, pending-from s.journal (tries p s).journal (tried_in n face (resumed p s)) (one.quiet).pending rest.pending);
+      pending = (one.there, pending-from s.journal (tries p s).journal (tried_in n face (resumed p s)) (ap pending_of (one.quiet).kept) rest.pending);
     })
     (λ p next. let one = try-it face s p next in record { quiet = one.quiet; pending = (one.there, tt) })
 
@@ -256,12 +238,10 @@ adds-again s =
           ∙ (ap (λ es. map begin_of (tried_at faces.Old s) ++ es) (events-within (pending_in middle.journal) faces.New middle)
           ∙ sym (map-append begin_of (tried_at faces.Old s) (tried_at faces.New middle))));
       pending = all-join s.journal (tried_at faces.Old s) (tried_at faces.New middle) old.pending
-          (pending-from s.journal middle.journal (tried_at faces.New middle) (old.quiet).pending new.pending);
+          (pending-from s.journal middle.journal (tried_at faces.New middle) (ap pending_of (old.quiet).kept) new.pending);
       once = (goes-within (pending_in s.journal) faces.Old s (added_at faces.New middle) second).once;
-      kept = both.pending;
-      more = both.more;
+      kept = both.kept;
       records = both.records;
-      of_none = both.of_none;
     }
 
 pub resumes-what-is-kept : ResumesWhatIsKept

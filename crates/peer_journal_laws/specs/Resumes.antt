@@ -1,5 +1,5 @@
--- What a run adds of earlier runs: in each half pieces that are pending, without a record of their own; and over all of
--- its halves each of them once, in order.
+-- What a run adds of earlier runs: in each half pieces that are pending, without a record; and over all of its halves
+-- each of them once, in order.
 
 use Rattle.std.specs.Prelude.{◌≡◌, ℕ, zero, suc, Bool, false, ◌==◌, List, [], ◌∷◌, ◌++◌, map, Option, None, Some, IfSome, if◌then◌else◌}
 use Rattle.std.specs.List.{AllByRecursion, filter}
@@ -7,10 +7,9 @@ use Rattle.gate_cases.specs.declared.face.Face.{Face}
 use Rattle.gate_cases.specs.declared.face.Face.TheVariants.{Old, New}
 use Rattle.gate_cases.specs.Faces.{other_of}
 use Rattle.journal_file.specs.declared.kept.Pending.{Pending}
-use Rattle.journal_file.specs.Values.{KeptValue, RecordValue}
+use Rattle.journal_file.specs.Values.{KeptValue}
 use Rattle.journal_file.specs.Keeping.{same_face}
 use Rattle.journal_file.specs.Legal.{IsLegal}
-use Rattle.gate_records.specs.Ties.{is_of_block}
 use Rattle.peer_gateway.specs.Steps.{PeerEvent}
 use Rattle.peer_records.specs.Keeping.{to_add_at}
 use Rattle.peer_half.specs.Journals.{Journalled, kept_in, records_in}
@@ -62,21 +61,15 @@ abbrev pub AreOnce : List Pending → Type 0
 AreOnce [] = Unit {0}
 AreOnce (p ∷ more) = AllByRecursion (λ (q : Pending). (p.id == q.id) ≡ false) more × AreOnce more
 
--- a record that neither begins a piece nor ends one
-abbrev pub IsOfNoPiece : RecordValue → Type 0
-IsOfNoPiece said = is_of_block said ≡ false
-
 pub record AddsAgain (s : Standing) : Type 0 where
   -- what comes to the gate are the octets of these pieces and what their records say of when they came, each at its
   -- face
   pub events : map event_of (resumed_each s) ≡ map begin_of (tried_again s)
   pub pending : AllByRecursion (λ (p : Pending). IsAmong p (pending_of (kept_in s.journal))) (tried_again s)
   pub once : AreOnce (added_again s)
-  -- the same are pending, and no piece is recorded
-  pub kept : pending_of (kept_in (resumes s).journal) ≡ pending_of (kept_in s.journal)
-  pub more : List RecordValue
-  pub records : records_in (resumes s).journal ≡ records_in s.journal ++ more
-  pub of_none : AllByRecursion IsOfNoPiece more
+  -- nothing is recorded, and the same is kept
+  pub kept : kept_in (resumes s).journal ≡ kept_in s.journal
+  pub records : records_in (resumes s).journal ≡ records_in s.journal
 
 -- so it is in each half of a run, once its clocks are read
 abbrev pub ResumesWhatIsKept : Type 0

@@ -38,7 +38,7 @@ pub fn ended_are_gone()
 {}
 
 /// What a half of a run adds of earlier runs are pieces that are pending, each once in the half.
-/// The same are pending after it, and no piece is recorded with that.
+/// Nothing is recorded with that, and the same is kept.
 pub fn resumes_what_is_kept()
     ensures { ResumesWhatIsKept }
 {}

@@ -9,3 +9,4 @@ pub mod QuietLemmas
 pub mod ResumeLemmas
 pub mod MarkLemmas
 pub mod GoneLemmas
+pub mod StopLemmas

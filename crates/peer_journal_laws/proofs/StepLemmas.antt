@@ -273,7 +273,7 @@ over-halves board face (came ∷ more) s =
     over-join s.journal now.journal (halves board (other_of face) more now).standing.journal (steps_in face came s) (steps_over board (other_of face) more now)
     (over-half board face came s) (over-halves board (other_of face) more now)
 
-over-run : (r : Run) (face : Face) (came : Came) → Over (begins_at r).journal (steps_of face came r) (parts.reserves (hears face came (stands_at r))).journal
+pub over-run : (r : Run) (face : Face) (came : Came) → Over (begins_at r).journal (steps_of face came r) (parts.reserves (hears face came (stands_at r))).journal
 over-run r face came =
     let s : Standing = stands_at r in
     over-join (begins_at r).journal s.journal (parts.reserves (hears face came s)).journal (steps_over r.board faces.Old r.comes (begins_at r)) (steps_in face came s)

@@ -72,9 +72,12 @@ KeepsBeforeItSends =
 
 -- After all steps of a half the number of a face's next session isn't above what is reserved, by what the run knows
 -- then: so each that was given is below that, at each datagram. Where all numbers are used, the next is 2^32.
+abbrev pub KeepsNumbers : Run → Face → Came → KeptValue → Type 0
+KeepsNumbers r face came kept =
+    ((at : Face) → ((at_face (setup_of r).keys at).party).first ≤ NUMBERS) → (at : Face)
+    → next_at at (hears face came (stands_at r)) ≤ at_face (kept.old_reserved, kept.new_reserved) at
+
 abbrev pub NumbersAreKept : Type 0
 NumbersAreKept =
     (r : Run) (face : Face) (came : Came) (kept : KeptValue)
-    → known_after face came r ≡ Some kept
-    → ((at : Face) → ((at_face (setup_of r).keys at).party).first ≤ NUMBERS) → (at : Face)
-    → next_at at (hears face came (stands_at r)) ≤ at_face (kept.old_reserved, kept.new_reserved) at
+    → known_after face came r ≡ Some kept → KeepsNumbers r face came kept

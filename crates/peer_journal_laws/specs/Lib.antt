@@ -4,3 +4,4 @@ pub mod Steps
 pub mod Pieces
 pub mod Resumes
 pub mod Marks
+pub mod Stops

@@ -37,14 +37,17 @@ IsMarkKept face session out step later kept =
 
 -- So it is with each report that goes out with a step of a run with a journal, on a session that isn't handed up by
 -- then, once the records of the step's half or of a later one are committed, and so at each datagram from then on.
-abbrev pub MarksAreKept : Type 0
-MarksAreKept =
-    (r : Run) (face : Face) (came : Came) (kept : KeptValue)
-    → known_after face came r ≡ Some kept
-    → (earlier : List JournalStep) (step : JournalStep) (later : List JournalStep)
+abbrev pub KeepsMarks : Run → Face → Came → KeptValue → Type 0
+KeepsMarks r face came kept =
+    (earlier : List JournalStep) (step : JournalStep) (later : List JournalStep)
     → steps_of face came r ≡ earlier ++ step ∷ later
     → (before : List Routed) (routed : Routed) (after : List Routed)
     → (step.happened).out ≡ before ++ routed ∷ after
     → (session : ℕ) → reports_on routed.datagram ≡ Some session
     → (step.happened).is_handed_up routed.face session ≡ false
     → IsMarkKept routed.face session (before ++ routed ∷ []) step later kept
+
+abbrev pub MarksAreKept : Type 0
+MarksAreKept =
+    (r : Run) (face : Face) (came : Came) (kept : KeptValue)
+    → known_after face came r ≡ Some kept → KeepsMarks r face came kept

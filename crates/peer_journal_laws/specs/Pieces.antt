@@ -53,15 +53,18 @@ pub record IsPieceKept (a : AddedAt) (step : JournalStep) (later : List JournalS
 
 -- So it is with each piece that a step of a run with a journal adds, once the records of the step's half or of a
 -- later one are committed, and so at each datagram from then on.
-abbrev pub PiecesAreKept : Type 0
-PiecesAreKept =
-    (r : Run) (face : Face) (came : Came) (kept : KeptValue)
-    → known_after face came r ≡ Some kept
-    → (earlier : List JournalStep) (step : JournalStep) (later : List JournalStep)
+abbrev pub KeepsPieces : Run → Face → Came → KeptValue → Type 0
+KeepsPieces r face came kept =
+    (earlier : List JournalStep) (step : JournalStep) (later : List JournalStep)
     → steps_of face came r ≡ earlier ++ step ∷ later → (step.happened).again ≡ None
     → (before : List AddedAt) (a : AddedAt) (after : List AddedAt)
     → (step.happened).added ≡ before ++ a ∷ after → a.is_report ≡ false
     → IsPieceKept a step later kept
+
+abbrev pub PiecesAreKept : Type 0
+PiecesAreKept =
+    (r : Run) (face : Face) (came : Came) (kept : KeptValue)
+    → known_after face came r ≡ Some kept → KeepsPieces r face came kept
 
 -- ---- pieces of earlier runs
 
@@ -71,12 +74,15 @@ pending_before None = []
 pending_before (Some kept) = kept.pending
 
 -- Each that was pending when the run began is pending in what is kept, or with a step of the run its session ended.
+abbrev pub KeepsEarlier : Run → Face → Came → KeptValue → Type 0
+KeepsEarlier r face came kept =
+    (p : Pending) → IsAmong p (pending_before r.kept)
+    → IsAmong p kept.pending ⊎ IsEnded p.id (steps_of face came r)
+
 abbrev pub EarlierAreKept : Type 0
 EarlierAreKept =
     (r : Run) (face : Face) (came : Came) (kept : KeptValue)
-    → known_after face came r ≡ Some kept
-    → (p : Pending) → IsAmong p (pending_before r.kept)
-    → IsAmong p kept.pending ⊎ IsEnded p.id (steps_of face came r)
+    → known_after face came r ≡ Some kept → KeepsEarlier r face came kept
 
 -- ---- pieces whose session ended
 

@@ -4,6 +4,7 @@
 ghost use Rattle.peer_journal_laws.specs.Keeps.{KeepsBeforeItSends, NumbersAreKept};
 ghost use Rattle.peer_journal_laws.specs.Marks.{MarksAreKept};
 ghost use Rattle.peer_journal_laws.specs.Pieces.{EarlierAreKept, EndedAreGone, PiecesAreKept};
+ghost use Rattle.peer_journal_laws.specs.Stops.{HasAllAtDatagrams};
 ghost use Rattle.peer_journal_laws.specs.Resumes.{AddsAgainInOrder, AddsAgainOnce, ResumesWhatIsKept};
 
 /// In each half of a run, at each datagram that goes out, sent or lost, what the acts so far say is
@@ -59,4 +60,17 @@ pub fn marks_are_kept()
     peer_records::laws::report_is_marked();
     gate_records::laws::mark_stays();
     peer_records::laws::only_over_is_cleared();
+}
+
+/// So whenever the gateway stops: at each datagram that goes out in a run with a journal, what the
+/// acts so far say is kept has each piece that was added, by this run or an earlier one, and whose
+/// session hasn't ended; the marks; and the numbers that were given.
+pub fn has_all_at_datagrams()
+    ensures { HasAllAtDatagrams }
+{
+    peer_records::laws::pieces_are_pending();
+    peer_records::laws::report_is_marked();
+    gate_records::laws::mark_stays();
+    peer_records::laws::only_over_is_cleared();
+    peer_records::laws::numbers_are_reserved();
 }

@@ -58,7 +58,8 @@ fn end_by<G: GateSessions>(
     ensures left { OnOk result (held.new ≡ with_named held.old (end_leaves
         (G.opened gate.now) (told.now).face (ends_told (remark_seen (told.now).remark)) (held.old).named)) }
     ensures wanted { OnErr result (end_done
-        (G.opened gate.now) (told.now).face (ends_told (remark_seen (told.now).remark)) (held.old).named ≡ [] → ⊥) }
+        (G.opened gate.now) (told.now).face (ends_told (remark_seen (told.now).remark)) (held.old).named
+        ≡ [] → ⊥) }
 {
     match ends_told(told) {
         Some((session, how)) if !gate.is_open(told.face, session) => {

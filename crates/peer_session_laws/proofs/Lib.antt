@@ -1,0 +1,11 @@
+pub mod AnyLemmas
+pub mod SomeLemmas
+pub mod GoLemmas
+pub mod PassLemmas
+pub mod FaceLemmas
+pub mod WholeLemmas
+pub mod SenderLemmas
+pub mod OpenLemmas
+pub mod NumberLemmas
+pub mod EndLemmas
+pub mod RiseLemmas

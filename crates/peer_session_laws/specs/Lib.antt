@@ -1,0 +1,5 @@
+-- what a reader must believe, in this order
+pub mod Events
+pub mod Sessions
+pub mod Runs
+pub mod Own

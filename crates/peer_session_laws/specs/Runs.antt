@@ -1,0 +1,24 @@
+-- What happens at each face in a run.
+
+use Rattle.std.specs.Prelude.{◌≡◌, List, ◌++◌}
+use Rattle.gate_cases.specs.declared.face.Face.{Face}
+use Rattle.peer_once.specs.Runs as once
+use Rattle.peer_once.specs.Runs.{TimedEvent}
+use Rattle.peer_half.specs.Runs.{Run, events_of, marked_before, setup_of}
+use Rattle.peer_session_laws.specs.Events.{Beginning, events_at, face_of}
+
+-- A run begins by its setup, at the first reading of the wall clock at each face. The sessions that are marked then
+-- are remembered for good.
+abbrev pub beginning_of : Run → Beginning
+beginning_of r = record { setup = setup_of r; start = (r.wall, r.wall); marks = marked_before r }
+
+abbrev pub face_in : Run → Face → once.Face
+face_in r at = face_of (beginning_of r) at
+
+-- all that happened at a face in a run, the newest first
+abbrev pub happened_at : Run → Face → List TimedEvent
+happened_at r at = events_at (beginning_of r) at (events_of r)
+
+-- the first of these, till some moment of the run
+abbrev pub IsPast : Run → Face → List TimedEvent → Type 0
+IsPast r at events = (later : List TimedEvent) × (happened_at r at ≡ later ++ events)

@@ -9,3 +9,6 @@ pub mod OpenLemmas
 pub mod NumberLemmas
 pub mod EndLemmas
 pub mod RiseLemmas
+pub mod BlockLemmas
+pub mod OwnLemmas
+pub mod OwnRunLemmas

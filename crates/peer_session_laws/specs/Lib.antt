@@ -3,3 +3,4 @@ pub mod Events
 pub mod Sessions
 pub mod Runs
 pub mod Own
+pub mod Open

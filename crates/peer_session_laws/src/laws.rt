@@ -3,6 +3,7 @@
 
 ghost use Rattle.peer_session_laws.specs.Sessions.{AreOfTheirFaces, PassesWhole};
 ghost use Rattle.peer_session_laws.specs.Own.{EndsAreTold, NumbersGoOn, NumbersRise};
+ghost use Rattle.peer_session_laws.specs.Open.{OpenAreOwn, OwnAreOnce, OwnAreOpen};
 
 /// The sessions of each face are what the datagrams that came there, its ticks and the blocks that began there
 /// make of sessions at their beginning.
@@ -35,3 +36,21 @@ pub fn numbers_go_on()
 pub fn ends_are_told()
     ensures { EndsAreTold }
 {}
+
+/// Each session that is open at a face is one of those that the run keeps as its own, and it stands there once.
+pub fn open_are_own()
+    ensures open { OpenAreOwn }
+    ensures once { OwnAreOnce }
+{
+    peer_events::laws::own_go_by_ends();
+    peer_gateway::laws::pieces_in_order();
+}
+
+/// Each of those that the run keeps as its own is open, where each piece of earlier runs that was to be added has an
+/// octet.
+pub fn own_are_open()
+    ensures { OwnAreOpen }
+{
+    peer_events::laws::own_go_by_ends();
+    peer_gateway::laws::pieces_in_order();
+}

@@ -12,3 +12,5 @@ pub mod RiseLemmas
 pub mod BlockLemmas
 pub mod OwnLemmas
 pub mod OwnRunLemmas
+pub mod MomentLemmas
+pub mod OnceLemmas

@@ -4,3 +4,4 @@ pub mod Sessions
 pub mod Runs
 pub mod Own
 pub mod Open
+pub mod Once

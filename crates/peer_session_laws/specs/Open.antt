@@ -25,5 +25,6 @@ OwnAreOnce = (r : Run) (at : Face) (n : ℕ) → own_at r at n ≤ 1
 
 -- Where each piece of earlier runs that was to be added has an octet, those are the open ones.
 abbrev pub OwnAreOpen : Type 0
-OwnAreOpen = (r : Run) (at : Face) (n : ℕ) → AllByRecursion (λ (event : EventIn). IsSomePiece event.0) (events_of r)
+OwnAreOpen = (r : Run) (at : Face) (n : ℕ)
+    → AllByRecursion (λ (event : EventIn). IsSomePiece event.0) (events_of r)
     → own_at r at n ≡ (if is_open_in r at n then 1 else 0)

@@ -2,6 +2,8 @@
 //! stands below.
 
 ghost use Rattle.peer_session_laws.specs.Sessions.{AreOfTheirFaces, PassesWhole};
+ghost use Rattle.peer_session_laws.specs.Once.{HandedUpApartInRuns, HandedUpAsSentInRuns, HandedUpOnceInRuns};
+ghost use Rattle.peer_session_laws.specs.Once.{MomentsInOrder, NoneOfTheMarkedInRuns, UsedOnceInRuns};
 ghost use Rattle.peer_session_laws.specs.Own.{EndsAreTold, NumbersGoOn, NumbersRise};
 ghost use Rattle.peer_session_laws.specs.Open.{OpenAreOwn, OwnAreOnce, OwnAreOpen};
 
@@ -17,6 +19,57 @@ pub fn passes_whole()
     ensures { PassesWhole }
 {
     peer_once::laws::hands_up_red_parts();
+}
+
+// ---- when a red part is handed up twice in a run
+
+/// The moments of a face don't fall in a run.
+pub fn moments_in_order()
+    ensures { MomentsInOrder }
+{
+    peer_run_laws::laws::time_is_of_half();
+}
+
+/// A red part is handed up again at a face of a run only where its session wasn't there for the time in which a
+/// number is remembered, or where it was forgotten before its time, for want of places, and that was told.
+pub fn handed_up_once_in_runs()
+    ensures { HandedUpOnceInRuns }
+{
+    moments_in_order();
+    peer_once::laws::handed_up_once_in_time();
+}
+
+/// Unless runs are forgotten before their time, a red part isn't handed up twice at a face of a run within the time
+/// in which a number is remembered.
+pub fn handed_up_apart_in_runs()
+    ensures { HandedUpApartInRuns }
+{
+    moments_in_order();
+    peer_once::laws::handed_up_apart();
+}
+
+/// A number that a peer uses again, each time for one block: the red part of a use is handed up once at most.
+pub fn used_once_in_runs()
+    ensures { UsedOnceInRuns }
+{
+    moments_in_order();
+    peer_once::laws::used_once();
+}
+
+/// A number that a peer uses again: what is handed up in a use is the red part that was sent in it.
+pub fn handed_up_as_sent_in_runs()
+    ensures { HandedUpAsSentInRuns }
+{
+    moments_in_order();
+    peer_once::laws::handed_up_as_sent();
+}
+
+/// Nothing is passed on of a session that is marked when a run begins. What earlier runs kept is legal, as what is
+/// read of a journal is.
+pub fn none_of_the_marked_in_runs()
+    ensures { NoneOfTheMarkedInRuns }
+{
+    peer_once::laws::none_of_the_marked();
 }
 
 // ---- sessions of the gateway's own

@@ -395,11 +395,12 @@ quiet-kept P tick quiet [] all = refl
 quiet-kept P tick quiet (entry ∷ entries) all =
     let here = quiet entry.1 all.0 in let rest = quiet-kept P tick quiet entries all.1 in rw (here, rest) refl
 
--- nothing is sent and noted, and the sessions that are being sent stay
+-- nothing is sent and noted, and the sessions stay
 record IsStill (e : Engine) (p : Party) (now : ℕ) : Type 0 where
   out : (tick_step p e now).effects.out ≡ []
   notes : (tick_step p e now).effects.notes ≡ []
   senders : (tick_step p e now).engine.senders ≡ e.senders
+  receivers : (tick_step p e now).engine.receivers ≡ e.receivers
 
 still : (p : Party) (e : Engine) (now n : ℕ) → IsAhead now n e → IsStill e p now
 unfolding tick_step
@@ -414,6 +415,7 @@ still p e now n ahead =
       out = rw (first, more) refl;
       notes = rw (one, two) refl;
       senders = quiet-kept (SenderAhead now) (sender_ticks p now) sender e.senders ahead.senders;
+      receivers = quiet-kept (ReceiverAhead now) (receiver_ticks p now) receiver e.receivers ahead.receivers;
     }
 
 -- of a face's sessions, of which none is stale
@@ -424,6 +426,7 @@ pub record AreStill (k : FaceKeys) (x : Sessions) (now : ℕ) : Type 0 where
   pub notes : (ticks k x now).effects.notes ≡ []
   pub greens : (ticks k x now).effects.greens ≡ []
   pub senders : (ticks k x now).sessions.engine.senders ≡ (x.engine).senders
+  pub receivers : (ticks k x now).sessions.engine.receivers ≡ (x.engine).receivers
   pub next : (ticks k x now).sessions.engine.next ≡ (x.engine).next
 
 pub are-still : (k : FaceKeys) (x : Sessions) (now n : ℕ) → IsAhead now n x.engine → stale k now x ≡ [] → AreStill k x now
@@ -438,5 +441,6 @@ are-still k x now n ahead none =
       notes = ap (λ (e : Engine). (tick_step k.party e now).effects.notes) same ∙ it.notes;
       greens = refl;
       senders = ap (λ (e : Engine). (tick_step k.party e now).engine.senders) same ∙ it.senders;
+      receivers = ap (λ (e : Engine). (tick_step k.party e now).engine.receivers) same ∙ it.receivers;
       next = ap (λ (e : Engine). e.next) same;
     }

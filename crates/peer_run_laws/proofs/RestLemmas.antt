@@ -88,7 +88,7 @@ pub record KeptByAdding (s : PeerSetup) (m : PeerMoments) (Holds : PeerGate → 
   pub adding : (face : Face) (is_report : Bool) (piece : Piece) (g : PeerGate) → piece.added ≡ m.at face → Holds g
       → Holds (adds s face m is_report piece g).gate
 
-abbrev Stays : (PeerGate → Type 0) → (PeerGate → PeerStep) → Type 0
+abbrev pub Stays : (PeerGate → Type 0) → (PeerGate → PeerStep) → Type 0
 Stays Holds step = (g : PeerGate) → Holds g → Holds (step g).gate
 
 turn-stays : {X : Type 0} (Holds : PeerGate → Type 0) (step : X → PeerGate → PeerStep) → ((x : X) → Stays Holds (step x)) → (xs : List X) → Stays Holds (in_turn step xs)
@@ -152,7 +152,7 @@ kept-stays s m Holds kept face octets came g so = by (has_room_at (room_at (at_f
     by false = so
 
 -- blocks go
-going-stays : (s : PeerSetup) (m : PeerMoments) (Holds : PeerGate → Type 0) (face : Face) (until : ℕ) → Stays Holds (go s face m until) → (n : ℕ) → Stays Holds (go_on s face m until n)
+pub going-stays : (s : PeerSetup) (m : PeerMoments) (Holds : PeerGate → Type 0) (face : Face) (until : ℕ) → Stays Holds (go s face m until) → (n : ℕ) → Stays Holds (go_on s face m until n)
 unfolding go_on and_then
 going-stays s m Holds face until goes zero g so = so
 going-stays s m Holds face until goes (suc n) g so =

@@ -17,7 +17,7 @@ use Rattle.piece_gathering.specs.Gathered.{ready}
 use Rattle.peer_sessions.specs.Keys.{FaceKeys}
 use Rattle.peer_sessions.specs.Sessions.{SessionsStep, block_begins, ticks}
 use Rattle.peer_gateway.specs.Keys.{PeerSetup}
-use Rattle.peer_gateway.specs.Gate.{AddedAt, BegunAt, FaceTold, PeerEffects, PeerFace, PeerGate, PeerMoments, PeerStep, Told, and_then, is_at, no_effects, stays_so, with_more}
+use Rattle.peer_gateway.specs.Gate.{AddedAt, BegunAt, FaceTold, PeerEffects, PeerFace, PeerGate, PeerMoments, PeerStep, Told, and_then, is_at, no_effects, octets_out, stays_so, with_more}
 use Rattle.peer_gateway.specs.Going.{block_of, due, gathers, go, go_on, is_free, next_count, told_if}
 use Rattle.peer_gateway.specs.Steps.{PeerEvent, a_datagram, a_kept_piece, a_tick, does_at, peer_step, ticks_face, ticks_peer, told_at, told_of, with_outboxes}
 use Rattle.peer_gateway.specs.Laws.{added_at, begun_at}
@@ -33,13 +33,13 @@ use Rattle.peer_half.specs.Runs.{EventIn, Run, after_events, arrived_in, begins_
 use Rattle.peer_half.specs.Laws.{datagrams_at}
 use Rattle.peer_half.proofs.StandingLemmas.{after_event, reads-rest}
 use Rattle.peer_run_laws.specs.Faces.{moments_in}
-use Rattle.peer_run_laws.specs.Ticks.{IsQuietAt, NoneWaitsLateInRuns, TicksOnce, TimersWait, before_tick, told_of_face}
+use Rattle.peer_run_laws.specs.Ticks.{DoesNothingAt, IsAsBefore, IsQuietAt, NoneWaitsLateInRuns, TicksOnce, TimersWait, before_tick, told_of_face}
 use Rattle.peer_run_laws.proofs.WalkLemmas.{Core, Keeps, core-answers, events-append, keeps-each, keeps-hears}
 use Rattle.peer_run_laws.proofs.BoxLemmas.{Box, fed-begins, starts_box}
 use Rattle.peer_run_laws.proofs.OrderLemmas.{at-both, at-other}
 use Rattle.peer_run_laws.proofs.FaceLemmas.{time-is-of-half}
 use Rattle.peer_run_laws.proofs.AheadLemmas.{are-still}
-use Rattle.peer_run_laws.proofs.RestLemmas.{Cited, IsRested, IsSorted, RestedAt, SortedAt, nothing-due, other-does, other-due, rested-event, rested-found, rested-tick, since-later, sorted-event}
+use Rattle.peer_run_laws.proofs.RestLemmas.{Cited, IsRested, IsSorted, RestedAt, SortedAt, going-stays, nothing-due, other-does, other-due, rested-event, rested-found, rested-tick, since-later, sorted-event}
 
 -- ---- quiet steps
 
@@ -178,6 +178,82 @@ quiet-tick s m faces.New g so =
     let after = other-due s m faces.New (m.at faces.Old) (does_at faces.Old g step).gate (other-does s m faces.New step g so) in
     quiet-more faces.New first.effects (ticks_face s m faces.New first.gate).effects (ticks-other s m faces.New g)
     (subst (λ (e : PeerEffects). IsQuietAt faces.New e) (sym (still-face s m faces.New first.gate after)) (quiet-none faces.New))
+
+-- ---- what it leaves
+
+as-so : (f : PeerFace) → IsAsBefore f f
+as-so f = record { senders = refl; receivers = refl; next = refl; pieces = refl }
+
+as-then : (f g h : PeerFace) → IsAsBefore f g → IsAsBefore g h → IsAsBefore f h
+as-then f g h first more = record {
+  senders = more.senders ∙ first.senders;
+  receivers = more.receivers ∙ first.receivers;
+  next = more.next ∙ first.next;
+  pieces = more.pieces ∙ first.pieces;
+}
+
+-- its sessions and pieces are those of this face
+abbrev AsAt : Face → PeerFace → PeerGate → Type 0
+AsAt at f g = IsAsBefore f (at_face g.faces at)
+
+as-other : (s : PeerSetup) (m : PeerMoments) (at : Face) (f : PeerFace) (g : PeerGate) → AsAt at f g → AsAt at f (ticks_face s m (other_of at) g).gate
+unfolding and_then go
+as-other s m at f g so =
+    let face = other_of at in
+    let until = m.at face in
+    let h = (does_at face g (ticked_by s m face g)).gate in
+    going-stays s m (AsAt at f) face until (λ (x : PeerGate) (is : AsAt at f x). goes at x is) (length ((at_face h.faces face).gathering).waiting) h (does at so)
+  where
+    does : (at : Face) → AsAt at f g → AsAt at f (does_at (other_of at) g (ticked_by s m (other_of at) g)).gate
+    does faces.Old so = so
+    does faces.New so = so
+
+    goes : (at : Face) (x : PeerGate) → AsAt at f x → AsAt at f (go s (other_of at) m (m.at (other_of at)) x).gate
+    goes faces.Old x is = is
+    goes faces.New x is = is
+
+as-done : (k : FaceKeys) (now : ℕ) (f : PeerFace) (queued : ℕ) → IsRested k now f → IsAsBefore f (record f { sessions = (ticks k f.sessions now).sessions; queued = queued })
+as-done k now f queued so =
+    let calm = so.calm in
+    let still = are-still k f.sessions now ((f.sessions).engine).next calm.ahead calm.unstale in
+    record { senders = still.senders; receivers = still.receivers; next = still.next; pieces = refl }
+
+as-does : (s : PeerSetup) (m : PeerMoments) (at : Face) (g : PeerGate) → RestedAt s m at g → AsAt at (at_face g.faces at) (does_at at g (ticked_by s m at g)).gate
+as-does s m faces.Old g so =
+    as-done s.keys.0 (m.at faces.Old) g.faces.0 (g.faces.0.queued + octets_out (ticked_by s m faces.Old g).effects.out) so
+as-does s m faces.New g so =
+    as-done s.keys.1 (m.at faces.New) g.faces.1 (g.faces.1.queued + octets_out (ticked_by s m faces.New g).effects.out) so
+
+as-face : (s : PeerSetup) (m : PeerMoments) (at : Face) (g : PeerGate) → RestedAt s m at g → AsAt at (at_face g.faces at) (ticks_face s m at g).gate
+unfolding and_then
+as-face s m at g so =
+    let h = (does_at at g (ticked_by s m at g)).gate in
+    subst (λ (x : PeerStep). AsAt at (at_face g.faces at) x.gate)
+    (sym (none-goes s at m (m.at at) (length ((at_face h.faces at).gathering).waiting) h (settled-still s m at g so))) (as-does s m at g so)
+
+as-tick : (s : PeerSetup) (m : PeerMoments) (at : Face) (g : PeerGate) → RestedAt s m at g → AsAt at (at_face g.faces at) (ticks_peer s m g).gate
+unfolding ticks_peer and_then
+as-tick s m faces.Old g so = as-other s m faces.Old g.faces.0 (ticks_face s m faces.Old g).gate (as-face s m faces.Old g so)
+as-tick s m faces.New g so =
+    let first = (ticks_face s m faces.Old g).gate in
+    let step = ticked_by s m faces.Old g in
+    let after = other-due s m faces.New (m.at faces.Old) (does_at faces.Old g step).gate (other-does s m faces.New step g so) in
+    as-then g.faces.1 first.faces.1 (ticks_face s m faces.New first).gate.faces.1
+    (as-other s m faces.New g.faces.1 g (as-so g.faces.1)) (as-face s m faces.New first after)
+
+as-found : (at : Face) (octets : ℕ × ℕ) (g : PeerGate) (f : PeerFace) → IsAsBefore (at_face (with_outboxes octets g).faces at) f → IsAsBefore (at_face g.faces at) f
+as-found faces.Old octets g f so = record { senders = so.senders; receivers = so.receivers; next = so.next; pieces = so.pieces }
+as-found faces.New octets g f so = record { senders = so.senders; receivers = so.receivers; next = so.next; pieces = so.pieces }
+
+nothing-done : (s : PeerSetup) (m : PeerMoments) (at : Face) (octets : ℕ × ℕ) (g : PeerGate) → RestedAt s m at g → DoesNothingAt at g (peer_step s a_tick m octets g)
+unfolding peer_step
+nothing-done s m at octets g so =
+    let found = with_outboxes octets g in
+    let rested = rested-found s m at octets g so in
+    record {
+      quiet = quiet-tick s m at found rested;
+      stays = as-found at octets g (at_face (ticks_peer s m found).gate.faces at) (as-tick s m at found rested);
+    }
 
 -- ---- with the events of a half
 
@@ -325,12 +401,11 @@ none-waits-late-in-runs laws r at now wait is free =
 
 -- ---- the tick of the next half
 
-quiet-next : (setup : PeerSetup) (at : Face) (m : PeerMoments) (s : Standing) (events : List EventIn) → IsResting setup at m s events → HasTick events
-    → IsQuietAt at (step_of a_tick s).effects
-unfolding peer_step
-quiet-next setup at m s events so has =
-    subst (λ (x : PeerStep). IsQuietAt at x.effects) (sym (step-as setup m a_tick s so.setup_is so.moments_is))
-    (quiet-tick setup m at (with_outboxes (outboxes_in s) s.gate) (rested-found setup m at (outboxes_in s) s.gate (so.rested has)))
+nothing-next : (setup : PeerSetup) (at : Face) (m : PeerMoments) (s : Standing) (events : List EventIn) → IsResting setup at m s events → HasTick events
+    → DoesNothingAt at s.gate (step_of a_tick s)
+nothing-next setup at m s events so has =
+    subst (λ (x : PeerStep). DoesNothingAt at s.gate x) (sym (step-as setup m a_tick s so.setup_is so.moments_is))
+    (nothing-done setup m at (outboxes_in s) s.gate (so.rested has))
 
 pub ticks-once : Cited → TicksOnce
 ticks-once laws r at before came wait is same =
@@ -351,6 +426,6 @@ ticks-once laws r at before came wait is same =
       rested = λ has. rested;
     }) in
     let again = resumed_each (reads came.reading s) in
-    quiet-next setup at m (before_tick came r) (after_events again ticked)
+    nothing-next setup at m (before_tick came r) (after_events again ticked)
     (keeps-each (IsResting setup at m) (resting-keeps laws setup at m wait) (reads came.reading s) ticked read)
     (has-after again ticked (inl tt))

@@ -9,7 +9,7 @@ use Rattle.outbox.specs.FaceTime.{FaceMoment}
 use Rattle.piece_gathering.specs.declared.piece.Piece.{Piece}
 use Rattle.piece_gathering.specs.Gathered.{is_complete}
 use Rattle.peer_sessions.specs.Keys.{FaceKeys}
-use Rattle.peer_gateway.specs.Gate.{FaceTold, PeerEffects, PeerFace, is_at}
+use Rattle.peer_gateway.specs.Gate.{FaceTold, PeerEffects, PeerFace, PeerGate, PeerStep, is_at}
 use Rattle.peer_gateway.specs.Going.{is_free}
 use Rattle.peer_gateway.specs.Steps.{a_tick}
 use Rattle.peer_gateway.specs.Answers.{answer_of}
@@ -39,6 +39,18 @@ pub record IsQuietAt (at : Face) (effects : PeerEffects) : Type 0 where
   pub adds : added_at at effects.added ≡ []
   pub begins : begun_at at effects.begun ≡ []
 
+-- the sessions of a face and its pieces are as they were
+pub record IsAsBefore (before after : PeerFace) : Type 0 where
+  pub senders : ((after.sessions).engine).senders ≡ ((before.sessions).engine).senders
+  pub receivers : ((after.sessions).engine).receivers ≡ ((before.sessions).engine).receivers
+  pub next : ((after.sessions).engine).next ≡ ((before.sessions).engine).next
+  pub pieces : after.gathering ≡ before.gathering
+
+-- a step of a gate does nothing at a face
+pub record DoesNothingAt (at : Face) (g : PeerGate) (step : PeerStep) : Type 0 where
+  pub quiet : IsQuietAt at step.effects
+  pub stays : IsAsBefore (at_face g.faces at) (at_face (step.gate).faces at)
+
 -- how it stands before the tick of the next half: pieces of earlier runs are added then
 abbrev pub before_tick : Came → Run → Standing
 before_tick came r = resumes (reads came.reading (stands_at r))
@@ -51,7 +63,7 @@ TicksOnce =
     → TimersWait (at_face (setup_of r).keys at)
     → (face_of at (stands_at r)).time ≡ Some before
     → (moments_in came (stands_at r)).at at ≡ before.moment
-    → IsQuietAt at (step_of a_tick (before_tick came r)).effects
+    → DoesNothingAt at (before_tick came r).gate (step_of a_tick (before_tick came r))
 
 -- ---- after a half
 

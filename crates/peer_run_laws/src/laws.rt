@@ -80,8 +80,9 @@ pub fn time_is_held()
     outbox::laws::time_stays();
 }
 
-/// Where a face's moment is that of the half before, the half's tick does nothing at the face: what was due went with
-/// the tick before, or when a session was free again, and what was added since isn't due.
+/// Where a face's moment is that of the half before, the half's tick does nothing at the face: nothing is sent, told,
+/// added or begun there, and its sessions and pieces stay. What was due went with the tick before, or when a session
+/// was free again, and what was added since isn't due.
 pub fn ticks_once()
     ensures { TicksOnce }
 {

@@ -20,7 +20,8 @@ use Rattle.peer_session_laws.specs.Own.{EndsAreTold, IsSomePiece}
 use Rattle.peer_session_laws.proofs.AnyLemmas.{any-first, any-later, any-map}
 use Rattle.peer_session_laws.proofs.GoLemmas.{GoOn, HasOctets, old-passes}
 use Rattle.peer_session_laws.proofs.FaceLemmas.{with-outboxes}
-use Rattle.peer_session_laws.proofs.PassLemmas.{goes-event, heard}
+use Rattle.peer_session_laws.proofs.PassLemmas.{goes-event, heard, said}
+use Rattle.peer_session_laws.proofs.OutLemmas.{IsOutOf}
 use Rattle.peer_session_laws.proofs.SenderLemmas.{not-both}
 use Rattle.peer_session_laws.proofs.OpenLemmas.{Rests, rests-hears, rests-same, rests-ticks, tells_end}
 use Rattle.peer_session_laws.proofs.NumberLemmas.{Begins, begins-all}
@@ -128,6 +129,7 @@ pub record Does (b : Beginning) (at : Face) (n : ℕ) (event : EventIn) (earlier
   pub begins : Begins at n (step_with b event earlier).effects.begun middle (sessions_of b at (event ∷ earlier))
   pub goes : GoOn (at_face b.setup.keys at) (event.1.0.at at) at (step_with b event earlier).effects.begun middle (sessions_of b at (event ∷ earlier))
   pub added : IsSomePiece event.0 → AllByRecursion HasOctets (step_with b event earlier).effects.added
+  pub out : AllByRecursion (IsOutOf at (said b.setup at event.0 event.1.0 (with_outboxes event.1.1 (gate_after b earlier)))) (step_with b event earlier).effects.out
   pub tells : tells_end n told ≡ true → list_any (is_end_at at n) (step_with b event earlier).effects.told ≡ true
 
 pub event-does : (b : Beginning) (at : Face) (n : ℕ) (event : EventIn) (earlier : List EventIn) → Does b at n event earlier
@@ -144,6 +146,7 @@ event-does b at n event earlier =
       begins = begins-all (at_face b.setup.keys at) (m.at at) at n (does b.setup event.0 m g).effects.begun (heard b.setup at event.0 m g) (at_face (does b.setup event.0 m g).gate.faces at).sessions goes.sessions;
       goes = goes.sessions;
       added = goes.added;
+      out = goes.out;
       tells = comes.tells;
     }
 

@@ -11,8 +11,11 @@ use Rattle.peer_once.specs.Runs as once
 use Rattle.peer_once.specs.Runs.{TimedEvent, sessions_in}
 use Rattle.peer_gateway.specs.Gate.{BegunAt, PeerGate, PeerMoments}
 use Rattle.peer_gateway.specs.Steps.{PeerEvent, a_datagram, a_kept_piece, a_tick, does, peer_gate_after, peer_step, with_outboxes}
+use Rattle.peer_half.specs.Runs.{events_of}
+use Rattle.peer_run_laws.specs.Gate.{GateIsOfEvents}
 use Rattle.peer_session_laws.specs.Events.{Beginning, events_at, face_of, gate_after, heard_first, sessions_of, with_begun}
 use Rattle.peer_session_laws.specs.Sessions.{AreOfTheirFaces}
+use Rattle.peer_session_laws.specs.Runs.{AreOfTheirFacesInRuns, beginning_of}
 use Rattle.peer_session_laws.proofs.GoLemmas.{GoOn, begins}
 use Rattle.peer_session_laws.proofs.PassLemmas.{goes-event, heard}
 
@@ -73,3 +76,9 @@ are-of-their-faces b at (event ∷ earlier) =
     begun-in (face_of b at) at (m.at at) step.effects.begun first (at_face step.gate.faces at).sessions
     (subst (λ (t : Sessions). GoOn (at_face b.setup.keys at) (m.at at) at step.effects.begun t (at_face step.gate.faces at).sessions)
     (heard-in b at event.0 m event.1.1 (gate_after b earlier) (events_at b at earlier) before) (goes-event b.setup m at event.0 g).sessions)
+
+-- ---- a run
+
+pub are-of-their-faces-in-runs : GateIsOfEvents → AreOfTheirFacesInRuns
+are-of-their-faces-in-runs law r at =
+    ap (λ (g : PeerGate). (at_face g.faces at).sessions) (law r) ∙ are-of-their-faces (beginning_of r) at (events_of r)

@@ -3,6 +3,8 @@
 use Rattle.std.proofs.Common.{◌≡◌, ℕ, zero, suc, ◌<◌, ◌==◌, Bool, true, false, if◌then◌else◌, List, [], ◌∷◌, ◌++◌, length, refl, subst}
 use Rattle.std.specs.List.{AllByRecursion}
 use Rattle.piece_gathering.specs.declared.piece.Piece.{Piece}
+use Rattle.ltp_session.specs.Sender.{begin}
+use Rattle.ltp_laws.proofs.ListLemmas.{all-append}
 use Rattle.gate_cases.specs.declared.face.Face.{Face}
 use Rattle.gate_cases.specs.declared.face.Face.TheVariants.{Old, New}
 use Rattle.gateway_core.specs.Comings.{if_same}
@@ -10,8 +12,10 @@ use Rattle.gateway_core.specs.Gate.{at_face}
 use Rattle.peer_sessions.specs.Keys.{FaceKeys}
 use Rattle.peer_sessions.specs.Sessions.{Sessions, block_begins, with_begun}
 use Rattle.peer_gateway.specs.Keys.{PeerSetup}
-use Rattle.peer_gateway.specs.Gate.{AddedAt, BegunAt, PeerGate, PeerMoments, PeerStep, Told, and_then, in_turn, stays_so, tells}
-use Rattle.peer_gateway.specs.Going.{adds, go, go_all, go_on, next_count, no_time, waits_too}
+use Rattle.peer_gateway.specs.Gate.{AddedAt, BegunAt, PeerGate, PeerMoments, PeerStep, Told, and_then, in_turn, routed_at, stays_so, tells}
+use Rattle.peer_gateway.specs.Going.{adds, block_of, go, go_all, go_on, next_count, no_time, waits_too}
+use Rattle.peer_session_laws.proofs.OutLemmas.{IsOtherOut, routed-other}
+use Rattle.peer_session_laws.proofs.SaidLemmas.{begin-says}
 
 -- ---- a face
 
@@ -43,18 +47,20 @@ sessions_at at g = (at_face g.faces at).sessions
 abbrev pub HasOctets : AddedAt → Type 0
 HasOctets a = 0 < length a.piece.octets
 
--- Those of a face have gone on with a step. And each piece that the step added has an octet, where so much is given.
+-- Those of a face have gone on with a step. Each piece that the step added has an octet, where so much is given; and
+-- it sends no report.
 pub record Goes (s : PeerSetup) (m : PeerMoments) (at : Face) (Given : Type 0) (g : PeerGate) (step : PeerStep) : Type 0 where
   pub sessions : GoOn (at_face s.keys at) (m.at at) at step.effects.begun (sessions_at at g) (sessions_at at step.gate)
   pub added : Given → AllByRecursion HasOctets step.effects.added
+  pub out : AllByRecursion IsOtherOut step.effects.out
 
 pub goes-not : (s : PeerSetup) (m : PeerMoments) (at : Face) (Given : Type 0) (g : PeerGate) → Goes s m at Given g (stays_so g)
 unfolding GoOn
-goes-not s m at Given g = record { sessions = refl; added = λ given. tt }
+goes-not s m at Given g = record { sessions = refl; added = λ given. tt; out = tt }
 
 pub goes-tells : (s : PeerSetup) (m : PeerMoments) (at : Face) (Given : Type 0) (face : Face) (told : Told) (g : PeerGate) → Goes s m at Given g (tells face told g)
 unfolding GoOn
-goes-tells s m at Given face told g = record { sessions = refl; added = λ given. tt }
+goes-tells s m at Given face told g = record { sessions = refl; added = λ given. tt; out = tt }
 
 pub added-both : (xs ys : List AddedAt) → AllByRecursion HasOctets xs → AllByRecursion HasOctets ys → AllByRecursion HasOctets (xs ++ ys)
 added-both [] ys first more = more
@@ -67,22 +73,30 @@ goes-both s m at Given g first next one more = record {
   sessions = go-then (at_face s.keys at) (m.at at) at first.effects.begun (next first.gate).effects.begun
       (sessions_at at g) (sessions_at at first.gate) (sessions_at at (next first.gate).gate) one.sessions more.sessions;
   added = λ given. added-both first.effects.added (next first.gate).effects.added (one.added given) (more.added given);
+  out = all-append IsOtherOut first.effects.out (next first.gate).effects.out one.out more.out;
 }
 
 goes-waits : (s : PeerSetup) (m : PeerMoments) (at : Face) (Given : Type 0) (face : Face) (piece : Piece) (is_report : Bool) (g : PeerGate)
     → (Given → 0 < length piece.octets) → Goes s m at Given g (waits_too face piece is_report g)
 unfolding GoOn
-goes-waits s m Old Given Old piece is_report g some = record { sessions = refl; added = λ given. (some given, tt) }
-goes-waits s m Old Given New piece is_report g some = record { sessions = refl; added = λ given. (some given, tt) }
-goes-waits s m New Given Old piece is_report g some = record { sessions = refl; added = λ given. (some given, tt) }
-goes-waits s m New Given New piece is_report g some = record { sessions = refl; added = λ given. (some given, tt) }
+goes-waits s m Old Given Old piece is_report g some = record { sessions = refl; added = λ given. (some given, tt); out = tt }
+goes-waits s m Old Given New piece is_report g some = record { sessions = refl; added = λ given. (some given, tt); out = tt }
+goes-waits s m New Given Old piece is_report g some = record { sessions = refl; added = λ given. (some given, tt); out = tt }
+goes-waits s m New Given New piece is_report g some = record { sessions = refl; added = λ given. (some given, tt); out = tt }
+
+-- a block's segments are no reports
+block-out : (k : FaceKeys) (s : Sessions) (block : List ℕ) (now : ℕ) (face : Face)
+    → AllByRecursion IsOtherOut (routed_at face (block_begins k s.engine block now).effects.out)
+block-out k s block now face =
+    routed-other face (record { originator = k.party.own; number = s.engine.next }) (begin k.party.policy s.engine.next block (length block) now).out
+    (begin-says k.party.policy s.engine.next block (length block) now)
 
 goes-block : (s : PeerSetup) (m : PeerMoments) (at : Face) (Given : Type 0) (face : Face) (until : ℕ) (g : PeerGate) → Goes s m at Given g (go s face m until g)
 unfolding GoOn go
-goes-block s m Old Given Old until g = record { sessions = (λ here. refl, refl); added = λ given. tt }
-goes-block s m Old Given New until g = record { sessions = (λ here. absurd (cc here), refl); added = λ given. tt }
-goes-block s m New Given Old until g = record { sessions = (λ here. absurd (cc here), refl); added = λ given. tt }
-goes-block s m New Given New until g = record { sessions = (λ here. refl, refl); added = λ given. tt }
+goes-block s m Old Given Old until g = record { sessions = (λ here. refl, refl); added = λ given. tt; out = block-out s.keys.0 g.faces.0.sessions (block_of s Old m until g.faces.0) (m.at Old) Old }
+goes-block s m Old Given New until g = record { sessions = (λ here. absurd (cc here), refl); added = λ given. tt; out = block-out s.keys.1 g.faces.1.sessions (block_of s New m until g.faces.1) (m.at New) New }
+goes-block s m New Given Old until g = record { sessions = (λ here. absurd (cc here), refl); added = λ given. tt; out = block-out s.keys.0 g.faces.0.sessions (block_of s Old m until g.faces.0) (m.at Old) Old }
+goes-block s m New Given New until g = record { sessions = (λ here. refl, refl); added = λ given. tt; out = block-out s.keys.1 g.faces.1.sessions (block_of s New m until g.faces.1) (m.at New) New }
 
 goes-on : (s : PeerSetup) (m : PeerMoments) (at : Face) (Given : Type 0) (face : Face) (until n : ℕ) (g : PeerGate) → Goes s m at Given g (go_on s face m until n g)
 unfolding go_on

@@ -77,7 +77,7 @@ small-closed p q n (m ∷ marks) small is = by (q m) (small-closed p q n marks s
   by true rest there = mine (p m) rest there
   by false rest there = rest there
 
-small-marked : (r : Run) (at : Face) (n : ℕ) → IfSome r.kept IsLegal → is_closed n (at_face (marked_before r) at) ≡ true → n < 2 ^ 64
+pub small-marked : (r : Run) (at : Face) (n : ℕ) → IfSome r.kept IsLegal → is_closed n (at_face (marked_before r) at) ≡ true → n < 2 ^ 64
 small-marked r at n legal is = by r.kept at legal is where
   by : (kept : Option KeptValue) (at : Face) → IfSome kept IsLegal → is_closed n (at_face (marked_each (starts_journal r.file r.wall kept)) at) ≡ true → n < 2 ^ 64
   by None Old legal is = absurd (cc is)

@@ -1,6 +1,6 @@
 -- What is passed on from a face is what its own events make whole.
 
-use Rattle.std.proofs.Common.{◌≡◌, ℕ, ◌↔◌, List, [], ◌∷◌, refl, sym, ◌∙◌, subst}
+use Rattle.std.proofs.Common.{◌≡◌, ℕ, ◌↔◌, List, [], ◌∷◌, refl, sym, ◌∙◌, ap, subst}
 use Rattle.ltp_session.specs.Engine.{UpValue}
 use Rattle.ltp_session.specs.RedPart.{RedPiece, BecomesWhole}
 use Rattle.ltp_laws.specs.View.{IsIn}
@@ -10,15 +10,15 @@ use Rattle.gateway_core.specs.Comings.{if_same}
 use Rattle.peer_sessions.specs.Sessions.{Sessions, hears}
 use Rattle.peer_sessions.specs.Runs as faces
 use Rattle.peer_once.specs.Runs as once
-use Rattle.peer_once.specs.Runs.{TimedEvent, sessions_in}
+use Rattle.peer_once.specs.Runs.{TimedEvent, sessions_in, ups_with}
 use Rattle.peer_once.specs.Pieces.{pieces_of, HandsUpRedParts}
 use Rattle.peer_once.proofs.PieceLemmas.{never-whole}
 use Rattle.gateway_core.specs.Gate.{at_face}
 use Rattle.peer_gateway.specs.Gate.{BegunAt, PeerGate, PeerMoments}
 use Rattle.peer_gateway.specs.Steps.{PeerEvent, a_datagram, a_kept_piece, a_tick, with_outboxes}
 use Rattle.peer_half.specs.Runs.{EventIn}
-use Rattle.peer_session_laws.specs.Events.{Beginning, events_at, face_of, gate_after, heard_first, passed_on, step_with, ups_at, with_begun}
-use Rattle.peer_session_laws.specs.Sessions.{PassesWhole, pieces_found}
+use Rattle.peer_session_laws.specs.Events.{Beginning, events_at, face_of, gate_after, heard_first, passed_on, sessions_of, step_with, ups_at, with_begun}
+use Rattle.peer_session_laws.specs.Sessions.{PassesOnWhatIsHandedUp, PassesWhole, pieces_found}
 use Rattle.peer_session_laws.proofs.FaceLemmas.{are-of-their-faces}
 
 abbrev up : ℕ → List ℕ → UpValue
@@ -82,3 +82,11 @@ passes-whole law b at n event earlier body =
     subst (λ (pieces : List RedPiece). IsIn (up n body) (ups_at b at event earlier)
     ↔ BecomesWhole (pieces_found (face_of b at) at n event.0 (event.1.0.at at) (events_at b at earlier)) pieces body) (sym (pieces-with b at n event earlier))
     (whole-by law b at n event.0 event.1.0 event.1.1 (gate_after b earlier) (events_at b at earlier) body (are-of-their-faces b at earlier))
+
+pub passes-on : PassesOnWhatIsHandedUp
+passes-on b at read m octets earlier = by at (are-of-their-faces b at earlier) where
+  by : (at : Face) → sessions_of b at earlier ≡ sessions_in (face_of b at) (events_at b at earlier)
+      → ups_at b at (a_datagram at read, (m, octets)) earlier
+      ≡ ups_with (face_of b at).keys (m.at at) (faces.a_datagram read) (sessions_in (face_of b at) (events_at b at earlier))
+  by Old same = ap (λ (t : Sessions). (hears b.setup.keys.0 t read (m.at Old)).effects.ups) same
+  by New same = ap (λ (t : Sessions). (hears b.setup.keys.1 t read (m.at New)).effects.ups) same

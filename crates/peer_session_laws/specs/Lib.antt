@@ -5,3 +5,4 @@ pub mod Runs
 pub mod Own
 pub mod Open
 pub mod Once
+pub mod Closed

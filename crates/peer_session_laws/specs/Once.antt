@@ -1,6 +1,7 @@
 -- When a red part can be handed up twice at a face in a run.
 
-use Rattle.std.specs.Prelude.{◌≡◌, ℕ, ◌+◌, ◌^◌, ◌<◌, ◌≤◌, ◌==◌, true, false, List, ◌∷◌, ◌++◌, Result, IfSome}
+use Rattle.std.specs.Prelude.{◌≡◌, ℕ, ◌+◌, ◌^◌, ◌<◌, ◌≤◌, ◌==◌, true, false}
+use Rattle.std.specs.Prelude.{List, ◌∷◌, ◌++◌, Result, IfSome}
 use Rattle.std.specs.List.{AllByRecursion, list_any}
 use Rattle.ltp_segment.specs.declared.fault.SegmentCause.{SegmentCause}
 use Rattle.ltp_segment.specs.Values.{SegmentValue}
@@ -10,7 +11,8 @@ use Rattle.gate_cases.specs.declared.face.Face.{Face}
 use Rattle.gateway_core.specs.Gate.{at_face}
 use Rattle.journal_file.specs.Legal.{IsLegal}
 use Rattle.peer_sessions.specs.Runs as faces
-use Rattle.peer_once.specs.Runs.{TimedEvent, AreInOrder, EachOf, ForgetsNothing, SomeOf, hands_up, sessions_in, ups_with}
+use Rattle.peer_once.specs.Runs.{TimedEvent, AreInOrder, EachOf, ForgetsNothing, SomeOf}
+use Rattle.peer_once.specs.Runs.{hands_up, sessions_in, ups_with}
 use Rattle.peer_once.specs.Laws.{OpensAnew}
 use Rattle.peer_once.specs.Uses.{IsInUse, Use}
 use Rattle.peer_half.specs.Setup.{IsRunnable}
@@ -44,7 +46,8 @@ HandedUpApartInRuns = (r : Run) (at : Face) (n : ℕ) (second first : TimedEvent
 -- Of a peer that uses a number again, each time for one block: the red part of a use that is shorter than the time
 -- is handed up once at most, where no runs are forgotten before their time.
 abbrev pub UsedOnceInRuns : Type 0
-UsedOnceInRuns = (r : Run) (at : Face) (n : ℕ) (u : Use) (second first : TimedEvent) (between earlier : List TimedEvent)
+UsedOnceInRuns = (r : Run) (at : Face) (n : ℕ) (u : Use)
+    → (second first : TimedEvent) (between earlier : List TimedEvent)
     → n < 2 ^ 64 → IsPast r at (second ∷ (between ++ (first ∷ earlier)))
     → EachOf (ForgetsNothing (face_in r at)) between (first ∷ earlier)
     → u.to < u.from + (face_in r at).keys.remember_ms → u.from ≤ first.0 → second.0 ≤ u.to

@@ -1,22 +1,29 @@
 //! What holds of the sessions, each law the contract of a function that does nothing but cite those of what
 //! stands below.
 
-ghost use Rattle.peer_session_laws.specs.Sessions.{AreOfTheirFaces, PassesWhole};
+ghost use Rattle.peer_session_laws.specs.Sessions.{AreOfTheirFaces, PassesOnWhatIsHandedUp, PassesWhole};
+ghost use Rattle.peer_session_laws.specs.Runs.{AreOfTheirFacesInRuns};
+ghost use Rattle.peer_session_laws.specs.Closed.{MarkedStayClosed};
 ghost use Rattle.peer_session_laws.specs.Once.{HandedUpApartInRuns, HandedUpAsSentInRuns, HandedUpOnceInRuns};
 ghost use Rattle.peer_session_laws.specs.Once.{MomentsInOrder, NoneOfTheMarkedInRuns, UsedOnceInRuns};
 ghost use Rattle.peer_session_laws.specs.Own.{EndsAreTold, NumbersGoOn, NumbersRise};
 ghost use Rattle.peer_session_laws.specs.Open.{OpenAreOwn, OwnAreOnce, OwnAreOpen};
 
 /// The sessions of each face are what the datagrams that came there, its ticks and the blocks that began there
-/// make of sessions at their beginning.
+/// make of sessions at their beginning: whatever happened to a gateway, and after each run.
 pub fn are_of_their_faces()
-    ensures { AreOfTheirFaces }
-{}
+    ensures events { AreOfTheirFaces }
+    ensures runs { AreOfTheirFacesInRuns }
+{
+    peer_run_laws::laws::gate_is_of_events();
+}
 
 /// With an event the red part of a session is passed on from a face if and only if it becomes whole there with
-/// it. Place by place it is the first octet that came since the session opened.
+/// it. Place by place it is the first octet that came since the session opened. What is passed on is what the face's
+/// sessions hand up.
 pub fn passes_whole()
-    ensures { PassesWhole }
+    ensures handed_up { PassesOnWhatIsHandedUp }
+    ensures whole { PassesWhole }
 {
     peer_once::laws::hands_up_red_parts();
 }
@@ -70,6 +77,14 @@ pub fn none_of_the_marked_in_runs()
     ensures { NoneOfTheMarkedInRuns }
 {
     peer_once::laws::none_of_the_marked();
+}
+
+/// No report on a session that is marked when a run begins goes out at its face in the run, sent or lost, nor waits
+/// after it. What earlier runs kept is legal, as what is read of a journal is.
+pub fn marked_stay_closed()
+    ensures { MarkedStayClosed }
+{
+    peer_run_laws::laws::goes_once_in_order();
 }
 
 // ---- sessions of the gateway's own

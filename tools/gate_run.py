@@ -11,10 +11,11 @@ second. With contacts the new face's link is open for so many seconds, closed fo
 Status 0 where all of this holds, and 1 else:
 
 - each line is a JSON object with its keys in alphabetical order, whose moment never falls;
-- of each block that a node sent there is one line, which is the first case of gateway_model.py that holds;
-- the sessions that it names bring exactly the pieces of that bundle's passage to the other node;
+- of each bundle of a block that a node sent there is one line, in order, which is the first case of gateway_model.py that
+  holds; and one of a place at which no bundle stands;
+- the sessions that it names bring exactly the pieces of that bundle's passage to the other node, with their ages kept;
 - each of these sessions has a line that it was sent, and nothing failed or was cancelled;
-- the metrics are a text of their format, and count the blocks and the sessions that the lines tell of;
+- the metrics are a text of their format, and count the bundles and the sessions that the lines tell of;
 - at a rate the octets that come in any second, as the system stamps them, are no more than it allows;
 - with contacts each datagram comes within one, or at most 50 ms after it, and each that opened or closed has its line.
 """
@@ -30,16 +31,18 @@ import time
 
 sys.dont_write_bytecode = True
 sys.path.insert(0, os.path.dirname(os.path.abspath(__file__)))
-from gateway_model import NEW, OLD, OTHER, SERIALS, SERVED, VERSION, case_of, system_clock
+from gateway_model import NEW, OLD, OTHER, SERIALS, SERVED, VERSION, Case, case_of, system_clock
 from live_nodes import POLICY, Node, Program, Queues, Served, Trouble, gate_words, options_of, program_of
 from made_bundles import Made
 from metrics_format import samples_of
+from peer_model import row_of
 
 OPTIONS = {"bundles": 60, "seconds": 120, "loss": 3, "repeats": 3, "delays": 5, "largest": 100_000, "seed": 1, "rate": 0,
            "contacts": 0}
 CUT = SERVED[1]
 NAMES = {"old": OLD, "new": NEW}        # of the faces, in lines and metrics
 MOST_OPEN = 40              # sessions at a face of the gateway, of 64
+MANY = 1 << 30              # pieces that may wait there
 SLACK = 0.01                # seconds of a rate that may be owed at any moment, and a second's edges
 LATE = 0.05                 # seconds after a contact: a half reads the clock once, and then sends
 STAMPS = 35                 # SO_TIMESTAMPNS
@@ -111,7 +114,7 @@ class Gated(Served):
         timers = "timeout_ms = 700\nlimit = 100\ncap_ms = 5000\n"
         more = (f"rate = {rate}\n" if rate else "") + (contacts.tables("new") if contacts else "")
         self.program = Program(path, gate_words(os.path.join(folder, "gate.toml"), self.nodes,
-                                                f'metrics = "{self.metrics}"\n', (timers, timers + more)))
+                                                f'age = "keep"\nmetrics = "{self.metrics}"\n', (timers, timers + more)))
         self.wait_for_sockets()
 
 
@@ -119,7 +122,7 @@ class Ledger:
     """Follows the program's lines, and knows what has to come of each block."""
 
     def __init__(self):
-        self.cases = {OLD: {}, NEW: {}}
+        self.cases, self.places = {OLD: {}, NEW: {}}, {OLD: collections.Counter(), NEW: collections.Counter()}
         self.told, self.pieces, self.sent = collections.Counter(), {OLD: {}, NEW: {}}, {OLD: set(), NEW: set()}
         self.at, self.judged, self.reports = "", {OLD: set(), NEW: set()}, 0
 
@@ -145,8 +148,12 @@ class Ledger:
     def case(self, face, line):
         session = line["session"]
         must(session in self.cases[face] and session not in self.judged[face], f"{line} is of no block, or of one twice")
-        self.judged[face].add(session)
-        case = self.cases[face][session]
+        cases, place = self.cases[face][session], self.places[face][session]
+        must(line.get("index") == (place + 1 if len(cases) > 1 else None), f"{line} is at {place} of {len(cases)}")
+        self.places[face][session] += 1
+        if place + 1 == len(cases):
+            self.judged[face].add(session)
+        case = cases[place]
         must(line["event"] == EVENTS[case.note[0]], f"{line} where the case is {case.note}")
         if case.note[0] == "BadBundle":
             must((line["place"], line["cause"]) == (case.note[1], str(case.note[2])), f"{line}, {case.note}")
@@ -161,6 +168,26 @@ class Ledger:
 
     def open_at(self, face):
         return len(self.cases[face]) - len(self.judged[face])
+
+
+def cases_of(block, version, now):
+    """What becomes of each bundle of a block, and of the place at which none stands."""
+    place = 0
+    _, end = row_of(block, version)
+    while place < len(block):
+        case = case_of(block[place:], version, now, MANY, SERIALS, CUT)
+        if case.note[0] == "BadBundle" and str(case.note[2]) == "Trailing":
+            length = case.note[1]
+            yield case_of(block[place:place + length], version, now, MANY, SERIALS, CUT)
+            place += length
+        elif case.note[0] == "BadBundle":
+            yield Case(["BadBundle", end.at, end.cause])
+            return
+        else:
+            yield case
+            return
+    if not block:
+        yield Case(["BadBundle", 0, "Truncated"])
 
 
 class Trial:
@@ -178,7 +205,7 @@ class Trial:
 
     def planned(self, draw, face, began):
         blocks = Made(draw, VERSION[face], int(self.options["largest"]), began, CUT).items(int(self.options["bundles"]))
-        return collections.deque((block, case_of(block, VERSION[face], began, 64, SERIALS, CUT)) for block in blocks)
+        return collections.deque((block, list(cases_of(block, VERSION[face], began))) for block in blocks)
 
     def run(self):
         until = time.monotonic() + self.options["seconds"]
@@ -186,21 +213,21 @@ class Trial:
             must(time.monotonic() < until and not self.gated.program.has_ended(), f"not all is done: {self.left()}")
             for face, items in self.items.items():
                 if items and self.has_room(face, items[0][1]):
-                    block, case = items.popleft()
-                    self.ledger.cases[face][self.nodes[face].submit(block)] = case
+                    block, cases = items.popleft()
+                    self.ledger.cases[face][self.nodes[face].submit(block)] = cases
             self.gated.pump()
             while self.gated.program.lines:
                 self.ledger.line(self.gated.program.lines.popleft())
 
-    def has_room(self, face, case):
+    def has_room(self, face, cases):
         """Whether the gateway has sessions for one more block, whatever it still does with the others."""
         ledger, used = self.ledger, {}
         for place in (OLD, NEW):
-            coming = [other for session, other in ledger.cases[OTHER[place]].items()
-                      if session not in ledger.judged[OTHER[place]]]
+            coming = [other for session, others in ledger.cases[OTHER[place]].items()
+                      if session not in ledger.judged[OTHER[place]] for other in others]
             used[place] = (len(ledger.pieces[place]) - len(ledger.sent[place]) + sum(len(other.out) for other in coming)
                            + ledger.open_at(place))
-        return (used[OTHER[face]] + len(case.out) <= MOST_OPEN and used[face] < MOST_OPEN
+        return (used[OTHER[face]] + sum(len(case.out) for case in cases) <= MOST_OPEN and used[face] < MOST_OPEN
                 and len(self.nodes[face].engine.senders) < MOST_OPEN)
 
     def is_done(self):
@@ -248,7 +275,7 @@ class Trial:
         with open(self.gated.metrics, encoding="utf-8") as text:
             found = samples_of(text.read())
         for name, face in NAMES.items():
-            passed = sum(1 for case in self.ledger.cases[face].values() if case.note[0] == "Passed")
+            passed = sum(case.note[0] == "Passed" for cases in self.ledger.cases[face].values() for case in cases)
             must(found[f'fimdahol_blocks_total{{face="{name}",case="passed"}}'] == passed, f"{name}: {passed} passed")
             begun = len(self.ledger.pieces[face])
             must(found[f'fimdahol_sessions_begun_total{{face="{name}"}}'] == begun, f"{name}: {begun} sessions begun")

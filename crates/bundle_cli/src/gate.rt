@@ -1,12 +1,10 @@
 //! The commands `gate FILE` and `gate check FILE`: the file is opened, and how the run, or the check,
 //! ended is said.
 
-ghost use Rattle.std.specs.Prelude.{◌≡◌, IfOk, IfSome};
-ghost use Rattle.std.specs.Process.{exit_status};
-ghost use Rattle.edge_traits.specs.Outcome.{code_of};
+ghost use Rattle.std.specs.Prelude.{IfOk, IfSome};
 ghost use Rattle.journal_file.specs.Legal.{IsLegal};
 ghost use Rattle.journal_file.specs.Ties.{kept_of};
-ghost use Rattle.gate_half.specs.Setup.{IsRunnable};
+ghost use Rattle.peer_half.specs.Setup.{IsRunnable};
 
 use crate::journal::{Opened, Unkept, end_unkept, open};
 use crate::serving::{unusable, unwatched};
@@ -18,7 +16,7 @@ use gate_check::{Checked, check};
 use gate_config::{ConfigFault, GateFile, MOST_OCTETS, Refusal, read};
 use gate_edges::{FileBoard, SystemClocks};
 use gate_run::laws::what_is_read_is_runnable;
-use gate_run::{GateStatus, Unmet, gate, meets};
+use gate_run::{GateStatus, gate};
 use gate_sockets::{SocketOutside, Sockets};
 use gateway_run::{Ended, Word};
 use std::alloc::{AllocError, Global};
@@ -34,15 +32,11 @@ const BESIDE_METRICS: &str = ".tmp";
 const BESIDE_JOURNAL: &str = ".new";
 
 /// Runs the gateway that a file configures, until a line can't be written, memory runs out, or its journal
-/// can't be kept. A file that asks for more than a run does yet is refused.
+/// can't be kept.
 pub fn run_file(rt: &HostRuntime, words: &[Word], name: &str) -> ExitCode {
-    let file = match file_at(rt, words, name) {
-        Ok(file) => file,
-        Err(code) => return code,
-    };
-    match meets(&file) {
-        Ok(()) => run(rt, words, &file),
-        Err(unmet) => end_unmet(rt, name, unmet),
+    match file_at(rt, words, name) {
+        Ok(file) => run(rt, words, &file),
+        Err(code) => code,
     }
 }
 
@@ -220,17 +214,6 @@ fn ended<R: Eprint + AllocGlobal>(
         passed: None,
     };
     end(rt, words, ended, reader_gone, None)
-}
-
-/// Ends a run of a file that asks for what no run does yet: says where, and what is wanted there.
-fn end_unmet<R: Eprint>(rt: &R, name: &str, unmet: Unmet) -> ExitCode
-    ensures { exit_status result ≡ code_of Status.Refused }
-{
-    let (table, key) = (unmet.section.key().name(), unmet.key.name());
-    let _ = eprintln!(rt;
-        "fimdahol: {name}: {table}.{key}: the default is wanted, since gate does nothing else yet"
-    );
-    ExitCode::from(Status::Refused.code())
 }
 
 /// Ends a check of a file that is refused: says where, and what is wanted there.

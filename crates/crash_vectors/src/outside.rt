@@ -1,7 +1,7 @@
 //! A run over an outside in memory that goes on from a journal's file, and what it made as a text.
 
 ghost use Rattle.std.specs.Prelude.{◌≡◌, ◌<◌, ◌^◌, [], All, IfOk, IfSome};
-ghost use Rattle.gate_half.specs.Setup.{IsRunnable};
+ghost use Rattle.peer_half.specs.Setup.{IsRunnable};
 ghost use Rattle.journal_file.specs.Legal.{IsLegal};
 ghost use Rattle.journal_file.specs.Ties.{kept_of};
 

@@ -91,14 +91,14 @@ sent new 0303a00100010029a002009f8907000182028202018202820101820100821a000f42450
     }
 }
 
-/// A block with an age is dated. It is resumed as it is, and stays dated in the new file.
+/// A block with an age is dated. Its age is raised by its stay, and it stays dated in the new file as it was.
 pub(crate) fn a_dated_block_that_is_resumed() -> Row {
     Row {
         file: plain_file(),
         readings: &[1015000, 1015000],
         gives: [&["-"], &["-"]],
         made: r#"installed
-sent new 0303a00100010032a002009f8907000182028202018202820101820100821a000f42450019ea5b425a46850702000043191388850101000043616263ff
+sent new 0303a00100010032a002009f8907000182028202018202820101820100821a000f42450019ea5b425a46850702000043192710850101000043616263ff
 {"at":"2000-01-01T00:16:55.000Z","event":"start","first_session":[4097,4097],"marks":0,"pending":1}
 {"at":"2000-01-01T00:16:55.000Z","event":"resumed","face":"new","session":4097,"subject":{"creation":[1000005,0],"destination":"ipn:2.1","fragment":null,"payload":3,"source":"ipn:1.1","version":7}}
 "#,

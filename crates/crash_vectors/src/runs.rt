@@ -146,25 +146,36 @@ fn made_of_many(alloc: Global, turns: u64) -> Result<String, Fail> {
     let comes = Comes {
         file: rows::plain_file(),
         readings: &[1015000, 1015000, 1015100, 1015100],
-        gives: [&["-", "-"], &["0803020002032900010029", "-", "-"]],
+        gives: [&["-", "-"], &["-", "0803020002032900010029", "-"]],
     };
     let (_, over) = run(alloc, &comes, turns, &file, None)?;
     told(alloc, over.outside.acts())
 }
 
 /// Whether it is said of a session in so many turns that its block is resumed.
-fn is_resumed(alloc: Global, turns: u64, session: &str) -> Result<bool, Fail> {
+fn is_resumed(alloc: Global, turns: u64, session: u64) -> Result<bool, Fail> {
     let made = made_of_many(alloc, turns)?;
     let line = format!(in alloc; "\"event\":\"resumed\",\"face\":\"new\",\"session\":{session},")?;
     Ok(made.contains(line.as_str()))
 }
 
-/// Sixty-four are begun in the first half, and the last one in the half after a session ended.
+/// Whether a block went in a session of the new face in so many turns.
+fn has_gone(alloc: Global, turns: u64, session: &str) -> Result<bool, Fail> {
+    let made = made_of_many(alloc, turns)?;
+    let datagram = format!(in alloc; "sent new 0303{session}")?;
+    Ok(made.contains(datagram.as_str()))
+}
+
+/// All are resumed in the first half: 64 of them go, and the last one waits until a session has ended.
 #[test]
 fn more_wait_than_there_are_sessions(rt: HostRuntime) -> Result<(), Fail> {
-    for (turns, session, wanted) in [(1, "64", true), (1, "65", false), (2, "65", true)] {
+    let alloc = rt.alloc();
+    for session in [1, 64, 65] {
+        assert_eq!(rt; is_resumed(alloc, 1, session)?, true, "{session}");
+    }
+    for (turns, session, wanted) in [(1, "40", true), (1, "41", false), (2, "41", true)] {
         assert_eq!(rt;
-            is_resumed(rt.alloc(), turns, session)?,
+            has_gone(alloc, turns, session)?,
             wanted,
             "{turns} {session}"
         );

@@ -2,7 +2,7 @@
 
 use Rattle.std.proofs.Common.{◌≡◌, ◌≢◌, ℕ, suc, ◌+◌, ◌^◌, ◌<◌, ◌≤◌, max, Bool, true, false, not, ◌==◌, nat_lt, List, [], ◌∷◌, ◌++◌, length, Option, None, Some, IfSome, Result, Ok, Err, refl, arith, ℤ, pos, negsuc, if◌then◌else◌}
 use Rattle.std.specs.Prelude.{option_and_then, unwrap_or}
-use Rattle.std.proofs.lemmas.Bool.{eqb-false, ltb-false, le-leb, and_parts, leb-true, ltb-true}
+use Rattle.std.proofs.lemmas.Bool.{eqb-false, ltb-false, le-leb, and_parts, or_parts, leb-true, ltb-true}
 use Rattle.endpoint.specs.declared.name.Endpoint.{Endpoint}
 use Rattle.endpoint.specs.declared.name.Endpoint.TheVariants as names
 use Rattle.endpoint.specs.declared.fault.EndpointFault.{EndpointFault}
@@ -30,10 +30,11 @@ use Rattle.gate_config.specs.declared.fault.Refusal.TheVariants as refusals
 use Rattle.gate_config.specs.Keys.{kind_of, default_of, face_keys, blocks_keys, file_keys, keys_of}
 use Rattle.gate_config.specs.Refusals.{first_of}
 use Rattle.gate_config.specs.Values.{at, fits, is_of, whole_of, is_whole, number_at, text_at, moment_at, moment_in, contacts_at, is_contacts, item_count, is_endpoint, is_named}
-use Rattle.gate_config.specs.Meaning.{first_misfit, table_refusal, refuse_if, contact_refusal, contacts_refusal, number_in, cap_in, face_refusal, blocks_refusal, refusal_of, contacts_of, face_of, gateway_of, file_of, endpoint_or_null, section_of, same_text}
+use Rattle.gate_config.specs.Meaning.{first_misfit, table_refusal, refuse_if, contact_refusal, contacts_refusal, number_in, cap_in, face_refusal, blocks_refusal, refusal_of, contacts_of, face_of, gateway_of, blocks_of, file_of, endpoint_or_null, section_of, same_text}
+use Rattle.block_types.specs.Pair.{IsPair}
 use Rattle.gateway_core.specs.Config.{IsGateConfig}
 use Rattle.gate_face.specs.Schedules.{HasPlan, windows_of}
-use Rattle.gate_half.specs.Setup.{IsFace, IsRunnable}
+use Rattle.peer_half.specs.Setup.{IsFace, IsRunnable}
 use Rattle.gate_run.specs.Laws.{IsRunnableAsRead}
 
 -- ---- what isn't refused
@@ -234,6 +235,12 @@ pub record HasDefaults (face : Section) : Type 0 where
   pub timeout : default_of face keys.TimeoutMs ≡ 10_000
   pub limit : default_of face keys.Limit ≡ 10
   pub cap : default_of face keys.CapMs ≡ 160_000
+  pub sessions : default_of face keys.Sessions ≡ 64
+  pub memory : default_of face keys.Memory ≡ 268_435_456
+  pub aggregate : default_of face keys.Aggregate ≡ 0
+  pub aggregate_ms : default_of face keys.AggregateMs ≡ 1000
+  pub remember : default_of face keys.Remember ≡ 1_048_576
+  pub remember_ms : default_of face keys.RememberMs ≡ 3_600_000
   pub rest : List Key
   pub all : keys_of face ≡ face_keys ++ rest
   pub contact : (place : Option Data) → AllFit rest place → fits kinds.Contacts (at keys.Contact place) ≡ true
@@ -244,6 +251,12 @@ old-defaults = record {
   timeout = refl;
   limit = refl;
   cap = refl;
+  sessions = refl;
+  memory = refl;
+  aggregate = refl;
+  aggregate_ms = refl;
+  remember = refl;
+  remember_ms = refl;
   rest = keys.Contact ∷ [];
   all = refl;
   contact = λ place fit. fit.0;
@@ -255,6 +268,12 @@ new-defaults = record {
   timeout = refl;
   limit = refl;
   cap = refl;
+  sessions = refl;
+  memory = refl;
+  aggregate = refl;
+  aggregate_ms = refl;
+  remember = refl;
+  remember_ms = refl;
   rest = blocks_keys ++ (keys.Contact ∷ []);
   all = refl;
   contact = λ place fit. let (residue, (wrap, (foreign, (contact, end)))) = fit in contact;
@@ -280,6 +299,18 @@ runnable-face face place defaults is =
     (whole-fits 1 3_600_000 (at keys.TimeoutMs place) timeout) (rw defaults.timeout (omega arith)) (rw defaults.timeout (omega arith)) in
     let often = or-default 1 100 (default_of face keys.Limit) (number_at keys.Limit place)
     (whole-fits 1 100 (at keys.Limit place) limit) (rw defaults.limit (omega arith)) (rw defaults.limit (omega arith)) in
+    let many = or-default 1 1024 (default_of face keys.Sessions) (number_at keys.Sessions place)
+    (whole-fits 1 1024 (at keys.Sessions place) sessions) (rw defaults.sessions (omega arith)) (rw defaults.sessions (omega arith)) in
+    let room = or-default 33_554_432 1_099_511_627_776 (default_of face keys.Memory) (number_at keys.Memory place)
+    (whole-fits 33_554_432 1_099_511_627_776 (at keys.Memory place) memory) (rw defaults.memory (omega arith)) (rw defaults.memory (omega arith)) in
+    let together = or-default 0 4_194_304 (default_of face keys.Aggregate) (number_at keys.Aggregate place)
+    (whole-fits 0 4_194_304 (at keys.Aggregate place) aggregate) (rw defaults.aggregate (omega arith)) (rw defaults.aggregate (omega arith)) in
+    let waits = or-default 1 60_000 (default_of face keys.AggregateMs) (number_at keys.AggregateMs place)
+    (whole-fits 1 60_000 (at keys.AggregateMs place) aggregate_ms) (rw defaults.aggregate_ms (omega arith)) (rw defaults.aggregate_ms (omega arith)) in
+    let closed = or-default 4096 16_777_216 (default_of face keys.Remember) (number_at keys.Remember place)
+    (whole-fits 4096 16_777_216 (at keys.Remember place) remember) (rw defaults.remember (omega arith)) (rw defaults.remember (omega arith)) in
+    let long = or-default 1000 604_800_000 (default_of face keys.RememberMs) (number_at keys.RememberMs place)
+    (whole-fits 1000 604_800_000 (at keys.RememberMs place) remember_ms) (rw defaults.remember_ms (omega arith)) (rw defaults.remember_ms (omega arith)) in
     record {
       apart = eqb-false _ _ (not-refused _ _ parts.fourth);
       segment_least = sizes.0;
@@ -290,6 +321,17 @@ runnable-face face place defaults is =
       cap_least = ltb-false _ _ (not-refused _ _ parts.second);
       cap_most = rw defaults.cap (cap-within (number_at keys.CapMs place) _ (whole-fits 1 3_600_000 (at keys.CapMs place) cap) times.1);
       first = first-within (number_at keys.FirstSession place) (whole-fits 1 4_294_967_295 (at keys.FirstSession place) first);
+      sessions_least = many.0;
+      sessions_most = many.1;
+      memory_least = room.0;
+      memory_most = room.1;
+      aggregate_most = together.1;
+      aggregate_ms_least = waits.0;
+      aggregate_ms_most = waits.1;
+      remember_least = closed.0;
+      remember_most = closed.1;
+      remember_ms_least = long.0;
+      remember_ms_most = long.1;
       plan = has-plan face place contact parts.third;
     }
 
@@ -321,6 +363,42 @@ runnable-gateway within place is =
     (whole-fits 1 4_000_000 (at keys.Cut place) cut) (omega arith) (omega arith) in
     record { named = name.0; legal = name.1; cut_least = cuts.0; cut_most = cuts.1 }
 
+-- ---- the types of residues and wraps
+
+-- what stands there is of its kind
+pub record BlocksFit (place : Option Data) : Type 0 where
+  pub residue : fits (kinds.Whole 192 255) (at keys.ResidueBlock place) ≡ true
+  pub wrap : fits (kinds.Whole 192 255) (at keys.WrapBlock place) ≡ true
+
+blocks-fit : (place : Option Data) → face_refusal sections.New place ≡ None → BlocksFit place
+unfolding face_refusal
+blocks-fit place is =
+    let tables = firsts (table_refusal (places.Table sections.New) (keys_of sections.New) place) _ is in
+    let fit = table-fits (places.Table sections.New) (keys_of sections.New) place tables.0 in
+    let (bind, (peer, (engine, (peer_engine, (segment, (timeout, (limit, (cap, (first, (rate, more)))))))))) = fit in
+    let (outbox, (accept, (sessions, (memory, (aggregate, (aggregate_ms, (remember, (remember_ms, others)))))))) = more in
+    record { residue = others.0; wrap = (others.1).0 }
+
+runnable-blocks : (place : Option Data) → BlocksFit place → blocks_refusal place ≡ None
+    → IsPair (blocks_of place).residue_block (blocks_of place).wrap_block
+unfolding blocks_refusal
+runnable-blocks place fit is =
+    let residue = or-default 192 255 192 (number_at keys.ResidueBlock place)
+    (whole-fits 192 255 (at keys.ResidueBlock place) fit.residue) (omega arith) (omega arith) in
+    let wrap = or-default 192 255 193 (number_at keys.WrapBlock place)
+    (whole-fits 192 255 (at keys.WrapBlock place) fit.wrap) (omega arith) (omega arith) in
+    let both = firsts _ _ is in
+    let others = or_parts _ _ (not-refused _ _ both.1) in
+    record {
+      residue_low = residue.0;
+      residue_high = omega (arith, residue.1);
+      residue_other = eqb-false _ _ (not-refused _ _ both.0);
+      wrap_low = wrap.0;
+      wrap_high = omega (arith, wrap.1);
+      wrap_other = eqb-false _ _ others.0;
+      apart = eqb-false _ _ others.1;
+    }
+
 -- ---- a file
 
 runnable-document : (document : Option Data) → refusal_of document ≡ None → IsRunnable (file_of document)
@@ -341,10 +419,13 @@ runnable-document document is =
     (refuse_if (same_text (text_at keys.Journal (section_of sections.Gateway document))
     (text_at keys.Metrics (section_of sections.Gateway document)))
     (refusals.Wrong (places.Table sections.Gateway) keys.Metrics wants.OtherPath))) rest.1 in
+    let blocks = firsts (blocks_refusal (section_of sections.New document)) _ parts.fourth in
     record {
       gateway = runnable-gateway (places.Table sections.Gateway) (section_of sections.Gateway document) parts.first;
       old = runnable-face sections.Old (section_of sections.Old document) old-defaults parts.second;
       new = runnable-face sections.New (section_of sections.New document) new-defaults parts.third;
+      blocks = runnable-blocks (section_of sections.New document)
+          (blocks-fit (section_of sections.New document) parts.third) blocks.0;
     }
 
 pub runnable-read : IsRunnableAsRead

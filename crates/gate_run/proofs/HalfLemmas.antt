@@ -7,11 +7,11 @@ use Rattle.gate_cases.specs.declared.face.Face.TheVariants.{Old, New}
 use Rattle.gate_edges.specs.Ahead.{Ahead, past_reading, reading_next}
 use Rattle.gate_edges.specs.Made.{Made, AsTold}
 use Rattle.outbox.specs.declared.reading.Reading.{Reading}
-use Rattle.gate_half.specs.Standing.{Standing, face_of}
-use Rattle.gate_half.specs.Acts.{Act, Acted, stands}
-use Rattle.gate_half.specs.Parts.{reads, resumes, ticks, sends, makes_anew, installs}
-use Rattle.gate_half.specs.Journals.{is_large}
-use Rattle.gate_half.specs.Half.{half}
+use Rattle.peer_half.specs.Standing.{Standing, face_of}
+use Rattle.peer_half.specs.Acts.{Act, Acted, stands}
+use Rattle.peer_half.specs.Parts.{reads, resumes, ticks, sends, makes_anew, installs}
+use Rattle.peer_half.specs.Journals.{is_large}
+use Rattle.peer_half.specs.Half.{half}
 use Rattle.gate_run.specs.Comes.{most_polls, comes, past_polls}
 use Rattle.gate_run.specs.Course.{Point, recorded, old_sent, new_sent, ended, shows_in, past_sendings, past_shows, ahead_past_half}
 use Rattle.gate_run.specs.Outcome.{made_by_all}

@@ -8,4 +8,3 @@ pub mod TurnLemmas
 pub mod RunLemmas
 pub mod WholeLemmas
 pub mod ConfigLemmas
-pub mod MeetsLemmas

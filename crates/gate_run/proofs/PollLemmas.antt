@@ -4,8 +4,8 @@ use Rattle.std.proofs.Common.{◌≡◌, ℕ, zero, suc, true, false, Option, re
 use Rattle.gate_cases.specs.declared.face.Face.{Face}
 use Rattle.gate_cases.specs.declared.face.Face.TheVariants.{Old, New}
 use Rattle.gate_edges.specs.Ahead.{Ahead, LinkAhead, Polled, failed, empty, gave, polled_at, link_of, with_link, link_past_poll, past_poll, past_reading, reading_next}
-use Rattle.gate_half.specs.Standing.{Standing}
-use Rattle.gate_half.specs.Parts.{reads, resumes, ticks, arrives, arrives_all, ends_polling}
+use Rattle.peer_half.specs.Standing.{Standing}
+use Rattle.peer_half.specs.Parts.{reads, resumes, ticks, arrives, arrives_all, ends_polling}
 use Rattle.gate_run.specs.Comes.{Taken, taken_by, takes, most_polls, comes}
 use Rattle.gate_run.specs.Course.{Point}
 use Rattle.gate_run.specs.Stages.{IsAt, is_given, after_polled, past_polled, polls_within, hears_over}

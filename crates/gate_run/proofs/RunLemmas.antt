@@ -7,10 +7,10 @@ use Rattle.gate_cases.specs.declared.face.Face.TheVariants.{Old, New}
 use Rattle.gate_config.specs.declared.file.GateFile.{GateFile}
 use Rattle.gate_edges.specs.Ahead.{Ahead, past_reading, reading_next}
 use Rattle.journal_file.specs.Values.{KeptValue}
-use Rattle.gate_half.specs.Standing.{Standing}
-use Rattle.gate_half.specs.Starts.{starts_at}
-use Rattle.gate_half.specs.Half.{Came, half}
-use Rattle.gate_half.specs.Run.{halves, recovers, run}
+use Rattle.peer_half.specs.Standing.{Standing}
+use Rattle.peer_half.specs.Starts.{starts_at}
+use Rattle.peer_half.specs.Half.{Came, half}
+use Rattle.peer_half.specs.Run.{halves, recovers, run}
 use Rattle.gate_run.specs.Comes.{comes}
 use Rattle.gate_run.specs.Course.{Point, past_half, past_turn, come, has_board, begins, run_over}
 use Rattle.gate_run.specs.Outcome.{made_by_all}

@@ -9,9 +9,9 @@ use Rattle.gate_cases.specs.declared.face.Face.{Face}
 use Rattle.gate_cases.specs.declared.face.Face.TheVariants.{Old, New}
 use Rattle.gate_edges.specs.Ahead.{Ahead, link_of, with_link, past_send, send_fails}
 use Rattle.gate_edges.specs.Made.{Made}
-use Rattle.gate_half.specs.Standing.{Standing, doing_at}
-use Rattle.gate_half.specs.Acts.{Act, Acted, after_acts, stands}
-use Rattle.gate_half.specs.Parts.{goes, sends_within, tried, where_some}
+use Rattle.peer_half.specs.Standing.{Standing, doing_at}
+use Rattle.peer_half.specs.Acts.{Act, Acted, after_acts, stands}
+use Rattle.peer_half.specs.Parts.{goes, sends_within, tried, where_some}
 use Rattle.gate_face.specs.Halves.{taking}
 use Rattle.gate_run.specs.Course.{Point, past_sends}
 use Rattle.gate_run.specs.Outcome.{made_by_all}

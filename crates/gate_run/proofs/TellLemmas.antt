@@ -9,8 +9,8 @@ use Rattle.gate_edges.specs.Ahead.{Ahead}
 use Rattle.gate_edges.specs.Made.{Made, written, wrote}
 use Rattle.gate_log.specs.declared.event.Event.{Event}
 use Rattle.gate_log.specs.Lines.{line_of}
-use Rattle.gate_half.specs.Standing.{Standing, wall_of}
-use Rattle.gate_half.specs.Parts.{line_at}
+use Rattle.peer_half.specs.Standing.{Standing, wall_of}
+use Rattle.peer_half.specs.Parts.{line_at}
 use Rattle.gate_run.specs.Course.{Point}
 use Rattle.gate_run.specs.Outcome.{made_by_all}
 use Rattle.gate_run.specs.Stages.{IsAt, Goes, WroteText, StopsWriting, StopsStoring, writes_over}

@@ -5,8 +5,8 @@ use Rattle.edge_traits.specs.Content.{Gains, GainsFront}
 use Rattle.edge_traits.proofs.ContentLemmas.{Gains-none}
 use Rattle.gate_edges.specs.Ahead.{Ahead}
 use Rattle.gate_edges.specs.Made.{Made}
-use Rattle.gate_half.specs.Standing.{Standing}
-use Rattle.gate_half.specs.Acts.{Act}
+use Rattle.peer_half.specs.Standing.{Standing}
+use Rattle.peer_half.specs.Acts.{Act}
 use Rattle.gate_run.specs.Course.{Point}
 use Rattle.gate_run.specs.Outcome.{made_by_all}
 use Rattle.gate_run.specs.Stages.{IsAt, Reached, Leads, and_on, turn_over, turns_over}

@@ -10,9 +10,9 @@ use Rattle.gate_edges.specs.Made.{Made, AsTold}
 use Rattle.outbox.specs.declared.reading.Reading.{Reading}
 use Rattle.gate_cases.specs.declared.face.Face.{Face}
 use Rattle.journal_file.specs.Values.{KeptValue}
-use Rattle.gate_half.specs.Standing.{Standing}
-use Rattle.gate_half.specs.Starts.{starts_at}
-use Rattle.gate_half.specs.Acts.{Act}
+use Rattle.peer_half.specs.Standing.{Standing}
+use Rattle.peer_half.specs.Starts.{starts_at}
+use Rattle.peer_half.specs.Acts.{Act}
 use Rattle.gate_run.specs.Course.{Point, come, has_board, run_over}
 use Rattle.gate_run.specs.Outcome.{MadeBy, WentStoring, WentWithout, WentWriting, made_by_all, status_of}
 use Rattle.gate_run.specs.Stages.{StopsStoring, StopsWriting, run_over_turns}

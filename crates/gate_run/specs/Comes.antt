@@ -5,7 +5,7 @@ use Rattle.gate_cases.specs.declared.face.Face.{Face}
 use Rattle.gate_edges.specs.Ahead.{Ahead, LinkAhead, Polled, failed, empty, gave, polled_of}
 use Rattle.gate_edges.specs.Ahead.{link_past_poll, link_of, with_link, past_reading, reading_next}
 use Rattle.gate_edges.specs.Ahead.{show_fails}
-use Rattle.gate_half.specs.Half.{Came}
+use Rattle.peer_half.specs.Half.{Came}
 
 -- what polls of a link come to: the datagrams that they give, in order, whether the last of them
 -- failed, and the link after them

@@ -8,11 +8,11 @@ use Rattle.gate_cases.specs.declared.face.Face.TheVariants.{Old, New}
 use Rattle.gate_config.specs.declared.file.GateFile.{GateFile}
 use Rattle.gate_edges.specs.Ahead.{Ahead, LinkAhead, past_show, reading_next}
 use Rattle.journal_file.specs.Values.{KeptValue}
-use Rattle.gate_half.specs.Standing.{Standing, wall_of}
-use Rattle.gate_half.specs.Acts.{Act, Acted}
-use Rattle.gate_half.specs.Parts.{commits, sends, ends_sending, is_due}
-use Rattle.gate_half.specs.Half.{Came, hears, half}
-use Rattle.gate_half.specs.Run.{recovers, run}
+use Rattle.peer_half.specs.Standing.{Standing, wall_of}
+use Rattle.peer_half.specs.Acts.{Act, Acted}
+use Rattle.peer_half.specs.Parts.{commits, sends, ends_sending, is_due}
+use Rattle.peer_half.specs.Half.{Came, hears, half}
+use Rattle.peer_half.specs.Run.{recovers, run}
 use Rattle.gate_run.specs.Comes.{comes, past_polls}
 
 -- what the outside will give from a moment of a run on, and how the run stands

@@ -3,6 +3,5 @@ pub mod Comes
 pub mod Course
 pub mod Outcome
 pub mod Laws
-pub mod Meets
 -- What only ties code to it.
 pub mod Stages

@@ -8,8 +8,8 @@ use Rattle.store_traits.specs.declared.fault.StoreFault.{StoreFault}
 use Rattle.store_traits.specs.declared.fault.StoreFault.TheVariants as store_faults
 use Rattle.gate_cases.specs.declared.face.Face.{Face}
 use Rattle.gate_edges.specs.Made.{Made, sent, lost, shown, written, committed, installed}
-use Rattle.gate_half.specs.Acts.{Act}
-use Rattle.gate_half.specs.Acts as acts
+use Rattle.peer_half.specs.Acts.{Act}
+use Rattle.peer_half.specs.Acts as acts
 use Rattle.gate_run.specs.declared.status.GateStatus.{GateStatus}
 use Rattle.gate_run.specs.declared.status.GateStatus.TheVariants.{Done, WriteFault, Memory, Journal, SessionsUsed}
 use Rattle.gate_run.specs.declared.stop.Stop.{Stop}

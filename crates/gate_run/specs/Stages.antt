@@ -12,11 +12,11 @@ use Rattle.gate_edges.specs.Ahead.{send_fails, past_send, show_fails, past_show}
 use Rattle.gate_edges.specs.Made.{Made, written}
 use Rattle.outbox.specs.Outbox.{next_of}
 use Rattle.gate_face.specs.Halves.{taking}
-use Rattle.gate_half.specs.Standing.{Standing, doing_at, face_of, wall_of}
-use Rattle.gate_half.specs.Acts.{Act, Acted}
-use Rattle.gate_half.specs.Parts.{arrives, fails_polling, commits, goes, tried, where_some, ends_sending}
-use Rattle.gate_half.specs.Parts.{writes, makes_anew, installs, shows, shows_now}
-use Rattle.gate_half.specs.Half.{half}
+use Rattle.peer_half.specs.Standing.{Standing, doing_at, face_of, wall_of}
+use Rattle.peer_half.specs.Acts.{Act, Acted}
+use Rattle.peer_half.specs.Parts.{arrives, fails_polling, commits, goes, tried, where_some, ends_sending}
+use Rattle.peer_half.specs.Parts.{writes, makes_anew, installs, shows, shows_now}
+use Rattle.peer_half.specs.Half.{half}
 use Rattle.gate_run.specs.Comes.{comes, past_polls}
 use Rattle.gate_run.specs.Course.{Point, heard, past_half, past_shows, shows_in}
 use Rattle.gate_run.specs.Outcome.{made_by_all}

@@ -15,8 +15,8 @@ use crate::telling::tell;
 use edge_traits::{Failed, LONGEST_DATAGRAM};
 use gate_cases::Face;
 use gate_edges::Outside;
-use gate_parts::HalfParts;
 use outbox::Reading;
+use peer_parts::HalfParts;
 use std::alloc::{AllocError, Global};
 
 /// How often a half polls at most.
@@ -97,8 +97,8 @@ impl<T: HalfParts + Drop> Driven<T> {
         Ok(())
     }
 
-    /// What is done before anything is made outside, once the clocks were read: what waits of earlier
-    /// runs is begun, time passes, and what comes at the half's face is taken.
+    /// What is done before anything is made outside, once the clocks were read: pieces of earlier runs
+    /// are added, time passes, and what comes at the half's face is taken.
     fn hear<O: Outside>(
         &mut self,
         face: Face,

@@ -4,7 +4,7 @@ ghost use Rattle.std.specs.Prelude.{◌≡◌, ◌<◌, IfSome, option_map};
 ghost use Rattle.journal_file.specs.Legal.{IsLegal};
 ghost use Rattle.journal_file.specs.Ties.{kept_of};
 ghost use Rattle.gate_edges.specs.Ahead.{reading_next};
-ghost use Rattle.gate_half.specs.Setup.{IsRunnable, used_up};
+ghost use Rattle.peer_half.specs.Setup.{IsRunnable, used_up};
 ghost use Rattle.gate_run.specs.Course.{run_over};
 ghost use Rattle.gate_run.specs.Outcome.{MadeBy, WentStoring, WentWithout, WentWriting};
 
@@ -12,8 +12,8 @@ use crate::running::run_from;
 use crate::status::GateStatus;
 use gate_config::GateFile;
 use gate_edges::Outside;
-use gate_live::{LiveGate, used_up};
 use journal_file::Kept;
+use peer_live::{LiveGate, used_up};
 use std::alloc::{AllocError, Global};
 
 /// Runs the gateway that a file says for so many turns, unless a write or a call on the journal fails or

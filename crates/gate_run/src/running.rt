@@ -4,7 +4,7 @@ ghost use Rattle.std.specs.Prelude.{◌≡◌, ◌<◌, ◌^◌, Option, Some};
 ghost use Rattle.gate_edges.specs.Ahead.{Ahead, reading_next, past_reading};
 ghost use Rattle.gate_cases.specs.declared.face.Face.{Face};
 ghost use Rattle.journal_file.specs.Values.{KeptValue};
-ghost use Rattle.gate_half.specs.Starts.{starts_at};
+ghost use Rattle.peer_half.specs.Starts.{starts_at};
 ghost use Rattle.gate_run.specs.Course.{Point, run_over};
 ghost use Rattle.gate_run.specs.Outcome.{MadeBy, WentStoring, WentWriting};
 ghost use Rattle.gate_run.specs.declared.status.GateStatus.TheVariants as statuses;
@@ -15,8 +15,8 @@ use crate::status::GateStatus;
 use crate::stop::Stop;
 use gate_config::GateFile;
 use gate_edges::Outside;
-use gate_parts::HalfParts;
 use outbox::Reading;
+use peer_parts::HalfParts;
 use std::alloc::Global;
 
 /// Makes so many turns with a gateway at work, at least one, once the journal's file is made anew where

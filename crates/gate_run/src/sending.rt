@@ -7,7 +7,7 @@ ghost use Rattle.gate_run.specs.Stages.{IsAt, Leads, next_at, sends_one, sends_o
 
 use gate_cases::Face;
 use gate_edges::Outside;
-use gate_parts::HalfParts;
+use peer_parts::HalfParts;
 
 /// Sends the datagram that may go next at a face, if one may. Whether one went.
 fn send_one<T: HalfParts, O: Outside>(parts: &mut T, face: Face, outside: &mut O) -> bool

@@ -1,17 +1,17 @@
 //! Committing the records of a half to the journal, and making its file anew.
 
 ghost use Rattle.std.specs.Prelude.{◌≡◌, IfOk, option_map};
-ghost use Rattle.gate_half.specs.Standing.{Standing};
-ghost use Rattle.gate_half.specs.Journals.{kept_in, records_in};
+ghost use Rattle.peer_half.specs.Standing.{Standing};
+ghost use Rattle.peer_half.specs.Journals.{kept_in, records_in};
 ghost use Rattle.journal_file.specs.Length.{entries_length, gate_of};
-ghost use Rattle.gate_half.specs.Parts.{commits_those, installs_those};
+ghost use Rattle.peer_half.specs.Parts.{commits_those, installs_those};
 ghost use Rattle.gate_run.specs.Course.{Point};
 ghost use Rattle.gate_run.specs.Stages.{IsAt, Goes, Did, StopsWriting, StopsStoring};
 ghost use Rattle.gate_run.specs.Stages.{commits_over, makes_anew_over, installs_over};
 
 use crate::stop::Stop;
 use gate_edges::Outside;
-use gate_parts::HalfParts;
+use peer_parts::HalfParts;
 
 /// Commits the records of a half, where there are some. How many octets they take in the journal.
 fn commit_records<T: HalfParts, O: Outside>(parts: &T, outside: &mut O) -> Result<usize, Stop>

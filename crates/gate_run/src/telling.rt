@@ -4,8 +4,8 @@ ghost use Rattle.std.specs.Prelude.{◌≡◌, ◌++◌, Some, flat_map, false};
 ghost use Rattle.std.specs.String.{string_bytes};
 ghost use Rattle.gate_log.specs.declared.event.Event.TheVariants as events;
 ghost use Rattle.gate_log.specs.Lines.{line_of};
-ghost use Rattle.gate_half.specs.Standing.{Standing, wall_of};
-ghost use Rattle.gate_half.specs.Parts.{is_due};
+ghost use Rattle.peer_half.specs.Standing.{Standing, wall_of};
+ghost use Rattle.peer_half.specs.Parts.{is_due};
 ghost use Rattle.gate_run.specs.Course.{Point, shows_in};
 ghost use Rattle.gate_run.specs.Stages.{IsAt, Goes, StopsWriting, StopsStoring, WroteText};
 ghost use Rattle.gate_run.specs.Stages.{ends_over, writes_over, shows_due, shows_over, shows_after, tells_over};
@@ -14,7 +14,7 @@ use crate::stop::Stop;
 use crate::storing::install_large;
 use edge_traits::Failed;
 use gate_edges::Outside;
-use gate_parts::HalfParts;
+use peer_parts::HalfParts;
 
 /// Writes a text, unless it is empty.
 fn write_text<O: Outside>(text: &str, outside: &mut O) -> Result<(), Stop>

@@ -2,7 +2,7 @@
 //! each act came.
 
 ghost use Rattle.std.specs.Prelude.{◌<◌, ◌^◌, All, IfOk};
-ghost use Rattle.gate_half.specs.Setup.{IsRunnable};
+ghost use Rattle.peer_half.specs.Setup.{IsRunnable};
 
 use crate::table::{self, Run};
 use edge_traits::LONGEST_DATAGRAM;

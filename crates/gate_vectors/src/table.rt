@@ -238,7 +238,7 @@ sent new 0303010001002902009f8907000182028202018202820101820100821a000f42450019e
 "#,
         ends: &[445, 706, 816],
     },
-    // A bundle with one octet more.
+    // A bundle with one octet more: that octet is no bundle.
     Run {
         file: r#"[gateway]
 endpoint = "ipn:9.0"
@@ -262,10 +262,12 @@ first_session = 1
         failing: [&[], &[]],
         showing: &[],
         made: r#"sent old 0801010002021800010018
+sent new 0303010001002902009f8907000182028202018202820101820100821a000f42450019ea5b425a46850101000043616263ff
 {"at":"2000-01-01T00:16:50.000Z","event":"start","first_session":[1,1],"marks":0,"pending":0}
-{"at":"2000-01-01T00:16:50.000Z","cause":"Trailing","event":"bad_bundle","face":"old","place":23,"session":1}
+{"at":"2000-01-01T00:16:50.000Z","event":"passed","face":"old","first":1,"index":1,"pieces":1,"session":1,"subject":{"creation":[1000,5],"destination":"ipn:2.1","fragment":null,"payload":3,"source":"ipn:1.1","version":6}}
+{"at":"2000-01-01T00:16:50.000Z","cause":"Version","event":"bad_bundle","face":"old","index":2,"place":23,"session":1}
 "#,
-        ends: &[236],
+        ends: &[577],
     },
 ];
 
@@ -361,9 +363,10 @@ to = 2001-01-02T00:00:00Z
 {"at":"2000-01-01T02:46:40.000Z","event":"passed","face":"old","first":1,"pieces":62,"session":1,"subject":{"creation":[9903,1],"destination":"dtn://dddddddddddddddddddddddddddddddddddddddddddddddddddddddddddddddddddddddddddddddddddddddddddddddddddd","fragment":null,"payload":62,"source":"dtn://acadddfdbadaddeafdcfbeacaaafeadfbdfaebddebcbfbdcadefabffcafcffedefbccededeadbfddfbcefffcadfeabedcdfadacfeeedfbbebabeebdececdcfeefadfebeebdadceebeddcdcaeeeecdeabfbeebaecafaaadacbcaebccabbcebfcffcdfcddaacdcdbcacfebedabadbafbdfefdebffedbefadfecffdafcbbacaaccfbdecbaeaebedbfeeadbcabefdebdafdcedacedcabbcebcdbcfadecfedebafaabbbebcceeccccacbefdbeeacadadbbcaeedaeebeaccceeadcaacaefaadaabbedbadbfbbfaddececfdcabfcaaacfecddcdaacedacbeefdfccbebcbbcacadafefcbdcacbcecbcaeeeeabbabdaceafaafaccddbaecaefbbbbccafeecbbbefacefeffbbcdebaffbcafddecededadcbcdafdeaafcebebbccdedbeabdabecefdfffbbcdfdbfdceeffcfbaaefcbebccfcecbfffdeaaeeedbbcdbefadfdffcdebefaeacfacfabefffadbdddbcdbedbadeedafccbdfeabedeaafebcbbcbebccecfdbecddabedbcaaaefaecfffbaececdefcecaadfdccedcffedafddbeacfefffebdeedffcfbdefebceafdeddceefffadfbffcfadffbfdcbaeaccfdfecbdcdbdeaceafedacafdabefbfadffcecbebbccaafefcdeefabcfffeccefbdedbdcecfbcefbfaedcdbcbaffbedefbecdebbbfdccdbafbffcaabdcdabaaeabfadfefedcfcaefbabdbdddbbbcdeedbdfccdeabaaaadcdecbdbfbaadbfeae","version":6}}
 {"at":"2000-01-01T02:46:40.000Z","datagrams":1,"event":"outbox_full","face":"new"}
 sent old 08010200030389330001008933
-{"at":"2000-01-01T02:46:40.000Z","event":"storage","face":"old","session":2,"subject":{"creation":[9903,1],"destination":"dtn://dddddddddddddddddddddddddddddddddddddddddddddddddddddddddddddddddddddddddddddddddddddddddddddddddddd","fragment":null,"payload":62,"source":"dtn://acadddfdbadaddeafdcfbeacaaafeadfbdfaebddebcbfbdcadefabffcafcffedefbccededeadbfddfbcefffcadfeabedcdfadacfeeedfbbebabeebdececdcfeefadfebeebdadceebeddcdcaeeeecdeabfbeebaecafaaadacbcaebccabbcebfcffcdfcddaacdcdbcacfebedabadbafbdfefdebffedbefadfecffdafcbbacaaccfbdecbaeaebedbfeeadbcabefdebdafdcedacedcabbcebcdbcfadecfedebafaabbbebcceeccccacbefdbeeacadadbbcaeedaeebeaccceeadcaacaefaadaabbedbadbfbbfaddececfdcabfcaaacfecddcdaacedacbeefdfccbebcbbcacadafefcbdcacbcecbcaeeeeabbabdaceafaafaccddbaecaefbbbbccafeecbbbefacefeffbbcdebaffbcafddecededadcbcdafdeaafcebebbccdedbeabdabecefdfffbbcdfdbfdceeffcfbaaefcbebccfcecbfffdeaaeeedbbcdbefadfdffcdebefaeacfacfabefffadbdddbcdbedbadeedafccbdfeabedeaafebcbbcbebccecfdbecddabedbcaaaefaecfffbaececdefcecaadfdccedcffedafddbeacfefffebdeedffcfbdefebceafdeddceefffadfbffcfadffbfdcbaeaccfdfecbdcdbdeaceafedacafdabefbfadffcecbebbccaafefcdeefabcfffeccefbdedbdcecfbcefbfaedcdbcbaffbedefbecdebbbfdccdbafbffcaabdcdabaaeabfadfefedcfcaefbabdbdddbbbcdeedbdfccdeabaaaadcdecbdbfbaadbfeae","version":6}}
+{"at":"2000-01-01T02:46:40.000Z","event":"passed","face":"old","first":63,"pieces":62,"session":2,"subject":{"creation":[9903,1],"destination":"dtn://dddddddddddddddddddddddddddddddddddddddddddddddddddddddddddddddddddddddddddddddddddddddddddddddddddd","fragment":null,"payload":62,"source":"dtn://acadddfdbadaddeafdcfbeacaaafeadfbdfaebddebcbfbdcadefabffcafcffedefbccededeadbfddfbcefffcadfeabedcdfadacfeeedfbbebabeebdececdcfeefadfebeebdadceebeddcdcaeeeecdeabfbeebaecafaaadacbcaebccabbcebfcffcdfcddaacdcdbcacfebedabadbafbdfefdebffedbefadfecffdafcbbacaaccfbdecbaeaebedbfeeadbcabefdebdafdcedacedcabbcebcdbcfadecfedebafaabbbebcceeccccacbefdbeeacadadbbcaeedaeebeaccceeadcaacaefaadaabbedbadbfbbfaddececfdcabfcaaacfecddcdaacedacbeefdfccbebcbbcacadafefcbdcacbcecbcaeeeeabbabdaceafaafaccddbaecaefbbbbccafeecbbbefacefeffbbcdebaffbcafddecededadcbcdafdeaafcebebbccdedbeabdabecefdfffbbcdfdbfdceeffcfbaaefcbebccfcecbfffdeaaeeedbbcdbefadfdffcdebefaeacfacfabefffadbdddbcdbedbadeedafccbdfeabedeaafebcbbcbebccecfdbecddabedbcaaaefaecfffbaececdefcecaadfdccedcffedafddbeacfefffebdeedffcfbdefebceafdeddceefffadfbffcfadffbfdcbaeaccfdfecbdcdbdeaceafedacafdabefbfadffcecbebbccaafefcdeefabcfffeccefbdedbdcecfbcefbfaedcdbcbaffbedefbecdebbbfdccdbafbffcaabdcdabaaeabfadfefedcfcaefbabdbdddbbbcdeedbdfccdeabaaaadcdecbdbfbaadbfeae","version":6}}
+{"at":"2000-01-01T02:46:40.000Z","datagrams":2,"event":"outbox_full","face":"new"}
 "#,
-        ends: &[1632, 2959],
+        ends: &[1632, 3064],
     },
     // Metrics, with a link that is closed.
     Run {
@@ -478,8 +481,16 @@ fimdahol_next_contact_seconds{face="new"} 40.500
 # HELP fimdahol_journal_pending_pieces Pieces in the journal that haven't ended.
 # TYPE fimdahol_journal_pending_pieces gauge
 fimdahol_journal_pending_pieces 0
+# HELP fimdahol_green_bytes_total Octets of green data that came.
+# TYPE fimdahol_green_bytes_total counter
+fimdahol_green_bytes_total{face="old"} 0
+fimdahol_green_bytes_total{face="new"} 0
+# HELP fimdahol_gathered_bytes Octets of the pieces that wait to be sent.
+# TYPE fimdahol_gathered_bytes gauge
+fimdahol_gathered_bytes{face="old"} 0
+fimdahol_gathered_bytes{face="new"} 0
 "#,
-        ends: &[4507],
+        ends: &[4884],
     },
 ];
 
@@ -2186,6 +2197,7 @@ sent old 030283938e9f4100010039b253000681101202010101000000008395bae74800bd84400
 sent new 080488808080000009093f0001003f
 sent old 0c0283938e9f410002
 {"at":"2026-12-11T13:15:44.633Z","event":"failed","face":"old","reason":2,"session":845385665,"side":"sending","subject":{"creation":[850310088,0],"destination":"ipn:2.1","fragment":null,"payload":3,"source":"ipn:1.1","version":6}}
+{"at":"2026-12-11T13:15:44.633Z","event":"green","face":"new","last":false,"octets":1,"offset":9,"session":2147483648}
 sent old 0c0283938e9f410002
 sent old 090283938e9f4100b253
 sent old 090283938e9f4100b254
@@ -2212,7 +2224,7 @@ sent old 0e01020002
 {"at":"2026-12-11T13:15:45.439Z","event":"closed","face":"old","session":2}
 "#,
         ends: &[
-            102, 102, 531, 723, 983, 1316, 1872, 2701, 2729, 2835, 2981, 3057,
+            102, 102, 531, 723, 1102, 1435, 1991, 2820, 2848, 2954, 3100, 3176,
         ],
     },
 ];
@@ -2476,13 +2488,15 @@ sent old 09028286879b6400a16f
 sent old 0c028286879b640002
 sent old 0e011a0001
 {"at":"2026-12-11T20:09:55.879Z","event":"refused","face":"old","service":9999999,"session":26}
+{"at":"2026-12-11T20:09:56.994Z","event":"green","face":"old","last":false,"octets":1,"offset":9,"session":20}
 sent old 0d012700
+{"at":"2026-12-11T20:09:58.034Z","event":"green","face":"new","last":false,"octets":1,"offset":9,"session":33}
 {"at":"2026-12-11T20:09:59.933Z","event":"bad_bounds","face":"old","session":496549094}
 "#,
         ends: &[
             110, 864, 1160, 1250, 1250, 1316, 1316, 1316, 1316, 3147, 3147, 4255, 4916, 5314, 5344,
-            5488, 5488, 5488, 5488, 5488, 5488, 5488, 5506, 5506, 5506, 5506, 5506, 5506, 5506,
-            5506, 5506, 5506, 5506, 5506, 5506, 5506, 5594, 5594, 5594, 5594,
+            5488, 5488, 5488, 5599, 5599, 5599, 5599, 5617, 5617, 5617, 5728, 5728, 5728, 5728,
+            5728, 5728, 5728, 5728, 5728, 5728, 5728, 5816, 5816, 5816, 5816,
         ],
     },
 ];
@@ -2693,17 +2707,17 @@ sent new 030306000100811607009f8b07010182028202018202820101820100821b000000c7013
 {"at":"2027-01-31T13:56:56.479Z","event":"passed","face":"old","first":4,"pieces":3,"session":2,"subject":{"creation":[854718944,3],"destination":"ipn:2.1","fragment":null,"payload":300,"source":"ipn:1.1","version":6}}
 sent new 08048880808001000b0a7900010079
 sent new 08048880808000000a097f0001007f
-sent old 08010200030382460001008246
 sent old 0801030004044300010043
 sent new 0303020001004a03009f8907020182028201008202820900820100821b000000c701392cf2001a05265c004280618501010000581d8201848481f481f481f481f5018202820101821b000000c65cb9055101ff
 sent new 0303030001004b04009f890702018201672f2f2e7e612f2f8202820900820100821b000000c701392cf2011a05265c0042e9fe850101000058198201848481f581f481f481f4018202820901821a000f424500ff
 sent new 030304000100811505009f8b07010182028202018202820101820100821b000000c701381303001a3b9ac9fd0019012c426bda850101000058644ff1d0803f0ad9eb08ac6ee573ee62323498167bcb7c2a4d205017bd531536830e563766b99a1c83355b4daac52ede6793b914813bf806135124d22bb8320a6f9b0307fca59d5c2afeaea5a01b1a5a9226d80453b0be5c66f7a4a3ba7ada5ca401d726f8ff
 sent new 030305000100811606009f8b07010182028202018202820101820100821b000000c701381303001a3b9ac9fd186419012c423b6685010100005864426a07fffa2dd6003f7ad86c4f8e796c7d4d022464d6fc9c4e47ef3409b79b4a7b788d6e0a84abe25d26c4a04159bf31cfc63689a051abe90d0de02a215829e076f45060e7ad76f16af818984b22916e84117be6657f0c6d9d02ecaeeeadab4d199c8bfbff
 sent new 030306000100811607009f8b07010182028202018202820101820100821b000000c701381303001a3b9ac9fd18c819012c426f628501010000586498b3abecb2c0b6e1eda50a7c811bd4b2f23473cd5c4797ea7b9fc2bdb6a5093e3b8cb7748d33b92b23fab78dcc8545af1602d929c214e6e219d8635f43b83706c0f9119df99ecf7c39967d12ee2e593cb1725a1382425d1c083f4b73d988ff7938095bc4ff
-sent new 08048880808000000a097f0001007f
-sent new 08048880808001000b0a7900010079
+{"at":"2027-03-10T14:40:10.399Z","event":"evicted","face":"old","session":2}
+{"at":"2027-03-10T14:40:10.399Z","event":"evicted","face":"new","session":2147483649}
+{"at":"2027-03-10T14:40:10.399Z","event":"evicted","face":"new","session":2147483648}
 {"at":"2027-03-10T14:40:10.399Z","event":"expired","face":"old","session":3,"subject":{"creation":[854718919,1004],"destination":"ipn:2.1","fragment":null,"payload":10,"source":"ipn:1.1","version":6}}
 "#,
-        ends: &[103, 103, 474, 596, 813, 2121, 3444, 5135],
+        ends: &[103, 103, 474, 596, 813, 2121, 3444, 5268],
     },
 ];

@@ -1,7 +1,7 @@
 use Rattle.std.proofs.Common.{rules, refl, option_map, None}
 use Rattle.edge_traits.proofs.FaultsLemmas.{NoneFailed-same}
 use Rattle.journal_file.specs.Ties.{kept_of}
-use Rattle.gate_half.specs.Setup.{used_up}
+use Rattle.peer_half.specs.Setup.{used_up}
 use Rattle.gate_run.specs.Course.{run_over}
 use Rattle.gate_run.proofs.TellLemmas.{none-failed}
 use Rattle.gate_run.proofs.WholeLemmas.{none-made, gate-made, no-turn, unmade-used, went-without, not-memory}

@@ -8,6 +8,7 @@ use Rattle.ltp_session.specs.Engine.{EngineStep}
 use Rattle.gate_cases.specs.declared.face.Face.{Face}
 use Rattle.gate_cases.specs.declared.face.Face.TheVariants as faces
 use Rattle.gate_cases.specs.Faces.{other_of}
+use Rattle.gate_config.specs.declared.file.FaceConfig.{FaceConfig}
 use Rattle.gateway_core.specs.Effects.{routed_of}
 use Rattle.gateway_core.specs.Gate.{at_face}
 use Rattle.outbox.specs.declared.reading.Reading.{Reading}
@@ -22,6 +23,7 @@ use Rattle.peer_gateway.specs.Going.{block_of, due, gathers, go, go_on, is_free,
 use Rattle.peer_gateway.specs.Steps.{PeerEvent, a_datagram, a_kept_piece, a_tick, does_at, peer_step, ticks_face, ticks_peer, told_at, told_of, with_outboxes}
 use Rattle.peer_gateway.specs.Laws.{added_at, begun_at}
 use Rattle.peer_half.specs.Journals.{Journalled}
+use Rattle.peer_half.specs.Setup.{IsFace, keys_in, new_reserved, old_reserved}
 use Rattle.peer_half.specs.Standing.{Standing, face_of}
 use Rattle.peer_half.specs.Starts.{starts_at}
 use Rattle.peer_half.specs.Steps.{outboxes_in, step_of}
@@ -33,7 +35,7 @@ use Rattle.peer_half.specs.Runs.{EventIn, Run, after_events, arrived_in, begins_
 use Rattle.peer_half.specs.Laws.{datagrams_at}
 use Rattle.peer_half.proofs.StandingLemmas.{after_event, reads-rest}
 use Rattle.peer_run_laws.specs.Faces.{moments_in}
-use Rattle.peer_run_laws.specs.Ticks.{DoesNothingAt, IsAsBefore, IsQuietAt, NoneWaitsLateInRuns, TicksOnce, TimersWait, before_tick, told_of_face}
+use Rattle.peer_run_laws.specs.Ticks.{DoesNothingAt, IsAsBefore, IsQuietAt, NoneWaitsLateInRuns, RunnableWaits, TicksOnce, TimersWait, before_tick, told_of_face}
 use Rattle.peer_run_laws.proofs.WalkLemmas.{Core, Keeps, core-answers, events-append, keeps-each, keeps-hears}
 use Rattle.peer_run_laws.proofs.BoxLemmas.{Box, fed-begins, starts_box}
 use Rattle.peer_run_laws.proofs.OrderLemmas.{at-both, at-other}
@@ -429,3 +431,15 @@ ticks-once laws r at before came wait is same =
     nothing-next setup at m (before_tick came r) (after_events again ticked)
     (keeps-each (IsResting setup at m) (resting-keeps laws setup at m wait) (reads came.reading s) ticked read)
     (has-after again ticked (inl tt))
+
+-- ---- a runnable file
+
+face-waits : (c : FaceConfig) (reserved : Option ℕ) (wall : ℕ) → IsFace c → 1 ≤ c.remember_ms → TimersWait (keys_in c reserved wall)
+face-waits c reserved wall is remembers =
+    let least = is.timeout_least in
+    let most = is.cap_least in
+    record { sessions = (least, omega (arith, least, most)); memory = remembers; pieces = is.aggregate_ms_least }
+
+pub runnable-waits : RunnableWaits
+runnable-waits r faces.Old runnable remembers = face-waits (r.file).old (old_reserved r.kept) r.wall runnable.old remembers
+runnable-waits r faces.New runnable remembers = face-waits (r.file).new (new_reserved r.kept) r.wall runnable.new remembers

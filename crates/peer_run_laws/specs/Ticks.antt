@@ -14,19 +14,26 @@ use Rattle.peer_gateway.specs.Going.{is_free}
 use Rattle.peer_gateway.specs.Steps.{a_tick}
 use Rattle.peer_gateway.specs.Answers.{answer_of}
 use Rattle.peer_gateway.specs.Laws.{added_at, begun_at}
+use Rattle.peer_half.specs.Setup.{IsRunnable}
 use Rattle.peer_half.specs.Standing.{Standing, face_of}
 use Rattle.peer_half.specs.Steps.{step_of}
 use Rattle.peer_half.specs.Parts.{reads, resumes}
 use Rattle.peer_half.specs.Half.{Came}
 use Rattle.peer_half.specs.Runs.{Run, setup_of, stands_at}
 use Rattle.peer_half.specs.Laws.{datagrams_at}
-use Rattle.peer_run_laws.specs.Faces.{moments_in}
+use Rattle.peer_run_laws.specs.Faces.{config_of, moments_in}
 
 -- what waits at a face waits for some time: the timers of its sessions, the memory of those that are over, and pieces
 pub record TimersWait (k : FaceKeys) : Type 0 where
   pub sessions : Waits (k.party).policy
   pub memory : 1 ≤ k.remember_ms
   pub pieces : 1 ≤ k.wait_ms
+
+-- a face of a runnable file is such, where the file says that numbers are remembered for some time
+abbrev pub RunnableWaits : Type 0
+RunnableWaits =
+    (r : Run) (at : Face) → IsRunnable r.file → 1 ≤ (config_of r at).remember_ms
+    → TimersWait (at_face (setup_of r).keys at)
 
 -- of what is told that about a face
 abbrev pub told_of_face : Face → List FaceTold → List FaceTold

@@ -6,7 +6,7 @@ ghost use Rattle.peer_run_laws.specs.Faces.{CountsDropped, GoesAtOnceInRuns, Goe
 ghost use Rattle.peer_run_laws.specs.Faces.{GoesOnceInOrder};
 ghost use Rattle.peer_run_laws.specs.Faces.{KeepsPaceInRuns, PutsAllWithRoom};
 ghost use Rattle.peer_run_laws.specs.Faces.{TimeIsHeld, TimeIsOfHalf, TimeRises};
-ghost use Rattle.peer_run_laws.specs.Ticks.{NoneWaitsLateInRuns, TicksOnce};
+ghost use Rattle.peer_run_laws.specs.Ticks.{NoneWaitsLateInRuns, RunnableWaits, TicksOnce};
 
 /// The gate of a run is what its ticks, its datagrams and the pieces of earlier runs make of a gate at its
 /// beginning.
@@ -79,6 +79,14 @@ pub fn time_is_held()
 {
     outbox::laws::time_stays();
 }
+
+// ---- what is due
+
+/// What waits at a face of a runnable file waits for some time, where the file says that numbers are remembered for
+/// some time: the timers of its sessions, the memory of those that are over, and pieces.
+pub fn runnable_waits()
+    ensures { RunnableWaits }
+{}
 
 /// Where a face's moment is that of the half before, the half's tick does nothing at the face: nothing is sent, told,
 /// added or begun there, and its sessions and pieces stay. What was due went with the tick before, or when a session

@@ -1,16 +1,20 @@
-//! What holds of the sessions, each law the contract of a function that does nothing but cite those of what
-//! stands below.
+//! What holds of the sessions, each law the contract of a function that does nothing but cite those
+//! of what stands below.
 
-ghost use Rattle.peer_session_laws.specs.Sessions.{AreOfTheirFaces, PassesOnWhatIsHandedUp, PassesWhole};
+ghost use Rattle.peer_session_laws.specs.Sessions.{AreOfTheirFaces, PassesOnWhatIsHandedUp};
+ghost use Rattle.peer_session_laws.specs.Sessions.{PassesWhole};
 ghost use Rattle.peer_session_laws.specs.Runs.{AreOfTheirFacesInRuns};
 ghost use Rattle.peer_session_laws.specs.Closed.{MarkedStayClosed};
-ghost use Rattle.peer_session_laws.specs.Once.{HandedUpApartInRuns, HandedUpAsSentInRuns, HandedUpOnceInRuns};
-ghost use Rattle.peer_session_laws.specs.Once.{MomentsInOrder, NoneOfTheMarkedInRuns, UsedOnceInRuns};
+ghost use Rattle.peer_session_laws.specs.Once.{HandedUpApartInRuns, HandedUpAsSentInRuns};
+ghost use Rattle.peer_session_laws.specs.Once.{HandedUpOnceInRuns};
+ghost use Rattle.peer_session_laws.specs.Once.{MomentsInOrder, NoneOfTheMarkedInRuns};
+ghost use Rattle.peer_session_laws.specs.Once.{UsedOnceInRuns};
 ghost use Rattle.peer_session_laws.specs.Own.{EndsAreTold, NumbersGoOn, NumbersRise};
 ghost use Rattle.peer_session_laws.specs.Open.{OpenAreOwn, OwnAreOnce, OwnAreOpen};
 
-/// The sessions of each face are what the datagrams that came there, its ticks and the blocks that began there
-/// make of sessions at their beginning: whatever happened to a gateway, and after each run.
+/// The sessions of each face are what the datagrams that came there, its ticks and the blocks that
+/// began there make of sessions at their beginning: whatever happened to a gateway, and after each
+/// run.
 pub fn are_of_their_faces()
     ensures events { AreOfTheirFaces }
     ensures runs { AreOfTheirFacesInRuns }
@@ -18,9 +22,9 @@ pub fn are_of_their_faces()
     peer_run_laws::laws::gate_is_of_events();
 }
 
-/// With an event the red part of a session is passed on from a face if and only if it becomes whole there with
-/// it. Place by place it is the first octet that came since the session opened. What is passed on is what the face's
-/// sessions hand up.
+/// With an event the red part of a session is passed on from a face if and only if it becomes whole
+/// there with it. Place by place it is the first octet that came since the session opened. What is
+/// passed on is what the face's sessions hand up.
 pub fn passes_whole()
     ensures handed_up { PassesOnWhatIsHandedUp }
     ensures whole { PassesWhole }
@@ -37,8 +41,9 @@ pub fn moments_in_order()
     peer_run_laws::laws::time_is_of_half();
 }
 
-/// A red part is handed up again at a face of a run only where its session wasn't there for the time in which a
-/// number is remembered, or where it was forgotten before its time, for want of places, and that was told.
+/// A red part is handed up again at a face of a run only where its session wasn't there for the
+/// time in which a number is remembered, or where it was forgotten before its time, for want of
+/// places, and that was told.
 pub fn handed_up_once_in_runs()
     ensures { HandedUpOnceInRuns }
 {
@@ -46,8 +51,8 @@ pub fn handed_up_once_in_runs()
     peer_once::laws::handed_up_once_in_time();
 }
 
-/// Unless runs are forgotten before their time, a red part isn't handed up twice at a face of a run within the time
-/// in which a number is remembered.
+/// Unless runs are forgotten before their time, a red part isn't handed up twice at a face of a run
+/// within the time in which a number is remembered.
 pub fn handed_up_apart_in_runs()
     ensures { HandedUpApartInRuns }
 {
@@ -55,7 +60,8 @@ pub fn handed_up_apart_in_runs()
     peer_once::laws::handed_up_apart();
 }
 
-/// A number that a peer uses again, each time for one block: the red part of a use is handed up once at most.
+/// A number that a peer uses again, each time for one block: the red part of a use is handed up
+/// once at most.
 pub fn used_once_in_runs()
     ensures { UsedOnceInRuns }
 {
@@ -71,16 +77,16 @@ pub fn handed_up_as_sent_in_runs()
     peer_once::laws::handed_up_as_sent();
 }
 
-/// Nothing is passed on of a session that is marked when a run begins. What earlier runs kept is legal, as what is
-/// read of a journal is.
+/// Nothing is passed on of a session that is marked when a run begins. What earlier runs kept is
+/// legal, as what is read of a journal is.
 pub fn none_of_the_marked_in_runs()
     ensures { NoneOfTheMarkedInRuns }
 {
     peer_once::laws::none_of_the_marked();
 }
 
-/// No report on a session that is marked when a run begins goes out at its face in the run, sent or lost, nor waits
-/// after it. What earlier runs kept is legal, as what is read of a journal is.
+/// No report on a session that is marked when a run begins goes out at its face in the run, sent or
+/// lost, nor waits after it. What earlier runs kept is legal, as what is read of a journal is.
 pub fn marked_stay_closed()
     ensures { MarkedStayClosed }
 {
@@ -89,7 +95,8 @@ pub fn marked_stay_closed()
 
 // ---- sessions of the gateway's own
 
-/// The sessions that begin at a face with an event have numbers that no session of the face had before.
+/// The sessions that begin at a face with an event have numbers that no session of the face had
+/// before.
 pub fn numbers_rise()
     ensures { NumbersRise }
 {}
@@ -99,13 +106,14 @@ pub fn numbers_go_on()
     ensures { NumbersGoOn }
 {}
 
-/// With an event after which a session isn't open that was open before it, it is told that it was sent, failed, or
-/// was cancelled.
+/// With an event after which a session isn't open that was open before it, it is told that it was
+/// sent, failed, or was cancelled.
 pub fn ends_are_told()
     ensures { EndsAreTold }
 {}
 
-/// Each session that is open at a face is one of those that the run keeps as its own, and it stands there once.
+/// Each session that is open at a face is one of those that the run keeps as its own, and it stands
+/// there once.
 pub fn open_are_own()
     ensures open { OpenAreOwn }
     ensures once { OwnAreOnce }
@@ -114,8 +122,8 @@ pub fn open_are_own()
     peer_gateway::laws::pieces_in_order();
 }
 
-/// Each of those that the run keeps as its own is open, where each piece of earlier runs that was to be added has an
-/// octet.
+/// Each of those that the run keeps as its own is open, where each piece of earlier runs that was
+/// to be added has an octet.
 pub fn own_are_open()
     ensures { OwnAreOpen }
 {

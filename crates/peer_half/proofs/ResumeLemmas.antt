@@ -219,7 +219,7 @@ still-none : (p : Pending) (s : Standing) (journal : Option Journalled)
 unfolding peer_step putting_all
 still-none p s journal = refl
 
-stays-refused : (p : Pending) (s : Standing) → is_added p s ≡ false → is_added p (tries p s) ≡ false
+pub stays-refused : (p : Pending) (s : Standing) → is_added p s ≡ false → is_added p (tries p s) ≡ false
 unfolding tries
 stays-refused p s none =
     let journal = recorded_with (happened p s) s.journal in

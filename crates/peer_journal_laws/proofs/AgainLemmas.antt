@@ -65,7 +65,7 @@ others-stay n test (q ∷ ps) p (above, rise) (inr there) fails = by (test q) (o
 
 -- ---- where a journal is kept
 
-abbrev Ids : Option Journalled → Type 0
+abbrev pub Ids : Option Journalled → Type 0
 Ids None = Unit {0}
 Ids (Some j) = IsOrdered (keeping_of j).kept
 
@@ -135,9 +135,9 @@ waits-install false journal ids = waits-on journal ids
 
 -- ---- what is added, and after it what is still to be added
 
-record Adds (s after : Standing) (ps : List Pending) : Type 0 where
-  order : (at : Face) → of_face at ps ++ still_to_add at after.journal ≡ still_to_add at s.journal
-  ids : Ids after.journal
+pub record Adds (s after : Standing) (ps : List Pending) : Type 0 where
+  pub order : (at : Face) → of_face at ps ++ still_to_add at after.journal ≡ still_to_add at s.journal
+  pub ids : Ids after.journal
 
 face-append : (at : Face) (xs ys : List Pending) → of_face at (xs ++ ys) ≡ of_face at xs ++ of_face at ys
 face-append at [] ys = refl
@@ -212,15 +212,30 @@ one-gone face k p more is first at = by (same_face p.face at) refl
     by true of = here (same-place p.face face at (both-first (same_face p.face face) (is_to_add k p) in_them.1) of)
     by false apart = others-stay 0 (to_add at k) (k.kept).pending p is.rising in_them.0 (rw apart refl)
 
+-- the next one at a face is of that face
+pub next-face : (face : Face) (s : Standing) (p : Pending) → next_resumed face s ≡ Some p → same_face p.face face ≡ true
+next-face face s p next = by s.journal next
+  where
+    by : (journal : Option Journalled) → first_waiting face journal ≡ Some p → same_face p.face face ≡ true
+    by None next = absurd (cc)
+    by (Some j) next = by_first (to_add_at face (keeping_of j)) refl next
+      where
+        by_first : (ps : List Pending) → to_add_at face (keeping_of j) ≡ ps → first_pending ps ≡ Some p → same_face p.face face ≡ true
+        by_first [] whole first = absurd (cc)
+        by_first (q ∷ more) whole first =
+            let same : q ≡ p = cc in
+            both-first (same_face p.face face) (is_to_add (keeping_of j) p)
+            (passes-among (to_add face (keeping_of j)) ((keeping_of j).kept).pending more p (whole ∙ ap (λ (x : Pending). x ∷ more) same)).1
+
 abbrev happened : Pending → Standing → PeerHappened
 happened p s = happened_in (Some p.id) (begin_of p) s
 
-record Tries (p : Pending) (s : Standing) : Type 0 where
-  ids : Ids (tries p s).journal
-  added : is_added p s ≡ true → (at : Face) → of_face at (p ∷ []) ++ still_to_add at (tries p s).journal ≡ still_to_add at s.journal
-  refused : is_added p s ≡ false → (at : Face) → still_to_add at (tries p s).journal ≡ still_to_add at s.journal
+pub record Tries (p : Pending) (s : Standing) : Type 0 where
+  pub ids : Ids (tries p s).journal
+  pub added : is_added p s ≡ true → (at : Face) → of_face at (p ∷ []) ++ still_to_add at (tries p s).journal ≡ still_to_add at s.journal
+  pub refused : is_added p s ≡ false → (at : Face) → still_to_add at (tries p s).journal ≡ still_to_add at s.journal
 
-tries-it : (face : Face) (s : Standing) (p : Pending) → Ids s.journal → next_resumed face s ≡ Some p → Tries p s
+pub tries-it : (face : Face) (s : Standing) (p : Pending) → Ids s.journal → next_resumed face s ≡ Some p → Tries p s
 tries-it face s p ids next = by s.journal refl ids next
   where
     by : (journal : Option Journalled) → s.journal ≡ journal → Ids journal → first_waiting face journal ≡ Some p → Tries p s
@@ -267,7 +282,7 @@ adds-next s (Some p) goes_on refused more added ids some none = by (added p) ref
     by true any = some p refl any
     by false any = none p refl any
 
-adds-within : (n : ℕ) (face : Face) (s : Standing) → Ids s.journal → Adds s (resumes_within n face s) (added_in n face s)
+pub adds-within : (n : ℕ) (face : Face) (s : Standing) → Ids s.journal → Adds s (resumes_within n face s) (added_in n face s)
 unfolding resumes_within added_in
 adds-within zero face s ids = adds-none s ids
 adds-within (suc n) face s ids =
@@ -310,7 +325,7 @@ adds-half board face came s ids =
     adds-from s read after (added_again read) at_reading
     (adds-to read new after (added_again read) (adds-both read old new (added_at faces.Old read) (added_at faces.New old) first second) rest)
 
-adds-halves : (board : Bool) (face : Face) (comes : List Came) (s : Standing) → Ids s.journal → Adds s (halves board face comes s).standing (added_over board face comes s)
+pub adds-halves : (board : Bool) (face : Face) (comes : List Came) (s : Standing) → Ids s.journal → Adds s (halves board face comes s).standing (added_over board face comes s)
 unfolding halves added_over
 adds-halves board face [] s ids = adds-none s ids
 adds-halves board face (came ∷ more) s ids =
@@ -321,11 +336,11 @@ adds-halves board face (came ∷ more) s ids =
 
 -- ---- a run
 
-record Starts (r : Run) : Type 0 where
-  waiting : (at : Face) → still_to_add at (begins_at r).journal ≡ of_face at (pending_before r.kept)
-  ids : Ids (begins_at r).journal
+pub record Starts (r : Run) : Type 0 where
+  pub waiting : (at : Face) → still_to_add at (begins_at r).journal ≡ of_face at (pending_before r.kept)
+  pub ids : Ids (begins_at r).journal
 
-starts : (r : Run) → IfSome r.kept IsLegal → Starts r
+pub starts : (r : Run) → IfSome r.kept IsLegal → Starts r
 starts r legal =
     let so = by r.kept legal in
     record {

@@ -10,3 +10,4 @@ pub mod ResumeLemmas
 pub mod MarkLemmas
 pub mod GoneLemmas
 pub mod StopLemmas
+pub mod RoomLemmas

@@ -75,6 +75,19 @@ pub record AddsAgain (s : Standing) : Type 0 where
 abbrev pub ResumesWhatIsKept : Type 0
 ResumesWhatIsKept = (r : Run) (came : Came) → AddsAgain (reads came.reading (stands_at r))
 
+-- ---- while there is room
+
+-- there is no room for the next piece of an earlier run at a face, if there is one
+abbrev pub HasNoRoom : Face → Standing → Type 0
+HasNoRoom face s = IfSome (next_resumed face s) (λ p. is_added p s ≡ false)
+
+-- In each half of a run they are added at the old face, and then at the new one, until there is no room for the next.
+abbrev pub AddsWhileRoomInRuns : Type 0
+AddsWhileRoomInRuns =
+    (r : Run) (came : Came) → IfSome r.kept IsLegal
+    → HasNoRoom Old (resumes_at Old (reads came.reading (stands_at r)))
+    × HasNoRoom New (resumes (reads came.reading (stands_at r)))
+
 -- ---- over a whole run
 
 -- the pieces that some halves add, in order

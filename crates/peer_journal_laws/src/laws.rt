@@ -5,7 +5,8 @@ ghost use Rattle.peer_journal_laws.specs.Keeps.{KeepsBeforeItSends, NumbersAreKe
 ghost use Rattle.peer_journal_laws.specs.Marks.{MarksAreKept};
 ghost use Rattle.peer_journal_laws.specs.Pieces.{EarlierAreKept, EndedAreGone, PiecesAreKept};
 ghost use Rattle.peer_journal_laws.specs.Stops.{HasAllAtDatagrams};
-ghost use Rattle.peer_journal_laws.specs.Resumes.{AddsAgainInOrder, AddsAgainOnce, ResumesWhatIsKept};
+ghost use Rattle.peer_journal_laws.specs.Resumes.{AddsAgainInOrder, AddsAgainOnce, AddsWhileRoomInRuns};
+ghost use Rattle.peer_journal_laws.specs.Resumes.{ResumesWhatIsKept};
 
 /// In each half of a run, at each datagram that goes out, sent or lost, what the acts so far say is
 /// kept is what the run knows after all steps of that half, whatever they say of the greatest id.
@@ -42,6 +43,12 @@ pub fn ended_are_gone()
 /// Nothing is recorded with that, and the same is kept.
 pub fn resumes_what_is_kept()
     ensures { ResumesWhatIsKept }
+{}
+
+/// In each half of a run pieces of earlier runs are added until there is no room for the next one.
+/// What earlier runs kept is legal, as what is read of a journal is.
+pub fn adds_while_room()
+    ensures { AddsWhileRoomInRuns }
 {}
 
 /// At each face a run adds the pieces that earlier runs kept in the order of their ids, each once,

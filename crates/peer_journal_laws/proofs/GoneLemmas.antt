@@ -38,7 +38,7 @@ use Rattle.peer_journal_laws.specs.Steps.{JournalStep, known_then}
 use Rattle.peer_journal_laws.proofs.AgainLemmas.{moves-ordered}
 use Rattle.peer_journal_laws.proofs.JournalLemmas.{journal-begins}
 use Rattle.peer_journal_laws.proofs.PieceLemmas.{moves-pending, reserved-apart}
-use Rattle.peer_journal_laws.proofs.StepLemmas.{AddsPending, Chain, IsOfPending, Moves, keeping_of, known-run}
+use Rattle.peer_journal_laws.proofs.StepLemmas.{AddsFree, Chain, IsFree, Moves, keeping_of, known-run}
 
 -- ---- an id that isn't pending
 
@@ -345,13 +345,14 @@ among-up-to n [] p up is = absurd is
 among-up-to n (q ∷ ps) p (first, up) (inl here) = subst (λ (x : Pending). x.id ≤ n) (sym here) first
 among-up-to n (q ∷ ps) p (first, up) (inr there) = among-up-to n ps p up there
 
-added-given : (id : ℕ) (again : Option ℕ) (added : List AddedAt) (kept : KeptValue) (w : Waiting × Waiting) → IsOrdered kept → IfSome again (IsOfPending kept.pending)
-    → (0 < waits id w → id ≤ kept.greatest) → 0 < waits id (added_waiting again kept.greatest added w) → id ≤ given_after again kept.greatest added
-added-given id None added kept w is adds low some = waits-given id added kept.greatest w low some
-added-given id (Some x) added kept w is (p, (there, same)) low some =
-    again-given id x added kept.greatest w (subst (λ (n : ℕ). n ≤ kept.greatest) same (among-up-to kept.greatest kept.pending p is.up_to there)) low some
+added-given : (id : ℕ) (again : Option ℕ) (added : List AddedAt) (k : PeerKeeping) → IsOrdered k.kept → IfSome again (IsFree k)
+    → (0 < waits id k.waiting → id ≤ (k.kept).greatest) → 0 < waits id (added_waiting again (k.kept).greatest added k.waiting) → id ≤ given_after again (k.kept).greatest added
+added-given id None added k is adds low some = waits-given id added (k.kept).greatest k.waiting low some
+added-given id (Some x) added k is adds low some =
+    again-given id x added (k.kept).greatest k.waiting
+    (subst (λ (n : ℕ). n ≤ (k.kept).greatest) adds.same (among-up-to (k.kept).greatest (k.kept).pending adds.piece is.up_to adds.there)) low some
 
-sound-step : (step : JournalStep) → AddsPending step → IsSound step.keeping → IsSound (known_then step)
+pub sound-step : (step : JournalStep) → AddsFree step → IsSound step.keeping → IsSound (known_then step)
 sound-step step adds is = record { ordered = (after-it h k faces.Old is.ordered).ordered; given = given }
   where
     h : PeerHappened
@@ -380,7 +381,7 @@ sound-step step adds is = record { ordered = (after-it h k faces.Old is.ordered)
 
         by : (n : ℕ) → times id (ids_named k.named) ≡ n → id ≤ given_after h.again (k.kept).greatest h.added
         by zero none =
-            added-given id h.again h.added k.kept k.waiting is.ordered adds (waited id) (omega (arith, some, all, few, none))
+            added-given id h.again h.added k is.ordered adds (waited id) (omega (arith, some, all, few, none))
         by (suc n) there = let low = named id (omega (arith, there)) in omega (arith, low, more)
 
 -- ---- between steps, and over them
@@ -388,7 +389,7 @@ sound-step step adds is = record { ordered = (after-it h k faces.Old is.ordered)
 moves-greatest : (from to : PeerKeeping) → Moves from to → (to.kept).greatest ≡ (from.kept).greatest
 moves-greatest from to so = ap (λ (k : KeptValue). k.greatest) so.kept_is ∙ apart-greatest from.kept so.records (reserved-apart so.records so.reserved)
 
-sound-moves : (from to : PeerKeeping) → Moves from to → IsSound from → IsSound to
+pub sound-moves : (from to : PeerKeeping) → Moves from to → IsSound from → IsSound to
 sound-moves from to so is = record {
   ordered = moves-ordered from to so is.ordered;
   given = λ id some. subst (λ (n : ℕ). id ≤ n) (sym (moves-greatest from to so)) (is.given id (subst (λ (n : ℕ). 0 < n) (same id) some));
@@ -399,7 +400,7 @@ sound-moves from to so is = record {
 
 -- before a step of a chain
 sound-before : (from to : PeerKeeping) (earlier : List JournalStep) (step : JournalStep) (later : List JournalStep) → Chain from (earlier ++ step ∷ later) to → IsSound from
-    → IsSound step.keeping × (AddsPending step × Chain (known_then step) later to)
+    → IsSound step.keeping × (AddsFree step × Chain (known_then step) later to)
 sound-before from to [] step later so is = (sound-moves from step.keeping so.0 is, so.1)
 sound-before from to (x ∷ earlier) step later so is =
     sound-before (known_then x) to earlier step later so.1.1 (sound-step x so.1.0 (sound-moves from x.keeping so.0 is))
@@ -416,7 +417,7 @@ gone-chain id from to (step ∷ more) so is le none =
 
 -- ---- a run
 
-starts-sound : (r : Run) (j : Journalled) → IfSome r.kept IsLegal → (begins_at r).journal ≡ Some j → IsSound (keeping_of j)
+pub starts-sound : (r : Run) (j : Journalled) → IfSome r.kept IsLegal → (begins_at r).journal ≡ Some j → IsSound (keeping_of j)
 unfolding times
 starts-sound r j legal begins = by r.kept legal (sym (journal-begins r) ∙ begins)
   where

@@ -11,3 +11,4 @@ pub mod MarkLemmas
 pub mod GoneLemmas
 pub mod StopLemmas
 pub mod RoomLemmas
+pub mod HeldLemmas

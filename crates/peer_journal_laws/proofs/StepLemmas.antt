@@ -2,6 +2,7 @@
 -- numbers that were reserved.
 
 use Rattle.std.proofs.Common.{◌≡◌, ℕ, zero, suc, Bool, true, false, nat_lt, List, [], ◌∷◌, ◌++◌, Option, None, Some, IfSome, if◌then◌else◌, ◌&&◌, refl, ap, ◌∙◌, sym, subst, unwrap_or, inl, inr}
+use Rattle.std.proofs.lemmas.Bool.{eqb-true}
 use Rattle.std.proofs.lemmas.List.{append-nil}
 use Rattle.std.specs.List.{filter}
 use Rattle.ltp_segment.specs.Reading.{segment_of}
@@ -16,7 +17,7 @@ use Rattle.gate_records.specs.Keeping.{reserve_to}
 use Rattle.gate_records.specs.Records.{reserved_records, reserving}
 use Rattle.peer_gateway.specs.Steps.{PeerEvent, a_datagram, a_tick}
 use Rattle.peer_records.specs.Happened.{PeerHappened}
-use Rattle.peer_records.specs.Keeping.{PeerKeeping, is_to_add, to_add_at}
+use Rattle.peer_records.specs.Keeping.{PeerKeeping, held, is_to_add, times, to_add_at}
 use Rattle.peer_records.specs.Records.{after_reserving}
 use Rattle.peer_half.specs.Journals.{Journalled, anew_in, is_large, kept_in, past_commit}
 use Rattle.peer_half.specs.Standing.{Standing}
@@ -77,16 +78,19 @@ moves-then a b c first more = record {
 
 -- ---- steps
 
--- a piece that a step is to add again is pending before it
-abbrev pub IsOfPending : List Pending → ℕ → Type 0
-IsOfPending pending id = (p : Pending) × (IsAmong p pending × (p.id ≡ id))
+-- a piece that a step is to add again is pending before it, and neither waits nor is in a session
+pub record IsFree (k : PeerKeeping) (id : ℕ) : Type 0 where
+  pub piece : Pending
+  pub there : IsAmong piece (k.kept).pending
+  pub same : piece.id ≡ id
+  pub free : times id (held k) ≡ 0
 
-abbrev pub AddsPending : JournalStep → Type 0
-AddsPending step = IfSome (step.happened).again (IsOfPending ((step.keeping).kept).pending)
+abbrev pub AddsFree : JournalStep → Type 0
+AddsFree step = IfSome (step.happened).again (IsFree step.keeping)
 
 abbrev pub Chain : PeerKeeping → List JournalStep → PeerKeeping → Type 0
 Chain from [] to = Moves from to
-Chain from (step ∷ more) to = Moves from step.keeping × (AddsPending step × Chain (known_then step) more to)
+Chain from (step ∷ more) to = Moves from step.keeping × (AddsFree step × Chain (known_then step) more to)
 
 chain-before : (a b c : PeerKeeping) (steps : List JournalStep) → Moves a b → Chain b steps c → Chain a steps c
 chain-before a b c [] first so = moves-then a b c first so
@@ -129,12 +133,12 @@ over-not (Some j) = moves-not (keeping_of j)
 over-end : (from middle to : Option Journalled) (steps : List JournalStep) → Over from steps middle → Over middle [] to → Over from steps to
 over-end from middle to steps first more = subst (λ xs. Over from xs to) (append-nil steps) (over-join from middle to steps [] first more)
 
-over-recorded : (h : PeerHappened) (journal : Option Journalled) → IfSome journal (λ j. IfSome h.again (IsOfPending ((keeping_of j).kept).pending))
+over-recorded : (h : PeerHappened) (journal : Option Journalled) → IfSome journal (λ j. IfSome h.again (IsFree (keeping_of j)))
     → Over journal (step_with h journal) (recorded_with h journal)
 over-recorded h None adds = (refl, refl)
 over-recorded h (Some j) adds = (moves-not (keeping_of j), (adds, moves-not (known_then (record { happened = h; keeping = keeping_of j }))))
 
-new : (h : PeerHappened) (journal : Option Journalled) → h.again ≡ None → IfSome journal (λ j. IfSome h.again (IsOfPending ((keeping_of j).kept).pending))
+new : (h : PeerHappened) (journal : Option Journalled) → h.again ≡ None → IfSome journal (λ j. IfSome h.again (IsFree (keeping_of j)))
 new h None is = tt
 new h (Some j) is = rw is tt
 
@@ -175,18 +179,23 @@ passes-among test (q ∷ ps) more p is = by (test q) refl is (λ rest. passes-am
     by false passes first later = let rest = later first in (inr rest.0, rest.1)
 
 next-among : (face : Face) (journal : Option Journalled) (p : Pending) → parts.first_waiting face journal ≡ Some p
-    → IfSome journal (λ j. IsOfPending ((keeping_of j).kept).pending p.id)
+    → IfSome journal (λ j. IsFree (keeping_of j) p.id)
 next-among face None p is = tt
 next-among face (Some j) p is = by (to_add_at face k) refl is
   where
     k : PeerKeeping
     k = keeping_of j
 
-    by : (ps : List Pending) → to_add_at face k ≡ ps → parts.first_pending ps ≡ Some p → IsOfPending (k.kept).pending p.id
+    second : (a b : Bool) → (a && b) ≡ true → b ≡ true
+    second true b is = is
+    second false b is = absurd (cc)
+
+    by : (ps : List Pending) → to_add_at face k ≡ ps → parts.first_pending ps ≡ Some p → IsFree k p.id
     by [] whole first = absurd (cc)
     by (q ∷ more) whole first =
         let same : q ≡ p = cc in
-        (p, ((passes-among (λ (x : Pending). same_face x.face face && is_to_add k x) (k.kept).pending more p (whole ∙ ap (λ (x : Pending). x ∷ more) same)).0, refl))
+        let passes = passes-among (λ (x : Pending). same_face x.face face && is_to_add k x) (k.kept).pending more p (whole ∙ ap (λ (x : Pending). x ∷ more) same) in
+        record { piece = p; there = passes.0; same = refl; free = eqb-true (times p.id (held k)) 0 (second (same_face p.face face) (is_to_add k p) passes.1) }
 
 over-tries : (face : Face) (p : Pending) (s : Standing) → parts.next_resumed face s ≡ Some p → Over s.journal (step_at (Some p.id) (parts.begin_of p) s) (tries p s).journal
 over-tries face p s next =

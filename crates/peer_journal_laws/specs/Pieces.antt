@@ -13,7 +13,7 @@ use Rattle.peer_gateway.specs.Gate.{AddedAt}
 use Rattle.peer_records.specs.Happened.{notes_in}
 use Rattle.peer_records.specs.Keeping.{times}
 use Rattle.peer_records.specs.Records.{ids_of, pending_with}
-use Rattle.peer_records.specs.Laws.{IsKeptPiece}
+use Rattle.peer_records.specs.Laws.{IsHeld, IsKeptPiece}
 use Rattle.peer_half.specs.Half.{Came}
 use Rattle.peer_half.specs.Runs.{Run}
 use Rattle.peer_journal_laws.specs.Keeps.{known_after}
@@ -65,6 +65,16 @@ abbrev pub PiecesAreKept : Type 0
 PiecesAreKept =
     (r : Run) (face : Face) (came : Came) (kept : KeptValue)
     → known_after face came r ≡ Some kept → KeepsPieces r face came kept
+
+-- ---- each at one place
+
+-- After each step of a run an id waits at one face, or is in one session, or neither: never two of these, and never
+-- twice. While it does, its piece is pending. So no piece is in two blocks.
+abbrev pub HeldOnceInRuns : Type 0
+HeldOnceInRuns =
+    (r : Run) (face : Face) (came : Came) → IfSome r.kept IsLegal
+    → (earlier : List JournalStep) (step : JournalStep) (later : List JournalStep)
+    → steps_of face came r ≡ earlier ++ step ∷ later → (id : ℕ) → IsHeld (known_then step) id
 
 -- ---- pieces of earlier runs
 

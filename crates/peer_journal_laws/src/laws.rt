@@ -3,7 +3,8 @@
 
 ghost use Rattle.peer_journal_laws.specs.Keeps.{KeepsBeforeItSends, NumbersAreKept};
 ghost use Rattle.peer_journal_laws.specs.Marks.{MarksAreKept};
-ghost use Rattle.peer_journal_laws.specs.Pieces.{EarlierAreKept, EndedAreGone, PiecesAreKept};
+ghost use Rattle.peer_journal_laws.specs.Pieces.{EarlierAreKept, EndedAreGone, HeldOnceInRuns};
+ghost use Rattle.peer_journal_laws.specs.Pieces.{PiecesAreKept};
 ghost use Rattle.peer_journal_laws.specs.Stops.{HasAllAtDatagrams};
 ghost use Rattle.peer_journal_laws.specs.Resumes.{AddsAgainInOrder, AddsAgainOnce, AddsWhileRoomInRuns};
 ghost use Rattle.peer_journal_laws.specs.Resumes.{ResumesWhatIsKept};
@@ -31,6 +32,13 @@ pub fn pieces_are_kept()
 {
     peer_records::laws::pieces_are_pending();
 }
+
+/// After each step of a run an id waits at one face, or is in one session, or neither, and while it
+/// does its piece is pending: no piece is in two blocks. What earlier runs kept is legal, as what is
+/// read of a journal is.
+pub fn held_once()
+    ensures { HeldOnceInRuns }
+{}
 
 /// Once the session of a piece's block has ended with a step of a run, the piece is pending no
 /// longer, whatever comes after it. What earlier runs kept is legal, as what is read of a journal

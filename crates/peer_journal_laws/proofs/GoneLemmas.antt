@@ -386,7 +386,7 @@ sound-step step adds is = record { ordered = (after-it h k faces.Old is.ordered)
 
 -- ---- between steps, and over them
 
-moves-greatest : (from to : PeerKeeping) → Moves from to → (to.kept).greatest ≡ (from.kept).greatest
+pub moves-greatest : (from to : PeerKeeping) → Moves from to → (to.kept).greatest ≡ (from.kept).greatest
 moves-greatest from to so = ap (λ (k : KeptValue). k.greatest) so.kept_is ∙ apart-greatest from.kept so.records (reserved-apart so.records so.reserved)
 
 pub sound-moves : (from to : PeerKeeping) → Moves from to → IsSound from → IsSound to

@@ -12,3 +12,4 @@ pub mod GoneLemmas
 pub mod StopLemmas
 pub mod RoomLemmas
 pub mod HeldLemmas
+pub mod TurnLemmas

@@ -28,7 +28,7 @@ use Rattle.peer_journal_laws.proofs.StepLemmas.{AreReserved, Chain, Moves, chain
 
 -- ---- records that neither clear a mark nor make one
 
-abbrev AreStill : List RecordValue → Type 0
+abbrev pub AreStill : List RecordValue → Type 0
 AreStill [] = Unit {0}
 AreStill (a_begun p ∷ rs) = AreStill rs
 AreStill (a_done id how ∷ rs) = AreStill rs
@@ -44,7 +44,7 @@ still-join (a_mark m ∷ rs) qs are be = absurd are
 still-join (a_clear face session ∷ rs) qs are be = absurd are
 still-join (a_reserved face n ∷ rs) qs are be = still-join rs qs are be
 
-still-marks : (kept : KeptValue) (rs : List RecordValue) → AreStill rs → (kept_after kept rs).marks ≡ kept.marks
+pub still-marks : (kept : KeptValue) (rs : List RecordValue) → AreStill rs → (kept_after kept rs).marks ≡ kept.marks
 unfolding kept_with
 still-marks kept [] are = refl
 still-marks kept (a_begun p ∷ rs) are = still-marks (kept_with kept (a_begun p)) rs are
@@ -104,7 +104,7 @@ pieces-still : (again : Option ℕ) (greatest : ℕ) (added : List AddedAt) → 
 pieces-still None greatest added = begun-still greatest added
 pieces-still (Some id) greatest added = tt
 
-reserved-still : (rs : List RecordValue) → AreReserved rs → AreStill rs
+pub reserved-still : (rs : List RecordValue) → AreReserved rs → AreStill rs
 reserved-still [] are = tt
 reserved-still (a_begun p ∷ rs) are = absurd are
 reserved-still (a_done id how ∷ rs) are = absurd are

@@ -1,6 +1,6 @@
 -- The steps of a run that keeps a journal, in order: what each did, and what was known before it.
 
-use Rattle.std.specs.Prelude.{ℕ, zero, suc, Bool, List, [], ◌∷◌, ◌++◌, Option, None, Some, if◌then◌else◌}
+use Rattle.std.specs.Prelude.{◌≡◌, ℕ, zero, suc, Bool, List, [], ◌∷◌, ◌++◌, Option, None, Some, IfSome, IsSomeAnd, if◌then◌else◌}
 use Rattle.ltp_segment.specs.Reading.{segment_of}
 use Rattle.gate_cases.specs.declared.face.Face.{Face}
 use Rattle.gate_cases.specs.declared.face.Face.TheVariants.{Old, New}
@@ -13,8 +13,8 @@ use Rattle.peer_records.specs.Records.{after_step, step_records}
 use Rattle.peer_half.specs.Journals.{Journalled}
 use Rattle.peer_half.specs.Standing.{Standing}
 use Rattle.peer_half.specs.Steps.{happened_in}
-use Rattle.peer_half.specs.Parts.{arrives, begin_of, is_added, next_resumed, pending_in, reads, resumed, resumes, resumes_at, ticks, where_some}
-use Rattle.peer_half.specs.Half.{Came, half}
+use Rattle.peer_half.specs.Parts.{arrives, begin_of, is_added, next_resumed, pending_in, reads, reserves, resumed, resumes, resumes_at, ticks, where_some}
+use Rattle.peer_half.specs.Half.{Came, half, hears}
 use Rattle.peer_half.specs.Runs.{Run, begins_at, stands_at}
 
 -- what a step did, and what was known of the journal before it
@@ -79,3 +79,27 @@ steps_over board face (came ∷ more) s =
 abbrev pub steps_of : Face → Came → Run → List JournalStep
 steps_of face came r =
     steps_over r.board Old r.comes (begins_at r) ++ steps_in face came (stands_at r)
+
+-- ---- they are all of them
+
+-- the same is known, whatever numbers are reserved
+pub record KnowSame (before after : PeerKeeping) : Type 0 where
+  pub pending : (after.kept).pending ≡ (before.kept).pending
+  pub marks : (after.kept).marks ≡ (before.kept).marks
+  pub greatest : (after.kept).greatest ≡ (before.kept).greatest
+  pub waiting : after.waiting ≡ before.waiting
+  pub named : after.named ≡ before.named
+
+-- what is known before each of some steps is what is known after the one before it
+abbrev pub InTurn : PeerKeeping → List JournalStep → PeerKeeping → Type 0
+InTurn from [] to = KnowSame from to
+InTurn from (step ∷ more) to = KnowSame from step.keeping × InTurn (known_then step) more to
+
+-- So it is with those of a run, from what it knows when it begins to what it knows after its next half: nothing else
+-- changes that, but for the numbers that each half reserves.
+abbrev pub StepsInTurn : Type 0
+StepsInTurn =
+    (r : Run) (face : Face) (came : Came)
+    → IfSome (begins_at r).journal (λ first.
+    IsSomeAnd (reserves (hears face came (stands_at r))).journal (λ last.
+    InTurn (first.recorded).keeping (steps_of face came r) (last.recorded).keeping))

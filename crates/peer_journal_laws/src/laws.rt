@@ -5,6 +5,7 @@ ghost use Rattle.peer_journal_laws.specs.Keeps.{KeepsBeforeItSends, NumbersAreKe
 ghost use Rattle.peer_journal_laws.specs.Marks.{MarksAreKept};
 ghost use Rattle.peer_journal_laws.specs.Pieces.{EarlierAreKept, EndedAreGone, HeldOnceInRuns};
 ghost use Rattle.peer_journal_laws.specs.Pieces.{PiecesAreKept};
+ghost use Rattle.peer_journal_laws.specs.Steps.{StepsInTurn};
 ghost use Rattle.peer_journal_laws.specs.Stops.{HasAllAtDatagrams};
 ghost use Rattle.peer_journal_laws.specs.Resumes.{AddsAgainInOrder, AddsAgainOnce, AddsWhileRoomInRuns};
 ghost use Rattle.peer_journal_laws.specs.Resumes.{ResumesWhatIsKept};
@@ -22,6 +23,12 @@ pub fn numbers_are_kept()
 {
     peer_records::laws::numbers_are_reserved();
 }
+
+/// The steps of a run are all that changes what it knows of its journal, but for the numbers that
+/// each half reserves: what is known before each step is what is known after the one before it.
+pub fn steps_are_in_turn()
+    ensures { StepsInTurn }
+{}
 
 /// Each piece that a step of a run adds is pending under an id of its own, and stays so until a
 /// step with which the session of its block ended. So does each that was pending when the run

@@ -1,5 +1,0 @@
-use Rattle.gate_half.proofs.OrderLemmas.{goes-in-order}
-use Rattle.gate_half.proofs.laws.goes_in_order.Goals as goal
-
-pub returns : goal.returns
-returns c = goes-in-order

@@ -1,5 +1,0 @@
-use Rattle.gate_laws.proofs.KeepsLemmas.{keeps-before-it-sends}
-use Rattle.gate_laws.proofs.laws.keeps_before_it_sends.Goals as goal
-
-pub returns : goal.returns
-returns c = keeps-before-it-sends

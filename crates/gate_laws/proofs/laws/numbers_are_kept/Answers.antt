@@ -1,5 +1,0 @@
-use Rattle.gate_laws.proofs.NumberLemmas.{numbers-are-kept}
-use Rattle.gate_laws.proofs.laws.numbers_are_kept.Goals as goal
-
-pub returns : goal.returns
-returns c = numbers-are-kept c.numbers_are_reserved.ensures

@@ -1,5 +1,0 @@
-use Rattle.gate_laws.proofs.FaceLemmas.{time-rises}
-use Rattle.gate_laws.proofs.laws.time_rises.Goals as goal
-
-pub returns : goal.returns
-returns c = time-rises c.time_goes_on.ensures

@@ -1,6 +1,0 @@
-pub mod KeptLemmas
-pub mod ShowsLemmas
-pub mod PartLemmas
-pub mod ResumeLemmas
-pub mod CloseLemmas
-pub mod StartLemmas

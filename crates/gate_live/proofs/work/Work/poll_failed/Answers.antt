@@ -1,8 +1,0 @@
-use Rattle.std.proofs.lemmas.Result.{on_ok_weaker}
-use Rattle.gate_log.specs.declared.event.Event.TheVariants as events
-use Rattle.gate_log.specs.declared.event.LinkEvent.TheVariants as links
-use Rattle.gate_live.proofs.PartLemmas.{does-says}
-use Rattle.gate_live.proofs.work.Work.poll_failed.Goals as goal
-
-pub returns : goal.returns
-returns c = on_ok_weaker c.say.result (does-says c.args.self.now c.say.new.self (events.Link c.args.face links.PollFailed) c.requires) c.say.ensures

@@ -1,3 +1,0 @@
--- What public clauses cite, in reading order.
-pub mod Telling
-pub mod Shows

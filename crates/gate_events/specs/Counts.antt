@@ -1,6 +1,6 @@
 -- What each event adds to the counters.
 
-use Rattle.std.specs.Prelude.{List, [], ◌∷◌, Option, None, Some}
+use Rattle.std.specs.Prelude.{Option, None, Some}
 use Rattle.gate_cases.specs.declared.face.Face.{Face}
 use Rattle.gate_cases.specs.declared.case.GateCase.TheVariants as cases
 use Rattle.gate_log.specs.declared.event.Event.{Event}
@@ -16,7 +16,6 @@ use Rattle.gate_metrics.specs.declared.counters.Counted.TheVariants as things
 use Rattle.gate_metrics.specs.declared.counters.Ended.TheVariants as ends
 use Rattle.gate_metrics.specs.declared.counters.Counters.{Counters}
 use Rattle.gate_metrics.specs.Counting.{counted_at}
-use Rattle.gate_events.specs.declared.own.Own.{Own}
 
 -- a poll that failed, and datagrams that were dropped; sends that failed are counted one by one
 abbrev pub link_counts : LinkEvent → Option Counted
@@ -75,13 +74,3 @@ event_counted (events.InRow face session index subject what) c =
     counted_where face (bundle_counts what) c
 event_counted (events.LeftOut face session index subject kinds residue) c = c
 event_counted (events.Waiting face subject) c = c
-
-unfoldable pub events_counted : List Event → Counters → Counters
-events_counted [] c = c
-events_counted (event ∷ more) c = events_counted more (event_counted event c)
-
--- sessions that began
-unfoldable pub begun_counted : List Own → Counters → Counters
-begun_counted [] c = c
-begun_counted (own ∷ more) c =
-    begun_counted more (counted_at own.face (things.Begun 1) c)

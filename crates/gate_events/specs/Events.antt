@@ -1,6 +1,6 @@
 -- What the notes of a gate's step tell an operator, each as an event of the log.
 
-use Rattle.std.specs.Prelude.{ℕ, Bool, false, ◌==◌, List, [], ◌∷◌, ◌++◌, drop, Option, None, Some}
+use Rattle.std.specs.Prelude.{ℕ, Bool, false, ◌==◌, List, [], ◌∷◌, drop, Option, None, Some}
 use Rattle.std.specs.Prelude.{if◌then◌else◌}
 use Rattle.ltp_segment.specs.declared.session.Note.{Note}
 use Rattle.ltp_segment.specs.declared.session.Note.TheVariants as engine
@@ -178,7 +178,3 @@ own_left s u (n ∷ more) = own_left s (untold_after s u n) more
 -- before the notes of a step are told
 abbrev pub untold : List Own → List Own → Untold
 untold own begun = record { own = own; begun = begun }
-
--- the own sessions after a step: those of whose end no note told, and those that it began
-abbrev pub own_after_step : Seen → List Own → List FaceNote → List Own → List Own
-own_after_step s begun notes own = own_left s (untold own begun) notes ++ begun

@@ -3,5 +3,3 @@ pub mod Own
 pub mod Events
 pub mod Counts
 pub mod Log
--- What only ties code to it.
-pub mod Kept

@@ -1,6 +1,6 @@
 -- The lines of a half, and the counters.
 
-use Rattle.std.specs.Prelude.{ℕ, List, [], ◌∷◌, ◌++◌, flat_map}
+use Rattle.std.specs.Prelude.{ℕ, List, [], ◌∷◌, ◌++◌}
 use Rattle.gate_cases.specs.declared.face.Face.{Face}
 use Rattle.gate_metrics.specs.declared.counters.Counted.{Counted}
 use Rattle.gate_metrics.specs.declared.counters.Counters.{Counters}
@@ -34,7 +34,3 @@ after_saying event log = record {
 unfoldable pub after_saying_all : List Event → LogValue → LogValue
 after_saying_all [] log = log
 after_saying_all (event ∷ more) log = after_saying_all more (after_saying event log)
-
--- the lines of events of one moment, one after the other
-abbrev pub lines_of : ℕ → List Event → List ℕ
-lines_of at events = flat_map (line_of at) events

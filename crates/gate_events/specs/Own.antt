@@ -1,20 +1,10 @@
 -- The sessions of the gateway's own: those that it began and that haven't ended.
 
 use Rattle.std.specs.Prelude.{ℕ, Bool, false, ◌==◌, List, [], ◌∷◌, Option, None, Some}
-use Rattle.std.specs.Prelude.{IfSome, if◌then◌else◌}
+use Rattle.std.specs.Prelude.{if◌then◌else◌}
 use Rattle.gate_cases.specs.declared.face.Face.{Face}
 use Rattle.gateway_core.specs.Comings.{if_same}
-use Rattle.gate_log.specs.Subjects.{IsSubject, subject_of}
 use Rattle.gate_events.specs.declared.own.Own.{Own}
-
--- a session that begins: it carries a block, and the bundle that is the front of that
-abbrev pub own_with : Face → ℕ → List ℕ → Own
-own_with face session block =
-    record { face = face; session = session; subject = subject_of block }
-
--- one whose bundle has names that have texts
-abbrev pub IsNamedOwn : Own → Type 0
-IsNamedOwn own = IfSome own.subject IsSubject
 
 -- ---- one of them, by its face and its number
 

@@ -1,7 +1,6 @@
 -- Whether the sender of a session cancelled it, note by note.
-use Rattle.std.proofs.Common.{◌≡◌, ℕ, suc, ◌+◌, ◌-◌, ◌<◌, ◌≤◌, ◌==◌, ◌||◌, not, Bool, true, false, if◌then◌else◌, List, [], ◌∷◌, length, drop, get_or, None, Some, is_some, refl, sym, ap, ◌∙◌, arith}
+use Rattle.std.proofs.Common.{◌≡◌, ℕ, suc, ◌-◌, ◌==◌, ◌||◌, not, Bool, true, false, if◌then◌else◌, List, [], ◌∷◌, None, Some, is_some, refl, sym, ap, arith}
 use Rattle.std.proofs.lemmas.Bool.{eqb-true, eq-eqb, ne_eqb}
-use Rattle.std.proofs.lemmas.List.{at_drop_more, drop_all}
 use Rattle.ltp_segment.specs.declared.session.Note.{Note}
 use Rattle.ltp_segment.specs.declared.session.Note.TheVariants as engine
 use Rattle.gate_cases.specs.declared.face.Face.{Face}
@@ -64,9 +63,6 @@ others-count at face s session (o ∷ own) other = by (is_of at s o) refl (is_of
     by false is false there rest = rw there rest
 
 -- ---- a note of an end
-
-abbrev ended : OpenAt → Face → ℕ → List Own → List Own
-ended o at s own = left_by o at s own
 
 left-same : (o : OpenAt) (face : Face) (session : ℕ) (how : How) (own : List Own) → own_of face session (left_by o face session own) ≡ left_after (o face session) (own_of face session own) (Some how)
 left-same o face session how own = by (o face session)
@@ -218,33 +214,3 @@ cancelled-is o face session own [] = refl
 cancelled-is o face session own (n ∷ ns) =
     let rest = cancelled-is o face session (own_untold o n.face n.note own) ns in
     rw (note-cancels o face session own n, rest, note-left o face session own n) refl
-
--- ---- the walk
-
-pub walk-step : (is_open : Bool) (left now : ℕ) (face : Face) (session : ℕ) (ns : List FaceNote) (i : ℕ) (d : FaceNote) (whole : Bool) → i < length ns
-    → cancels is_open left (told_of face session (get_or ns i d)) ≡ false → now ≡ left_after is_open left (told_of face session (get_or ns i d))
-    → cancelled_by is_open left face session (drop i ns) ≡ whole → cancelled_by is_open now face session (drop (i + 1) ns) ≡ whole
-unfolding cancelled_by
-walk-step is_open left now face session ns i d whole low quiet is so_far =
-    let step = at_drop_more (cancelled_by is_open left face session) ns i d low in
-    rw is (first ∙ sym step ∙ so_far)
-  where
-    first : cancelled_by is_open (left_after is_open left (told_of face session (get_or ns i d))) face session (drop (i + 1) ns)
-        ≡ cancelled_by is_open left face session (get_or ns i d ∷ drop (i + 1) ns)
-    first = rw quiet refl
-
-pub walk-found : (is_open : Bool) (left : ℕ) (face : Face) (session : ℕ) (ns : List FaceNote) (i : ℕ) (d : FaceNote) (whole : Bool) → i < length ns
-    → cancels is_open left (told_of face session (get_or ns i d)) ≡ true
-    → cancelled_by is_open left face session (drop i ns) ≡ whole → true ≡ whole
-unfolding cancelled_by
-walk-found is_open left face session ns i d whole low cancelling so_far =
-    let step = at_drop_more (cancelled_by is_open left face session) ns i d low in
-    first ∙ sym step ∙ so_far
-  where
-    first : true ≡ cancelled_by is_open left face session (get_or ns i d ∷ drop (i + 1) ns)
-    first = rw cancelling refl
-
-pub walk-end : (is_open : Bool) (left : ℕ) (face : Face) (session : ℕ) (ns : List FaceNote) (i : ℕ) (whole : Bool) → length ns ≤ i
-    → cancelled_by is_open left face session (drop i ns) ≡ whole → false ≡ whole
-unfolding cancelled_by
-walk-end is_open left face session ns i whole high so_far = sym (ap (cancelled_by is_open left face session) (drop_all i ns high)) ∙ so_far

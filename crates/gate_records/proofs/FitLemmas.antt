@@ -2,20 +2,8 @@
 use Rattle.std.proofs.Common.{◌≡◌, ℕ, ◌+◌, ◌^◌, ◌<◌, ◌≤◌, List, [], ◌∷◌, ◌++◌, length, take, get_or, IfSome, subst}
 use Rattle.std.proofs.lemmas.List.{take_more, take_all}
 use Rattle.gateway_core.specs.declared.effects.Routed.{Routed}
-use Rattle.gateway_core.specs.declared.begun.Begun.{Begun}
 use Rattle.gate_records.specs.Happened.{reports_on}
-use Rattle.gate_records.specs.Laws.{AreShort, ReportSmall}
-
-short-push : (bs : List Begun) (b : Begun) → AreShort bs → length b.block < 2 ^ 64 → AreShort (bs ++ b ∷ [])
-short-push [] b are short = (short, tt)
-short-push (c ∷ bs) b (first, are) short = (first, short-push bs b are short)
-
-pub short-step : (bs : List Begun) (i : ℕ) (b : Begun) → i < length bs → b ≡ get_or bs i b → AreShort (take i bs) → length b.block < 2 ^ 64 → AreShort (take (i + 1) bs)
-short-step bs i b low is are short =
-    rw (take_more bs i b low) (short-push (take i bs) (get_or bs i b) are (subst (λ (c : Begun). length c.block < 2 ^ 64) is short))
-
-pub short-all : (bs : List Begun) (i : ℕ) → length bs ≤ i → AreShort (take i bs) → AreShort bs
-short-all bs i high are = subst (λ (cs : List Begun). AreShort cs) (take_all i bs high) are
+use Rattle.gate_records.specs.Laws.{ReportSmall}
 
 small-push : (out : List Routed) (r : Routed) → ReportSmall out → IfSome (reports_on r.datagram) (λ session. session < 2 ^ 64) → ReportSmall (out ++ r ∷ [])
 small-push [] r are small = (small, tt)

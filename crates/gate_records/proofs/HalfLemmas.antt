@@ -22,21 +22,6 @@ step-kept : (h : Happened) (k : KeepingValue) → (after_step h k).kept ≡ kept
 unfolding after_step
 step-kept h k = refl
 
-steps-kept : (kept : KeptValue) (steps : List Happened) (r : Recorded) → kept_after kept r.records ≡ (r.keeping).kept
-    → kept_after kept (recording_all steps r).records ≡ ((recording_all steps r).keeping).kept
-unfolding recording_all
-steps-kept kept [] r is = is
-steps-kept kept (h ∷ steps) r is =
-    steps-kept kept steps (recording h r)
-    (after-append kept r.records (step_records h r.keeping) ∙ ap (λ (j : KeptValue). kept_after j (step_records h r.keeping)) is ∙ sym (step-kept h r.keeping))
-
-pub half-is-kept : (steps : List Happened) (old_next new_next : ℕ) (k : KeepingValue)
-    → kept_after k.kept (half_records steps old_next new_next k).records ≡ ((half_records steps old_next new_next k).keeping).kept
-half-is-kept steps old_next new_next k =
-    let r = recording_all steps (starts_half k) in
-    let rs = reserved_records old_next new_next (r.keeping).kept in
-    after-append k.kept r.records rs ∙ ap (λ (j : KeptValue). kept_after j rs) (steps-kept k.kept steps (starts_half k) refl)
-
 -- ---- they may follow one another
 
 record Half (kept : KeptValue) (r : Recorded) : Type 0 where

@@ -1,16 +1,12 @@
 -- What records do to the pending blocks.
-use Rattle.std.proofs.Common.{◌≡◌, ℕ, ◌==◌, ◌||◌, Bool, true, false, if◌then◌else◌, List, [], ◌∷◌, ◌++◌, Option, None, Some, refl}
-use Rattle.std.specs.List.{list_any}
+use Rattle.std.proofs.Common.{◌≡◌, Bool, true, false, if◌then◌else◌, List, [], ◌∷◌, ◌++◌, Option, None, Some, refl}
 use Rattle.gate_cases.specs.declared.face.Face.TheVariants.{Old, New}
 use Rattle.gateway_core.specs.declared.effects.Routed.{Routed}
 use Rattle.journal_file.specs.declared.kept.Mark.{Mark}
 use Rattle.journal_file.specs.Values.{KeptValue, RecordValue, a_begun, a_done, a_mark, a_clear, a_reserved}
-use Rattle.journal_file.specs.Keeping.{is_pending, kept_with, kept_after}
+use Rattle.journal_file.specs.Keeping.{kept_with, kept_after}
 use Rattle.gate_records.specs.Happened.{Happened, reports_on, is_over}
-use Rattle.gate_records.specs.Keeping.{KeepingValue}
-use Rattle.gate_records.specs.Records.{due_mark, mark_with, marks_then, mark_records, clear_records, step_records, after_step}
-use Rattle.gate_records.specs.Laws.{ends_of, is_end}
-use Rattle.gate_records.proofs.PendingLemmas.{pending-push, pending-other}
+use Rattle.gate_records.specs.Records.{due_mark, mark_with, marks_then, mark_records, clear_records}
 
 -- records that begin no block, and ends none
 abbrev pub AreApart : List RecordValue → Type 0
@@ -61,30 +57,3 @@ clears-apart h (m ∷ marks) = by (is_over h m.face m.session) (clears-apart h m
 
 pub others-apart : (h : Happened) (out : List Routed) (marks later : List Mark) → AreApart (mark_records h out marks ++ clear_records h later)
 others-apart h out marks later = apart-append (mark_records h out marks) (clear_records h later) (marks-apart h out marks) (clears-apart h later)
-
--- ---- a block that leaves
-
-abbrev either : Bool → Bool → Bool
-either a b = a || b
-
-abbrev ends_one : ℕ → List RecordValue → Bool
-ends_one id rs = list_any (λ said. is_end id (ends_of said)) rs
-
-leaves : (kept : KeptValue) (rs : List RecordValue) (id : ℕ) → is_pending id kept.pending ≡ true → is_pending id (kept_after kept rs).pending ≡ false → ends_one id rs ≡ true
-unfolding kept_with
-leaves kept [] id there gone = absurd (cc)
-leaves kept (a_begun p ∷ rs) id there gone = leaves (kept_with kept (a_begun p)) rs id (pending-push id p kept.pending there) gone
-leaves kept (a_done j how ∷ rs) id there gone = by (j == id) refl (λ still. leaves (kept_with kept (a_done j how)) rs id still gone)
-  where
-    by : (t : Bool) → (j == id) ≡ t → (is_pending id (kept_with kept (a_done j how)).pending ≡ true → ends_one id rs ≡ true) → either t (ends_one id rs) ≡ true
-    by true is rest = refl
-    by false is rest = rest (pending-other id j kept.pending is there)
-leaves kept (a_mark m ∷ rs) id there gone = leaves (kept_with kept (a_mark m)) rs id there gone
-leaves kept (a_clear face session ∷ rs) id there gone = leaves (kept_with kept (a_clear face session)) rs id there gone
-leaves kept (a_reserved Old n ∷ rs) id there gone = leaves (kept_with kept (a_reserved Old n)) rs id there gone
-leaves kept (a_reserved New n ∷ rs) id there gone = leaves (kept_with kept (a_reserved New n)) rs id there gone
-
-pub leaves-by-its-end : (h : Happened) (k : KeepingValue) (id : ℕ) → is_pending id (k.kept).pending ≡ true → is_pending id ((after_step h k).kept).pending ≡ false
-    → list_any (λ said. is_end id (ends_of said)) (step_records h k) ≡ true
-unfolding after_step
-leaves-by-its-end h k id there gone = leaves k.kept (step_records h k) id there gone

@@ -2,7 +2,6 @@ pub mod PendingLemmas
 pub mod NamedLemmas
 pub mod LeaveLemmas
 pub mod StepLemmas
-pub mod PieceLemmas
 pub mod MarkLemmas
 pub mod StartLemmas
 pub mod HalfLemmas
@@ -13,4 +12,3 @@ pub mod CancelLemmas
 pub mod OverLemmas
 pub mod PlaceLemmas
 pub mod FitLemmas
-pub mod WaitLemmas

@@ -1,5 +1,5 @@
 -- The sessions that have ids, after a note and after a piece more.
-use Rattle.std.proofs.Common.{◌≡◌, ℕ, ◌<◌, ◌==◌, ◌||◌, Bool, true, false, if◌then◌else◌, List, [], ◌∷◌, ◌++◌, Option, None, Some, refl, sym, ap, ◌∙◌, arith}
+use Rattle.std.proofs.Common.{◌≡◌, ℕ, ◌<◌, ◌==◌, ◌||◌, Bool, true, false, if◌then◌else◌, List, [], ◌∷◌, ◌++◌, Option, None, Some, refl, sym, ap, arith}
 use Rattle.std.proofs.lemmas.Bool.{ne_eqb, eqb-true, eqb-false, eq-eqb}
 use Rattle.std.specs.List.{list_any}
 use Rattle.gate_cases.specs.declared.face.Face.{Face}
@@ -37,15 +37,6 @@ own-without face session (n ∷ ns) (none, own) = by (is_of face session n) (own
     by : (t : Bool) → HaveOwnIds (without_named face session ns) → HaveOwnIds (if t then ns else n ∷ without_named face session ns)
     by true rest = own
     by false rest = (any-without n.id face session ns none, rest)
-
-pending-without : (ps : List Pending) (face : Face) (session : ℕ) (ns : List Named) → ArePending ps ns → ArePending ps (without_named face session ns)
-unfolding without_named
-pending-without ps face session [] are = tt
-pending-without ps face session (n ∷ ns) (first, are) = by (is_of face session n) (pending-without ps face session ns are)
-  where
-    by : (t : Bool) → ArePending ps (without_named face session ns) → ArePending ps (if t then ns else n ∷ without_named face session ns)
-    by true rest = are
-    by false rest = (first, rest)
 
 -- ---- the session of an id ends
 
@@ -147,28 +138,3 @@ own-push g ps n (m ∷ ns) up above (first, are) (none, own) = (
   any-push-other m.id n ns (ne_eqb n.id m.id (λ e. omega (arith, e, above, pending-up-to g m.id ps up first))) none,
   own-push g ps n ns up above are own,
 )
-
--- its id is of none of them
-any-back : (id : ℕ) (n : Named) → (n.id == id) ≡ (id == n.id)
-any-back id n = by (n.id == id) refl
-  where
-    by : (t : Bool) → (n.id == id) ≡ t → t ≡ (id == n.id)
-    by true is = sym (eq-eqb id n.id (sym (eqb-true n.id id is)))
-    by false is = sym (ne_eqb id n.id (λ e. eqb-false n.id id is (sym e)))
-
-pub own-push-other : (n : Named) (ns : List Named) → list_any (has_id n.id) ns ≡ false → HaveOwnIds ns → HaveOwnIds (ns ++ n ∷ [])
-own-push-other n [] none own = (refl, tt)
-own-push-other n (m ∷ ns) none (first, own) = by (m.id == n.id) refl none (λ others. own-push-other n ns others own)
-  where
-    by : (u : Bool) → (m.id == n.id) ≡ u → either u (list_any (has_id n.id) ns) ≡ false
-        → (list_any (has_id n.id) ns ≡ false → HaveOwnIds (ns ++ n ∷ [])) → HaveOwnIds (m ∷ (ns ++ n ∷ []))
-    by true is none rest = absurd (cc)
-    by false is none rest = (any-push-other m.id n ns (any-back m.id n ∙ is) first, rest none)
-
-pub any-push-last : (n : Named) (ns : List Named) → list_any (has_id n.id) (ns ++ n ∷ []) ≡ true
-any-push-last n [] = rw (eq-eqb n.id n.id refl) refl
-any-push-last n (m ∷ ns) = rw (any-push-last n ns) (either-right (m.id == n.id))
-  where
-    either-right : (a : Bool) → either a true ≡ true
-    either-right true = refl
-    either-right false = refl

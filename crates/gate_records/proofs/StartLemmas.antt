@@ -1,18 +1,15 @@
--- What is recovered, and blocks that wait.
-use Rattle.std.proofs.Common.{◌≡◌, ℕ, ◌^◌, ◌<◌, ◌≤◌, Bool, true, false, not, nat_lt, if◌then◌else◌, List, [], ◌∷◌, ◌++◌, length, refl, arith}
+-- What is recovered from a legal journal.
+use Rattle.std.proofs.Common.{◌≡◌, ℕ, ◌^◌, ◌<◌, ◌≤◌, Bool, true, false, nat_lt, if◌then◌else◌, List, [], ◌∷◌, length, refl, arith}
 use Rattle.std.proofs.lemmas.Bool.{ltb-false}
-use Rattle.std.specs.List.{list_any, filter}
+use Rattle.std.specs.List.{filter}
 use Rattle.gate_cases.specs.declared.face.Face.{Face}
-use Rattle.journal_file.specs.declared.kept.Pending.{Pending}
 use Rattle.journal_file.specs.declared.kept.Mark.{Mark}
 use Rattle.journal_file.specs.Values.{KeptValue}
-use Rattle.journal_file.specs.Keeping.{is_of, marks_of, is_pending, greater, MARKS_MAX}
+use Rattle.journal_file.specs.Keeping.{is_of, marks_of, greater, MARKS_MAX}
 use Rattle.journal_file.specs.Legal.{NoneAbout, AreApart, AreSmall, AreFit, IsLegal}
 use Rattle.journal_file.proofs.SoundLemmas.{legal-sound}
-use Rattle.gate_records.specs.Named.{has_id, named_with}
-use Rattle.gate_records.specs.Keeping.{KeepingValue, reserve_to, is_young, first_of, recovered, waits, resuming}
-use Rattle.gate_records.specs.Laws.{IsKeeping, Recovers}
-use Rattle.gate_records.proofs.NamedLemmas.{pending-push-named, own-push-other, any-push-last}
+use Rattle.gate_records.specs.Keeping.{reserve_to, is_young, first_of, recovered}
+use Rattle.gate_records.specs.Laws.{Recovers}
 
 -- ---- some of the marks
 
@@ -91,23 +88,3 @@ recovers-what-is-legal wall old_first new_first kept legal =
       new = greater-first new_first kept.new_reserved;
       keeping = record { legal = after; pending = tt; own_ids = tt };
     }
-
--- ---- one that waits is begun
-
-by-not : (t : Bool) → not t ≡ true → t ≡ false
-by-not true is = absurd (cc)
-by-not false is = refl
-
-pub resumes-once : (p : Pending) (session : ℕ) (k : KeepingValue) → IsKeeping k → is_pending p.id (k.kept).pending ≡ true → waits k.named p ≡ true
-    → IsKeeping (resuming p session k) × (waits (resuming p session k).named p ≡ false)
-resumes-once p session k is there free =
-    let n = named_with p.face session p.id in
-    let none = by-not (list_any (has_id p.id) k.named) free in
-    let last : list_any (has_id p.id) (k.named ++ n ∷ []) ≡ true = any-push-last n k.named in (
-      record {
-        legal = is.legal;
-        pending = pending-push-named (k.kept).pending n k.named is.pending there;
-        own_ids = own-push-other n k.named none is.own_ids;
-      },
-      rw last refl,
-    )

@@ -1,14 +1,12 @@
 -- What a gateway knows of its journal while it runs.
 
-use Rattle.std.specs.Prelude.{ℕ, ◌+◌, ◌^◌, min, Bool, not, ◌&&◌, nat_le, List, [], ◌∷◌, ◌++◌, length}
-use Rattle.std.specs.List.{filter, list_any}
-use Rattle.gate_cases.specs.declared.face.Face.{Face}
+use Rattle.std.specs.Prelude.{ℕ, ◌+◌, ◌^◌, min, Bool, not, nat_le, List, [], ◌∷◌, length}
+use Rattle.std.specs.List.{filter}
 use Rattle.journal_file.specs.declared.kept.Pending.{Pending}
 use Rattle.journal_file.specs.declared.kept.Mark.{Mark}
 use Rattle.journal_file.specs.Values.{KeptValue}
-use Rattle.journal_file.specs.Keeping.{same_face, greater}
+use Rattle.journal_file.specs.Keeping.{greater}
 use Rattle.gate_records.specs.declared.named.Named.{Named}
-use Rattle.gate_records.specs.Named.{has_id, named_with}
 
 pub record KeepingValue : Type 0 where
   -- what the journal says, once the records so far are in it
@@ -60,20 +58,3 @@ recovered wall old_first new_first kept = record {
 -- no session of this run has a pending block yet
 abbrev pub starts_keeping : KeptValue → KeepingValue
 starts_keeping kept = record { kept = kept; named = [] }
-
--- ---- blocks that wait
-
--- a pending block waits until a session of this run has its id
-abbrev pub waits : List Named → Pending → Bool
-waits named p = not (list_any (has_id p.id) named)
-
--- those that wait at a face, in the order of their ids
-abbrev pub waiting_at : Face → KeepingValue → List Pending
-waiting_at face k = filter (λ p. same_face p.face face && waits k.named p) (k.kept).pending
-
--- one is begun in a session, and has its id from before: that takes no record
-abbrev pub resuming : Pending → ℕ → KeepingValue → KeepingValue
-resuming p session k = record {
-  kept = k.kept;
-  named = k.named ++ named_with p.face session p.id ∷ [];
-}

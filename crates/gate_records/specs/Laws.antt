@@ -1,6 +1,6 @@
 -- What holds of the records of each step and of each half, in other words than their definitions'.
 
-use Rattle.std.specs.Prelude.{◌≡◌, ℕ, ◌+◌, ◌^◌, ◌<◌, ◌≤◌, ◌⊎◌, ◌&&◌, Bool, true, false, ◌==◌, List, [], ◌∷◌, ◌++◌, length, Option, None, Some, IfSome, if◌then◌else◌}
+use Rattle.std.specs.Prelude.{◌≡◌, ℕ, ◌+◌, ◌^◌, ◌<◌, ◌≤◌, ◌⊎◌, ◌&&◌, Bool, true, false, ◌==◌, List, [], ◌∷◌, length, Option, None, Some, IfSome, if◌then◌else◌}
 use Rattle.std.specs.List.{list_any}
 use Rattle.gate_cases.specs.declared.face.Face.{Face}
 use Rattle.gateway_core.specs.declared.effects.Routed.{Routed}
@@ -13,11 +13,11 @@ use Rattle.journal_file.specs.Spelling.{MayFollow}
 use Rattle.journal_file.specs.Legal.{IsLegal}
 use Rattle.journal_file.specs.Anew.{IsSound}
 use Rattle.gate_records.specs.declared.named.Named.{Named}
-use Rattle.gate_records.specs.Named.{has_id, named_with}
+use Rattle.gate_records.specs.Named.{has_id}
 use Rattle.gate_records.specs.Happened.{Happened, reports_on, is_over}
-use Rattle.gate_records.specs.Keeping.{KeepingValue, NUMBERS, first_of, recovered, starts_keeping, waits, waiting_at, resuming}
-use Rattle.gate_records.specs.Records.{pending_with, is_marked, marks_after, step_records, after_step, after_reserving}
-use Rattle.gate_records.specs.Halves.{Recorded, starts_half, recording, half_records}
+use Rattle.gate_records.specs.Keeping.{KeepingValue, first_of, recovered, starts_keeping}
+use Rattle.gate_records.specs.Records.{is_marked}
+use Rattle.gate_records.specs.Halves.{Recorded, recording}
 
 -- ---- what is known is right
 
@@ -53,15 +53,6 @@ pub record Fits (h : Happened) (k : KeepingValue) : Type 0 where
   pub ids : (k.kept).greatest + length h.begun < 2 ^ 64
   pub blocks : AreShort h.begun
   pub sessions : ReportSmall h.out
-
--- ---- the records of a step may be committed, and what is known is right after them
-
--- Each id is begun once, and ids rise: a record that begins a block has one above all before. Each is
--- done at most once: a record that ends one has the id of a pending block, which is pending no more.
-abbrev pub StepMayFollow : Type 0
-StepMayFollow =
-    (h : Happened) (k : KeepingValue) → IsKeeping k → Fits h k
-    → MayFollow k.kept (step_records h k) × IsKeeping (after_step h k)
 
 -- ---- ids
 
@@ -108,58 +99,7 @@ abbrev pub FitAll : List Happened → Recorded → Type 0
 FitAll [] r = Unit {0}
 FitAll (h ∷ steps) r = Fits h r.keeping × FitAll steps (recording h r)
 
--- applied to what the journal said before the half, they give what is kept after it
-abbrev pub HalfIsKept : Type 0
-HalfIsKept =
-    (steps : List Happened) (old_next new_next : ℕ) (k : KeepingValue)
-    → kept_after k.kept (half_records steps old_next new_next k).records
-    ≡ ((half_records steps old_next new_next k).keeping).kept
-
-abbrev pub HalfMayFollow : Type 0
-HalfMayFollow =
-    (steps : List Happened) (old_next new_next : ℕ) (k : KeepingValue)
-    → IsKeeping k → FitAll steps (starts_half k)
-    → MayFollow k.kept (half_records steps old_next new_next k).records
-    × IsKeeping (half_records steps old_next new_next k).keeping
-
--- ---- pieces
-
--- a session that was begun has its block among those that are pending, under its id
-pub record IsKeptPiece (begun : Begun) (k : KeepingValue) : Type 0 where
-  pub id : ℕ
-  pub earlier : List Pending
-  pub later : List Pending
-  pub pending : (k.kept).pending ≡ earlier ++ pending_with id begun ∷ later
-  pub before : List Named
-  pub after : List Named
-  pub named : k.named ≡ before ++ named_with begun.face begun.session id ∷ after
-
--- after a step each piece that it began is pending; a report of the gateway isn't kept
-abbrev pub PiecesArePending : Type 0
-PiecesArePending =
-    (h : Happened) (k : KeepingValue) (before : List Begun) (begun : Begun) (after : List Begun)
-    → h.begun ≡ before ++ begun ∷ after → begun.is_report ≡ false
-    → IsKeptPiece begun (after_step h k)
-
--- ---- ends
-
--- a block that was pending and isn't after a step has its `done` among the step's records
-abbrev pub LeavesByItsEnd : Type 0
-LeavesByItsEnd =
-    (h : Happened) (k : KeepingValue) (id : ℕ)
-    → is_pending id (k.kept).pending ≡ true
-    → is_pending id ((after_step h k).kept).pending ≡ false
-    → list_any (λ said. is_end id (ends_of said)) (step_records h k) ≡ true
-
 -- ---- reports
-
--- When a report goes out about a session of the peer that isn't handed up, the session is marked from
--- then on: the marks after the datagrams so far have one about it.
-abbrev pub ReportIsMarked : Type 0
-ReportIsMarked =
-    (h : Happened) (marks : List Mark) (before : List Routed) (routed : Routed) (session : ℕ)
-    → reports_on routed.datagram ≡ Some session → h.is_handed_up routed.face session ≡ false
-    → is_marked routed.face session (marks_after h (before ++ routed ∷ []) marks) ≡ true
 
 -- a record that clears a session is of one that is over
 abbrev pub ClearsIfOver : Happened → RecordValue → Type 0
@@ -172,10 +112,6 @@ ClearsIfOver h (a_reserved face number) = Unit {0}
 abbrev pub AllClearIfOver : Happened → List RecordValue → Type 0
 AllClearIfOver h [] = Unit {0}
 AllClearIfOver h (said ∷ more) = ClearsIfOver h said × AllClearIfOver h more
-
-abbrev pub OnlyOverIsCleared : Type 0
-OnlyOverIsCleared =
-    (h : Happened) (k : KeepingValue) → AllClearIfOver h (step_records h k)
 
 -- the marks that stand after the one about a session
 unfoldable pub after_mark : Face → ℕ → List Mark → List Mark
@@ -216,15 +152,6 @@ MarkStays =
     → (list_any (clears_mark face session) records ≡ true)
     ⊎ (MARKS_MAX ≤ later_marks face session kept.marks + made_marks face records)
 
--- ---- numbers
-
--- after a half no number that an engine has given is above what is reserved
-abbrev pub NumbersAreReserved : Type 0
-NumbersAreReserved =
-    (old_next new_next : ℕ) (k : KeepingValue) → old_next ≤ NUMBERS → new_next ≤ NUMBERS
-    → (old_next ≤ ((after_reserving old_next new_next k).kept).old_reserved)
-    × (new_next ≤ ((after_reserving old_next new_next k).kept).new_reserved)
-
 -- ---- a start
 
 -- what is recovered is legal, so the file may be made anew of it; it has the same pending blocks, and
@@ -236,23 +163,3 @@ pub record Recovers (wall old_first new_first : ℕ) (kept : KeptValue) : Type 0
   pub old : kept.old_reserved ≤ first_of old_first kept.old_reserved
   pub new : kept.new_reserved ≤ first_of new_first kept.new_reserved
   pub keeping : IsKeeping (starts_keeping (recovered wall old_first new_first kept))
-
-abbrev pub RecoversWhatIsLegal : Type 0
-RecoversWhatIsLegal =
-    (wall old_first new_first : ℕ) (kept : KeptValue) → IsLegal kept
-    → Recovers wall old_first new_first kept
-
--- the first that waits at a face is pending, is of that face, and no session has its id
-abbrev pub WaitingIsPending : Type 0
-WaitingIsPending =
-    (face : Face) (k : KeepingValue) (p : Pending) (more : List Pending)
-    → waiting_at face k ≡ p ∷ more
-    → (is_pending p.id (k.kept).pending ≡ true) × (same_face p.face face ≡ true)
-    × (waits k.named p ≡ true)
-
--- one that waits is begun in a session, and waits no more
-abbrev pub ResumesOnce : Type 0
-ResumesOnce =
-    (p : Pending) (session : ℕ) (k : KeepingValue) → IsKeeping k
-    → is_pending p.id (k.kept).pending ≡ true → waits k.named p ≡ true
-    → IsKeeping (resuming p session k) × (waits (resuming p session k).named p ≡ false)

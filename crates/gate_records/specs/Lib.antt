@@ -2,7 +2,6 @@
 -- step and of a half, and what is known after them.
 pub mod Named
 pub mod Happened
-pub mod Gates
 pub mod Keeping
 pub mod Records
 pub mod Halves

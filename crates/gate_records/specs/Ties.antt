@@ -1,56 +1,18 @@
 -- Values of the code as those of the definitions.
 
-use Rattle.std.specs.Prelude.{ℕ, ◌-◌, Bool, true, false, ◌==◌, ◌&&◌, ◌||◌, not, List, [], ◌∷◌, ◌++◌, length, map, Option, None, Some, if◌then◌else◌}
+use Rattle.std.specs.Prelude.{ℕ, ◌-◌, Bool, true, false, ◌==◌, ◌&&◌, ◌||◌, not, List, [], ◌∷◌, length, Option, None, Some, if◌then◌else◌}
 use Rattle.std.specs.List.{filter, list_any}
 use Rattle.gate_cases.specs.declared.face.Face.{Face}
 use Rattle.gateway_core.specs.declared.effects.FaceNote.{FaceNote}
 use Rattle.gateway_core.specs.declared.effects.FaceUp.{FaceUp}
-use Rattle.gateway_core.specs.declared.effects.Routed.{Routed}
-use Rattle.gateway_core.specs.declared.begun.Begun.{Begun}
 use Rattle.gateway_core.specs.Comings.{if_same}
 use Rattle.gate_events.specs.declared.own.Own.{Own}
-use Rattle.gate_events.specs.Own.{OpenAt, is_of}
-use Rattle.journal_file.specs.declared.kept.Pending.{Pending}
+use Rattle.gate_events.specs.Own.{is_of}
 use Rattle.journal_file.specs.declared.kept.Mark.{Mark}
 use Rattle.journal_file.specs.declared.record.How.{How}
 use Rattle.journal_file.specs.declared.record.How.TheVariants as hows
-use Rattle.journal_file.specs.Values.{KeptValue, RecordValue, a_begun, a_done, a_mark, a_clear, a_reserved}
-use Rattle.journal_file.specs.Keeping.{same_face, kept_with, kept_after}
-use Rattle.gate_records.specs.declared.named.Named.{Named}
-use Rattle.gate_records.specs.declared.step.GateStep.{GateStep}
-use Rattle.gate_records.specs.declared.record.StepRecord.{StepRecord}
-use Rattle.gate_records.specs.declared.record.StepRecord.TheVariants as records
-use Rattle.gate_records.specs.Happened.{Happened, note_ends, reports_on}
-use Rattle.gate_records.specs.Keeping.{waits}
-use Rattle.gate_records.specs.Records.{note_done, note_leaves, done_records, named_left, begun_records, begun_named, due_mark, mark_with, mark_records, clear_records}
-use Rattle.gate_records.specs.Halves.{Recorded}
-
--- what a step did, where these own sessions are open after it, and these of the peers were handed up
-abbrev pub happened_by : GateStep → OpenAt → OpenAt → Happened
-happened_by s is_open is_handed_up = record {
-  wall = s.wall;
-  own = s.own.now;
-  is_open = is_open;
-  is_handed_up = is_handed_up;
-  ups = (s.effects.now).ups;
-  out = (s.effects.now).out;
-  notes = (s.effects.now).notes;
-  begun = s.begun.now;
-}
-
-abbrev pub said_by : StepRecord → RecordValue
-said_by (records.Begun p) = a_begun p
-said_by (records.Done id how) = a_done id how
-said_by (records.Marked mark) = a_mark mark
-said_by (records.Clear face session) = a_clear face session
-said_by (records.Reserved face number) = a_reserved face number
-
--- records more are appended and done to what is kept, and these own sessions have a pending block
-abbrev pub recorded_with : List RecordValue → List Named → Recorded → Recorded
-recorded_with records named r = record {
-  keeping = record { kept = kept_after (r.keeping).kept records; named = named };
-  records = r.records ++ records;
-}
+use Rattle.journal_file.specs.Values.{RecordValue, a_begun, a_done, a_mark, a_clear, a_reserved}
+use Rattle.gate_records.specs.Happened.{note_ends}
 
 -- a block is begun or ends by a record
 abbrev pub is_of_block : RecordValue → Bool
@@ -63,53 +25,6 @@ is_of_block (a_reserved face number) = false
 -- a record that clears a mark
 abbrev pub clear_of : Mark → RecordValue
 clear_of mark = a_clear mark.face mark.session
-
--- what is kept changes by a record
-abbrev pub changed_by : RecordValue → Recorded → Recorded
-changed_by said r = record {
-  keeping = record { kept = kept_with (r.keeping).kept said; named = (r.keeping).named };
-  records = r.records;
-}
-
--- ---- the records of a step, one kind after the other
-
-abbrev pub kept_in : Recorded → KeptValue
-kept_in r = (r.keeping).kept
-
-abbrev pub named_in : Recorded → List Named
-named_in r = (r.keeping).named
-
--- `done`, by one note and by all
-abbrev pub end_recorded : OpenAt → FaceNote → Recorded → Recorded
-end_recorded is_open n r =
-    recorded_with (note_done is_open n.face (note_ends n.note) (named_in r))
-    (note_leaves is_open n.face (note_ends n.note) (named_in r)) r
-
-abbrev pub ends_recorded : OpenAt → List FaceNote → Recorded → Recorded
-ends_recorded is_open notes r =
-    recorded_with (done_records is_open notes (named_in r)) (named_left is_open notes (named_in r)) r
-
--- `begun`
-abbrev pub pieces_recorded : List Begun → Recorded → Recorded
-pieces_recorded begun r =
-    recorded_with (begun_records (kept_in r).greatest begun)
-    (named_in r ++ begun_named (kept_in r).greatest begun) r
-
--- `mark`, by one datagram and by all
-abbrev pub report_recorded : Happened → Routed → Recorded → Recorded
-report_recorded h routed r =
-    recorded_with (mark_with (due_mark h routed.face (reports_on routed.datagram) (kept_in r).marks))
-    (named_in r) r
-
-abbrev pub reports_recorded : Happened → List Routed → Recorded → Recorded
-reports_recorded h out r = recorded_with (mark_records h out (kept_in r).marks) (named_in r) r
-
--- `clear`, of these marks and with a step
-abbrev pub clears_recorded : List Mark → Recorded → Recorded
-clears_recorded over r = recorded_with (map clear_of over) (named_in r) r
-
-abbrev pub overs_recorded : Happened → Recorded → Recorded
-overs_recorded h r = recorded_with (clear_records h (kept_in r).marks) (named_in r) r
 
 -- ---- whether the sender of a session cancelled it, by a walk through the notes with a count of the own
 -- sessions of its number of whose end no note told yet
@@ -156,11 +71,3 @@ cancels_any n = end_cancels (note_ends n.note)
 
 abbrev pub may_be_over : List FaceUp → List FaceNote → Bool
 may_be_over ups notes = not (length ups == 0) || list_any cancels_any notes
-
--- ---- which blocks wait
-
-abbrev pub is_waiting : Face → List Named → Pending → Bool
-is_waiting face named p = same_face p.face face && waits named p
-
-abbrev pub waiting_among : Face → List Named → List Pending → List Pending
-waiting_among face named pending = filter (is_waiting face named) pending

@@ -1,5 +1,0 @@
-use Rattle.gate_records.proofs.HalfLemmas.{half-may-follow}
-use Rattle.gate_records.proofs.laws.half_may_follow.Goals as goal
-
-pub returns : goal.returns
-returns c = half-may-follow

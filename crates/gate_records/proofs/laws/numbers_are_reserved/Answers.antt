@@ -1,5 +1,0 @@
-use Rattle.gate_records.proofs.HalfLemmas.{numbers-are-reserved}
-use Rattle.gate_records.proofs.laws.numbers_are_reserved.Goals as goal
-
-pub returns : goal.returns
-returns c = numbers-are-reserved

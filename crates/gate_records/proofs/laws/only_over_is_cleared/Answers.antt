@@ -1,5 +1,0 @@
-use Rattle.gate_records.proofs.MarkLemmas.{only-over-is-cleared}
-use Rattle.gate_records.proofs.laws.only_over_is_cleared.Goals as goal
-
-pub returns : goal.returns
-returns c = only-over-is-cleared

@@ -1,5 +1,0 @@
-use Rattle.gate_records.proofs.StepLemmas.{step-may-follow}
-use Rattle.gate_records.proofs.laws.step_may_follow.Goals as goal
-
-pub returns : goal.returns
-returns c = step-may-follow

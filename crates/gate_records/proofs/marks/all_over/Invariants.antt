@@ -1,9 +1,0 @@
-use Rattle.std.proofs.Common.{◌≡◌, ◌++◌, drop, map}
-use Rattle.gate_records.specs.Records.{clear_records}
-use Rattle.gate_records.specs.Ties.{happened_by, clear_of}
-use Rattle.gate_records.proofs.marks.all_over.Given as goal
-
-abbrev pub invariant-marks : goal.invariant-marks
-invariant-marks g l =
-    clear_records (happened_by l.step (g.G.GateSessions.opened l.gate) (g.G.GateSessions.handed_up l.gate)) l.marks
-    ≡ map clear_of l.over.items ++ clear_records (happened_by l.step (g.G.GateSessions.opened l.gate) (g.G.GateSessions.handed_up l.gate)) (drop l.mark-index l.marks)

@@ -29,7 +29,7 @@ use Rattle.peer_half.specs.Parts.{any_added, arrives_all, begin_of, first_pendin
 use Rattle.peer_half.specs.Half.{Came, answers, half, hears}
 use Rattle.peer_half.specs.Run.{halves}
 use Rattle.peer_half.specs.Runs.{Run, begins_at, stands_at}
-use Rattle.peer_journal_laws.specs.Pieces.{IsAmong, pending_before}
+use Rattle.peer_journal_laws.specs.Pieces.{IsAmong, pending_of}
 use Rattle.peer_journal_laws.specs.Resumes.{AddsAgainInOrder, AddsAgainOnce, AreOnce, added_again, added_at, added_by, added_in, added_over, of_face, still_to_add}
 use Rattle.peer_journal_laws.proofs.JournalLemmas.{installed_in, journal-answers, journal-arrives, journal-begins, journal-happens, journal-polled, journal-reads, journal-tries}
 use Rattle.peer_journal_laws.proofs.PieceLemmas.{moves-pending, reserved-apart}
@@ -337,7 +337,7 @@ adds-halves board face (came ∷ more) s ids =
 -- ---- a run
 
 pub record Starts (r : Run) : Type 0 where
-  pub waiting : (at : Face) → still_to_add at (begins_at r).journal ≡ of_face at (pending_before r.kept)
+  pub waiting : (at : Face) → still_to_add at (begins_at r).journal ≡ of_face at (pending_of r.kept)
   pub ids : Ids (begins_at r).journal
 
 pub starts : (r : Run) → IfSome r.kept IsLegal → Starts r
@@ -349,7 +349,7 @@ starts r legal =
     }
   where
     by : (kept : Option KeptValue) → IfSome kept IsLegal
-        → ((at : Face) → still_to_add at (anew_in (starts_journal r.file r.wall kept)) ≡ of_face at (pending_before kept)) × Ids (anew_in (starts_journal r.file r.wall kept))
+        → ((at : Face) → still_to_add at (anew_in (starts_journal r.file r.wall kept)) ≡ of_face at (pending_of kept)) × Ids (anew_in (starts_journal r.file r.wall kept))
     by None legal = ((λ at. refl), tt)
     by (Some kept) legal = ((λ at. all-to-add at (recovered_in r.file r.wall kept)), record { rising = begun-rising 0 kept.pending legal.pending; up_to = legal.up_to })
 
@@ -484,7 +484,7 @@ cross-fronts n ps xs old new rise is_old is_new p q there also = by (p.id == q.i
       let same = rise-unique n ps p q rise at_old.among at_new.among (eqb-true p.id q.id is) in
       absurd (not-both q.face (subst (λ (y : Pending). same_face y.face faces.Old ≡ true) same at_old.of) at_new.of)
 
-legal-rises : (kept : Option KeptValue) → IfSome kept IsLegal → AreRising 0 (pending_before kept)
+legal-rises : (kept : Option KeptValue) → IfSome kept IsLegal → AreRising 0 (pending_of kept)
 legal-rises None legal = tt
 legal-rises (Some kept) legal = begun-rising 0 kept.pending legal.pending
 
@@ -492,7 +492,7 @@ pub adds-again-once : AddsAgainOnce
 adds-again-once r legal =
     let rise = legal-rises r.kept legal in
     let xs = added_by r in
-    let ps = pending_before r.kept in
+    let ps = pending_of r.kept in
     let old = adds-again-in-order r legal faces.Old in
     let new = adds-again-in-order r legal faces.New in
     once-faces 0 xs

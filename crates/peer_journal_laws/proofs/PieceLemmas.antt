@@ -25,7 +25,7 @@ use Rattle.gate_records.specs.Records.{marks_after}
 use Rattle.peer_records.specs.Laws.{PiecesArePending}
 use Rattle.peer_half.specs.Journals.{Journalled, anew_in, starts_journal}
 use Rattle.peer_half.specs.Runs.{Run, begins_at}
-use Rattle.peer_journal_laws.specs.Pieces.{EarlierAreKept, EndsPiece, IsAmong, IsEnded, PiecesAreKept, pending_before}
+use Rattle.peer_journal_laws.specs.Pieces.{EarlierAreKept, EndsPiece, IsAmong, IsEnded, PiecesAreKept, pending_of}
 use Rattle.peer_journal_laws.specs.Steps.{JournalStep, known_then, records_of, steps_of}
 use Rattle.peer_journal_laws.proofs.JournalLemmas.{journal-begins}
 use Rattle.peer_journal_laws.proofs.StepLemmas.{AreReserved, Chain, Moves, chain-after, keeping_of, known-run}
@@ -292,10 +292,10 @@ pieces-are-kept law r face came kept is earlier step later steps_are new before 
     }
 
 -- what was pending when the run began
-begins-pending : (r : Run) (j : Journalled) → (begins_at r).journal ≡ Some j → ((keeping_of j).kept).pending ≡ pending_before r.kept
+begins-pending : (r : Run) (j : Journalled) → (begins_at r).journal ≡ Some j → ((keeping_of j).kept).pending ≡ pending_of r.kept
 begins-pending r j begins = by r.kept (sym (journal-begins r) ∙ begins)
   where
-    by : (kept : Option KeptValue) → anew_in (starts_journal r.file r.wall kept) ≡ Some j → ((keeping_of j).kept).pending ≡ pending_before kept
+    by : (kept : Option KeptValue) → anew_in (starts_journal r.file r.wall kept) ≡ Some j → ((keeping_of j).kept).pending ≡ pending_of kept
     by None is = absurd (cc)
     by (Some kept) is = ap (λ (o : Option Journalled). pending_in_some o) (sym is)
       where

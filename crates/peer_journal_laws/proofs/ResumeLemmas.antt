@@ -18,8 +18,8 @@ use Rattle.peer_half.specs.Steps.{happened_in, recorded_with}
 use Rattle.peer_half.specs.Parts.{begin_of, first_pending, first_waiting, is_added, next_resumed, pending_in, reads, resumed, resumes, resumes_at, resumes_within, tries, where_some}
 use Rattle.peer_half.specs.Runs.{EventIn, event_at, resumed_in, resumed_at, stands_at}
 use Rattle.peer_half.proofs.ResumeLemmas.{no-more, one-more}
-use Rattle.peer_journal_laws.specs.Pieces.{IsAmong}
-use Rattle.peer_journal_laws.specs.Resumes.{AddsAgain, AreOnce, ResumesWhatIsKept, added_at, added_in, event_of, pending_of, tried_at, tried_in}
+use Rattle.peer_journal_laws.specs.Pieces.{IsAmong, pending_of}
+use Rattle.peer_journal_laws.specs.Resumes.{AddsAgain, AreOnce, ResumesWhatIsKept, added_at, added_in, event_of, tried_at, tried_in}
 use Rattle.peer_journal_laws.proofs.JournalLemmas.{journal-tries}
 use Rattle.peer_journal_laws.proofs.QuietLemmas.{none-recorded}
 use Rattle.peer_journal_laws.proofs.StepLemmas.{keeping_of, passes-among}

@@ -78,15 +78,15 @@ HeldOnceInRuns =
 
 -- ---- pieces of earlier runs
 
--- what was pending when a run began, where a journal is kept
-abbrev pub pending_before : Option KeptValue → List Pending
-pending_before None = []
-pending_before (Some kept) = kept.pending
+-- what is pending in what is kept, where something is
+abbrev pub pending_of : Option KeptValue → List Pending
+pending_of None = []
+pending_of (Some kept) = kept.pending
 
 -- Each that was pending when the run began is pending in what is kept, or with a step of the run its session ended.
 abbrev pub KeepsEarlier : Run → Face → Came → KeptValue → Type 0
 KeepsEarlier r face came kept =
-    (p : Pending) → IsAmong p (pending_before r.kept)
+    (p : Pending) → IsAmong p (pending_of r.kept)
     → IsAmong p kept.pending ⊎ IsEnded p.id (steps_of face came r)
 
 abbrev pub EarlierAreKept : Type 0

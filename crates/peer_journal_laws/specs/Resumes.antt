@@ -7,7 +7,6 @@ use Rattle.gate_cases.specs.declared.face.Face.{Face}
 use Rattle.gate_cases.specs.declared.face.Face.TheVariants.{Old, New}
 use Rattle.gate_cases.specs.Faces.{other_of}
 use Rattle.journal_file.specs.declared.kept.Pending.{Pending}
-use Rattle.journal_file.specs.Values.{KeptValue}
 use Rattle.journal_file.specs.Keeping.{same_face}
 use Rattle.journal_file.specs.Legal.{IsLegal}
 use Rattle.peer_gateway.specs.Steps.{PeerEvent}
@@ -17,7 +16,7 @@ use Rattle.peer_half.specs.Standing.{Standing}
 use Rattle.peer_half.specs.Parts.{begin_of, is_added, next_resumed, pending_in, reads, resumed, resumes, resumes_at, where_some}
 use Rattle.peer_half.specs.Half.{Came, half}
 use Rattle.peer_half.specs.Runs.{EventIn, Run, begins_at, resumed_each, stands_at}
-use Rattle.peer_journal_laws.specs.Pieces.{IsAmong, pending_before}
+use Rattle.peer_journal_laws.specs.Pieces.{IsAmong, pending_of}
 
 -- ---- in a half
 
@@ -50,11 +49,6 @@ added_again s = added_at Old s ++ added_at New (resumes_at Old s)
 
 abbrev pub event_of : EventIn → PeerEvent
 event_of event = event.0
-
--- a piece is pending in what is kept
-abbrev pub pending_of : Option KeptValue → List Pending
-pending_of None = []
-pending_of (Some kept) = kept.pending
 
 -- no two have an id
 abbrev pub AreOnce : List Pending → Type 0
@@ -116,7 +110,7 @@ abbrev pub AddsAgainInOrder : Type 0
 AddsAgainInOrder =
     (r : Run) → IfSome r.kept IsLegal → (at : Face)
     → of_face at (added_by r) ++ still_to_add at (stands_at r).journal
-    ≡ of_face at (pending_before r.kept)
+    ≡ of_face at (pending_of r.kept)
 
 -- so each is added once: no two that the run adds have an id
 abbrev pub AddsAgainOnce : Type 0

@@ -12,20 +12,19 @@ use Rattle.gate_log.specs.Lines.{line_of}
 use Rattle.outbox.specs.declared.reading.Reading.{Reading}
 use Rattle.gate_events.specs.Own.{OpenAt}
 use Rattle.gate_events.specs.Counts.{event_counted}
-use Rattle.gate_events.specs.Log.{LogValue, after_saying_all}
+use Rattle.gate_events.specs.Log.{after_saying_all}
 use Rattle.gate_face.specs.Contacts.{told_at}
 use Rattle.gate_face.specs.Halves.{full_event, lost_event}
-use Rattle.peer_events.specs.declared.own.OwnBlock.{OwnBlock}
-use Rattle.peer_events.specs.Counts.{begun_counted, with_begun}
+use Rattle.peer_events.specs.Counts.{begun_counted}
 use Rattle.peer_events.specs.Events.{events_of, own_after_step}
 use Rattle.peer_gateway.specs.Answers.{Answered}
-use Rattle.peer_gateway.specs.Gate.{BegunAt, FaceTold, PeerGate, PeerMoments}
+use Rattle.peer_gateway.specs.Gate.{PeerGate, PeerMoments}
 use Rattle.peer_gateway.specs.Keys.{PeerSetup}
 use Rattle.peer_half.specs.Journals.{Journalled}
 use Rattle.peer_half.specs.Standing.{Standing, face_of, saying, saying_all, saying_of, wall_of}
 use Rattle.peer_half.specs.Steps.{putting_all, telling}
 use Rattle.peer_half.specs.Parts.{reading_clocks, troubled}
-use Rattle.peer_live.specs.Telling.{KeptValue, kept_of, puts, reads, says, says_of, tells, troubles}
+use Rattle.peer_live.specs.Telling.{KeptValue, kept_of, reads, says, says_of, tells, troubles}
 use Rattle.peer_live.specs.Shows.{reads_clocks}
 
 -- ---- lines
@@ -110,15 +109,3 @@ rest-troubles face s =
     ∙ rest-says-of face (full_event (face_of face s)) s
 
 -- ---- a step of the gateway is told
-
-pub tells-so : (k new : KeptValue) (own : List OwnBlock) (log : LogValue) (opened : OpenAt) (left : ℕ × ℕ) (answer : Answered) (told : List FaceTold) (begun : List BegunAt)
-    → told ≡ answer.told → begun ≡ answer.begun
-    → own ≡ own_after_step opened told begun k.own
-    → log ≡ after_saying_all (events_of opened k.own told) (with_begun begun k.log)
-    → new ≡ puts left answer.out (record k { own = own; log = log })
-    → new ≡ tells opened left answer k
-tells-so k new own log opened left answer told begun told_is begun_is own_is log_is is =
-    is ∙ ap (λ (o : List OwnBlock). puts left answer.out (record k { own = o; log = log })) own_is
-    ∙ ap (λ (l : LogValue). puts left answer.out (record k { own = own_after_step opened told begun k.own; log = l })) log_is
-    ∙ ap (λ (ts : List FaceTold). puts left answer.out (record k { own = own_after_step opened ts begun k.own; log = after_saying_all (events_of opened k.own ts) (with_begun begun k.log) })) told_is
-    ∙ ap (λ (bs : List BegunAt). puts left answer.out (record k { own = own_after_step opened answer.told bs k.own; log = after_saying_all (events_of opened k.own answer.told) (with_begun bs k.log) })) begun_is

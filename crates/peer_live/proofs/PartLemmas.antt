@@ -1,17 +1,12 @@
 -- The parts of a half, each as the gateway at work does it.
 
-use Rattle.std.proofs.Common.{◌≡◌, ℕ, ◌<◌, ◌^◌, Bool, true, false, List, length, Option, Some, None, IfSome, if◌then◌else◌, refl, ap, sym, subst, ◌∙◌}
+use Rattle.std.proofs.Common.{◌≡◌, ℕ, ◌<◌, ◌^◌, List, length, Option, None, IfSome, refl, ap, sym, subst, ◌∙◌}
 use Rattle.ltp_segment.specs.Reading.{segment_of}
 use Rattle.gate_cases.specs.declared.face.Face.{Face}
 use Rattle.gate_cases.specs.declared.face.Face.TheVariants as faces
 use Rattle.gate_log.specs.declared.event.Event.{Event}
-use Rattle.gate_log.specs.declared.event.Event.TheVariants as events
 use Rattle.gate_metrics.specs.declared.counters.Counted.{Counted}
 use Rattle.gate_metrics.specs.declared.counters.Counted.TheVariants as things
-use Rattle.gate_metrics.specs.declared.counters.Counters.{Counters}
-use Rattle.gate_metrics.specs.declared.gauges.FaceGauges.{FaceGauges}
-use Rattle.gate_metrics.specs.declared.gauges.Gauges.{Gauges}
-use Rattle.gate_metrics.specs.Text.{peer_text}
 use Rattle.journal_file.specs.Length.{entries_length, gate_of}
 use Rattle.outbox.specs.declared.reading.Reading.{Reading}
 use Rattle.gate_face.specs.Halves.{taking}
@@ -22,13 +17,13 @@ use Rattle.peer_gateway.specs.Gate.{PeerGate, PeerMoments}
 use Rattle.peer_gateway.specs.Steps.{a_datagram, a_tick}
 use Rattle.peer_gateway.specs.Ties.{PeerGatewayValue, PeerSteps}
 use Rattle.peer_gateway.specs.Views.{moments_of}
-use Rattle.peer_half.specs.Standing.{Standing, counting, doing_at, saying, wall_of}
+use Rattle.peer_half.specs.Standing.{Standing, counting, doing_at, saying}
 use Rattle.peer_half.specs.Journals.{Journalled, anew_in, kept_in, past_commit, records_in}
 use Rattle.peer_half.specs.Parts as parts
 use Rattle.peer_half.specs.Moments.{face_moments, moments_at}
 use Rattle.peer_half.specs.Steps.{happens}
 use Rattle.peer_live.specs.declared.work.Work.{Work}
-use Rattle.peer_live.specs.Telling.{KeptValue, kept_of, counts, does_at, loses, outboxes_of, reads, says, troubles}
+use Rattle.peer_live.specs.Telling.{KeptValue, kept_of, counts, does_at, outboxes_of, reads, says, troubles}
 use Rattle.peer_live.specs.Shows.{Does, IsWhole, ShowsWork, reads_clocks, settles}
 use Rattle.peer_live.proofs.KeptLemmas.{kept-reads, kept-says, kept-troubles, rest-reads, rest-troubles}
 use Rattle.peer_live.proofs.ShowsLemmas.{does-event, does-then, kept-goes}
@@ -82,50 +77,6 @@ does-read w kept old new now whole wall_low old_low new_low old_is new_is is = r
   goes_on = λ s shows. read-goes w kept old new now s old_is new_is is shows;
 }
 
--- ---- the line `start`
-
-abbrev start_of : Standing → Event
-start_of s =
-    events.Start ((s.setup).keys.0.party).first ((s.setup).keys.1.party).first (parts.marks_in s.journal) (parts.pending_in s.journal)
-
-starts-by : (s : Standing) (started : Bool) → s.started ≡ started → parts.starting s ≡ (if started then s else saying (start_of s) (record s { started = true }))
-starts-by s started is = ap (λ (b : Bool). if b then s else saying (start_of s) (record s { started = true })) is
-
-pub started-goes : (w : Work) (s : Standing) → w.started ≡ true → ShowsWork w s → ShowsWork w (parts.starting s)
-started-goes w s is shows = subst (ShowsWork w) (sym (starts-by s true (sym shows.started ∙ is))) shows
-
-abbrev start_in : Work → Event
-start_in w = events.Start w.old_first w.new_first (parts.marks_in w.journal) (parts.pending_in w.journal)
-
-pub start-goes : (w : Work) (kept : KeptValue) (s : Standing) → w.started ≡ false → kept ≡ says (start_in w) w.kept → ShowsWork w s
-    → ShowsWork (record w { kept = kept; started = true }) (parts.starting s)
-start-goes w kept s is said shows =
-    let t : Standing = record s { started = true } in
-    subst (ShowsWork (record w { kept = kept; started = true })) (sym (starts-by s false (sym shows.started ∙ is)))
-    (kept-goes (record w { started = true }) kept t (saying (start_of s) t)
-    (record {
-      setup = shows.setup;
-      gate = shows.gate;
-      moments = shows.moments;
-      kept = shows.kept;
-      old_first = shows.old_first;
-      new_first = shows.new_first;
-      started = refl;
-      shown = shows.shown;
-      journal = shows.journal;
-    })
-    (said ∙ rw (shows.old_first, shows.new_first, shows.kept, shows.journal) (kept-says (start_of s) t)) refl)
-
-pub does-started : (w : Work) → IsWhole w → w.started ≡ true → Does w w parts.starting
-does-started w whole is = record { whole = whole; goes_on = λ s shows. started-goes w s is shows }
-
-pub does-start : (w : Work) (kept : KeptValue) → IsWhole w → w.started ≡ false → kept ≡ says (start_in w) w.kept
-    → Does w (record w { kept = kept; started = true }) parts.starting
-does-start w kept whole is said = record {
-  whole = record { gate = whole.gate; moments = whole.moments; old_half = whole.old_half; new_half = whole.new_half };
-  goes_on = λ s shows. start-goes w kept s is said shows;
-}
-
 -- ---- time passes, and datagrams come
 
 pub does-tick : (w new : Work) (gate : PeerGatewayValue) (octets : ℕ × ℕ) (answer : Answered) → IsWhole w
@@ -172,28 +123,6 @@ take-goes w kept face s is shows = kept-goes w kept s (doing_at face taking s) s
 
 pub does-take : (w : Work) (kept : KeptValue) (face : Face) → IsWhole w → kept ≡ does_at face taking w.kept → Does w (record w { kept = kept }) (doing_at face taking)
 does-take w kept face whole is = record { whole = whole-kept w kept whole; goes_on = λ s shows. take-goes w kept face s is shows }
-
-lose-goes : (w : Work) (kept : KeptValue) (face : Face) (datagram : List ℕ) (s : Standing) → kept ≡ loses face w.kept → ShowsWork w s → ShowsWork (record w { kept = kept }) (parts.goes face true datagram s)
-lose-goes w kept face datagram s is shows = kept-goes w kept s (parts.goes face true datagram s) shows (is ∙ ap (loses face) shows.kept) refl
-
-sent-goes : (w : Work) (kept : KeptValue) (face : Face) (datagram : List ℕ) (s : Standing) → kept ≡ counts face (things.Sent (length datagram)) w.kept → ShowsWork w s
-    → ShowsWork (record w { kept = kept }) (parts.goes face false datagram s)
-sent-goes w kept face datagram s is shows =
-    kept-goes w kept s (parts.goes face false datagram s) shows (is ∙ ap (counts face (things.Sent (length datagram))) shows.kept) refl
-
-pub does-lose : (w : Work) (kept : KeptValue) (face : Face) (failed : Bool) (datagram : List ℕ) → IsWhole w → failed ≡ true → kept ≡ loses face w.kept
-    → Does w (record w { kept = kept }) (parts.goes face failed datagram)
-does-lose w kept face true datagram whole is_failed is =
-    record { whole = whole-kept w kept whole; goes_on = λ s shows. lose-goes w kept face datagram s is shows }
-does-lose w kept face false datagram whole is_failed is = absurd (cc)
-
-pub does-send : (w : Work) (kept : KeptValue) (face : Face) (failed : Bool) (datagram : List ℕ) (octets : ℕ) → IsWhole w → failed ≡ false → octets ≡ length datagram
-    → kept ≡ counts face (things.Sent octets) w.kept → Does w (record w { kept = kept }) (parts.goes face failed datagram)
-does-send w kept face true datagram octets whole is_failed octets_are is = absurd (cc)
-does-send w kept face false datagram octets whole is_failed octets_are is = record {
-  whole = whole-kept w kept whole;
-  goes_on = λ s shows. sent-goes w kept face datagram s (is ∙ ap (λ n. counts face (things.Sent n) w.kept) octets_are) shows;
-}
 
 troubles-goes : (w : Work) (kept : KeptValue) (face : Face) (s : Standing) → kept ≡ troubles face w.kept → ShowsWork w s → ShowsWork (record w { kept = kept }) (parts.troubled face s)
 troubles-goes w kept face s is shows = kept-goes w kept s (parts.troubled face s) shows (is ∙ (ap (troubles face) shows.kept ∙ kept-troubles face s)) (rest-troubles face s)
@@ -261,42 +190,3 @@ installs-goes w journal place s installs shows place_is =
     journal-goes w journal s (anew_in s.journal)
     (installs (subst (λ (j : Option Journalled). IfSome (kept_in j) (λ kept. place ≡ gate_of kept)) (sym shows.journal) place_is)
     ∙ ap anew_in shows.journal) shows
-
--- ---- the metrics
-
-pub gauges-are : (w : Work) (old new : FaceGauges) (pending : ℕ) (s : Standing) → ShowsWork w s
-    → old ≡ parts.face_gauges faces.Old s → new ≡ parts.face_gauges faces.New s → pending ≡ parts.pending_in w.journal
-    → record { old = old; new = new; pending_pieces = pending } ≡ parts.gauges_in s
-gauges-are w old new pending s shows old_is new_is pending_is =
-    let waits : pending ≡ parts.pending_in s.journal = pending_is ∙ ap (λ (j : Option Journalled). parts.pending_in j) shows.journal in
-    rw (old_is, new_is, waits) refl
-
-abbrev text_with : Standing → Gauges → ℕ → ℕ → List ℕ
-text_with s gauges old new = peer_text s.counters gauges old new
-
-pub metrics-are : (w : Work) (counters : Counters) (gauges : Gauges) (old new : ℕ) (s : Standing) → ShowsWork w s
-    → counters ≡ ((w.kept).log).counters → gauges ≡ parts.gauges_in s
-    → old ≡ parts.gathered_in (((w.gate).gate).faces.0) → new ≡ parts.gathered_in (((w.gate).gate).faces.1)
-    → peer_text counters gauges old new ≡ parts.text_in s
-metrics-are w counters gauges old new s shows counters_are gauges_are old_is new_is =
-    ap (λ (c : Counters). peer_text c gauges old new) (counters_are ∙ ap (λ (k : KeptValue). (k.log).counters) shows.kept)
-    ∙ ap (λ (g : Gauges). text_with s g old new) gauges_are
-    ∙ ap (λ (n : ℕ). text_with s (parts.gauges_in s) n new) (old_is ∙ ap (λ (g : PeerGate). parts.gathered_in (g.faces.0)) shows.gate)
-    ∙ ap (λ (n : ℕ). text_with s (parts.gauges_in s) (parts.gathered_at faces.Old s) n) (new_is ∙ ap (λ (g : PeerGate). parts.gathered_in (g.faces.1)) shows.gate)
-
--- they were written
-pub does-show : (w : Work) → IsWhole w → Does w (record w { shown = Some (w.moments).wall }) (λ s. record s { shown = Some (wall_of s) })
-does-show w whole = record {
-  whole = record { gate = whole.gate; moments = whole.moments; old_half = whole.old_half; new_half = whole.new_half };
-  goes_on = λ s shows. record {
-    setup = shows.setup;
-    gate = shows.gate;
-    moments = shows.moments;
-    kept = shows.kept;
-    old_first = shows.old_first;
-    new_first = shows.new_first;
-    started = shows.started;
-    shown = ap (λ (m : PeerMoments). Some m.wall) shows.moments;
-    journal = shows.journal;
-  };
-}

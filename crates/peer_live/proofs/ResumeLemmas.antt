@@ -79,34 +79,6 @@ does-one w settled gate kept p octets answer session subject event added whole o
           (added-is w gate p octets answer added s shows octets_are steps added_any) shows;
     }
 
--- ---- the first one
-
-first-is : (w : Work) (face : Face) (next : Option Pending) (s : Standing) → next ≡ parts.first_waiting face w.journal → ShowsWork w s → next ≡ parts.next_resumed face s
-first-is w face next s next_is shows = next_is ∙ ap (λ (j : Option Journalled). parts.first_waiting face j) shows.journal
-
--- none waits
-pub none-waits : (w : Work) (face : Face) (s : Standing) → None ≡ parts.first_waiting face w.journal → ShowsWork w s → false ≡ added_if s (parts.next_resumed face s)
-none-waits w face s none shows = ap (λ (o : Option Pending). added_if s o) (first-is w face None s none shows)
-
-pub does-none : (w : Work) (face : Face) → IsWhole w → None ≡ parts.first_waiting face w.journal → Does w w (resumes_one face)
-does-none w face whole none = record {
-  whole = whole;
-  goes_on = λ s shows.
-      subst (λ (o : Option Pending). ShowsWork w (parts.where_some o (λ p. tries_one p s) s)) (first-is w face None s none shows) shows;
-}
-
--- one does
-pub one-waits : (w : Work) (face : Face) (p : Pending) (went : Bool) (s : Standing) → Some p ≡ parts.first_waiting face w.journal
-    → ((t : Standing) → ShowsWork w t → went ≡ parts.is_added p t) → ShowsWork w s → went ≡ added_if s (parts.next_resumed face s)
-one-waits w face p went s one went_is shows = went_is s shows ∙ ap (λ (o : Option Pending). added_if s o) (first-is w face (Some p) s one shows)
-
-pub does-first : (old new : Work) (face : Face) (p : Pending) → Some p ≡ parts.first_waiting face old.journal → Does old new (tries_one p) → Does old new (resumes_one face)
-does-first old new face p one does = record {
-  whole = does.whole;
-  goes_on = λ s shows.
-      subst (λ (o : Option Pending). ShowsWork new (parts.where_some o (λ q. tries_one q s) s)) (first-is old face (Some p) s one shows) (does.goes_on s shows);
-}
-
 -- ---- in the loop
 
 -- some were added, and so many may be

@@ -1,9 +1,8 @@
 -- A gateway at work goes on as the definition of a half says.
 
-use Rattle.std.proofs.Common.{◌≡◌, ℕ, List, map, Option, refl, ap, sym, subst, ◌∙◌}
+use Rattle.std.proofs.Common.{◌≡◌, ℕ, map, Option, refl, ap, sym, subst, ◌∙◌}
 use Rattle.face_room.specs.Bounds.{half}
 use Rattle.outbox.specs.declared.reading.Reading.{Reading}
-use Rattle.peer_events.specs.declared.own.OwnBlock.{OwnBlock}
 use Rattle.peer_events.specs.Named.{AllNamed}
 use Rattle.peer_events.specs.Own.{own_seen}
 use Rattle.peer_events.proofs.NamedLemmas.{step-named}
@@ -20,7 +19,7 @@ use Rattle.peer_half.specs.Parts.{reads, starting}
 use Rattle.peer_half.specs.Steps.{happened_in, happens_again, happens_with, left_in, opens_in, outboxes_in, recorded_with, step_of}
 use Rattle.peer_live.specs.declared.work.Work.{Work}
 use Rattle.peer_live.specs.Telling.{KeptValue, kept_of, outboxes_of, tells}
-use Rattle.peer_live.specs.Shows.{Does, IsWhole, ShowsWork, did, reads_clocks, records, settles}
+use Rattle.peer_live.specs.Shows.{Does, IsWhole, ShowsWork, did, reads_clocks, settles}
 use Rattle.peer_live.proofs.KeptLemmas.{Rest, rest_of, kept-tells, rest-tells}
 
 -- ---- what changes nothing but what is kept
@@ -152,24 +151,3 @@ does-event w new gate again event octets answer whole octets_are steps is =
     })
 
 -- ---- what is recorded and done, one after the other
-
-pub records-so : (w : Work) (journal : Option Journalled) (again : Option ℕ) (answer : Answered) (own : List OwnBlock) → own ≡ (w.kept).own
-    → journal ≡ recorded_with (record (did again answer w) { own = map own_seen own }) w.journal
-    → record w { journal = journal } ≡ records again answer w
-records-so w journal again answer own own_is is =
-    ap (λ (j : Option Journalled). record w { journal = j })
-    (is ∙ ap (λ (owns : List OwnBlock). recorded_with (record (did again answer w) { own = map own_seen owns }) w.journal) own_is)
-
-pub settles-so : (w recorded : Work) (kept : KeptValue) (left : ℕ × ℕ) (again : Option ℕ) (answer : Answered)
-    → recorded ≡ records again answer w → left ≡ left_in (recorded.gate).setup (recorded.gate).gate
-    → kept ≡ tells (opens_in (recorded.gate).gate) left answer recorded.kept
-    → record recorded { kept = kept } ≡ settles again answer w
-settles-so w recorded kept left again answer recorded_is left_is kept_is =
-    ap (λ (k : KeptValue). record recorded { kept = k })
-    (kept_is ∙ ap (λ (n : ℕ × ℕ). tells (opens_in (recorded.gate).gate) n answer recorded.kept) left_is)
-    ∙ ap (λ (v : Work). record v { kept = tells (opens_in (v.gate).gate) (left_in (v.gate).setup (v.gate).gate) answer v.kept }) recorded_is
-
-pub whole-recorded : (w recorded : Work) (again : Option ℕ) (answer : Answered) → recorded ≡ records again answer w → IsWhole w → IsWhole recorded
-whole-recorded w recorded again answer is whole =
-    subst IsWhole (sym is)
-    (record { gate = whole.gate; moments = whole.moments; old_half = whole.old_half; new_half = whole.new_half })

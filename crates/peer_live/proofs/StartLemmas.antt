@@ -1,7 +1,6 @@
 -- A gateway at work stands as a run begins.
 
-use Rattle.std.proofs.Common.{◌≡◌, ℕ, false, List, Option, None, refl, ap, sym, subst, ◌∙◌}
-use Rattle.face_room.specs.Bounds.{half}
+use Rattle.std.proofs.Common.{◌≡◌, ℕ, false, List, Option, None, refl, ap, subst, ◌∙◌}
 use Rattle.gate_cases.specs.declared.face.Face.TheVariants as faces
 use Rattle.gate_config.specs.declared.file.GateFile.{GateFile}
 use Rattle.journal_file.specs.Values.{KeptValue as JournalValue}
@@ -11,7 +10,7 @@ use Rattle.peer_gateway.specs.declared.moments.Moments.{Moments}
 use Rattle.peer_gateway.specs.Gate.{PeerGate, PeerMoments, starts_peer_gate}
 use Rattle.peer_gateway.specs.Keys.{PeerSetup}
 use Rattle.peer_gateway.specs.Ties.{PeerGatewayValue, starts_effects}
-use Rattle.peer_gateway.specs.Views.{AreMoments, moments_of}
+use Rattle.peer_gateway.specs.Views.{moments_of}
 use Rattle.peer_half.specs.Journals.{Journalled, marked_at, marked_each, marked_in, starts_journal}
 use Rattle.peer_half.specs.Setup.{setup_in}
 use Rattle.peer_half.specs.Moments.{same}
@@ -30,15 +29,6 @@ use Rattle.peer_live.proofs.PartLemmas.{whole-kept}
 abbrev pub begins : PeerSetup → ℕ → List ℕ × List ℕ → PeerGatewayValue
 begins setup wall marks =
     record { spent = false; setup = setup; gate = starts_peer_gate setup (wall, wall) marks }
-
-pub whole-begun : (w : Work) (setup : PeerSetup) (wall : ℕ) (marks : List ℕ × List ℕ) → w.gate ≡ begins setup wall marks → AreMoments w.moments
-    → w.old_half ≡ half (setup.keys.0).bounds → w.new_half ≡ half (setup.keys.1).bounds → IsWhole w
-whole-begun w setup wall marks gate_is moments old_is new_is = record {
-  gate = ap (λ (g : PeerGatewayValue). g.spent) gate_is;
-  moments = moments;
-  old_half = old_is ∙ ap (λ (g : PeerGatewayValue). half ((g.setup).keys.0).bounds) (sym gate_is);
-  new_half = new_is ∙ ap (λ (g : PeerGatewayValue). half ((g.setup).keys.1).bounds) (sym gate_is);
-}
 
 -- at both faces the moment is the wall clock's
 pub begins-at : (m : Moments) (setup : PeerSetup) (wall : ℕ) (marks : List ℕ × List ℕ) → moments_of m ≡ same wall

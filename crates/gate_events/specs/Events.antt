@@ -9,7 +9,7 @@ use Rattle.gateway_core.specs.declared.effects.FaceUp.{FaceUp}
 use Rattle.gateway_core.specs.declared.effects.FaceNote.{FaceNote}
 use Rattle.gateway_core.specs.declared.note.GateNote.{GateNote}
 use Rattle.gateway_core.specs.declared.note.GateNote.TheVariants as notes
-use Rattle.gateway_core.specs.Comings.{if_same}
+use Rattle.gateway_core.specs.Gate.{if_same}
 use Rattle.gate_log.specs.declared.event.Event.{Event}
 use Rattle.gate_log.specs.declared.event.Event.TheVariants as events
 use Rattle.gate_log.specs.declared.event.LinkEvent.TheVariants as links

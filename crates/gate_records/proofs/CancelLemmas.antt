@@ -8,7 +8,7 @@ use Rattle.gate_cases.specs.declared.face.Face.TheVariants.{Old, New}
 use Rattle.gateway_core.specs.declared.effects.FaceNote.{FaceNote}
 use Rattle.gateway_core.specs.declared.note.GateNote.{GateNote}
 use Rattle.gateway_core.specs.declared.note.GateNote.TheVariants as notes
-use Rattle.gateway_core.specs.Comings.{if_same}
+use Rattle.gateway_core.specs.Gate.{if_same}
 use Rattle.gate_events.specs.declared.own.Own.{Own}
 use Rattle.gate_events.specs.Own.{OpenAt, is_of, find_own, without_own, left_by, end_of}
 use Rattle.gate_events.specs.Events.{own_after, own_untold}

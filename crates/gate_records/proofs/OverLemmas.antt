@@ -8,7 +8,7 @@ use Rattle.gateway_core.specs.declared.effects.FaceNote.{FaceNote}
 use Rattle.gateway_core.specs.declared.effects.FaceUp.{FaceUp}
 use Rattle.journal_file.specs.declared.kept.Mark.{Mark}
 use Rattle.journal_file.specs.declared.record.How.{How}
-use Rattle.gateway_core.specs.Comings.{if_same}
+use Rattle.gateway_core.specs.Gate.{if_same}
 use Rattle.journal_file.specs.Values.{RecordValue}
 use Rattle.gate_records.specs.Happened.{Happened, note_ends, came_whole, is_over}
 use Rattle.gate_records.specs.Records.{clear_records}

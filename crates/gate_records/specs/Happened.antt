@@ -12,7 +12,7 @@ use Rattle.gateway_core.specs.declared.effects.FaceUp.{FaceUp}
 use Rattle.gateway_core.specs.declared.effects.FaceNote.{FaceNote}
 use Rattle.gateway_core.specs.declared.effects.Routed.{Routed}
 use Rattle.gateway_core.specs.declared.begun.Begun.{Begun}
-use Rattle.gateway_core.specs.Comings.{if_same}
+use Rattle.gateway_core.specs.Gate.{if_same}
 use Rattle.gateway_core.specs.declared.note.GateNote.{GateNote}
 use Rattle.gateway_core.specs.declared.note.GateNote.TheVariants as notes
 use Rattle.gate_events.specs.declared.own.Own.{Own}

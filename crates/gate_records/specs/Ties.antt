@@ -5,7 +5,7 @@ use Rattle.std.specs.List.{filter, list_any}
 use Rattle.gate_cases.specs.declared.face.Face.{Face}
 use Rattle.gateway_core.specs.declared.effects.FaceNote.{FaceNote}
 use Rattle.gateway_core.specs.declared.effects.FaceUp.{FaceUp}
-use Rattle.gateway_core.specs.Comings.{if_same}
+use Rattle.gateway_core.specs.Gate.{if_same}
 use Rattle.gate_events.specs.declared.own.Own.{Own}
 use Rattle.gate_events.specs.Own.{is_of}
 use Rattle.journal_file.specs.declared.kept.Mark.{Mark}

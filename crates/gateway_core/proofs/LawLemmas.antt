@@ -15,12 +15,12 @@ use Rattle.gate_cases.specs.Faces.{other_of}
 use Rattle.gate_cases.specs.Bundles.{status_bundle}
 use Rattle.gateway_core.specs.declared.note.GateNote.TheVariants as notes
 use Rattle.gateway_core.specs.Moments.{MomentsValue}
-use Rattle.gateway_core.specs.Gate.{Gate, GateSetup, GateStep, EventIn, a_datagram_in, a_tick_in, a_block_in, event_in, noted_at, reports_in}
+use Rattle.gateway_core.specs.Gate.{Gate, GateSetup, GateStep, EventIn, if_same, a_datagram_in, a_tick_in, a_block_in, event_in, noted_at, reports_in}
 use Rattle.gateway_core.specs.Gate.{at_face, and_then, in_turn, does_at, hears_at, submission_at, sends_unless, sends_at, sends_in, is_unreported}
 use Rattle.gateway_core.specs.Gate.{answers_in, decides_in, passes_in, judged_at, arrives_in, ticks_in, gate_in, gate_after_in, up_at}
 use Rattle.gateway_core.specs.declared.begun.Begun.{Begun}
 use Rattle.gateway_core.specs.Begun.{begun_at, pieces_begun, report_begun, decision_begun, passages_begun, begun_with}
-use Rattle.gateway_core.specs.Comings.{if_same, begun_come, told_first, moments_of, event_comes, comings_in}
+use Rattle.gateway_core.specs.Comings.{begun_come, told_first, moments_of, event_comes, comings_in}
 use Rattle.gateway_core.specs.RedParts.{AreEnginesIn, AreEngines, HandsUpRedPartsIn, HandsUpRedParts, HandsUpEachOnceIn, HandsUpEachOnce, ups_in, ups_on, face_ups_in}
 
 -- ---- the engines

@@ -4,19 +4,11 @@
 use Rattle.std.specs.Prelude.{ℕ, List, [], ◌∷◌, length, map}
 use Rattle.ltp_engine.specs.RedParts.{Coming, a_block_comes, a_datagram_comes, a_moment_comes}
 use Rattle.gate_cases.specs.declared.face.Face.{Face}
-use Rattle.gate_cases.specs.declared.face.Face.TheVariants as faces
 use Rattle.gateway_core.specs.Moments.{MomentsValue}
 use Rattle.gateway_core.specs.Gate.{Gate, GateSetup, EventIn, a_datagram_in, a_tick_in, a_block_in}
-use Rattle.gateway_core.specs.Gate.{GateEvent, event_in, gate_after_in}
+use Rattle.gateway_core.specs.Gate.{GateEvent, if_same, event_in, gate_after_in}
 use Rattle.gateway_core.specs.declared.begun.Begun.{Begun}
 use Rattle.gateway_core.specs.Begun.{begun_with}
-
--- of two things the first where the faces are the same, else the second
-abbrev pub if_same : {X : Type 0} → Face → Face → X → X → X
-if_same faces.Old faces.Old x y = x
-if_same faces.Old faces.New x y = y
-if_same faces.New faces.Old x y = y
-if_same faces.New faces.New x y = x
 
 -- ---- what comes to the engine of a face, after what came before; the newest first
 

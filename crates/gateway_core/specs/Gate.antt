@@ -40,6 +40,13 @@ abbrev pub with_face : {X : Type 0} → X × X → Face → X → X × X
 with_face pair faces.Old x = (x, pair.1)
 with_face pair faces.New x = (pair.0, x)
 
+-- of two things the first where the faces are the same, else the second
+abbrev pub if_same : {X : Type 0} → Face → Face → X → X → X
+if_same faces.Old faces.Old x y = x
+if_same faces.Old faces.New x y = y
+if_same faces.New faces.Old x y = y
+if_same faces.New faces.New x y = x
+
 -- ---- a gate
 
 -- what never changes: who is at each face; the gate's own name; and the most octets of payload that

@@ -7,9 +7,9 @@ use Rattle.ltp_engine.specs.RedParts.{engine_after, pieces_of, EachOnce}
 use Rattle.ltp_laws.specs.View.{IsIn}
 use Rattle.gate_cases.specs.declared.face.Face.{Face}
 use Rattle.gateway_core.specs.declared.effects.FaceUp.{FaceUp}
-use Rattle.gateway_core.specs.Gate.{GateSetup, GateEvent, EventIn, at_face, event_in}
+use Rattle.gateway_core.specs.Gate.{GateSetup, GateEvent, EventIn, at_face, if_same, event_in}
 use Rattle.gateway_core.specs.Gate.{gate_in, gate_after, gate_after_in}
-use Rattle.gateway_core.specs.Comings.{if_same, comings_in, comings_at}
+use Rattle.gateway_core.specs.Comings.{comings_in, comings_at}
 
 -- the red parts that are handed up with an event
 abbrev pub ups_in : GateSetup → List EventIn → EventIn → List FaceUp

@@ -7,7 +7,7 @@ use Rattle.std.specs.Option.{option_map}
 use Rattle.ltp_segment.specs.declared.session.Note.TheVariants as engine
 use Rattle.gate_cases.specs.declared.face.Face.{Face}
 use Rattle.gate_cases.specs.declared.face.Face.TheVariants as faces
-use Rattle.gateway_core.specs.Comings.{if_same}
+use Rattle.gateway_core.specs.Gate.{if_same}
 use Rattle.gate_log.specs.declared.event.Event.{Event}
 use Rattle.gate_log.specs.declared.event.Event.TheVariants as events
 use Rattle.gate_log.specs.declared.event.BundleEvent.TheVariants as bundles

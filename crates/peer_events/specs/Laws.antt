@@ -7,7 +7,7 @@ use Rattle.ltp_segment.specs.declared.session.Note.TheVariants as engine
 use Rattle.gate_cases.specs.declared.case.GateCase.{GateCase}
 use Rattle.gate_cases.specs.declared.case.GateCase.TheVariants as cases
 use Rattle.gate_cases.specs.declared.face.Face.{Face}
-use Rattle.gateway_core.specs.Comings.{if_same}
+use Rattle.gateway_core.specs.Gate.{if_same}
 use Rattle.gateway_core.specs.declared.effects.FaceNote.{FaceNote}
 use Rattle.gateway_core.specs.declared.note.GateNote.TheVariants as notes
 use Rattle.gate_log.specs.declared.event.Event.{Event}

@@ -6,8 +6,7 @@ use Rattle.gate_cases.specs.declared.face.Face.{Face}
 use Rattle.gate_cases.specs.declared.face.Face.TheVariants as faces
 use Rattle.face_room.specs.Bounds.{half as half_of}
 use Rattle.gateway_core.specs.declared.effects.Routed.{Routed}
-use Rattle.gateway_core.specs.Comings.{if_same}
-use Rattle.gateway_core.specs.Gate.{at_face, with_face}
+use Rattle.gateway_core.specs.Gate.{if_same, at_face, with_face}
 use Rattle.outbox.specs.Outbox.{fits, octets_in}
 use Rattle.gate_face.specs.Faces.{FaceStanding}
 use Rattle.gate_face.specs.Halves.{putting}

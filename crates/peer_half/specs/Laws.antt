@@ -8,8 +8,7 @@ use Rattle.gate_cases.specs.declared.face.Face.{Face}
 use Rattle.gate_cases.specs.declared.face.Face.TheVariants as faces
 use Rattle.gate_config.specs.declared.file.GateFile.{GateFile}
 use Rattle.gateway_core.specs.declared.effects.Routed.{Routed}
-use Rattle.gateway_core.specs.Comings.{if_same}
-use Rattle.gateway_core.specs.Gate.{at_face}
+use Rattle.gateway_core.specs.Gate.{if_same, at_face}
 use Rattle.journal_file.specs.declared.kept.Pending.{Pending}
 use Rattle.journal_file.specs.Legal.{IsLegal}
 use Rattle.journal_file.specs.Values.{KeptValue}

@@ -4,7 +4,7 @@ use Rattle.std.proofs.lemmas.List.{append-nil, at_drop_more, drop_all}
 use Rattle.std.proofs.Math.Seq.{take-add}
 use Rattle.std.specs.List.{filter}
 use Rattle.gate_cases.specs.declared.face.Face.{Face}
-use Rattle.gateway_core.specs.Comings.{if_same}
+use Rattle.gateway_core.specs.Gate.{if_same}
 use Rattle.gate_records.specs.declared.named.Named.{Named}
 use Rattle.gate_records.specs.Named.{is_of, named_with}
 use Rattle.peer_records.specs.declared.sending.Sending.{Sending}

@@ -2,7 +2,7 @@
 
 ghost use Rattle.std.specs.Prelude.{◌≡◌, ◌++◌, ◌∷◌, [], ◌==◌, false, not, take, drop, IfOk, OnOk, OnErr};
 ghost use Rattle.std.specs.List.{filter};
-ghost use Rattle.gateway_core.specs.Comings.{if_same};
+ghost use Rattle.gateway_core.specs.Gate.{if_same};
 ghost use Rattle.peer_records.specs.Keeping.{ids_in};
 ghost use Rattle.peer_records.specs.Records.{ids_of, others_than};
 ghost use Rattle.peer_records.specs.Ties.{named_of, named_all};

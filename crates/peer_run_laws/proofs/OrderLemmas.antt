@@ -9,9 +9,8 @@ use Rattle.gate_cases.specs.declared.face.Face.{Face}
 use Rattle.gate_cases.specs.declared.face.Face.TheVariants as faces
 use Rattle.gate_cases.specs.Faces.{other_of}
 use Rattle.gateway_core.specs.declared.effects.Routed.{Routed}
-use Rattle.gateway_core.specs.Comings.{if_same}
+use Rattle.gateway_core.specs.Gate.{if_same, RoutedValue, at_face, with_face}
 use Rattle.gateway_core.specs.Effects.{routed_of}
-use Rattle.gateway_core.specs.Gate.{RoutedValue, at_face, with_face}
 use Rattle.outbox.specs.declared.reading.Reading.{Reading}
 use Rattle.outbox.specs.Laws.{GoesOutInOrder}
 use Rattle.outbox.specs.Outbox.{OutboxValue, fits, octets_in}

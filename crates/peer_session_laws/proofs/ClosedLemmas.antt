@@ -11,9 +11,8 @@ use Rattle.ltp_laws.proofs.ListLemmas.{all-append}
 use Rattle.gate_cases.specs.declared.face.Face.{Face}
 use Rattle.gate_cases.specs.declared.face.Face.TheVariants.{Old, New}
 use Rattle.gate_cases.specs.Faces.{other_of}
-use Rattle.gateway_core.specs.Comings.{if_same}
+use Rattle.gateway_core.specs.Gate.{if_same, RoutedValue, at_face}
 use Rattle.gateway_core.specs.Effects.{routed_of}
-use Rattle.gateway_core.specs.Gate.{RoutedValue, at_face}
 use Rattle.gate_records.specs.Happened.{reports_on}
 use Rattle.journal_file.specs.declared.kept.Pending.{Pending}
 use Rattle.peer_sessions.specs.Keys.{FaceKeys}

@@ -3,8 +3,7 @@
 use Rattle.std.proofs.Common.{◌≡◌, ℕ, List, [], ◌∷◌, refl, ◌∙◌, ap, subst}
 use Rattle.gate_cases.specs.declared.face.Face.{Face}
 use Rattle.gate_cases.specs.declared.face.Face.TheVariants.{Old, New}
-use Rattle.gateway_core.specs.Comings.{if_same}
-use Rattle.gateway_core.specs.Gate.{at_face}
+use Rattle.gateway_core.specs.Gate.{if_same, at_face}
 use Rattle.peer_sessions.specs.Sessions.{Sessions, hears, ticks}
 use Rattle.peer_sessions.specs.Runs as faces
 use Rattle.peer_once.specs.Runs as once

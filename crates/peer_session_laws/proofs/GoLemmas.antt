@@ -7,8 +7,7 @@ use Rattle.ltp_session.specs.Sender.{begin}
 use Rattle.ltp_laws.proofs.ListLemmas.{all-append}
 use Rattle.gate_cases.specs.declared.face.Face.{Face}
 use Rattle.gate_cases.specs.declared.face.Face.TheVariants.{Old, New}
-use Rattle.gateway_core.specs.Comings.{if_same}
-use Rattle.gateway_core.specs.Gate.{at_face}
+use Rattle.gateway_core.specs.Gate.{if_same, at_face}
 use Rattle.peer_sessions.specs.Keys.{FaceKeys}
 use Rattle.peer_sessions.specs.Sessions.{Sessions, block_begins, with_begun}
 use Rattle.peer_gateway.specs.Keys.{PeerSetup}

@@ -16,7 +16,7 @@ use Rattle.ltp_laws.proofs.TableLemmas.{ascending-settled, find-settled, find-se
 use Rattle.ltp_engine.specs.Sessions.{is_open}
 use Rattle.gate_cases.specs.declared.face.Face.{Face}
 use Rattle.gate_cases.specs.declared.face.Face.TheVariants.{Old, New}
-use Rattle.gateway_core.specs.Comings.{if_same}
+use Rattle.gateway_core.specs.Gate.{if_same}
 use Rattle.peer_sessions.specs.Keys.{FaceKeys}
 use Rattle.peer_sessions.specs.Sessions.{Sessions}
 use Rattle.peer_once.proofs.KeptLemmas.{apart-of}

@@ -8,8 +8,7 @@ use Rattle.ltp_session.specs.Views.{headed_all}
 use Rattle.ltp_laws.specs.View.{IsIn}
 use Rattle.gate_cases.specs.declared.face.Face.{Face}
 use Rattle.gate_cases.specs.declared.face.Face.TheVariants.{Old, New}
-use Rattle.gateway_core.specs.Comings.{if_same}
-use Rattle.gateway_core.specs.Gate.{RoutedValue}
+use Rattle.gateway_core.specs.Gate.{if_same, RoutedValue}
 use Rattle.peer_gateway.specs.Gate.{routed_at}
 use Rattle.peer_session_laws.proofs.ReportLemmas.{IsOther}
 use Rattle.peer_session_laws.proofs.SaidLemmas.{AllOther}

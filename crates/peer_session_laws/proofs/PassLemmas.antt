@@ -11,10 +11,9 @@ use Rattle.gate_cases.specs.declared.report.AskedReport.{AskedReport}
 use Rattle.gate_cases.specs.Faces.{other_of}
 use Rattle.gate_log.specs.Subjects.{subject_of}
 use Rattle.block_types.specs.declared.losing.LeftOut.{LeftOut}
-use Rattle.gateway_core.specs.Comings.{if_same}
+use Rattle.gateway_core.specs.Gate.{if_same, RoutedValue, at_face}
 use Rattle.ltp_laws.specs.View.{IsIn}
 use Rattle.ltp_laws.proofs.ListLemmas.{all-append}
-use Rattle.gateway_core.specs.Gate.{RoutedValue, at_face}
 use Rattle.peer_cases.specs.declared.pieces.SizedPiece.{SizedPiece}
 use Rattle.peer_cases.specs.declared.decision.Decision.{Decision}
 use Rattle.peer_cases.specs.Arrivals.{Came}

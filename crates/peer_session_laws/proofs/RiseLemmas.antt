@@ -5,8 +5,7 @@ use Rattle.std.specs.List.{AllByRecursion}
 use Rattle.std.proofs.lemmas.Bool.Decides.{nat_tests}
 use Rattle.gate_cases.specs.declared.face.Face.{Face}
 use Rattle.gate_cases.specs.declared.face.Face.TheVariants.{Old, New}
-use Rattle.gateway_core.specs.Comings.{if_same}
-use Rattle.gateway_core.specs.Gate.{at_face}
+use Rattle.gateway_core.specs.Gate.{if_same, at_face}
 use Rattle.gate_config.specs.declared.file.GateFile.{GateFile}
 use Rattle.gate_records.specs.Keeping.{first_of}
 use Rattle.journal_file.specs.Values.{KeptValue}

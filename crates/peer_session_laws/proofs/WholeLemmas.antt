@@ -6,14 +6,13 @@ use Rattle.ltp_session.specs.RedPart.{RedPiece, BecomesWhole}
 use Rattle.ltp_laws.specs.View.{IsIn}
 use Rattle.gate_cases.specs.declared.face.Face.{Face}
 use Rattle.gate_cases.specs.declared.face.Face.TheVariants.{Old, New}
-use Rattle.gateway_core.specs.Comings.{if_same}
+use Rattle.gateway_core.specs.Gate.{if_same, at_face}
 use Rattle.peer_sessions.specs.Sessions.{Sessions, hears}
 use Rattle.peer_sessions.specs.Runs as faces
 use Rattle.peer_once.specs.Runs as once
 use Rattle.peer_once.specs.Runs.{TimedEvent, sessions_in, ups_with}
 use Rattle.peer_once.specs.Pieces.{pieces_of, HandsUpRedParts}
 use Rattle.peer_once.proofs.PieceLemmas.{never-whole}
-use Rattle.gateway_core.specs.Gate.{at_face}
 use Rattle.peer_gateway.specs.Gate.{BegunAt, PeerGate, PeerMoments}
 use Rattle.peer_gateway.specs.Steps.{PeerEvent, a_datagram, a_kept_piece, a_tick, with_outboxes}
 use Rattle.peer_half.specs.Runs.{EventIn}

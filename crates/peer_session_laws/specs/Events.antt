@@ -4,8 +4,7 @@
 use Rattle.std.specs.Prelude.{ℕ, List, [], ◌∷◌}
 use Rattle.ltp_session.specs.Engine.{UpValue}
 use Rattle.gate_cases.specs.declared.face.Face.{Face}
-use Rattle.gateway_core.specs.Comings.{if_same}
-use Rattle.gateway_core.specs.Gate.{at_face}
+use Rattle.gateway_core.specs.Gate.{if_same, at_face}
 use Rattle.peer_sessions.specs.Sessions.{Sessions}
 use Rattle.peer_sessions.specs.Runs as faces
 use Rattle.peer_once.specs.Runs as once

@@ -6,7 +6,7 @@ use Rattle.ltp_segment.specs.Values.{SegmentValue}
 use Rattle.ltp_session.specs.RedPart.{RedPiece, BecomesWhole}
 use Rattle.ltp_laws.specs.View.{IsIn}
 use Rattle.gate_cases.specs.declared.face.Face.{Face}
-use Rattle.gateway_core.specs.Comings.{if_same}
+use Rattle.gateway_core.specs.Gate.{if_same}
 use Rattle.peer_gateway.specs.Gate.{PeerMoments}
 use Rattle.peer_gateway.specs.Steps.{PeerEvent, a_datagram, a_kept_piece, a_tick}
 use Rattle.peer_half.specs.Runs.{EventIn}

@@ -1,22 +1,21 @@
 -- Marks: a session that is reported on has one, and only one that is over is cleared.
-use Rattle.std.proofs.Common.{◌≡◌, ℕ, ◌+◌, ◌<◌, ◌||◌, Bool, true, false, nat_lt, if◌then◌else◌, List, [], ◌∷◌, ◌++◌, length, Option, None, Some, refl, ap, arith}
+use Rattle.std.proofs.Common.{◌≡◌, ℕ, ◌<◌, ◌||◌, Bool, true, false, nat_lt, if◌then◌else◌, List, [], ◌∷◌, ◌++◌, length, Option, None, Some, refl, ap, arith}
 use Rattle.std.proofs.lemmas.Bool.{ltb-true, eq-eqb}
 use Rattle.std.specs.List.{list_any, filter}
 use Rattle.gate_cases.specs.declared.face.Face.{Face}
 use Rattle.gate_cases.specs.declared.face.Face.TheVariants.{Old, New}
 use Rattle.gateway_core.specs.declared.effects.FaceNote.{FaceNote}
 use Rattle.gateway_core.specs.declared.effects.Routed.{Routed}
-use Rattle.gateway_core.specs.declared.begun.Begun.{Begun}
 use Rattle.gate_events.specs.Own.{OpenAt}
 use Rattle.journal_file.specs.declared.kept.Mark.{Mark}
 use Rattle.journal_file.specs.declared.record.How.{How}
-use Rattle.journal_file.specs.Values.{RecordValue, a_begun, a_clear}
+use Rattle.journal_file.specs.Values.{RecordValue, a_clear}
 use Rattle.journal_file.specs.Keeping.{same_face, is_of, is_about, marks_of, without_first, marks_with, MARKS_MAX}
 use Rattle.journal_file.proofs.DropLemmas.{drop_first, drop_first-is}
 use Rattle.gate_records.specs.declared.named.Named.{Named}
 use Rattle.gate_records.specs.Happened.{Happened, note_ends, reports_on, is_over}
 use Rattle.gate_records.specs.Keeping.{KeepingValue}
-use Rattle.gate_records.specs.Records.{end_id, done_with, note_done, note_leaves, done_records, begun_records, pending_with, is_marked, mark_of, due_mark, mark_with, marks_then, mark_records, marks_after, clear_records, step_records}
+use Rattle.gate_records.specs.Records.{end_id, done_with, note_done, note_leaves, done_records, is_marked, mark_of, due_mark, mark_with, marks_then, mark_records, marks_after, clear_records, step_records}
 use Rattle.gate_records.specs.Laws.{AllClearIfOver}
 
 abbrev either : Bool → Bool → Bool
@@ -119,16 +118,6 @@ ends-clear h is_open (n ∷ notes) named =
     all-append h (note_done is_open n.face (note_ends n.note) named) (done_records is_open notes (note_leaves is_open n.face (note_ends n.note) named))
     (note-clear h is_open n.face (note_ends n.note) named) (ends-clear h is_open notes (note_leaves is_open n.face (note_ends n.note) named))
 
-pieces-clear : (h : Happened) (greatest : ℕ) (begun : List Begun) → AllClearIfOver h (begun_records greatest begun)
-unfolding begun_records
-pieces-clear h greatest [] = tt
-pieces-clear h greatest (b ∷ begun) = by b.is_report (pieces-clear h greatest begun) (pieces-clear h (greatest + 1) begun)
-  where
-    by : (t : Bool) → AllClearIfOver h (begun_records greatest begun) → AllClearIfOver h (begun_records (greatest + 1) begun)
-        → AllClearIfOver h (if t then begun_records greatest begun else a_begun (pending_with (greatest + 1) b) ∷ begun_records (greatest + 1) begun)
-    by true report piece = report
-    by false report piece = (tt, piece)
-
 mark-clear : (h : Happened) (o : Option Mark) → AllClearIfOver h (mark_with o)
 mark-clear h None = tt
 mark-clear h (Some m) = (tt, tt)
@@ -154,9 +143,7 @@ pub only-over-is-cleared : (h : Happened) (k : KeepingValue) → AllClearIfOver 
 unfolding step_records
 only-over-is-cleared h k =
     let marks = (k.kept).marks in
-    let pieces = begun_records (k.kept).greatest h.begun in
     let reports = mark_records h h.out marks in
     let over = clear_records h (marks_after h h.out marks) in
-    all-append h (done_records h.is_open h.notes k.named) (pieces ++ (reports ++ over)) (ends-clear h h.is_open h.notes k.named)
-    (all-append h pieces (reports ++ over) (pieces-clear h (k.kept).greatest h.begun)
-    (all-append h reports over (marks-clear h h.out marks) (over-clear h (marks_after h h.out marks))))
+    all-append h (done_records h.is_open h.notes k.named) (reports ++ over) (ends-clear h h.is_open h.notes k.named)
+    (all-append h reports over (marks-clear h h.out marks) (over-clear h (marks_after h h.out marks)))

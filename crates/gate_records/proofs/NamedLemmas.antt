@@ -1,16 +1,15 @@
 -- The sessions that have ids, after a note and after a piece more.
-use Rattle.std.proofs.Common.{◌≡◌, ℕ, ◌<◌, ◌==◌, ◌||◌, Bool, true, false, if◌then◌else◌, List, [], ◌∷◌, ◌++◌, Option, None, Some, refl, sym, ap, arith}
+use Rattle.std.proofs.Common.{◌≡◌, ℕ, ◌==◌, ◌||◌, Bool, true, false, if◌then◌else◌, List, [], ◌∷◌, Option, None, Some, refl, sym, ap}
 use Rattle.std.proofs.lemmas.Bool.{ne_eqb, eqb-true, eqb-false, eq-eqb}
 use Rattle.std.specs.List.{list_any}
 use Rattle.gate_cases.specs.declared.face.Face.{Face}
 use Rattle.journal_file.specs.declared.kept.Pending.{Pending}
 use Rattle.journal_file.specs.Keeping.{is_pending, without_first}
 use Rattle.journal_file.specs.Keeping as kept
-use Rattle.journal_file.specs.Legal.{AreUpTo}
 use Rattle.gate_records.specs.declared.named.Named.{Named}
 use Rattle.gate_records.specs.Named.{is_of, find_id, without_named, has_id}
 use Rattle.gate_records.specs.Laws.{ArePending, HaveOwnIds}
-use Rattle.gate_records.proofs.PendingLemmas.{pending-up-to, pending-other, pending-push}
+use Rattle.gate_records.proofs.PendingLemmas.{pending-other}
 
 abbrev either : Bool → Bool → Bool
 either a b = a || b
@@ -111,30 +110,3 @@ none-found face session (n ∷ ns) is = by (is_of face session n) is (λ none. n
 
 pub own-left : (face : Face) (session : ℕ) (ns : List Named) → HaveOwnIds ns → HaveOwnIds (without_named face session ns)
 own-left face session ns own = own-without face session ns own
-
--- ---- a piece more
-
-pub all-pushed : (p : Pending) (ps : List Pending) (ns : List Named) → ArePending ps ns → ArePending (ps ++ p ∷ []) ns
-all-pushed p ps [] are = tt
-all-pushed p ps (n ∷ ns) (first, are) = (pending-push n.id p ps first, all-pushed p ps ns are)
-
-pub pending-push-named : (ps : List Pending) (n : Named) (ns : List Named) → ArePending ps ns → is_pending n.id ps ≡ true → ArePending ps (ns ++ n ∷ [])
-pending-push-named ps n [] are last = (last, tt)
-pending-push-named ps n (m ∷ ns) (first, are) last = (first, pending-push-named ps n ns are last)
-
-any-push-other : (id : ℕ) (n : Named) (ns : List Named) → (n.id == id) ≡ false → list_any (has_id id) ns ≡ false → list_any (has_id id) (ns ++ n ∷ []) ≡ false
-any-push-other id n [] other none = rw other refl
-any-push-other id n (m ∷ ns) other none = by (m.id == id) none (λ others. any-push-other id n ns other others)
-  where
-    by : (u : Bool) → either u (list_any (has_id id) ns) ≡ false → (list_any (has_id id) ns ≡ false → list_any (has_id id) (ns ++ n ∷ []) ≡ false)
-        → either u (list_any (has_id id) (ns ++ n ∷ [])) ≡ false
-    by true none rest = absurd (cc)
-    by false none rest = rest none
-
--- its id is above all others
-pub own-push : (g : ℕ) (ps : List Pending) (n : Named) (ns : List Named) → AreUpTo g ps → g < n.id → ArePending ps ns → HaveOwnIds ns → HaveOwnIds (ns ++ n ∷ [])
-own-push g ps n [] up above are own = (refl, tt)
-own-push g ps n (m ∷ ns) up above (first, are) (none, own) = (
-  any-push-other m.id n ns (ne_eqb n.id m.id (λ e. omega (arith, e, above, pending-up-to g m.id ps up first))) none,
-  own-push g ps n ns up above are own,
-)

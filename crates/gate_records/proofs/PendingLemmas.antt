@@ -1,6 +1,6 @@
 -- Which ids are pending, before a record and after it.
 use Rattle.std.proofs.Common.{◌≡◌, ℕ, suc, ◌+◌, ◌≤◌, ◌==◌, ◌||◌, Bool, true, false, nat_lt, if◌then◌else◌, List, [], ◌∷◌, ◌++◌, length, refl, sym, ap, ◌∙◌, arith}
-use Rattle.std.proofs.lemmas.Bool.{lt-ltb, le-ltb, ltb-true, ltb-false, eqb-true, eq-eqb}
+use Rattle.std.proofs.lemmas.Bool.{lt-ltb, le-ltb, ltb-true, ltb-false, eqb-true}
 use Rattle.std.specs.List.{list_any, position_or_len}
 use Rattle.journal_file.specs.declared.kept.Pending.{Pending}
 use Rattle.journal_file.specs.Keeping.{has_id, is_pending, without_first}
@@ -83,12 +83,5 @@ any-push j p (q ∷ ps) any = by (q.id == j) any (λ more. any-push j p ps more)
     by true any rest = refl
     by false any rest = rest any
 
-any-last : (p : Pending) (ps : List Pending) → list_any (has_id p.id) (ps ++ p ∷ []) ≡ true
-any-last p [] = rw (eq-eqb p.id p.id refl) refl
-any-last p (q ∷ ps) = rw (any-last p ps) (either-right (q.id == p.id))
-
 pub pending-push : (j : ℕ) (p : Pending) (ps : List Pending) → is_pending j ps ≡ true → is_pending j (ps ++ p ∷ []) ≡ true
 pending-push j p ps pending = pending-any j (ps ++ p ∷ []) ∙ any-push j p ps (sym (pending-any j ps) ∙ pending)
-
-pub pending-last : (p : Pending) (ps : List Pending) → is_pending p.id (ps ++ p ∷ []) ≡ true
-pending-last p ps = pending-any p.id (ps ++ p ∷ []) ∙ any-last p ps

@@ -1,28 +1,26 @@
 -- The records of a step may follow what is kept, part by part.
-use Rattle.std.proofs.Common.{◌≡◌, ℕ, suc, ◌+◌, ◌^◌, ◌<◌, ◌||◌, Bool, true, false, if◌then◌else◌, List, [], ◌∷◌, ◌++◌, length, Option, None, Some, IfSome, refl, sym, ap, ◌∙◌, subst, append_assoc, arith}
-use Rattle.std.proofs.lemmas.List.{append-nil}
+use Rattle.std.proofs.Common.{◌≡◌, ℕ, ◌^◌, ◌<◌, ◌||◌, Bool, true, false, if◌then◌else◌, List, [], ◌∷◌, ◌++◌, Option, None, Some, IfSome, refl, sym, ap, ◌∙◌, subst, arith}
 use Rattle.gate_cases.specs.declared.face.Face.{Face}
 use Rattle.gateway_core.specs.declared.effects.FaceNote.{FaceNote}
 use Rattle.gateway_core.specs.declared.effects.Routed.{Routed}
-use Rattle.gateway_core.specs.declared.begun.Begun.{Begun}
 use Rattle.gate_events.specs.Own.{OpenAt}
 use Rattle.journal_file.specs.declared.kept.Pending.{Pending}
 use Rattle.journal_file.specs.declared.kept.Mark.{Mark}
 use Rattle.journal_file.specs.declared.record.How.{How}
-use Rattle.journal_file.specs.Values.{KeptValue, RecordValue, a_begun, a_done, a_clear}
+use Rattle.journal_file.specs.Values.{KeptValue, RecordValue, a_done, a_clear}
 use Rattle.journal_file.specs.Keeping.{is_pending, marks_with, MARKS_MAX, kept_with, kept_after}
-use Rattle.journal_file.specs.Spelling.{MayCome, MayFollow}
+use Rattle.journal_file.specs.Spelling.{MayFollow}
 use Rattle.journal_file.specs.Legal.{AreSmall, IsLegal}
 use Rattle.journal_file.proofs.AnewLemmas.{after-append, may-append}
-use Rattle.journal_file.proofs.SoundLemmas.{legal-with, legal-after}
+use Rattle.journal_file.proofs.SoundLemmas.{legal-after}
 use Rattle.gate_records.specs.declared.named.Named.{Named}
-use Rattle.gate_records.specs.Named.{named_with, find_id, without_named}
+use Rattle.gate_records.specs.Named.{find_id, without_named}
 use Rattle.gate_records.specs.Happened.{Happened, note_ends, reports_on, is_over}
 use Rattle.gate_records.specs.Keeping.{KeepingValue}
-use Rattle.gate_records.specs.Records.{done_with, note_done, note_leaves, done_records, named_left, pending_with, begun_records, begun_named, is_marked, mark_of, due_mark, mark_with, marks_then, mark_records, marks_after, clear_records, step_records, after_step}
-use Rattle.gate_records.specs.Laws.{ArePending, HaveOwnIds, IsKeeping, AreShort, ReportSmall, Fits}
-use Rattle.gate_records.proofs.PendingLemmas.{pending-up-to, pending-last}
-use Rattle.gate_records.proofs.NamedLemmas.{found-pending, ended-pending, none-found, own-left, all-pushed, pending-push-named, own-push}
+use Rattle.gate_records.specs.Records.{done_with, note_done, note_leaves, done_records, named_left, is_marked, mark_of, due_mark, mark_with, marks_then, mark_records, marks_after, clear_records, step_records, after_step}
+use Rattle.gate_records.specs.Laws.{ArePending, HaveOwnIds, IsKeeping, ReportSmall, Fits}
+use Rattle.gate_records.proofs.PendingLemmas.{pending-up-to}
+use Rattle.gate_records.proofs.NamedLemmas.{found-pending, ended-pending, none-found, own-left}
 
 -- ---- ends
 
@@ -80,53 +78,6 @@ ends-follow kept is_open (n ∷ notes) named legal are own =
     let mid = note_leaves is_open n.face (note_ends n.note) named in
     ended-on kept rs (done_records is_open notes mid) mid (named_left is_open notes mid) one
     (ends-follow (kept_after kept rs) is_open notes mid (legal-after kept rs legal one.may) one.pending one.own_ids)
-
--- ---- pieces
-
-record Begins (kept : KeptValue) (records : List RecordValue) (named : List Named) : Type 0 where
-  may : MayFollow kept records
-  marks : (kept_after kept records).marks ≡ kept.marks
-  pending : ArePending (kept_after kept records).pending named
-  own_ids : HaveOwnIds named
-
-begins-one : (kept : KeptValue) (begun : Begun) (records : List RecordValue) (more named : List Named) → kept.greatest + 1 < 2 ^ 64 → length begun.block < 2 ^ 64
-    → Begins (kept_with kept (a_begun (pending_with (kept.greatest + 1) begun))) records ((named ++ named_with begun.face begun.session (kept.greatest + 1) ∷ []) ++ more)
-    → Begins kept (a_begun (pending_with (kept.greatest + 1) begun) ∷ records) (named ++ named_with begun.face begun.session (kept.greatest + 1) ∷ more)
-unfolding kept_with
-begins-one kept begun records more named small short rest =
-    let seam = append_assoc named (named_with begun.face begun.session (kept.greatest + 1) ∷ []) more in record {
-      may = ((omega arith, small, short, tt), rest.may);
-      marks = rest.marks;
-      pending = rw seam at rest.pending;
-      own_ids = rw seam at rest.own_ids;
-    }
-
-may-begin : (kept : KeptValue) (b : Begun) (n : ℕ) → kept.greatest + suc n < 2 ^ 64 → length b.block < 2 ^ 64 → MayCome kept (a_begun (pending_with (kept.greatest + 1) b))
-may-begin kept b n small short = (omega arith, omega (arith, small), short, tt)
-
-pieces-follow : (kept : KeptValue) (begun : List Begun) (named : List Named) → IsLegal kept → ArePending kept.pending named → HaveOwnIds named
-    → kept.greatest + length begun < 2 ^ 64 → AreShort begun → Begins kept (begun_records kept.greatest begun) (named ++ begun_named kept.greatest begun)
-unfolding begun_records begun_named kept_with
-pieces-follow kept [] named legal are own small shorts =
-    rw (append-nil named) (record { may = tt; marks = refl; pending = are; own_ids = own })
-pieces-follow kept (b ∷ begun) named legal are own small (short, shorts) =
-    let p = pending_with (kept.greatest + 1) b in
-    let n = named_with b.face b.session (kept.greatest + 1) in
-    let may = may-begin kept b (length begun) small short in
-    by b.is_report (pieces-follow kept begun named legal are own (omega (arith, small)) shorts)
-    (begins-one kept b (begun_records (kept.greatest + 1) begun) (begun_named (kept.greatest + 1) begun) named (omega (arith, small)) short
-    (pieces-follow (kept_with kept (a_begun p)) begun (named ++ n ∷ []) (legal-with kept (a_begun p) may legal)
-    (pending-push-named (kept.pending ++ p ∷ []) n named (all-pushed p kept.pending named are) (pending-last p kept.pending))
-    (own-push kept.greatest kept.pending n named legal.up_to (omega arith) are own)
-    (omega (arith, small)) shorts))
-  where
-    by : (t : Bool) → Begins kept (begun_records kept.greatest begun) (named ++ begun_named kept.greatest begun)
-        → Begins kept (a_begun (pending_with (kept.greatest + 1) b) ∷ begun_records (kept.greatest + 1) begun)
-        (named ++ named_with b.face b.session (kept.greatest + 1) ∷ begun_named (kept.greatest + 1) begun)
-        → Begins kept (if t then begun_records kept.greatest begun else a_begun (pending_with (kept.greatest + 1) b) ∷ begun_records (kept.greatest + 1) begun)
-        (named ++ (if t then begun_named kept.greatest begun else named_with b.face b.session (kept.greatest + 1) ∷ begun_named (kept.greatest + 1) begun))
-    by true report piece = report
-    by false report piece = piece
 
 -- ---- marks
 
@@ -191,36 +142,28 @@ record Steps (kept : KeptValue) (records : List RecordValue) (named : List Named
   own_ids : HaveOwnIds named
 
 step-follows : (h : Happened) (k : KeepingValue) → IsKeeping k → Fits h k
-    → Steps k.kept (step_records h k) (named_left h.is_open h.notes k.named ++ begun_named (k.kept).greatest h.begun)
+    → Steps k.kept (step_records h k) (named_left h.is_open h.notes k.named)
 unfolding step_records
 step-follows h k is fits =
-    let named : List Named = named_left h.is_open h.notes k.named ++ begun_named (k.kept).greatest h.begun in
+    let named : List Named = named_left h.is_open h.notes k.named in
     let ended = done_records h.is_open h.notes k.named in
-    let pieces = begun_records (k.kept).greatest h.begun in
     let reports = mark_records h h.out (k.kept).marks in
     let over = clear_records h (marks_after h h.out (k.kept).marks) in
     let one = ends-follow k.kept h.is_open h.notes k.named is.legal is.pending is.own_ids in
     let kept1 : KeptValue = kept_after k.kept ended in
     let legal1 = legal-after k.kept ended is.legal one.may in
-    let two : Begins kept1 pieces named =
-    subst (λ (g : ℕ). Begins kept1 (begun_records g h.begun) (named_left h.is_open h.notes k.named ++ begun_named g h.begun)) one.greatest
-    (pieces-follow kept1 h.begun (named_left h.is_open h.notes k.named) legal1 one.pending one.own_ids
-    (subst (λ (g : ℕ). g + length h.begun < 2 ^ 64) (sym one.greatest) fits.ids) fits.blocks) in
-    let kept2 : KeptValue = kept_after kept1 pieces in
-    let legal2 = legal-after kept1 pieces legal1 two.may in
-    let three = marks-follow h kept2 h.out (k.kept).marks fits.wall (two.marks ∙ one.marks) fits.sessions in
-    let kept3 : KeptValue = kept_after kept2 reports in
-    let legal3 = legal-after kept2 reports legal2 three.may in
-    let four = clears-follow h kept3 (marks_after h h.out (k.kept).marks)
-    (subst (λ (ms : List Mark). AreSmall ms) three.marks_are (legal3.marks).small) in
-    let rest : kept_after k.kept (ended ++ (pieces ++ (reports ++ over))) ≡ kept_after kept3 over =
-    after-append k.kept ended (pieces ++ (reports ++ over)) ∙ after-append kept1 pieces (reports ++ over) ∙ after-append kept2 reports over in
+    let two = marks-follow h kept1 h.out (k.kept).marks fits.wall one.marks fits.sessions in
+    let kept2 : KeptValue = kept_after kept1 reports in
+    let legal2 = legal-after kept1 reports legal1 two.may in
+    let three = clears-follow h kept2 (marks_after h h.out (k.kept).marks)
+    (subst (λ (ms : List Mark). AreSmall ms) two.marks_are (legal2.marks).small) in
+    let rest : kept_after k.kept (ended ++ (reports ++ over)) ≡ kept_after kept2 over =
+    after-append k.kept ended (reports ++ over) ∙ after-append kept1 reports over in
     record {
-      may = may-append k.kept ended (pieces ++ (reports ++ over)) one.may
-          (may-append kept1 pieces (reports ++ over) two.may (may-append kept2 reports over three.may four.may));
+      may = may-append k.kept ended (reports ++ over) one.may (may-append kept1 reports over two.may three.may);
       pending = subst (λ (ps : List Pending). ArePending ps named)
-          (sym (ap (λ (j : KeptValue). j.pending) rest ∙ four.pending ∙ three.pending)) two.pending;
-      own_ids = two.own_ids;
+          (sym (ap (λ (j : KeptValue). j.pending) rest ∙ three.pending ∙ two.pending)) one.pending;
+      own_ids = one.own_ids;
     }
 
 pub step-may-follow : (h : Happened) (k : KeepingValue) → IsKeeping k → Fits h k → MayFollow k.kept (step_records h k) × IsKeeping (after_step h k)

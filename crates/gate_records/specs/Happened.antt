@@ -11,7 +11,6 @@ use Rattle.gate_cases.specs.declared.face.Face.{Face}
 use Rattle.gateway_core.specs.declared.effects.FaceUp.{FaceUp}
 use Rattle.gateway_core.specs.declared.effects.FaceNote.{FaceNote}
 use Rattle.gateway_core.specs.declared.effects.Routed.{Routed}
-use Rattle.gateway_core.specs.declared.begun.Begun.{Begun}
 use Rattle.gateway_core.specs.Gate.{if_same}
 use Rattle.gateway_core.specs.declared.note.GateNote.{GateNote}
 use Rattle.gateway_core.specs.declared.note.GateNote.TheVariants as notes
@@ -33,8 +32,6 @@ pub record Happened : Type 0 where
   pub ups : List FaceUp
   pub out : List Routed
   pub notes : List FaceNote
-  -- the sessions that it began: the pieces of bundles that go on, and the gateway's reports
-  pub begun : List Begun
 
 -- ---- an own session's end
 

@@ -1,10 +1,9 @@
 -- What holds of the records of each step and of each half, in other words than their definitions'.
 
-use Rattle.std.specs.Prelude.{◌≡◌, ℕ, ◌+◌, ◌^◌, ◌<◌, ◌≤◌, ◌⊎◌, ◌&&◌, Bool, true, false, ◌==◌, List, [], ◌∷◌, length, Option, None, Some, IfSome, if◌then◌else◌}
+use Rattle.std.specs.Prelude.{◌≡◌, ℕ, ◌+◌, ◌^◌, ◌<◌, ◌≤◌, ◌⊎◌, ◌&&◌, Bool, true, false, ◌==◌, List, [], ◌∷◌, Option, None, Some, IfSome, if◌then◌else◌}
 use Rattle.std.specs.List.{list_any}
 use Rattle.gate_cases.specs.declared.face.Face.{Face}
 use Rattle.gateway_core.specs.declared.effects.Routed.{Routed}
-use Rattle.gateway_core.specs.declared.begun.Begun.{Begun}
 use Rattle.journal_file.specs.declared.kept.Pending.{Pending}
 use Rattle.journal_file.specs.declared.kept.Mark.{Mark}
 use Rattle.journal_file.specs.Values.{KeptValue, RecordValue, a_begun, a_done, a_mark, a_clear, a_reserved}
@@ -39,10 +38,6 @@ pub record IsKeeping (k : KeepingValue) : Type 0 where
 
 -- ---- a step that fits: what it names has a spelling
 
-abbrev pub AreShort : List Begun → Type 0
-AreShort [] = Unit {0}
-AreShort (begun ∷ more) = (length begun.block < 2 ^ 64) × AreShort more
-
 abbrev pub ReportSmall : List Routed → Type 0
 ReportSmall [] = Unit {0}
 ReportSmall (routed ∷ more) =
@@ -50,8 +45,6 @@ ReportSmall (routed ∷ more) =
 
 pub record Fits (h : Happened) (k : KeepingValue) : Type 0 where
   pub wall : h.wall < 2 ^ 64
-  pub ids : (k.kept).greatest + length h.begun < 2 ^ 64
-  pub blocks : AreShort h.begun
   pub sessions : ReportSmall h.out
 
 -- ---- ids

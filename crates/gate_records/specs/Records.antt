@@ -1,20 +1,18 @@
 -- The records of a step, in their order, and what is known after them.
 
-use Rattle.std.specs.Prelude.{ℕ, ◌+◌, Bool, ◌||◌, nat_lt, List, [], ◌∷◌, ◌++◌, Option, None, Some, if◌then◌else◌}
+use Rattle.std.specs.Prelude.{ℕ, Bool, ◌||◌, nat_lt, List, [], ◌∷◌, ◌++◌, Option, None, Some, if◌then◌else◌}
 use Rattle.std.specs.List.{list_any}
 use Rattle.gate_cases.specs.declared.face.Face.{Face}
 use Rattle.gate_cases.specs.declared.face.Face.TheVariants.{Old, New}
 use Rattle.gateway_core.specs.declared.effects.FaceNote.{FaceNote}
 use Rattle.gateway_core.specs.declared.effects.Routed.{Routed}
-use Rattle.gateway_core.specs.declared.begun.Begun.{Begun}
 use Rattle.gate_events.specs.Own.{OpenAt}
-use Rattle.journal_file.specs.declared.kept.Pending.{Pending}
 use Rattle.journal_file.specs.declared.kept.Mark.{Mark}
 use Rattle.journal_file.specs.declared.record.How.{How}
-use Rattle.journal_file.specs.Values.{KeptValue, RecordValue, a_begun, a_done, a_mark, a_clear, a_reserved}
+use Rattle.journal_file.specs.Values.{KeptValue, RecordValue, a_done, a_mark, a_clear, a_reserved}
 use Rattle.journal_file.specs.Keeping.{is_about, marks_with, MARKS_MAX, kept_after}
 use Rattle.gate_records.specs.declared.named.Named.{Named}
-use Rattle.gate_records.specs.Named.{named_with, find_id, without_named}
+use Rattle.gate_records.specs.Named.{find_id, without_named}
 use Rattle.gate_records.specs.Happened.{Happened, note_ends, reports_on, is_over}
 use Rattle.gate_records.specs.Keeping.{KeepingValue, reserve_to}
 
@@ -55,24 +53,6 @@ unfoldable pub named_left : OpenAt → List FaceNote → List Named → List Nam
 named_left is_open [] named = named
 named_left is_open (n ∷ more) named =
     named_left is_open more (note_leaves is_open n.face (note_ends n.note) named)
-
--- ---- `begun` for each piece that is begun, with the next id; a report of the gateway has none
-
-abbrev pub pending_with : ℕ → Begun → Pending
-pending_with id begun =
-    record { id = id; face = begun.face; came = None; block = begun.block }
-
-unfoldable pub begun_records : ℕ → List Begun → List RecordValue
-begun_records greatest [] = []
-begun_records greatest (begun ∷ more) =
-    if begun.is_report then begun_records greatest more
-    else a_begun (pending_with (greatest + 1) begun) ∷ begun_records (greatest + 1) more
-
-unfoldable pub begun_named : ℕ → List Begun → List Named
-begun_named greatest [] = []
-begun_named greatest (begun ∷ more) =
-    if begun.is_report then begun_named greatest more
-    else named_with begun.face begun.session (greatest + 1) ∷ begun_named (greatest + 1) more
 
 -- ---- `mark` for each report that goes out about a session of the peer that isn't handed up by then,
 -- and isn't marked
@@ -125,9 +105,6 @@ clear_records h (mark ∷ marks) =
 abbrev pub ended_records : Happened → KeepingValue → List RecordValue
 ended_records h k = done_records h.is_open h.notes k.named
 
-abbrev pub piece_records : Happened → KeepingValue → List RecordValue
-piece_records h k = begun_records (k.kept).greatest h.begun
-
 abbrev pub report_records : Happened → KeepingValue → List RecordValue
 report_records h k = mark_records h h.out (k.kept).marks
 
@@ -136,12 +113,12 @@ over_records h k = clear_records h (marks_after h h.out (k.kept).marks)
 
 unfoldable pub step_records : Happened → KeepingValue → List RecordValue
 step_records h k =
-    ended_records h k ++ (piece_records h k ++ (report_records h k ++ over_records h k))
+    ended_records h k ++ (report_records h k ++ over_records h k)
 
 unfoldable pub after_step : Happened → KeepingValue → KeepingValue
 after_step h k = record {
   kept = kept_after k.kept (step_records h k);
-  named = named_left h.is_open h.notes k.named ++ begun_named (k.kept).greatest h.begun;
+  named = named_left h.is_open h.notes k.named;
 }
 
 -- ---- last in a half: `reserved` for each face whose engine's next number is above what is reserved

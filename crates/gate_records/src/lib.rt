@@ -2,10 +2,10 @@
 //! a run begins with.
 //!
 //! A step's records are, in this order: `done` for each own session that ended and whose block is
-//! kept; `begun` for each piece that is begun, under the next id; `mark` for each report that goes out
-//! about a session of the peer that isn't handed up by then and isn't marked; `clear` for each marked
-//! session that is handed up or that its sender cancelled (`specs/Records.antt`). Last in a half comes
-//! `reserved` for each face whose engine's next number is above what is reserved.
+//! kept; `mark` for each report that goes out about a session of the peer that isn't handed up by then
+//! and isn't marked; `clear` for each marked session that is handed up or that its sender cancelled
+//! (`specs/Records.antt`). Last in a half comes `reserved` for each face whose engine's next number is
+//! above what is reserved. Pieces are `peer_records`' matter.
 //!
 //! What a run begins with is [`recovered`]. [`GateSessions`] is what says which sessions of a gateway are
 //! kept after a step. The file itself and the store are not known here.

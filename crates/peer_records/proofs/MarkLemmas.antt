@@ -54,14 +54,14 @@ abbrev pub mark_part : PeerHappened → KeptValue → List RecordValue
 mark_part h kept = mark_records (marking h) h.out kept.marks ++ clear_records (marking h) (marks_after (marking h) h.out kept.marks)
 
 alone : (h : PeerHappened) (kept : KeptValue) → gate.step_records (marking h) (starts_keeping kept) ≡ mark_part h kept
-unfolding gate.step_records gate.begun_records
+unfolding gate.step_records
 alone h kept = ap (λ (l : List RecordValue). l ++ mark_part h kept) (quiet h.is_open (marking h).notes)
 
 pub marks-may : (h : PeerHappened) (kept : KeptValue) → IsLegal kept → h.wall < 2 ^ 64 → ReportSmall h.out → MayFollow kept (mark_part h kept)
 marks-may h kept legal wall small =
     subst (λ (l : List RecordValue). MayFollow kept l) (alone h kept)
     (step-may-follow (marking h) (starts_keeping kept) (record { legal = legal; pending = tt; own_ids = tt })
-    (record { wall = wall; ids = omega (arith, legal.greatest); blocks = tt; sessions = small })).0
+    (record { wall = wall; sessions = small })).0
 
 pub marks-pending : (h : PeerHappened) (marks : KeptValue) (kept : KeptValue) → (kept_after kept (mark_part h marks)).pending ≡ kept.pending
 marks-pending h marks kept = apart-pending kept (mark_part h marks) (others-apart (marking h) h.out marks.marks (marks_after (marking h) h.out marks.marks))

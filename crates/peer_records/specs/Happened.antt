@@ -78,5 +78,4 @@ marking h = record {
   ups = ups_in h.told;
   out = h.out;
   notes = notes_in h.told;
-  begun = [];
 }

@@ -5,7 +5,6 @@ use Rattle.ltp_segment.specs.Spelling.{segment_octets}
 use Rattle.ltp_engine.specs.declared.effects.Effects.{Effects}
 use Rattle.ltp_engine.specs.declared.effects.Up.{Up}
 use Rattle.gate_cases.specs.declared.face.Face.{Face}
-use Rattle.gateway_core.specs.declared.answer.GateAnswer.{GateAnswer}
 use Rattle.gateway_core.specs.declared.effects.FaceUp.{FaceUp}
 use Rattle.gateway_core.specs.declared.effects.Routed.{Routed}
 use Rattle.gateway_core.specs.declared.effects.GateEffects.{GateEffects}
@@ -48,20 +47,4 @@ joined_with first more = record {
   out = first.out ++ more.out;
   ups = first.ups ++ more.ups;
   notes = first.notes ++ more.notes;
-}
-
--- ---- answers
-
--- effects, and no session begins
-abbrev pub without_begun : GateEffects → GateAnswer
-without_begun effects = record { effects = effects; begun = [] }
-
-abbrev pub nothing_answered : GateAnswer
-nothing_answered = without_begun nothing_routed
-
--- an answer, and another after it
-abbrev pub answered_with : GateAnswer → GateAnswer → GateAnswer
-answered_with first more = record {
-  effects = joined_with first.effects more.effects;
-  begun = first.begun ++ more.begun;
 }

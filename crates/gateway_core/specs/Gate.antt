@@ -1,7 +1,5 @@
 -- The gate between two links: an engine at each of its faces, a counter of its reports, and what it
 -- does about a block that comes whole. What is decided about one block stands in `gate_cases`.
--- A step is taken at three moments (`Moments`); at one moment for all it has the names that end in
--- `_at`, and `ticks_gate`.
 
 use Rattle.std.specs.Prelude.{ℕ, ◌+◌, ◌^◌, Bool, ◌||◌, nat_lt, nat_le, List, [], ◌∷◌, ◌++◌, length, map}
 use Rattle.std.specs.Prelude.{Option, None, Some, Result, Ok, Err, if◌then◌else◌}
@@ -27,7 +25,6 @@ use Rattle.gateway_core.specs.declared.effects.FaceUp.{FaceUp}
 use Rattle.gateway_core.specs.declared.effects.FaceNote.{FaceNote}
 use Rattle.gateway_core.specs.declared.note.GateNote.{GateNote}
 use Rattle.gateway_core.specs.declared.note.GateNote.TheVariants as notes
-use Rattle.gateway_core.specs.Moments.{MomentsValue, same}
 
 -- ---- two faces
 
@@ -219,104 +216,56 @@ is_unreported face now g =
     || nat_le (2 ^ 32) g.counter
 
 -- a report is made with the counter's number, and the counter rises
-abbrev pub reports_in : GateSetup → Face → MomentsValue → ℕ → AskedReport → Gate → GateStep
-reports_in s face m session asked g =
+abbrev pub reports_at : GateSetup → Face → ℕ → ℕ → AskedReport → Gate → GateStep
+reports_at s face now session asked g =
     and_then
-    (sends_at s face (m.at face) (status_bundle s.gate g.counter m.wall asked)
+    (sends_at s face now (status_bundle s.gate g.counter now asked)
     (record g { counter = g.counter + 1 }))
     (noted_at face (notes.Reported session))
 
 -- the report, where one is asked for, goes back at the face at which the block came
-unfoldable pub answers_in :
-    GateSetup → Face → MomentsValue → ℕ → Option AskedReport → Gate → GateStep
-answers_in s face m session None g = stays_so g
-answers_in s face m session (Some asked) g =
-    if is_unreported face m.wall g then noted_at face (notes.Unreported session) g
-    else reports_in s face m session asked g
+unfoldable pub answers_at : GateSetup → Face → ℕ → ℕ → Option AskedReport → Gate → GateStep
+answers_at s face now session None g = stays_so g
+answers_at s face now session (Some asked) g =
+    if is_unreported face now g then noted_at face (notes.Unreported session) g
+    else reports_at s face now session asked g
 
--- pieces are submitted at a face, all red and in their order
-abbrev pub sends_in : GateSetup → Face → MomentsValue → List (List ℕ) → Gate → GateStep
-sends_in s face m blocks = in_turn (sends_at s face (m.at face)) blocks
-
--- once it is decided: the pieces go on at the other face; the case is noted; and then the report
-unfoldable pub decides_in : GateSetup → Face → MomentsValue → ℕ → Judged → Gate → GateStep
-decides_in s face m session j g =
-    and_then (sends_in s (other_of face) m j.pieces g) (λ h.
+-- once it is decided: the pieces go on at the other face, all red and in their order; the case is
+-- noted; and then the report
+unfoldable pub decides_at : GateSetup → Face → ℕ → ℕ → Judged → Gate → GateStep
+decides_at s face now session j g =
+    and_then (in_turn (sends_at s (other_of face) now) j.pieces g) (λ h.
     and_then (noted_at face (case_note session (length j.pieces) j.case) h)
-    (answers_in s face m session j.report))
+    (answers_at s face now session j.report))
 
 -- a block came whole in a session
-abbrev pub passes_in : GateSetup → Face → MomentsValue → UpValue → Gate → GateStep
-passes_in s face m up g =
-    decides_in s face m up.session (judged_at s face m.wall up.body g) g
+abbrev pub passes_at : GateSetup → Face → ℕ → UpValue → Gate → GateStep
+passes_at s face now up g =
+    decides_at s face now up.session (judged_at s face now up.body g) g
 
 -- ---- events
 
 -- a datagram comes at a face: what its engine does, and then each block that this hands up
-unfoldable pub arrives_in :
-    GateSetup → Face → Result SegmentValue (ℕ × SegmentCause) → MomentsValue → Gate → GateStep
-arrives_in s face read m g =
-    and_then (does_at face g (hears_at s face g read (m.at face)))
-    (in_turn (passes_in s face m) (hears_at s face g read (m.at face)).effects.ups)
+unfoldable pub arrives_at :
+    GateSetup → Face → Result SegmentValue (ℕ × SegmentCause) → ℕ → Gate → GateStep
+arrives_at s face read now g =
+    and_then (does_at face g (hears_at s face g read now))
+    (in_turn (passes_at s face now) (hears_at s face g read now).effects.ups)
 
 -- time passes: the old face's sessions tick, then the new face's
-unfoldable pub ticks_in : GateSetup → MomentsValue → Gate → GateStep
-ticks_in s m g =
-    and_then (ticks_at s (m.at faces.Old) faces.Old g) (ticks_at s (m.at faces.New) faces.New)
-
--- a block that was kept from an earlier run is submitted at a face, all of it red
-abbrev pub begins_in : GateSetup → Face → List ℕ → MomentsValue → Gate → GateStep
-begins_in s face block m g = sends_at s face (m.at face) block g
-
--- what happens to a gate, at its moments
-pub data EventIn : Type 0 where
-  a_datagram_in : Face → Result SegmentValue (ℕ × SegmentCause) → MomentsValue → EventIn
-  a_tick_in : MomentsValue → EventIn
-  a_block_in : Face → List ℕ → MomentsValue → EventIn
-
-abbrev pub gate_in : GateSetup → Gate → EventIn → GateStep
-gate_in s g (a_datagram_in face read m) = arrives_in s face read m g
-gate_in s g (a_tick_in m) = ticks_in s m g
-gate_in s g (a_block_in face block m) = begins_in s face block m g
-
--- the gate after some events, the newest first
-unfoldable pub gate_after_in : GateSetup → List EventIn → Gate
-gate_after_in s [] = starts_gate s
-gate_after_in s (event ∷ earlier) = (gate_in s (gate_after_in s earlier) event).gate
-
--- ---- at one moment for all
-
-abbrev pub reports_at : GateSetup → Face → ℕ → ℕ → AskedReport → Gate → GateStep
-reports_at s face now session asked g = reports_in s face (same now) session asked g
-
-abbrev pub answers_at : GateSetup → Face → ℕ → ℕ → Option AskedReport → Gate → GateStep
-answers_at s face now session report g = answers_in s face (same now) session report g
-
-abbrev pub decides_at : GateSetup → Face → ℕ → ℕ → Judged → Gate → GateStep
-decides_at s face now session j g = decides_in s face (same now) session j g
-
-abbrev pub passes_at : GateSetup → Face → ℕ → UpValue → Gate → GateStep
-passes_at s face now up g = passes_in s face (same now) up g
-
-abbrev pub arrives_at :
-    GateSetup → Face → Result SegmentValue (ℕ × SegmentCause) → ℕ → Gate → GateStep
-arrives_at s face read now g = arrives_in s face read (same now) g
-
-abbrev pub ticks_gate : GateSetup → ℕ → Gate → GateStep
-ticks_gate s now g = ticks_in s (same now) g
+unfoldable pub ticks_gate : GateSetup → ℕ → Gate → GateStep
+ticks_gate s now g = and_then (ticks_at s now faces.Old g) (ticks_at s now faces.New)
 
 -- what happens to a gate, at a moment
 pub data GateEvent : Type 0 where
   a_datagram_at : Face → Result SegmentValue (ℕ × SegmentCause) → ℕ → GateEvent
   a_moment_at_both : ℕ → GateEvent
 
-abbrev pub event_in : GateEvent → EventIn
-event_in (a_datagram_at face read now) = a_datagram_in face read (same now)
-event_in (a_moment_at_both now) = a_tick_in (same now)
-
 abbrev pub gate_with : GateSetup → Gate → GateEvent → GateStep
-gate_with s g event = gate_in s g (event_in event)
+gate_with s g (a_datagram_at face read now) = arrives_at s face read now g
+gate_with s g (a_moment_at_both now) = ticks_gate s now g
 
 -- the gate after some events, the newest first
-abbrev pub gate_after : GateSetup → List GateEvent → Gate
-gate_after s events = gate_after_in s (map event_in events)
+unfoldable pub gate_after : GateSetup → List GateEvent → Gate
+gate_after s [] = starts_gate s
+gate_after s (event ∷ earlier) = (gate_with s (gate_after s earlier) event).gate

@@ -1,12 +1,8 @@
 -- a gate, and what it does
-pub mod Moments
 pub mod Gate
 -- what its faces hand up, whoever is at the other ends
-pub mod Begun
 pub mod Comings
 pub mod RedParts
--- which sessions of its faces are open
-pub mod Opens
 -- what public clauses cite besides
 pub mod Config
 pub mod Notes

@@ -1,13 +1,11 @@
 -- What the calls of a gateway promise, by the steps of the definition.
 
 use Rattle.std.specs.Prelude.{◌≡◌, false}
-use Rattle.gateway_core.specs.declared.answer.GateAnswer.{GateAnswer}
 use Rattle.gateway_core.specs.declared.effects.GateEffects.{GateEffects}
-use Rattle.gateway_core.specs.Gate.{Gate, GateStep, EventIn, gate_in}
+use Rattle.gateway_core.specs.Gate.{Gate, GateStep}
 use Rattle.gateway_core.specs.Effects.{gate_effects_of}
 use Rattle.gateway_core.specs.Values.{GatewayValue, setup_of}
 use Rattle.gateway_core.specs.Shows.{ShowsGate}
-use Rattle.gateway_core.specs.Begun.{begun_with}
 
 -- each gate of the definition that the old value stands for does this step; the new value stands for
 -- the gate after it, and the effects are that step's
@@ -18,9 +16,3 @@ pub record GateSteps (old new : GatewayValue) (step : Gate → GateStep) (effect
   pub next : (g : Gate) → ShowsGate old g → ShowsGate new (step g).gate
   pub effects_are :
       (g : Gate) → ShowsGate old g → effects ≡ gate_effects_of (step g).effects
-
--- the step of an event, at its moments: the answer has its effects, and the sessions that it begins
-pub record GateStepsIn (old new : GatewayValue) (event : EventIn) (answer : GateAnswer) : Type 0 where
-  pub steps : GateSteps old new (λ g. gate_in (setup_of old) g event) answer.effects
-  pub begun_are :
-      (g : Gate) → ShowsGate old g → answer.begun ≡ begun_with (setup_of old) g event

@@ -12,8 +12,6 @@ use Rattle.ltp_engine.specs.Values.{EngineValue}
 use Rattle.gate_cases.specs.declared.case.Room.{Room}
 use Rattle.gate_cases.specs.declared.face.Face.{Face}
 use Rattle.gate_cases.specs.Faces.{other_of}
-use Rattle.gateway_core.specs.declared.answer.GateAnswer.{GateAnswer}
-use Rattle.gateway_core.specs.declared.begun.Begun.{Begun}
 use Rattle.gateway_core.specs.declared.effects.GateEffects.{GateEffects}
 use Rattle.gateway_core.specs.declared.parts.Parts.{Parts}
 use Rattle.gateway_core.specs.Gate.{Gate, GateSetup, GateStep, at_face, does_at, sends_at}
@@ -56,12 +54,6 @@ pub record IsWhole (p : Parts) : Type 0 where
 pub record Did (old new : Parts) (step : Gate → GateStep) (effects : GateEffects) : Type 0 where
   pub whole : IsWhole new
   pub steps : GateSteps (live old) (live new) step effects
-
--- a step was done that begins these sessions, and left the parts whole
-pub record Begins (old new : Parts) (step : Gate → GateStep) (begins : Gate → List Begun)
-    (answer : GateAnswer) : Type 0 where
-  pub did : Did old new step answer.effects
-  pub begun_are : (g : Gate) → ShowsGate (live old) g → answer.begun ≡ begins g
 
 -- an engine did a step at its face, and left the parts whole
 pub record DidAt (old new : Parts) (face : Face) (step : Gate → EngineStep) (told : Effects) :

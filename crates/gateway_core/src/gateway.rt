@@ -1,41 +1,21 @@
 //! The gateway.
 
-ghost use Rattle.std.specs.Prelude.{◌≡◌, ◌<◌, ◌^◌, false, true, length, IfOk, OnOk, OnErr};
+ghost use Rattle.std.specs.Prelude.{◌≡◌, ◌<◌, ◌^◌, false, true, IfOk, OnOk, OnErr};
 ghost use Rattle.ltp_segment.specs.PolicyViews.{policy_value};
 ghost use Rattle.ltp_segment.specs.Reading.{segment_of};
-ghost use Rattle.ltp_engine.specs.Sessions.{is_open, is_handed_up};
 ghost use Rattle.ltp_engine.specs.Steps.{is_due_at};
-ghost use Rattle.gate_cases.specs.Promises.{IsBlock};
-ghost use Rattle.gateway_core.specs.Gate.{starts_gate, arrives_at, ticks_gate, at_face};
-ghost use Rattle.gateway_core.specs.Gate.{a_datagram_in, a_tick_in, a_block_in};
-ghost use Rattle.gateway_core.specs.Moments.{moments_value, AreMoments};
-ghost use Rattle.gateway_core.specs.Config.{IsGateConfig, IsFaceParty, party_value};
-ghost use Rattle.gateway_core.specs.Values.{setup_of, new_gateway, gateway_between};
-ghost use Rattle.gateway_core.specs.Values.{gate_deadline, is_due_in, can_begin};
+ghost use Rattle.gateway_core.specs.Gate.{starts_gate, arrives_at, ticks_gate};
+ghost use Rattle.gateway_core.specs.Config.{IsGateConfig};
+ghost use Rattle.gateway_core.specs.Values.{setup_of, new_gateway, gate_deadline};
 ghost use Rattle.gateway_core.specs.Shows.{ShowsGate, IsGateBounded};
-ghost use Rattle.gateway_core.specs.Steps.{GateSteps, GateStepsIn};
+ghost use Rattle.gateway_core.specs.Steps.{GateSteps};
 
-use crate::answer::GateAnswer;
-use crate::config::{FaceParty, GateConfig};
+use crate::config::GateConfig;
 use crate::effects::GateEffects;
-use crate::moments::Moments;
 use crate::parts::Parts;
-use endpoint::{Endpoint, Octets};
 use gate_cases::Face;
 use std::alloc::{AllocError, Global};
 use std::marker::Model;
-
-/// The numbers of the path's engines: the old node, the gateway's two faces, the new node.
-const OLD_NODE: u64 = 1;
-
-const OLD_FACE: u64 = 2;
-
-const NEW_FACE: u64 = 3;
-
-const NEW_NODE: u64 = 4;
-
-/// The number of an engine's first session.
-const FIRST_SESSION: u64 = 1;
 
 /// A gateway between two links: an engine at each of its faces, and a counter of its reports.
 ///
@@ -70,41 +50,8 @@ impl Gateway {
         ensures shows { ShowsGate result (starts_gate (setup_of result)) }
         ensures bounds { IsGateBounded result }
     {
-        let GateConfig { gate, policy, cut } = config;
-        let old = FaceParty {
-            own: OLD_FACE,
-            peer: OLD_NODE,
-            first_session: FIRST_SESSION,
-            policy,
-        };
-        let new = FaceParty {
-            own: NEW_FACE,
-            peer: NEW_NODE,
-            first_session: FIRST_SESSION,
-            policy,
-        };
-        Gateway::between(alloc, gate, cut, old, new)
-    }
-
-    /// A gateway at its beginning, between any two links: its own name, the most octets of payload
-    /// that a piece has, and who is at its old face and at its new one. It takes no memory.
-    pub fn between(
-        alloc: Global,
-        gate: Endpoint,
-        cut: u64,
-        old: FaceParty,
-        new: FaceParty,
-    ) -> Gateway
-        requires config { IsGateConfig gate cut }
-        requires old { IsFaceParty (party_value old) }
-        requires new { IsFaceParty (party_value new) }
-        ensures value { result ≡ gateway_between gate cut (party_value old) (party_value new) }
-        // It stands for the gate of the definition that begins.
-        ensures shows { ShowsGate result (starts_gate (setup_of result)) }
-        ensures bounds { IsGateBounded result }
-    {
         Gateway {
-            parts: Parts::new(alloc, gate, cut, old, new),
+            parts: Parts::new(alloc, config),
             spent: false,
         }
     }
@@ -134,8 +81,10 @@ impl Gateway {
         ensures bounds { OnOk result (IsGateBounded self.new) }
         ensures err { OnErr result (self.new.spent ≡ true) }
     {
-        let answer = self.arrive_in(face, datagram, Moments::Same(now))?;
-        Ok(answer.effects)
+        self.spent = true;
+        let effects = self.parts.arrive(face, datagram, now)?;
+        self.spent = false;
+        Ok(effects)
     }
 
     /// Time has passed, up to a moment below 2^62 in ms: the old face's sessions tick, then the new
@@ -149,137 +98,12 @@ impl Gateway {
         ensures wanted { OnErr result (is_due_at now (gate_deadline self.old) ≡ true) }
         ensures err { OnErr result (self.new.spent ≡ true) }
     {
-        let answer = self.tick_in(Moments::Same(now))?;
-        Ok(answer.effects)
-    }
-
-    // ---- at a moment for each face
-
-    /// A datagram comes at a face. As [`Gateway::arrive`], with the engine of each face at the face's
-    /// moment: that of the other face where a piece goes out there. By the wall clock it is judged
-    /// whether a bundle has expired, and a report has its times. The answer has besides the sessions
-    /// that began, with their blocks.
-    pub fn arrive_in(
-        &mut self,
-        face: Face,
-        datagram: &[u8],
-        moments: Moments,
-    ) -> Result<GateAnswer, AllocError>
-        requires whole { self.old.spent ≡ false }
-        requires moments { AreMoments (moments_value moments) }
-        ensures done { IfOk result (GateStepsIn self.old self.new
-            (a_datagram_in face (segment_of datagram.now) (moments_value moments))) }
-        ensures bounds { OnOk result (IsGateBounded self.new) }
-        ensures err { OnErr result (self.new.spent ≡ true) }
-    {
-        self.spent = true;
-        let answer = self.parts.arrive(face, datagram, moments)?;
-        self.spent = false;
-        Ok(answer)
-    }
-
-    /// Time has passed: the old face's sessions tick at its moment, then the new face's at its own.
-    /// No session begins. Where no timer is due nothing is done, and no memory is wanted.
-    pub fn tick_in(&mut self, moments: Moments) -> Result<GateAnswer, AllocError>
-        requires whole { self.old.spent ≡ false }
-        requires moments { AreMoments (moments_value moments) }
-        ensures done { IfOk result (GateStepsIn self.old self.new
-            (a_tick_in (moments_value moments))) }
-        ensures bounds { OnOk result (IsGateBounded self.new) }
-        ensures wanted { OnErr result (is_due_in (moments_value moments) self.old ≡ true) }
-        ensures err { OnErr result (self.new.spent ≡ true) }
-    {
-        if !self.parts.is_due(moments) {
+        if !self.parts.is_due(now) {
             return Ok(self.parts.nothing());
         }
         self.spent = true;
-        let answer = self.parts.tick(moments)?;
+        let effects = self.parts.tick(now)?;
         self.spent = false;
-        Ok(answer)
-    }
-
-    /// A block that was kept from an earlier run is sent at a face, all of it red, at the face's
-    /// moment. It is moved, and stands in the answer: one session began. [`Gateway::can_begin`] tells
-    /// whether one can.
-    pub fn begin_in(
-        &mut self,
-        face: Face,
-        block: Octets,
-        moments: Moments,
-    ) -> Result<GateAnswer, AllocError>
-        requires whole { self.old.spent ≡ false }
-        requires block { IsBlock block }
-        requires can { can_begin face self.old ≡ true }
-        requires moments { AreMoments (moments_value moments) }
-        ensures done { IfOk result (GateStepsIn self.old self.new
-            (a_block_in face block (moments_value moments))) }
-        ensures bounds { OnOk result (IsGateBounded self.new) }
-        ensures err { OnErr result (self.new.spent ≡ true) }
-    {
-        self.spent = true;
-        let answer = self.parts.begin(face, block, moments)?;
-        self.spent = false;
-        Ok(answer)
-    }
-
-    // ---- what is lent of a face's engine
-
-    /// Whether a session can begin at a face: fewer than 64 are being sent there, and a number is
-    /// left. It takes no memory.
-    pub fn can_begin(&self, face: Face) -> bool
-        requires { self.now.spent ≡ false }
-        ensures { result ≡ can_begin face self.now }
-    {
-        let _ = self.spent;
-        self.parts.can_begin(face)
-    }
-
-    /// How many sessions are being sent at a face, those that are cancelling counted. It takes no
-    /// memory.
-    pub fn sending(&self, face: Face) -> usize
-        requires { self.now.spent ≡ false }
-        ensures { result ≡ length (at_face self.now.engines face).senders }
-    {
-        let _ = self.spent;
-        self.parts.engine(face).sending()
-    }
-
-    /// How many sessions are being received at a face, those that are cancelling counted. It takes no
-    /// memory.
-    pub fn receiving(&self, face: Face) -> usize
-        requires { self.now.spent ≡ false }
-        ensures { result ≡ length (at_face self.now.engines face).inbound.receivers }
-    {
-        let _ = self.spent;
-        self.parts.engine(face).receiving()
-    }
-
-    /// The number of the next session at a face; 2^32 where none is left. It takes no memory.
-    pub fn next_session(&self, face: Face) -> u64
-        requires { self.now.spent ≡ false }
-        ensures { result ≡ (at_face self.now.engines face).next }
-    {
-        let _ = self.spent;
-        self.parts.engine(face).next_session()
-    }
-
-    /// Whether a session that began at a face is open: it is kept, and isn't cancelling. It takes no
-    /// memory.
-    pub fn is_open(&self, face: Face, session: u64) -> bool
-        requires { self.now.spent ≡ false }
-        ensures { result ≡ is_open session (at_face self.now.engines face).senders }
-    {
-        let _ = self.spent;
-        self.parts.engine(face).is_open(session)
-    }
-
-    /// Whether a session of a face's peer is kept, and its red part was handed up. It takes no memory.
-    pub fn is_handed_up(&self, face: Face, session: u64) -> bool
-        requires { self.now.spent ≡ false }
-        ensures { result
-            ≡ is_handed_up session (at_face self.now.engines face).inbound.receivers }
-    {
-        let _ = self.spent;
-        self.parts.engine(face).is_handed_up(session)
+        Ok(effects)
     }
 }

@@ -2,8 +2,6 @@
 //! function that does nothing but cite that of an engine.
 
 ghost use Rattle.gateway_core.specs.RedParts.{AreEngines, HandsUpRedParts, HandsUpEachOnce};
-ghost use Rattle.gateway_core.specs.Opens.{OpensByBeginning};
-ghost use Rattle.gateway_core.specs.RedParts.{AreEnginesIn, HandsUpRedPartsIn, HandsUpEachOnceIn};
 
 /// Whatever happens to a gateway: the engine of each face is what an engine becomes to which come the
 /// datagrams of the face, the pieces and reports that go out there, and the moments.
@@ -26,32 +24,3 @@ pub fn hands_up_each_once()
 {
     ltp_engine::laws::hands_up_each_once();
 }
-
-// ---- at a moment for each face
-
-/// As [`faces_are_engines`], with the face's own moments, and with the blocks besides that are begun
-/// at the face.
-pub fn faces_are_engines_in()
-    ensures { AreEnginesIn }
-{}
-
-/// As [`hands_up_red_parts`], with the face's own moments.
-pub fn hands_up_red_parts_in()
-    ensures { HandsUpRedPartsIn }
-{
-    ltp_engine::laws::hands_up_red_parts();
-}
-
-/// As [`hands_up_each_once`], with the face's own moments.
-pub fn hands_up_each_once_in()
-    ensures { HandsUpEachOnceIn }
-{
-    ltp_engine::laws::hands_up_each_once();
-}
-
-/// A session of a face is open after an event only where it was before, or where it began with the
-/// event. So who keeps the sessions that begin, and drops those that aren't open any more, keeps the
-/// open ones.
-pub fn opens_by_beginning()
-    ensures { OpensByBeginning }
-{}

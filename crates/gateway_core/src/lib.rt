@@ -7,30 +7,19 @@
 //! passes are submitted at the other face, all red and in order, and the status report that a bundle
 //! asks for goes back at the face at which it came, numbered by a counter.
 //!
-//! `arrive` and `tick` go by one clock. Where a face's link is closed at times its timers stand still,
-//! so `arrive_in`, `tick_in` and `begin_in` take a moment for each face besides that of the wall clock,
-//! and answer which sessions began too: [`GateAnswer`].
-//!
 //! `specs/Gate.antt` defines a gate and its steps over the engines of `ltp_session`, and the contracts
 //! cite that. [`laws`] says what each face hands up, whoever is at the other ends. Green data is
 //! dropped.
 #![tactic(auto)]
 
-mod answer;
-mod begun;
 mod config;
 mod effects;
 mod gateway;
 pub mod laws;
-mod moments;
 mod note;
-mod outcomes;
 mod parts;
 
-pub use answer::GateAnswer;
-pub use begun::{Begun, BegunList};
-pub use config::{FaceParty, GateConfig};
+pub use config::GateConfig;
 pub use effects::{FaceNote, FaceUp, FaceUps, GateEffects, GateNotes, Routed, RoutedList};
 pub use gateway::Gateway;
-pub use moments::Moments;
 pub use note::GateNote;

@@ -1,34 +1,40 @@
 //! What a gateway keeps, and what it does about what comes.
 
-ghost use Rattle.std.specs.Prelude.{◌≡◌, ◌∷◌, [], ◌<◌, ◌^◌, false, true, length, IfOk, OnOk, Ok};
+ghost use Rattle.std.specs.Prelude.{◌≡◌, ◌<◌, ◌^◌, false, length, IfOk, OnOk, Ok};
 ghost use Rattle.std.specs.List.{All};
+ghost use Rattle.ltp_segment.specs.PolicyViews.{policy_value};
 ghost use Rattle.ltp_segment.specs.Reading.{segment_of};
 ghost use Rattle.ltp_engine.specs.Steps.{is_due_at};
 ghost use Rattle.gate_cases.specs.Promises.{IsBlock, IsAskable, AreAskable};
 ghost use Rattle.gate_cases.specs.Faces.{other_of};
-ghost use Rattle.gateway_core.specs.Gate.{hears_at, sends_at, in_turn};
-ghost use Rattle.gateway_core.specs.Gate.{reports_in, answers_in, decides_in, passes_in};
-ghost use Rattle.gateway_core.specs.Gate.{arrives_in, ticks_in, begins_in, starts_gate};
-ghost use Rattle.gateway_core.specs.Gate.{a_datagram_in, a_tick_in, a_block_in};
-ghost use Rattle.gateway_core.specs.Begun.{begun_at, begun_with, pieces_begun, report_begun};
-ghost use Rattle.gateway_core.specs.Begun.{decision_begun, passage_begun, passages_begun, a_report_begun};
-ghost use Rattle.gateway_core.specs.Moments.{moments_value, AreMoments};
+ghost use Rattle.gateway_core.specs.Gate.{hears_at, sends_at, in_turn, case_note};
+ghost use Rattle.gateway_core.specs.Gate.{reports_at, answers_at, decides_at, passes_at, arrives_at};
+ghost use Rattle.gateway_core.specs.Gate.{ticks_gate, starts_gate};
 ghost use Rattle.gateway_core.specs.Shows.{ShowsGate};
-ghost use Rattle.gateway_core.specs.Effects.{nothing_answered};
-ghost use Rattle.gateway_core.specs.Config.{IsGateConfig, IsFaceParty, party_value};
-ghost use Rattle.gateway_core.specs.Values.{gateway_between, gate_deadline, is_due_in, can_begin};
+ghost use Rattle.gateway_core.specs.Effects.{nothing_routed};
+ghost use Rattle.gateway_core.specs.Ties.{IsUnrefused};
+ghost use Rattle.gateway_core.specs.Config.{IsGateConfig};
+ghost use Rattle.gateway_core.specs.Values.{new_gateway, gate_deadline};
 
-use crate::answer::GateAnswer;
-use crate::begun::Begun;
-use crate::config::FaceParty;
+use crate::config::GateConfig;
 use crate::effects::GateEffects;
-use crate::moments::Moments;
 use crate::note::GateNote;
-use crate::outcomes::{case_note, told_of};
 use endpoint::{Endpoint, Octets};
-use gate_cases::{AskedReport, Face, Judged, Pieces, Room, judge};
-use ltp_engine::{Effects, Engine, Up};
+use gate_cases::{AskedReport, Face, GateCase, Judged, Room, judge};
+use ltp_engine::{Effects, Engine, SubmitRefused, Up};
 use std::alloc::{AllocError, Global};
+
+/// The numbers of the path's engines: the old node, the gateway's two faces, the new node.
+const OLD_NODE: u64 = 1;
+
+const OLD_FACE: u64 = 2;
+
+const NEW_FACE: u64 = 3;
+
+const NEW_NODE: u64 = 4;
+
+/// The number of an engine's first session.
+const FIRST_SESSION: u64 = 1;
 
 /// The most sessions that a face sends at once.
 const MOST: usize = 64;
@@ -54,24 +60,23 @@ pub(crate) struct Parts {
 }
 
 impl Parts {
-    ghost use Rattle.gateway_core.specs.Ties.{IsWhole, Begins, DidAt, HasRoom, TakesRoom, SentAt};
+    ghost use Rattle.gateway_core.specs.Ties.{IsWhole, Did, DidAt, HasRoom, TakesRoom, SentAt};
     ghost use Rattle.gateway_core.specs.Ties.{live, setup_in, engine_at, up_values, room_in};
     ghost use Rattle.gateway_core.specs.Ties.{cannot_report};
 
     /// A gateway at its beginning.
-    pub fn new(alloc: Global, gate: Endpoint, cut: u64, old: FaceParty, new: FaceParty) -> Parts
-        requires legal { IsGateConfig gate cut }
-        requires old { IsFaceParty (party_value old) }
-        requires new { IsFaceParty (party_value new) }
+    pub fn new(alloc: Global, config: GateConfig) -> Parts
+        requires legal { IsGateConfig config.gate config.cut }
         ensures whole { IsWhole result }
         ensures shows { ShowsGate (live result) (starts_gate (setup_in result)) }
         ensures value { live result
-            ≡ gateway_between gate cut (party_value old) (party_value new) }
+            ≡ new_gateway config.gate (policy_value config.policy) config.cut }
     {
+        let GateConfig { gate, policy, cut } = config;
         Parts {
             alloc,
-            old_face: Engine::new(alloc, old.own, old.peer, old.first_session, old.policy),
-            new_face: Engine::new(alloc, new.own, new.peer, new.first_session, new.policy),
+            old_face: Engine::new(alloc, OLD_FACE, OLD_NODE, FIRST_SESSION, policy),
+            new_face: Engine::new(alloc, NEW_FACE, NEW_NODE, FIRST_SESSION, policy),
             gate,
             cut,
             counter: 0,
@@ -83,64 +88,30 @@ impl Parts {
         &mut self,
         face: Face,
         datagram: &[u8],
-        moments: Moments,
-    ) -> Result<GateAnswer, AllocError>
+        now: u64,
+    ) -> Result<GateEffects, AllocError>
         requires whole { IsWhole self.old }
-        requires moments { AreMoments (moments_value moments) }
-        ensures { IfOk result (Begins self.old self.new
-            (arrives_in (setup_in self.old) face (segment_of datagram.now) (moments_value moments))
-            (λ g. begun_with (setup_in self.old) g
-            (a_datagram_in face (segment_of datagram.now) (moments_value moments)))) }
+        requires moment { now < 2 ^ 62 }
+        ensures { IfOk result (Did self.old self.new
+            (arrives_at (setup_in self.old) face (segment_of datagram.now) now)) }
     {
-        let told = self.hear(face, datagram, moments.at(face))?;
-        let passed = self.pass_all(face, told.ups.as_slice(), moments)?;
+        let told = self.hear(face, datagram, now)?;
+        let passed = self.pass_all(face, told.ups.as_slice(), now)?;
         let heard = GateEffects::at(self.alloc, face, told)?;
-        GateAnswer::of(self.alloc, heard).followed_by(passed)
+        heard.followed_by(passed)
     }
 
     /// Time has passed: the old face's sessions tick, then the new face's.
-    pub fn tick(&mut self, moments: Moments) -> Result<GateAnswer, AllocError>
+    pub fn tick(&mut self, now: u64) -> Result<GateEffects, AllocError>
         requires whole { IsWhole self.old }
-        requires moments { AreMoments (moments_value moments) }
-        ensures { IfOk result (Begins self.old self.new
-            (ticks_in (setup_in self.old) (moments_value moments))
-            (λ g. begun_with (setup_in self.old) g (a_tick_in (moments_value moments)))) }
+        requires moment { now < 2 ^ 62 }
+        ensures { IfOk result (Did self.old self.new (ticks_gate (setup_in self.old) now)) }
     {
-        let old = self.old_face.tick(moments.at(Face::Old))?;
-        let new = self.new_face.tick(moments.at(Face::New))?;
+        let old = self.old_face.tick(now)?;
+        let new = self.new_face.tick(now)?;
         let first = GateEffects::at(self.alloc, Face::Old, old)?;
         let second = GateEffects::at(self.alloc, Face::New, new)?;
-        let effects = first.followed_by(second)?;
-        Ok(GateAnswer::of(self.alloc, effects))
-    }
-
-    /// A block is sent at a face, all red.
-    #[tactic(auto, unfolding(crate::specs::Begun::begun_with))]
-    pub fn begin(
-        &mut self,
-        face: Face,
-        block: Octets,
-        moments: Moments,
-    ) -> Result<GateAnswer, AllocError>
-        requires whole { IsWhole self.old }
-        requires block { IsBlock block }
-        requires can { can_begin face (live self.old) ≡ true }
-        requires moments { AreMoments (moments_value moments) }
-        ensures { IfOk result (Begins self.old self.new
-            (begins_in (setup_in self.old) face block (moments_value moments))
-            (λ g. begun_with (setup_in self.old) g
-            (a_block_in face block (moments_value moments)))) }
-    {
-        self.send(face, block, false, moments.at(face))
-    }
-
-    /// Whether a session can begin at a face.
-    pub fn can_begin(&self, face: Face) -> bool
-        requires { IsWhole self.now }
-        ensures { result ≡ can_begin face (live self.now) }
-    {
-        let room = self.room(face);
-        room.sending < MOST && room.next_session < NUMBERS
+        first.followed_by(second)
     }
 
     /// When a timer of either face is due next.
@@ -157,29 +128,14 @@ impl Parts {
         }
     }
 
-    /// Whether a timer of a face is due at its moment.
-    pub fn is_due(&self, moments: Moments) -> bool
+    /// Whether a timer is due.
+    pub fn is_due(&self, now: u64) -> bool
         requires { IsWhole self.now }
-        ensures { result ≡ is_due_in (moments_value moments) (live self.now) }
+        ensures { result ≡ is_due_at now (gate_deadline (live self.now)) }
     {
-        is_due_at(self.old_face.next_deadline(), moments.at(Face::Old))
-            || is_due_at(self.new_face.next_deadline(), moments.at(Face::New))
-    }
-
-    /// Nothing is done. It takes no memory.
-    pub fn nothing(&self) -> GateAnswer
-        ensures { result ≡ nothing_answered }
-    {
-        GateAnswer::none(self.alloc)
-    }
-
-    /// The engine of a face, lent.
-    pub fn engine(&self, face: Face) -> &Engine
-        ensures { result.now ≡ engine_at self.now face }
-    {
-        match face {
-            Face::Old => &self.old_face,
-            Face::New => &self.new_face,
+        match self.next_deadline() {
+            Some(deadline) => deadline <= now,
+            None => false,
         }
     }
 
@@ -197,23 +153,15 @@ impl Parts {
     }
 
     /// Blocks that came whole at a face go on, or not, one after the other.
-    fn pass_all(
-        &mut self,
-        face: Face,
-        ups: &[Up],
-        moments: Moments,
-    ) -> Result<GateAnswer, AllocError>
+    fn pass_all(&mut self, face: Face, ups: &[Up], now: u64) -> Result<GateEffects, AllocError>
         requires whole { IsWhole self.old }
-        requires moments { AreMoments (moments_value moments) }
-        ensures { IfOk result (Begins self.old self.new
-            (in_turn (passes_in (setup_in self.old) face (moments_value moments))
-            (up_values ups.now))
-            (passages_begun (setup_in self.old) face (moments_value moments)
-            (up_values ups.now))) }
+        requires moment { now < 2 ^ 62 }
+        ensures { IfOk result (Did self.old self.new
+            (in_turn (passes_at (setup_in self.old) face now) (up_values ups.now))) }
     {
-        let mut passed = GateAnswer::none(self.alloc);
+        let mut passed = GateEffects::none(self.alloc);
         'passing: for up in ups {
-            let more = self.pass(face, up.session, up.body.as_slice(), moments)?;
+            let more = self.pass(face, up.session, up.body.as_slice(), now)?;
             passed = passed.followed_by(more)?;
         }
         Ok(passed)
@@ -225,18 +173,23 @@ impl Parts {
         face: Face,
         session: u64,
         block: &[u8],
-        moments: Moments,
-    ) -> Result<GateAnswer, AllocError>
+        now: u64,
+    ) -> Result<GateEffects, AllocError>
         requires whole { IsWhole self.old }
-        requires moments { AreMoments (moments_value moments) }
-        ensures { IfOk result (Begins self.old self.new
-            (passes_in (setup_in self.old) face (moments_value moments)
-            (record { session = session; body = block.now }))
-            (passage_begun (setup_in self.old) face (moments_value moments) block.now)) }
+        requires moment { now < 2 ^ 62 }
+        ensures { IfOk result (Did self.old self.new
+            (passes_at (setup_in self.old) face now (record { session = session; body = block.now }))) }
     {
         let room = self.room(face.other());
-        let judged = judge(self.alloc, face, block, moments.wall(), self.cut, room)?;
-        self.decide(face, session, judged, moments)
+        let judged = judge(self.alloc, face, block, now, self.cut, room)?;
+        self.decide(face, session, judged, now)
+    }
+
+    /// Nothing is done. It takes no memory.
+    pub fn nothing(&self) -> GateEffects
+        ensures { result ≡ nothing_routed }
+    {
+        GateEffects::none(self.alloc)
     }
 
     /// It is decided about a block: the pieces go on at the other face, the case is noted, and then
@@ -246,28 +199,26 @@ impl Parts {
         face: Face,
         session: u64,
         judged: Judged,
-        moments: Moments,
-    ) -> Result<GateAnswer, AllocError>
+        now: u64,
+    ) -> Result<GateEffects, AllocError>
         requires whole { IsWhole self.old }
-        requires moments { AreMoments (moments_value moments) }
+        requires moment { now < 2 ^ 62 }
         requires blocks { All IsBlock judged.pieces }
         requires room { HasRoom (engine_at self.old (other_of face)) (length judged.pieces) }
         requires askable { AreAskable judged.report }
-        ensures { IfOk result (Begins self.old self.new
-            (decides_in (setup_in self.old) face (moments_value moments) session judged)
-            (decision_begun (setup_in self.old) face (moments_value moments) judged)) }
+        ensures { IfOk result (Did self.old self.new
+            (decides_at (setup_in self.old) face now session judged)) }
     {
         let Judged {
             case,
             pieces,
             report,
         } = judged;
+        let sent = self.send_all(face.other(), pieces.as_slice(), now)?;
         let note = case_note(session, pieces.len() as u64, case);
-        let to = face.other();
-        let sent = self.send_all(to, pieces, moments.at(to))?;
         let noted = GateEffects::noted(self.alloc, face, note)?;
-        let answered = self.answer(face, session, report, moments)?;
-        let after = GateAnswer::of(self.alloc, noted).followed_by(answered)?;
+        let answered = self.answer(face, session, report, now)?;
+        let after = noted.followed_by(answered)?;
         sent.followed_by(after)
     }
 
@@ -277,24 +228,22 @@ impl Parts {
         face: Face,
         session: u64,
         report: Option<AskedReport>,
-        moments: Moments,
-    ) -> Result<GateAnswer, AllocError>
+        now: u64,
+    ) -> Result<GateEffects, AllocError>
         requires whole { IsWhole self.old }
-        requires moments { AreMoments (moments_value moments) }
+        requires moment { now < 2 ^ 62 }
         requires askable { AreAskable report }
-        ensures { IfOk result (Begins self.old self.new
-            (answers_in (setup_in self.old) face (moments_value moments) session report)
-            (report_begun (setup_in self.old) face (moments_value moments) report)) }
+        ensures { IfOk result (Did self.old self.new
+            (answers_at (setup_in self.old) face now session report)) }
     {
         let Some(asked) = report else {
-            return Ok(GateAnswer::none(self.alloc));
+            return Ok(GateEffects::none(self.alloc));
         };
-        if self.cannot_report(face, moments.wall()) {
+        if self.cannot_report(face, now) {
             let note = GateNote::Unreported { session };
-            let noted = GateEffects::noted(self.alloc, face, note)?;
-            return Ok(GateAnswer::of(self.alloc, noted));
+            return GateEffects::noted(self.alloc, face, note);
         }
-        self.report(face, session, &asked, moments)
+        self.report(face, session, &asked, now)
     }
 
     /// A report is sent with the counter's number, and the counter rises.
@@ -303,22 +252,21 @@ impl Parts {
         face: Face,
         session: u64,
         asked: &AskedReport,
-        moments: Moments,
-    ) -> Result<GateAnswer, AllocError>
+        now: u64,
+    ) -> Result<GateEffects, AllocError>
         requires whole { IsWhole self.old }
-        requires moments { AreMoments (moments_value moments) }
+        requires moment { now < 2 ^ 62 }
         requires askable { IsAskable asked.now }
-        requires can { cannot_report face (moments_value moments).wall (live self.old) ≡ false }
-        ensures { IfOk result (Begins self.old self.new
-            (reports_in (setup_in self.old) face (moments_value moments) session asked.now)
-            (a_report_begun (setup_in self.old) face (moments_value moments) asked.now)) }
+        requires can { cannot_report face now (live self.old) ≡ false }
+        ensures { IfOk result (Did self.old self.new
+            (reports_at (setup_in self.old) face now session asked.now)) }
     {
-        let block = asked.spell(self.alloc, &self.gate, self.counter, moments.wall())?;
+        let block = asked.spell(self.alloc, &self.gate, self.counter, now)?;
         self.counter += 1;
-        let sent = self.send(face, block, true, moments.at(face))?;
+        let sent = self.send(face, block.as_slice(), now)?;
         let note = GateNote::Reported { session };
         let noted = GateEffects::noted(self.alloc, face, note)?;
-        sent.followed_by(GateAnswer::of(self.alloc, noted))
+        sent.followed_by(noted)
     }
 
     /// Whether no report can be sent at a face.
@@ -338,59 +286,51 @@ impl Parts {
         requires { IsWhole self.now }
         ensures { result ≡ room_in (engine_at self.now face) }
     {
-        let engine = self.engine(face);
+        let engine = match face {
+            Face::Old => &self.old_face,
+            Face::New => &self.new_face,
+        };
         Room {
             sending: engine.sending(),
             next_session: engine.next_session(),
         }
     }
 
-    /// Pieces are sent at a face, all red, in their order.
-    fn send_all(&mut self, face: Face, pieces: Pieces, now: u64) -> Result<GateAnswer, AllocError>
+    /// Blocks are sent at a face, all red, in their order.
+    fn send_all(
+        &mut self,
+        face: Face,
+        blocks: &[Octets],
+        now: u64,
+    ) -> Result<GateEffects, AllocError>
         requires whole { IsWhole self.old }
         requires moment { now < 2 ^ 62 }
-        requires blocks { All IsBlock pieces }
-        requires room { HasRoom (engine_at self.old face) (length pieces) }
-        ensures { IfOk result (Begins self.old self.new
-            (in_turn (sends_at (setup_in self.old) face now) pieces)
-            (pieces_begun (setup_in self.old) face now pieces)) }
+        requires blocks { All IsBlock blocks.now }
+        requires room { HasRoom (engine_at self.old face) (length blocks.now) }
+        ensures { IfOk result (Did self.old self.new
+            (in_turn (sends_at (setup_in self.old) face now) blocks.now)) }
     {
-        let mut sent = GateAnswer::none(self.alloc);
-        'sending: for block in pieces.into_vec() {
-            let more = self.send(face, block, false, now)?;
+        let mut sent = GateEffects::none(self.alloc);
+        'sending: for block in blocks {
+            let more = self.send(face, block.as_slice(), now)?;
             sent = sent.followed_by(more)?;
         }
         Ok(sent)
     }
 
-    /// A block is sent at a face, all red. It is moved into the answer.
-    fn send(
-        &mut self,
-        face: Face,
-        block: Octets,
-        is_report: bool,
-        now: u64,
-    ) -> Result<GateAnswer, AllocError>
+    /// A block is sent at a face, all red.
+    fn send(&mut self, face: Face, block: &[u8], now: u64) -> Result<GateEffects, AllocError>
         requires whole { IsWhole self.old }
         requires moment { now < 2 ^ 62 }
-        requires block { IsBlock block }
+        requires block { IsBlock block.now }
         requires room { HasRoom (engine_at self.old face) 1 }
-        ensures done { IfOk result (Begins self.old self.new
-            (sends_at (setup_in self.old) face now block)
-            (λ g. begun_at face is_report block g ∷ [])) }
+        ensures done { IfOk result (Did self.old self.new
+            (sends_at (setup_in self.old) face now block.now)) }
         // It takes the room of one session.
         ensures takes { OnOk result (TakesRoom (engine_at self.old face) (engine_at self.new face)) }
     {
-        let session = self.engine(face).next_session();
-        let told = self.submit(face, block.as_slice(), now)?;
-        let effects = GateEffects::at(self.alloc, face, told)?;
-        let begun = Begun {
-            face,
-            session,
-            block,
-            is_report,
-        };
-        GateAnswer::beginning(self.alloc, effects, begun)
+        let told = self.submit(face, block, now)?;
+        GateEffects::at(self.alloc, face, told)
     }
 
     /// The engine of a face is told a block that it can't refuse, all red.
@@ -410,12 +350,33 @@ impl Parts {
     }
 }
 
-/// Whether a deadline is there, and due.
-fn is_due_at(deadline: Option<u64>, now: u64) -> bool
-    ensures { result ≡ is_due_at now deadline }
+/// What an engine does about a block that it doesn't refuse.
+fn told_of(submitted: Result<Effects, SubmitRefused>) -> Result<Effects, AllocError>
+    requires { IsUnrefused submitted }
+    ensures { IfOk result (λ told. submitted ≡ Ok told) }
 {
-    match deadline {
-        Some(deadline) => deadline <= now,
-        None => false,
+    match submitted {
+        Ok(told) => Ok(told),
+        Err(SubmitRefused::Memory) => Err(AllocError),
+        Err(
+            SubmitRefused::Empty
+            | SubmitRefused::TooLarge
+            | SubmitRefused::NumbersSpent
+            | SubmitRefused::Busy,
+        ) => unreachable!(),
+    }
+}
+
+/// The note of a case, about the session in which the block came.
+fn case_note(session: u64, pieces: u64, case: GateCase) -> GateNote
+    ensures { result ≡ case_note session pieces case }
+{
+    match case {
+        GateCase::BadBundle { at, cause } => GateNote::BadBundle { session, at, cause },
+        GateCase::Untranslated { cause } => GateNote::Untranslated { session, cause },
+        GateCase::Expired => GateNote::Expired { session },
+        GateCase::HopLimit => GateNote::HopLimit { session },
+        GateCase::Storage => GateNote::Storage { session },
+        GateCase::Passed => GateNote::Passed { session, pieces },
     }
 }

@@ -35,8 +35,8 @@ use Rattle.gate_cases.specs.declared.face.Face.TheVariants as faces
 use Rattle.gate_cases.specs.Blocks.{found_at}
 use Rattle.gate_cases.specs.Cases.{case_of, judged}
 use Rattle.gateway_core.specs.declared.note.GateNote.TheVariants as gate_notes
-use Rattle.gateway_core.specs.Gate.{and_then, answers_in, arrives_in, decides_in, in_turn, sends_at}
-use Rattle.gateway_core.specs.Gate.{ticks_in}
+use Rattle.gateway_core.specs.Gate.{and_then, answers_at, arrives_at, decides_at, in_turn, sends_at}
+use Rattle.gateway_core.specs.Gate.{ticks_gate}
 use Rattle.path_laws.specs.declared.places.PathEnd.TheVariants as ends
 use Rattle.path_laws.specs.declared.places.Place.TheVariants as places
 use Rattle.path_laws.specs.Links.{link_at, link_parties}
@@ -150,12 +150,12 @@ pub record IsBundleDrained : Type 0 where
 
 pub bundle-drained : IsBundleDrained
 unfolding path_run path_step submits begin segments_from last_segment red_pieces green_pieces find
-    put least_deadline then_does ticks_in and_then tick_step ticked ended tick_segments
-    tick_remarks untouched arrives_in datagram_step arrives with_receiver evicted_of in_turn
-    decides_in sends_at judged case_of found_at bundle primary offsets four_names dictionary block
+    put least_deadline then_does ticks_gate and_then tick_step ticked ended tick_segments
+    tick_remarks untouched arrives_at datagram_step arrives with_receiver evicted_of in_turn
+    decides_at sends_at judged case_of found_at bundle primary offsets four_names dictionary block
     next_block references until resolve read_of sum_of residue_in6 payload_in are_residues6
     are_apart6 blocks7_of octets7 main_octets bare_octets with_check crc_octets blocks_octets
-    take_bits answers_in without notes_in ups_in begun_in passed_begun pieces_begun sender_tick
+    take_bits answers_at without notes_in ups_in begun_in passed_begun pieces_begun sender_tick
     receiver_answers closed_runs piece_step filled all_octets sender_answers report_step report_of
     report_on claims_below runs_of with_claims with_range acknowledged
 bundle-drained = record {

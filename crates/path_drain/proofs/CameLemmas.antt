@@ -24,7 +24,7 @@ use Rattle.gate_cases.specs.declared.face.Face.{Face}
 use Rattle.gate_cases.specs.declared.face.Face.TheVariants as faces
 use Rattle.gate_cases.specs.Blocks.{found_at}
 use Rattle.gate_cases.specs.Cases.{case_of, judged}
-use Rattle.gateway_core.specs.Gate.{and_then, answers_in, arrives_in, decides_in, in_turn, ticks_in}
+use Rattle.gateway_core.specs.Gate.{and_then, answers_at, arrives_at, decides_at, in_turn, ticks_gate}
 use Rattle.path_laws.specs.declared.places.Place.TheVariants as places
 use Rattle.path_laws.specs.Links.{link_at, link_parties}
 use Rattle.path_laws.specs.Log.{ups_in}
@@ -49,8 +49,8 @@ came gate cut = run_path (setup gate cut) 0 hands_up_no_bundle
 came-hopeful : (gate : Endpoint) (cut : ℕ) (face : Face)
     → Hopeful (link_parties (setup gate cut) face) (link_at face (came gate cut))
 unfolding path_run path_step submits begin segments_from last_segment red_pieces green_pieces find
-    put arrives_in datagram_step arrives with_receiver evicted_of and_then in_turn decides_in judged
-    case_of found_at bundle primary answers_in receiver_answers closed_runs piece_step filled
+    put arrives_at datagram_step arrives with_receiver evicted_of and_then in_turn decides_at judged
+    case_of found_at bundle primary answers_at receiver_answers closed_runs piece_step filled
     all_octets report_of report_on claims_below runs_of with_claims with_range untouched
 came-hopeful gate cut face = record { sessions = by face; numbers = numbers face }
   where
@@ -77,8 +77,8 @@ came-hopeful gate cut face = record { sessions = by face; numbers = numbers face
 
 came-room : (gate : Endpoint) (cut : ℕ) → PathRoom (setup gate cut) (came gate cut)
 unfolding path_run path_step submits begin segments_from last_segment red_pieces green_pieces find
-    put arrives_in datagram_step arrives with_receiver evicted_of and_then in_turn decides_in judged
-    case_of found_at bundle primary answers_in receiver_answers closed_runs piece_step filled
+    put arrives_at datagram_step arrives with_receiver evicted_of and_then in_turn decides_at judged
+    case_of found_at bundle primary answers_at receiver_answers closed_runs piece_step filled
     all_octets report_of report_on claims_below runs_of with_claims with_range untouched sum_on_way
 came-room gate cut = record { nodes = nodes; faces = by_face }
   where
@@ -114,9 +114,9 @@ pub record CameDrained (gate : Endpoint) (cut : ℕ) : Type 0 where
 
 pub came-drained : (gate : Endpoint) (cut : ℕ) → CameDrained gate cut
 unfolding path_run path_step submits begin segments_from last_segment red_pieces green_pieces find
-    put least_deadline then_does ticks_in and_then tick_step ticked ended tick_segments
-    tick_remarks untouched arrives_in datagram_step arrives with_receiver evicted_of in_turn
-    decides_in judged case_of found_at bundle primary answers_in without notes_in sender_tick
+    put least_deadline then_does ticks_gate and_then tick_step ticked ended tick_segments
+    tick_remarks untouched arrives_at datagram_step arrives with_receiver evicted_of in_turn
+    decides_at judged case_of found_at bundle primary answers_at without notes_in sender_tick
     receiver_answers closed_runs piece_step filled all_octets sender_answers report_step report_of
     report_on claims_below runs_of with_claims with_range acknowledged ups_in
     receiver_tick

@@ -32,11 +32,11 @@ use Rattle.gateway_core.specs.declared.effects.FaceNote.{FaceNote}
 use Rattle.gateway_core.specs.declared.effects.FaceUp.{FaceUp}
 use Rattle.gateway_core.specs.declared.note.GateNote.{GateNote}
 use Rattle.gateway_core.specs.declared.note.GateNote.TheVariants as notes
-use Rattle.gateway_core.specs.Gate.{Gate, GateSetup, GateStep, and_then, answers_at, answers_in}
-use Rattle.gateway_core.specs.Gate.{arrives_at, arrives_in, at_face, case_note, decides_in, does_at}
-use Rattle.gateway_core.specs.Gate.{engine_note_at, hears_at, in_turn, is_unreported, judged_at}
-use Rattle.gateway_core.specs.Gate.{note_at, noted_at, passes_at, reports_at, room_of, sends_at}
-use Rattle.gateway_core.specs.Gate.{sends_unless, submission_at, up_at, with_face}
+use Rattle.gateway_core.specs.Gate.{Gate, GateSetup, GateStep, and_then, answers_at, arrives_at}
+use Rattle.gateway_core.specs.Gate.{at_face, case_note, decides_at, does_at, engine_note_at}
+use Rattle.gateway_core.specs.Gate.{hears_at, in_turn, is_unreported, judged_at, note_at, noted_at}
+use Rattle.gateway_core.specs.Gate.{passes_at, reports_at, room_of, sends_at, sends_unless}
+use Rattle.gateway_core.specs.Gate.{submission_at, up_at, with_face}
 use Rattle.path_laws.specs.declared.effects.NoteAt.{NoteAt}
 use Rattle.path_laws.specs.declared.effects.UpAt.{UpAt}
 use Rattle.path_laws.specs.declared.places.PathEnd.{PathEnd}
@@ -365,7 +365,7 @@ answers-made : (s : GateSetup) (face : Face) (now session : ℕ) (report : Optio
     (g : Gate) (x : FaceNote) (n : ℕ)
     → IsIn x (answers_at s face now session report g).effects.notes → x.note ≡ notes.Reported n
     → IsMade face now report g
-unfolding answers_in and_then
+unfolding answers_at and_then
 answers-made s face now session None g x n among is = absurd among
 answers-made s face now session (Some asked) g x n among is =
     by (is_unreported face now g) refl among
@@ -390,7 +390,7 @@ passes-made : (s : GateSetup) (face : Face) (now : ℕ) (up : UpValue) (g : Gate
     (n : ℕ) → IsIn x (passes_at s face now up g).effects.notes → x.note ≡ notes.Reported n
     → IsMade face now (judged_at s face now up.body g).report
     (after_pieces s face now up.body g).gate
-unfolding decides_in and_then
+unfolding decides_at and_then
 passes-made s face now up g x n among is = by (in-either x sent.effects.notes later among)
   where
     sent : GateStep
@@ -565,7 +565,7 @@ record IsHeardThere (s : PathSetup) (w : Path) (stand : Stand) (segment : Segmen
 come-heard : (s : PathSetup) (w : Path) (stand : Stand) (segment : SegmentValue) (face : Face)
     (up : UpAt) → IsIn up (comes_to s w stand segment).effects.ups
     → up.place ≡ face_place face → IsHeardThere s w stand segment face up
-unfolding arrives_in and_then
+unfolding arrives_at and_then
 come-heard s w (at_node end) segment face up among at = absurd (none-at end _ face up among at)
 come-heard s w (at_gate arrived) segment face up among at =
     let heard = hears_at s.gate arrived w.gate (Ok segment) w.now in
@@ -646,7 +646,7 @@ coming-pieces s w event face up takes coming =
 
 coming-report : (s : PathSetup) (w : Path) (event : PathEvent) (face : Face) (up : UpAt)
     → TakesBlocks s → IsComing s w event face up → ReportBegins s w event face up
-unfolding arrives_in and_then
+unfolding arrives_at and_then
 coming-report s w event face up takes coming = λ legal fits noted.
     let m = made-in gate_note
     (arrives_at s.gate face (Ok coming.segment) w.now w.gate).effects.notes

@@ -28,7 +28,6 @@ use Rattle.gateway_core.specs.Gate.{at_face, case_note, decides_at, does_at, hea
 use Rattle.gateway_core.specs.Gate.{is_unreported, judged_at, note_at, noted_at, passes_at}
 use Rattle.gateway_core.specs.Gate.{reports_at, room_of, sends_at, sends_unless, submission_at}
 use Rattle.gateway_core.specs.Gate.{ticks_gate, up_at, with_face}
-use Rattle.gateway_core.specs.Gate.{answers_in, arrives_in, decides_in, ticks_in}
 use Rattle.path_laws.specs.declared.effects.NoteAt.{NoteAt}
 use Rattle.path_laws.specs.declared.effects.UpAt.{UpAt}
 use Rattle.path_laws.specs.declared.places.PathEnd.{PathEnd}
@@ -70,7 +69,7 @@ pieces-up_none s face now (piece ∷ pieces) g =
 
 answers-up_none : (s : GateSetup) (face : Face) (now session : ℕ) (report : Option AskedReport)
     (g : Gate) → (answers_at s face now session report g).effects.ups ≡ []
-unfolding answers_in and_then
+unfolding answers_at and_then
 answers-up_none s face now session None g = refl
 answers-up_none s face now session (Some asked) g = by (is_unreported face now g)
   where
@@ -83,7 +82,7 @@ answers-up_none s face now session (Some asked) g = by (is_unreported face now g
 
 passes-up_none : (s : GateSetup) (face : Face) (now : ℕ) (up : UpValue) (g : Gate)
     → (passes_at s face now up g).effects.ups ≡ []
-unfolding decides_in and_then
+unfolding decides_at and_then
 passes-up_none s face now up g =
     ups-none _ _ (pieces-up_none s (other_of face) now (judged_at s face now up.body g).pieces g)
     (answers-up_none s face now up.session (judged_at s face now up.body g).report _)
@@ -135,7 +134,7 @@ same-case s face now session block g h same =
 
 passes-noted : (s : GateSetup) (face : Face) (now : ℕ) (up : UpValue) (g : Gate)
     → IsCaseNoted s now g (passes_at s face now up g).effects.notes (up_at face up)
-unfolding decides_in and_then
+unfolding decides_at and_then
 passes-noted s face now up g =
     in-right _ (in_turn (sends_at s (other_of face) now)
     (judged_at s face now up.body g).pieces g).effects.notes _ (inl refl)
@@ -163,7 +162,7 @@ make-in make (y ∷ xs) x (inl is) = inl (ap make is)
 make-in make (y ∷ xs) x (inr among) = inr (make-in make xs x among)
 
 pub cases-noted : CasesAreNoted
-unfolding arrives_in and_then
+unfolding arrives_at and_then
 cases-noted s face read now g up among =
     let step = hears_at s face g read now in
     let ups : map (up_at face) step.effects.ups
@@ -230,7 +229,7 @@ come-noted s w (at_gate arrived) segment face up among at =
     (λ u is_in. cases-noted s.gate arrived (Ok segment) w.now w.gate u is_in) face up among at
 
 pub tick-up_none : (s : PathSetup) (w : Path) (now : ℕ) → (all_tick s now w).effects.ups ≡ []
-unfolding then_does ticks_in and_then tick_step
+unfolding then_does ticks_gate and_then tick_step
 tick-up_none s w now = refl
 
 pub path-notes : PathNotesCases

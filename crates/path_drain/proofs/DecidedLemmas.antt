@@ -12,10 +12,8 @@ use Rattle.gate_cases.specs.Bundles.{status_bundle}
 use Rattle.gate_cases.specs.Cases.{judged}
 use Rattle.gate_cases.specs.Faces.{other_of}
 use Rattle.gateway_core.specs.declared.effects.FaceUp.{FaceUp}
-use Rattle.gateway_core.specs.Gate.{Gate, and_then, arrives_at, at_face, does_at}
-use Rattle.gateway_core.specs.Gate.{hears_at, in_turn, judged_at, passes_at, room_of, sends_at}
-use Rattle.gateway_core.specs.Gate.{up_at}
-use Rattle.gateway_core.specs.Gate.{arrives_in}
+use Rattle.gateway_core.specs.Gate.{Gate, and_then, arrives_at, at_face, does_at, hears_at, in_turn}
+use Rattle.gateway_core.specs.Gate.{judged_at, passes_at, room_of, sends_at, up_at}
 use Rattle.path_laws.specs.declared.effects.UpAt.{UpAt}
 use Rattle.path_laws.specs.declared.places.PathEnd.{PathEnd}
 use Rattle.path_laws.specs.Places.{Stand, across, at_gate, at_node, end_of, face_of, face_place}
@@ -109,7 +107,7 @@ come-decided : (s : PathSetup) (w : Path) (event : PathEvent) (stand : Stand)
     (segment : SegmentValue)
     → AllByRecursion (IsDecided s w event (comes_to s w stand segment).effects.ups)
     (come_begun s w stand segment)
-unfolding arrives_in and_then
+unfolding arrives_at and_then
 come-decided s w event (at_node end) segment = tt
 come-decided s w event (at_gate face) segment =
     passed-decided s w event face heard.effects.ups (does_at face w.gate heard).gate

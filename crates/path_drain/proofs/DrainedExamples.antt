@@ -21,7 +21,7 @@ use Rattle.gate_cases.specs.declared.face.Face.TheVariants as faces
 use Rattle.gate_cases.specs.Blocks.{found_at}
 use Rattle.gate_cases.specs.Cases.{case_of, judged}
 use Rattle.gateway_core.specs.declared.note.GateNote.TheVariants as gate_notes
-use Rattle.gateway_core.specs.Gate.{and_then, answers_in, arrives_in, decides_in, in_turn, ticks_in}
+use Rattle.gateway_core.specs.Gate.{and_then, answers_at, arrives_at, decides_at, in_turn, ticks_gate}
 use Rattle.path_laws.specs.declared.places.Place.TheVariants as places
 use Rattle.path_laws.specs.Path.{Path, PathSetup, note_from, path_run, path_setup, path_step}
 use Rattle.path_laws.specs.Path.{then_does}
@@ -78,9 +78,9 @@ pub record IsDrained (gate : Endpoint) (cut : ℕ) : Type 0 where
 
 pub block-drained : (gate : Endpoint) (cut : ℕ) → IsDrained gate cut
 unfolding path_run path_step submits begin segments_from last_segment red_pieces green_pieces find
-    put least_deadline then_does ticks_in and_then tick_step ticked ended tick_segments
-    tick_remarks untouched arrives_in datagram_step arrives with_receiver evicted_of in_turn
-    decides_in judged case_of found_at bundle primary answers_in without notes_in sender_tick
+    put least_deadline then_does ticks_gate and_then tick_step ticked ended tick_segments
+    tick_remarks untouched arrives_at datagram_step arrives with_receiver evicted_of in_turn
+    decides_at judged case_of found_at bundle primary answers_at without notes_in sender_tick
     receiver_answers closed_runs piece_step filled all_octets sender_answers report_step report_of
     report_on claims_below runs_of with_claims with_range acknowledged
 block-drained gate cut =

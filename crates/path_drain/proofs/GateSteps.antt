@@ -13,7 +13,6 @@ use Rattle.gateway_core.specs.declared.note.GateNote.TheVariants as notes
 use Rattle.gateway_core.specs.Gate.{and_then, answers_at, at_face, decides_at, in_turn}
 use Rattle.gateway_core.specs.Gate.{is_unreported, judged_at, noted_at, passes_at, reports_at}
 use Rattle.gateway_core.specs.Gate.{room_of, sends_at}
-use Rattle.gateway_core.specs.Gate.{answers_in, decides_in}
 use Rattle.path_laws.specs.Path.{Path, PathSetup, gate_does}
 use Rattle.path_drain.specs.OnTheWay.{piece_count}
 use Rattle.path_drain.specs.Owing.{RoomOwing, none_owed, one_at}
@@ -79,7 +78,7 @@ pub report-room : (s : PathSetup) (w : Path) (at : Face) (own across session : �
     (report : Option AskedReport) → RoomOwing s w (owing at (own + 1) across)
     → RoomOwing s (gate_does w (answers_at s.gate at w.now session report w.gate)).path
     (owing at own across)
-unfolding answers_in and_then
+unfolding answers_at and_then
 report-room s w at own across session report room = by report
   where
     fewer : RoomOwing s w (owing at own across)
@@ -112,7 +111,7 @@ report-room s w at own across session report room = by report
 pub passes-room : (s : PathSetup) (w : Path) (at : Face) (own across : ℕ) (up : UpValue)
     → RoomOwing s w (owing at (own + 1) (piece_count at s.gate.cut up.body + across))
     → RoomOwing s (gate_does w (passes_at s.gate at w.now up w.gate)).path (owing at own across)
-unfolding decides_in and_then
+unfolding decides_at and_then
 passes-room s w at own across up room =
     let sent = pieces-room s w at (own + 1) (piece_count at s.gate.cut up.body) across
     (judged_at s.gate at w.now up.body w.gate).pieces

@@ -25,7 +25,6 @@ use Rattle.gateway_core.specs.Gate.{Gate, GateSetup, and_then, answers_at, at_fa
 use Rattle.gateway_core.specs.Gate.{decides_at, engine_note_at, in_turn, is_unreported, judged_at}
 use Rattle.gateway_core.specs.Gate.{noted_at, passes_at, reports_at, sends_at, sends_unless}
 use Rattle.gateway_core.specs.Gate.{room_of, submission_at, up_at}
-use Rattle.gateway_core.specs.Gate.{answers_in, decides_in}
 use Rattle.path_laws.specs.declared.effects.NoteAt.{NoteAt}
 use Rattle.path_laws.specs.declared.places.Place.{Place}
 use Rattle.path_laws.specs.declared.effects.UpAt.{UpAt}
@@ -103,7 +102,7 @@ pieces-counter s face now (piece ∷ pieces) g =
 
 answers-counter : (s : GateSetup) (face : Face) (now session : ℕ) (report : Option AskedReport)
     (g : Gate) → g.counter ≤ (answers_at s face now session report g).gate.counter
-unfolding answers_in and_then
+unfolding answers_at and_then
 answers-counter s face now session None g = omega arith
 answers-counter s face now session (Some asked) g = by (is_unreported face now g)
   where
@@ -118,7 +117,7 @@ answers-counter s face now session (Some asked) g = by (is_unreported face now g
 
 passes-counter : (s : GateSetup) (face : Face) (now : ℕ) (up : UpValue) (g : Gate)
     → g.counter ≤ (passes_at s face now up g).gate.counter
-unfolding decides_in and_then
+unfolding decides_at and_then
 passes-counter s face now up g = omega (
   arith,
   pieces-counter s (other_of face) now (judged_at s face now up.body g).pieces g,
@@ -212,7 +211,7 @@ answers-fine : (s : PathSetup) (w : Path) (at : Face) (ups : List UpValue)
     → RoomOwing s w (owing at (own + 1) across)
     → (answers_at s.gate at w.now session report w.gate).gate.counter ≤ made
     → AllFine s at ups w.now made (answers_at s.gate at w.now session report w.gate).effects.notes
-unfolding answers_in and_then
+unfolding answers_at and_then
 answers-fine s w at ups made own across session None room few = tt
 answers-fine s w at ups made own across session (Some asked) room few =
     by (is_unreported at w.now w.gate) refl few
@@ -244,7 +243,7 @@ passes-fine : (s : PathSetup) (w : Path) (at : Face) (ups : List UpValue) (made 
     → RoomOwing s w (owing at (own + 1) (piece_count at s.gate.cut up.body + across))
     → (passes_at s.gate at w.now up w.gate).gate.counter ≤ made
     → AllFine s at ups w.now made (passes_at s.gate at w.now up w.gate).effects.notes
-unfolding decides_in and_then
+unfolding decides_at and_then
 passes-fine s w at ups made own across up among room few =
     both-fine s at ups w.now made _ _ (pieces-fine s at ups w.now made (other_of at)
     (judged_at s.gate at w.now up.body w.gate).pieces w.gate) (

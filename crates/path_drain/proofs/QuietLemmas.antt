@@ -4,9 +4,7 @@ use Rattle.std.proofs.Common.{◌≡◌, ℕ, ◌<◌, ◌≤◌, false, List, [
 use Rattle.std.proofs.Common.{refl, ◌∙◌, ap, arith, nat_le, nat_lt}
 use Rattle.std.proofs.lemmas.Bool.Decides.{nat_tests}
 use Rattle.std.proofs.lemmas.List.{append-nil}
-use Rattle.gateway_core.specs.Gate.{Gate, GateSetup, and_then, stays_so}
-use Rattle.gateway_core.specs.Gate.{ticks_gate}
-use Rattle.gateway_core.specs.Gate.{ticks_in}
+use Rattle.gateway_core.specs.Gate.{Gate, GateSetup, and_then, stays_so, ticks_gate}
 use Rattle.ltp_segment.specs.Policy.{PolicyValue}
 use Rattle.ltp_session.specs.Engine.{Engine, EngineStep, Party, earlier, least_deadline}
 use Rattle.ltp_session.specs.Engine.{next_deadline, receiver_ticks, sender_ticks, tick_remarks}
@@ -114,7 +112,7 @@ quiet-engine p e now before =
 
 quiet-gate : (s : GateSetup) (g : Gate) (now : ℕ) → IsBeforeAny now (next_deadline g.engines.0)
     → IsBeforeAny now (next_deadline g.engines.1) → ticks_gate s now g ≡ stays_so g
-unfolding ticks_in and_then
+unfolding ticks_gate and_then
 quiet-gate s g now old new =
     rw (
       quiet-engine s.parties.0 g.engines.0 now old,

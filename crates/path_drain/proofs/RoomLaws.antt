@@ -14,7 +14,6 @@ use Rattle.gate_cases.specs.declared.face.Face.{Face}
 use Rattle.gate_cases.specs.declared.face.Face.TheVariants as faces
 use Rattle.gateway_core.specs.Gate.{and_then, arrives_at, at_face, does_at, hears_at, in_turn}
 use Rattle.gateway_core.specs.Gate.{passes_at, ticks_gate, up_at}
-use Rattle.gateway_core.specs.Gate.{arrives_in, ticks_in}
 use Rattle.path_laws.specs.declared.places.Place.{Place}
 use Rattle.path_laws.specs.declared.places.Place.TheVariants as places
 use Rattle.path_laws.specs.Links.{first_on, link_at, link_parties, submit_of, submits_on}
@@ -79,7 +78,7 @@ gate-leaves : (s : PathSetup) (w : Path) (new : Face → List Sent) (rank : Face
     (at : Face) (o : Oldest) → PathStands s w new rank → IsRoomyPath s w
     → oldest (node_end at) (new at) ≡ Some o
     → StepLeaves s w.now (comes_to s w (at_gate at) (o.first).segment)
-unfolding arrives_in and_then
+unfolding arrives_at and_then
 gate-leaves s w new rank at o stands roomy is = record {
   kept = record { room = arrives-room s w new rank at o stands roomy is; reds = roomy.reds };
   noted = gate-fine s at ups _ w.now _ within _ (both-fine s at ups w.now _ _ _
@@ -137,7 +136,7 @@ come-leaves s w new rank places.NewNode o stands roomy is =
 clock-noted : (s : PathSetup) (w : Path) (now before : ℕ)
     → AllByRecursion (PlaceFine s (all_tick s now w).effects.ups before
     (all_tick s now w).path.gate.counter) (all_tick s now w).effects.notes
-unfolding then_does ticks_in and_then
+unfolding then_does ticks_gate and_then
 clock-noted s w now before =
     all-append (PlaceFine s _ before w.gate.counter) _ _
     (node-fine s _ before _ places.OldNode _ (tick-notes_room s.nodes.0 w.nodes.0 now))

@@ -17,7 +17,6 @@ use Rattle.gate_cases.specs.declared.face.Face.{Face}
 use Rattle.gate_cases.specs.declared.face.Face.TheVariants as faces
 use Rattle.gate_cases.specs.Faces.{other_of}
 use Rattle.gateway_core.specs.Gate.{and_then, arrives_at, at_face, does_at, hears_at, ticks_gate}
-use Rattle.gateway_core.specs.Gate.{arrives_in, ticks_in}
 use Rattle.path_laws.specs.Links.{link_at, link_parties}
 use Rattle.path_laws.specs.Path.{Path, PathSetup, all_tick, at_path_end, gate_does, node_does}
 use Rattle.path_laws.specs.Path.{then_does}
@@ -240,7 +239,7 @@ pub arrives-room : (s : PathSetup) (w : Path) (new : Face → List Sent) (rank :
     → oldest (node_end at) (new at) ≡ Some o
     → RoomOwing s (gate_does w (arrives_at s.gate at (Ok (o.first).segment) w.now w.gate)).path
     none_owed
-unfolding arrives_in and_then
+unfolding arrives_at and_then
 arrives-room s w new rank at o stands roomy is =
     let left = ups-room s (heard_path s w at (o.first).segment) at
     (hears_at s.gate at w.gate (Ok (o.first).segment) w.now).effects.ups
@@ -359,7 +358,7 @@ ticked_path s w now = record w {
 pub clock-room : (s : PathSetup) (w : Path) (new : Face → List Sent) (rank : Face → End → ℕ → ℕ)
     (now : ℕ) → PathStands s w new rank → RoomOwing s w none_owed
     → ((face : Face) → new face ≡ []) → RoomOwing s (all_tick s now w).path none_owed
-unfolding then_does ticks_in and_then tick_step
+unfolding then_does ticks_gate and_then tick_step
 clock-room s w new rank now stands room none =
     let left = room-step s w (ticked_path s w now) none_owed none_owed nodes by_face most next room
     in
@@ -411,7 +410,7 @@ clock-room s w new rank now stands room none =
 pub clock-reds : (s : PathSetup) (w : Path) (new : Face → List Sent) (rank : Face → End → ℕ → ℕ)
     (now : ℕ) → PathStands s w new rank → ((face : Face) → SendsRed (node_at w face))
     → (face : Face) → SendsRed (node_at (all_tick s now w).path face)
-unfolding then_does ticks_in and_then tick_step
+unfolding then_does ticks_gate and_then tick_step
 clock-reds s w new rank now stands reds faces.Old =
     ticked-red s.nodes.0 w.nodes.0 now ((stands.holds faces.Old).senders first_end) (reds faces.Old)
 clock-reds s w new rank now stands reds faces.New =

@@ -14,7 +14,6 @@ use Rattle.gate_cases.specs.declared.face.Face.{Face}
 use Rattle.gate_cases.specs.declared.face.Face.TheVariants as faces
 use Rattle.gateway_core.specs.Gate.{GateStep, and_then, arrives_at, does_at, engine_note_at}
 use Rattle.gateway_core.specs.Gate.{hears_at, in_turn, passes_at, up_at}
-use Rattle.gateway_core.specs.Gate.{arrives_in}
 use Rattle.path_laws.specs.declared.places.Place.{Place}
 use Rattle.path_laws.specs.declared.places.Place.TheVariants as places
 use Rattle.path_laws.specs.Places.{across, face_place, link_end_of, link_of, stand_of}
@@ -42,7 +41,7 @@ pub record Shows (place : Place) (e : EffectsValue) (effects : PathEffectsValue)
 gate-shows : (s : PathSetup) (w : Path) (face : Face) (segment : SegmentValue)
     → Shows (face_place face) (hears_at s.gate face w.gate (Ok segment) w.now).effects
     (gate_does w (arrives_at s.gate face (Ok segment) w.now w.gate)).effects
-unfolding arrives_in and_then
+unfolding arrives_at and_then
 gate-shows s w face segment = record { notes = noted; ups = handed }
   where
     step : EngineStep

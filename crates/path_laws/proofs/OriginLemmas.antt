@@ -19,8 +19,9 @@ use Rattle.gate_cases.specs.Blocks.{Arrival, Found, one, bad, found_at}
 use Rattle.gate_cases.specs.Passage.{passage, pieces_on}
 use Rattle.gate_cases.specs.Cases.{untranslated, case_of, pieces_if, judgement_of, judged, or_passed}
 use Rattle.gate_cases.specs.Bundles.{status_bundle}
-use Rattle.gateway_core.specs.Gate.{Gate, GateSetup, at_face, does_at, hears_at, submission_at, sends_at, in_turn, judged_at, is_unreported, passes_at, arrives_at, room_of}
-use Rattle.gateway_core.specs.Gate.{arrives_in}
+use Rattle.gateway_core.specs.Gate.{Gate, GateSetup, at_face, does_at, hears_at, submission_at}
+use Rattle.gateway_core.specs.Gate.{sends_at, in_turn, judged_at, is_unreported, passes_at}
+use Rattle.gateway_core.specs.Gate.{arrives_at, room_of}
 use Rattle.path_laws.specs.declared.effects.UpAt.{UpAt}
 use Rattle.path_laws.specs.declared.places.PathEnd.{PathEnd}
 use Rattle.path_laws.specs.declared.places.PathEnd.TheVariants as ends
@@ -286,7 +287,7 @@ arrived-ups : (s : PathSetup) (w : Path) (face : Face) (segment : SegmentValue)
     → (comes_to s w (at_gate face) segment).effects.ups
     ≡ map (up_from (face_place face)) (hears_at s.gate face w.gate (Ok segment) w.now).effects.ups
     ++ (gate_effects (in_turn (passes_at s.gate face w.now) (hears_at s.gate face w.gate (Ok segment) w.now).effects.ups (does_at face w.gate (hears_at s.gate face w.gate (Ok segment) w.now)).gate).effects).ups
-unfolding arrives_in
+unfolding arrives_at
 arrived-ups s w face segment =
     gate-ups-then (does_at face w.gate heard) (in_turn (passes_at s.gate face w.now) heard.effects.ups)
     ∙ ap (λ us. us ++ (gate_effects (in_turn (passes_at s.gate face w.now) heard.effects.ups (does_at face w.gate heard).gate).effects).ups) (gate-ups face heard.effects.ups)

@@ -13,8 +13,8 @@ use Rattle.ltp_laws.specs.Log.{hand_ups, submissions}
 use Rattle.gate_cases.specs.declared.face.Face.{Face}
 use Rattle.gate_cases.specs.declared.face.Face.TheVariants as faces
 use Rattle.gate_cases.specs.Faces.{other_of}
-use Rattle.gateway_core.specs.Gate.{GateStep, does_at, effects_at, hears_at, ticks_at, passes_at, arrives_at, ticks_gate, and_then, in_turn}
-use Rattle.gateway_core.specs.Gate.{arrives_in, ticks_in}
+use Rattle.gateway_core.specs.Gate.{GateStep, does_at, effects_at, hears_at, ticks_at, passes_at}
+use Rattle.gateway_core.specs.Gate.{arrives_at, ticks_gate, and_then, in_turn}
 use Rattle.path_laws.specs.declared.places.PathEnd.{PathEnd}
 use Rattle.path_laws.specs.declared.places.PathEnd.TheVariants as ends
 use Rattle.path_laws.specs.declared.places.Place.{Place}
@@ -107,7 +107,7 @@ hear-there faces.New s w step = chunk-there faces.Old (link_parties s faces.Old)
 gate-arrives : (link : Face) (s : PathSetup) (w : Path) (face : Face) (segment : SegmentValue) (events : List Event)
     → GateChunk link s w (does_at face w.gate (hears_at s.gate face w.gate (Ok segment) w.now)) events []
     → GateChunk link s w (arrives_at s.gate face (Ok segment) w.now w.gate) (events ++ submits_on link (come_begun s w (at_gate face) segment)) (come_begun s w (at_gate face) segment)
-unfolding arrives_in
+unfolding arrives_at
 gate-arrives link s w face segment events heard =
     gate-then link s w (does_at face w.gate heard_step) (in_turn (passes_at s.gate face w.now) heard_step.effects.ups) events
     (submits_on link (come_begun s w (at_gate face) segment)) [] (come_begun s w (at_gate face) segment) heard
@@ -190,7 +190,7 @@ send-chunk face s w end block = by (sends_block s w end block) refl where
 ticks-old : (s : PathSetup) (w : Path) (now : ℕ)
     → link_at faces.Old (all_tick s now w).path
     ≡ does_end (does_end (record { engines = link_engines w faces.Old; sent = sent_on faces.Old w.sent; now = now }) first_end (tick_step s.nodes.0 w.nodes.0 now)) second_end (tick_step s.gate.parties.0 w.gate.engines.0 now)
-unfolding then_does ticks_in
+unfolding then_does ticks_gate
 ticks-old s w now =
     link-node-there ends.New w2 (tick_step s.nodes.1 w.nodes.1 now)
     ∙ (ap (λ x. link_at faces.Old x) (gate-path-then w1 a (ticks_at s.gate now faces.New))
@@ -216,7 +216,7 @@ ticks-old s w now =
 ticks-new : (s : PathSetup) (w : Path) (now : ℕ)
     → link_at faces.New (all_tick s now w).path
     ≡ does_end (does_end (record { engines = link_engines w faces.New; sent = sent_on faces.New w.sent; now = now }) first_end (tick_step s.gate.parties.1 w.gate.engines.1 now)) second_end (tick_step s.nodes.1 w.nodes.1 now)
-unfolding then_does ticks_in
+unfolding then_does ticks_gate
 ticks-new s w now =
     link-node-here ends.New w2 (tick_step s.nodes.1 w.nodes.1 now)
     ∙ ap (λ x. does_end x second_end (tick_step s.nodes.1 w.nodes.1 now))
@@ -242,7 +242,7 @@ ticks-new s w now =
     w2 = (gate_does w1 (and_then a (ticks_at s.gate now faces.New))).path
 
 tick-ups : (s : PathSetup) (w : Path) (now : ℕ) → (all_tick s now w).effects.ups ≡ []
-unfolding then_does ticks_in and_then tick_step
+unfolding then_does ticks_gate and_then tick_step
 tick-ups s w now = refl
 
 tick-chunk : (face : Face) (s : PathSetup) (w : Path) (now : ℕ) → nat_lt now w.now ≡ false → StepChunk face s w (all_tick s now w) (clock now ∷ []) []

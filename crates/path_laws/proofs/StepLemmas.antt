@@ -15,8 +15,10 @@ use Rattle.gate_cases.specs.Faces.{other_of}
 use Rattle.gate_cases.specs.Bundles.{status_bundle}
 use Rattle.gateway_core.specs.declared.note.GateNote.{GateNote}
 use Rattle.gateway_core.specs.declared.note.GateNote.TheVariants as notes
-use Rattle.gateway_core.specs.Gate.{Gate, GateStep, segment_at, up_at, at_face, does_at, effects_at, sends_unless, submission_at, sends_at, judged_at, is_unreported, case_note, reports_at, answers_at, decides_at, passes_at, noted_at, stays_so, and_then, in_turn}
-use Rattle.gateway_core.specs.Gate.{answers_in, decides_in}
+use Rattle.gateway_core.specs.Gate.{Gate, GateStep, segment_at, up_at, at_face, does_at, effects_at}
+use Rattle.gateway_core.specs.Gate.{sends_unless, submission_at, sends_at, judged_at, is_unreported}
+use Rattle.gateway_core.specs.Gate.{case_note, reports_at, answers_at, decides_at, passes_at}
+use Rattle.gateway_core.specs.Gate.{noted_at, stays_so, and_then, in_turn}
 use Rattle.path_laws.specs.declared.effects.UpAt.{UpAt}
 use Rattle.path_laws.specs.declared.places.PathEnd.{PathEnd}
 use Rattle.path_laws.specs.declared.places.PathEnd.TheVariants as ends
@@ -274,7 +276,7 @@ right-nil bs = append-nil bs
 
 send-report : (face : Face) (s : PathSetup) (w : Path) (at : Face) (end : PathEnd) (n : ℕ) (report : Option AskedReport)
     → SendChunk face s w (answers_at s.gate at w.now n report w.gate) (report_begun s.gate at w.now end n report w.gate)
-unfolding answers_in
+unfolding answers_at
 send-report face s w at end n None = send-none face s w
 send-report face s w at end n (Some asked) = by (is_unreported at w.now w.gate) where
   block : List ℕ
@@ -296,7 +298,7 @@ send-report face s w at end n (Some asked) = by (is_unreported at w.now w.gate) 
 
 send-decided : (face : Face) (s : PathSetup) (w : Path) (at : Face) (n : ℕ) (j : Judged)
     → SendChunk face s w (decides_at s.gate at w.now n j w.gate) (decided_begun s.gate at w.now n j w.gate)
-unfolding decides_in
+unfolding decides_at
 send-decided face s w at n j =
     send-then face s w (in_turn (sends_at s.gate (other_of at) w.now) j.pieces w.gate) noting (pieces_begun s.gate (other_of at) w.now (end_of at) n 0 j.pieces w.gate)
     (report_begun s.gate at w.now (end_of at) n j.report (in_turn (sends_at s.gate (other_of at) w.now) j.pieces w.gate).gate)

@@ -3,13 +3,14 @@
 
 usage: tools/peer_run.py OLD-NEW [PROGRAM | --model] [--bundles N] [--seconds S] [--loss PERCENT] [--repeats PERCENT]
                          [--delays PERCENT] [--largest OCTETS] [--cut OCTETS] [--delay SECONDS] [--remember N] [--small N]
-                         [--seed N]
+                         [--gather OCTETS] [--seed N]
        tools/peer_run.py OLD-NEW --anew [PROGRAM | --model] [--bundles N] [--seconds S] [--seed N]
        tools/peer_run.py --gathering [PROGRAM | --model] [--bundles N] [--delay SECONDS]
 
 OLD and NEW are `ion` or `hdtn`: who is at the old face and who at the new one. The gateway is `gate` of the program
 that this repository builds, or of PROGRAM, or tools/peer_model.py; it has a configuration that is written here. So
-many bundles go from each node, and --small more of three octets from the old one. Datagrams of all four ways are lost,
+many bundles go from each node, and --small more of three octets from the old one. ION and the gateway towards it gather
+--gather octets (3000) in a block; with 0 each bundle has a session of its own. Datagrams of all four ways are lost,
 repeated and delayed by the seed, and all of them come after so many seconds. With --anew none is; but the old node
 leaves half a block behind, waits until the gateway has forgotten its numbers, and begins again with earlier ones. With
 --gathering bundles of 100 octets go from ION to ION, of which the gateway puts one into each block, and then as many
@@ -49,13 +50,13 @@ from peer_nodes import Way, bundles_in
 from translate_model import MARK, Untranslated, octets_of, record, translated, view6, view7
 
 OPTIONS = {"bundles": 100, "seconds": 120, "loss": 3, "repeats": 3, "delays": 5, "largest": 100_000, "cut": 65_536,
-           "delay": 0, "remember": 0, "small": 0, "seed": 1, "model": False, "anew": False}
+           "delay": 0, "remember": 0, "small": 0, "gather": 3000, "seed": 1, "model": False, "anew": False}
 GATHERING = {"bundles": 600, "delay": 1, "model": False}
 MODEL = os.path.join(os.path.dirname(os.path.abspath(__file__)), "peer_model.py")
 NAMES = {"old": OLD, "new": NEW}
 NUMBERS = {OLD: (1, 2), NEW: (4, 3)}
 ION_TYPES = 200, 201            # of residues and wraps towards ION, which has 192 to 197 for itself
-GATHERED, GATHER_MS = 3000, 200
+GATHER_MS = 200
 LATE_MS = 100                   # what lies between a reading of the gateway's clock and what it then takes
 SESSIONS, OF_GATE = 64, 128      # of a node, and of the gateway, at which one is open until its report is acknowledged
 AGE, MANY = 7, 1 << 30
@@ -313,9 +314,10 @@ class Between(Served):
     """A gateway between two nodes."""
 
     def __init__(self, path, folder, kinds, gathers, troubles, delay, cut, draw, more):
+        """`gathers` says how many octets are gathered at each face; a node of the kind of ION does as the gateway does."""
         timeout = int(700 + 3000 * delay)
         self.queues, policy = Queues(False), Policy(1024, timeout, 100, max(5000, timeout))
-        self.nodes = [self.node_of(kind, face, policy, [Way(trouble, delay) for trouble in pair], draw)
+        self.nodes = [self.node_of(kind, face, policy, [Way(trouble, delay) for trouble in pair], gathers[face], draw)
                       for kind, face, pair in zip(kinds, (OLD, NEW), (troubles[:2], troubles[2:]))]
         keys = [keys_of(kind, face, timeout, gathers[face], others)
                 for kind, face, others in zip(kinds, (OLD, NEW), more)]
@@ -323,12 +325,12 @@ class Between(Served):
         self.program = Program(path, words)
         self.wait_for_sockets()
 
-    def node_of(self, kind, face, policy, ways, draw):
+    def node_of(self, kind, face, policy, ways, gather, draw):
         gate = f"127.0.0.1:{free_port('127.0.0.1')}"
         words = VERSION[face], NUMBERS[face], "127.0.0.1:0", gate, policy, *ways, self.queues
         more = {"draw": random.Random(draw.randrange(1 << 30)), "sessions": SESSIONS}
         if kind == "ion":
-            return IonNode(*words, gather=GATHERED, gather_seconds=GATHER_MS / 1000, claims=2, others=2, **more)
+            return IonNode(*words, gather=gather, gather_seconds=GATHER_MS / 1000, claims=2, others=2, **more)
         return HdtnNode(*words, ping=0.5, **more)
 
 
@@ -341,7 +343,7 @@ class Trial:
                     for _ in range(4)]
         self.cut, self.kinds, gathers = int(options["cut"]), kinds, {OLD: 0, NEW: 0}
         for face, kind in zip((OLD, NEW), kinds):
-            gathers[face] = GATHERED if kind == "ion" else 0
+            gathers[face] = int(options["gather"]) if kind == "ion" else 0
         more = {"sessions": OF_GATE, **({"remember": int(options["remember"])} if options["remember"] else {})}
         of_old = {**more, "remember_ms": REMEMBER_MS} if options["anew"] else more
         self.between = Between(path, folder, kinds, gathers, troubles, options["delay"], self.cut, draw, (of_old, more))
@@ -480,7 +482,7 @@ def plain_bundles(count, began):
 def came_in(path, folder, gather, options):
     """How long it takes until so many bundles have come, from the moment at which they begin."""
     troubles, draw = [Trouble() for _ in range(4)], random.Random(1)
-    gathers = {OLD: GATHERED, NEW: gather}
+    gathers = {OLD: OPTIONS["gather"], NEW: gather}
     more = {"sessions": SESSIONS}, {"sessions": SESSIONS}
     between = Between(path, folder, ("ion", "ion"), gathers, troubles, options["delay"], 65_536, draw, more)
     try:

@@ -1,10 +1,11 @@
 -- How many sessions are unfinished, by the pieces that count.
 use Rattle.std.proofs.Common.{◌≡◌, ℕ, ◌+◌, Bool, true, false, not, ◌&&◌, List, [], ◌∷◌, ◌++◌, refl, arith, append_assoc, if◌then◌else◌}
 use Rattle.std.proofs.lemmas.List.{append-nil}
-use Rattle.gateway_run.specs.LineContent.{RedPiece, content_of}
+use Rattle.ltp_session.specs.RedPart.{RedPiece, is_whole}
+use Rattle.gateway_run.specs.LineContent.{content_of}
 use Rattle.gateway_run.specs.Session.{Session, fresh, open_part, handed_up}
 use Rattle.gateway_run.specs.KeptSessions.{is_unfinished}
-use Rattle.gateway_run.specs.RedPart.{is_whole, counts}
+use Rattle.gateway_run.specs.Taken.{counts}
 use Rattle.gateway_run.specs.ReceiverLaw.{is_begun, opens, closes, one_if, by_content, so_many}
 use Rattle.gateway_run.proofs.TableLemmas.{count}
 use Rattle.gateway_run.proofs.LawLemmas.{Told, with_counted}

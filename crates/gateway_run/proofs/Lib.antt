@@ -1,4 +1,3 @@
-pub mod BlockLemmas
 pub mod LawLemmas
 pub mod TableLemmas
 pub mod CountLemmas

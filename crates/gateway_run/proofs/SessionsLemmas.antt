@@ -14,7 +14,8 @@ use Rattle.gateway_run.specs.declared.table.Standing.{Standing}
 use Rattle.gateway_run.specs.declared.table.Standing.TheVariants as standings
 use Rattle.gateway_run.specs.declared.table.Found.TheVariants as founds
 use Rattle.gateway_run.specs.declared.table.Sessions.{Sessions}
-use Rattle.gateway_run.specs.LineContent.{RedPiece, stop}
+use Rattle.ltp_session.specs.RedPart.{red_stop}
+use Rattle.gateway_run.specs.LineContent.{NamedPiece}
 use Rattle.gateway_run.specs.Session.{Session, fresh, open_part, handed_up, nothing, up, note, skip, is_out_of_bounds, handing_up, meets}
 use Rattle.gateway_run.specs.KeptSessions.{Kept, session_in, with_session, is_unfinished, unfinished, same_name}
 use Rattle.gateway_run.specs.Table.{key_cmp, key, StandsFor, Shows, ShowsOthers, LacksFirst, Puts, found_at, IsTaken}
@@ -79,7 +80,7 @@ shows_absent sessions kept one lacks = record {
 
 -- ---- how a piece is met
 
-pub first-out : (session : Session) (p : RedPiece) → session ≡ fresh → is_out_of_bounds BLOCK_MAX 0 None p ≡ true
+pub first-out : (session : Session) (p : NamedPiece) → session ≡ fresh → is_out_of_bounds BLOCK_MAX 0 None p.piece ≡ true
     → meets BLOCK_MAX session p ≡ (note, fresh)
 unfolding meets
 first-out session p is out = rw (is, out) refl
@@ -94,13 +95,13 @@ alone_whole body =
     let size : 0 + length body ≡ length (laid_over [] body) = omega (arith, length-laid_over [] body) in
     rw (eq-eqb (0 + length body) (length (laid_over [] body)) size) (all_octets-laid body)
 
-pub first-alone : (session : Session) (p : RedPiece) → session ≡ fresh → is_out_of_bounds BLOCK_MAX 0 None p ≡ false
-    → (p.ends && (p.offset == 0)) ≡ true → meets BLOCK_MAX session p ≡ (up p.name p.body, handed_up)
+pub first-alone : (session : Session) (p : NamedPiece) → session ≡ fresh → is_out_of_bounds BLOCK_MAX 0 None p.piece ≡ false
+    → (p.piece.ends && (p.piece.offset == 0)) ≡ true → meets BLOCK_MAX session p ≡ (up p.name p.piece.body, handed_up)
 unfolding meets filled
 first-alone session p is inside alone =
-    let parts = both p.ends (p.offset == 0) alone in
-    let zero_offset : p.offset ≡ 0 = eqb-true p.offset 0 parts.1 in
-    rw (is, inside, zero_offset, parts.0, alone_whole p.body) refl
+    let parts = both p.piece.ends (p.piece.offset == 0) alone in
+    let zero_offset : p.piece.offset ≡ 0 = eqb-true p.piece.offset 0 parts.1 in
+    rw (is, inside, zero_offset, parts.0, alone_whole p.piece.body) refl
 
 either : (t : Bool) → (if t then None else None) ≡ (let none : Option (List ℕ) = None in none)
 either true = refl
@@ -113,20 +114,20 @@ gap offset false body several = refl
 gap zero true body several = absurd (cc)
 gap (suc offset) true body several = either _
 
-pub first-open : (session : Session) (p : RedPiece) → session ≡ fresh → is_out_of_bounds BLOCK_MAX 0 None p ≡ false
-    → (p.ends && (p.offset == 0)) ≡ false
-    → meets BLOCK_MAX session p ≡ (nothing, open_part (filled [] p.offset p.body) (length_after None p.ends (stop p)))
+pub first-open : (session : Session) (p : NamedPiece) → session ≡ fresh → is_out_of_bounds BLOCK_MAX 0 None p.piece ≡ false
+    → (p.piece.ends && (p.piece.offset == 0)) ≡ false
+    → meets BLOCK_MAX session p ≡ (nothing, open_part (filled [] p.piece.offset p.piece.body) (length_after None p.piece.ends (red_stop p.piece)))
 unfolding meets filled all_octets
-first-open session p is inside several = rw (is, inside, gap p.offset p.ends p.body several) refl
+first-open session p is inside several = rw (is, inside, gap p.piece.offset p.piece.ends p.piece.body several) refl
 
-pub open-out : (session : Session) (p : RedPiece) (cells : List (Option ℕ)) (known : Option ℕ) → session ≡ open_part cells known
-    → is_out_of_bounds BLOCK_MAX (length cells) known p ≡ true → meets BLOCK_MAX session p ≡ (note, open_part cells known)
+pub open-out : (session : Session) (p : NamedPiece) (cells : List (Option ℕ)) (known : Option ℕ) → session ≡ open_part cells known
+    → is_out_of_bounds BLOCK_MAX (length cells) known p.piece ≡ true → meets BLOCK_MAX session p ≡ (note, open_part cells known)
 unfolding meets
 open-out session p cells known is out = rw (is, out) refl
 
-pub open-inside : (session : Session) (p : RedPiece) (cells : List (Option ℕ)) (known : Option ℕ) (w : Option (List ℕ)) → session ≡ open_part cells known
-    → is_out_of_bounds BLOCK_MAX (length cells) known p ≡ false → w ≡ whole_part (filled cells p.offset p.body) (length_after known p.ends (stop p))
-    → meets BLOCK_MAX session p ≡ handing_up p.name w (filled cells p.offset p.body) (length_after known p.ends (stop p))
+pub open-inside : (session : Session) (p : NamedPiece) (cells : List (Option ℕ)) (known : Option ℕ) (w : Option (List ℕ)) → session ≡ open_part cells known
+    → is_out_of_bounds BLOCK_MAX (length cells) known p.piece ≡ false → w ≡ whole_part (filled cells p.piece.offset p.piece.body) (length_after known p.piece.ends (red_stop p.piece))
+    → meets BLOCK_MAX session p ≡ handing_up p.name w (filled cells p.piece.offset p.piece.body) (length_after known p.piece.ends (red_stop p.piece))
 unfolding meets
 open-inside session p cells known w is inside whole = rw (is, inside, whole) refl
 
@@ -141,7 +142,7 @@ puts_of old new one standing updates counted = record {
 
 -- ---- an entry is found
 
-pub found_handed_up : (entry : Option Standing) (session : Session) (most : ℕ) (p : RedPiece) → StandsFor entry session
+pub found_handed_up : (entry : Option Standing) (session : Session) (most : ℕ) (p : NamedPiece) → StandsFor entry session
     → found_at entry ≡ founds.HandedUp → meets most session p ≡ (skip, handed_up)
 unfolding meets
 found_handed_up None session most p stands is = absurd (cc)
@@ -272,16 +273,16 @@ handing-taken : (name : SessionName) (w : Option (List ℕ)) (cells : List (Opti
 handing-taken name None cells known = tt
 handing-taken name (Some body) cells known = tt
 
-pub first-taken : (session : Session) (p : RedPiece) → session ≡ fresh → is_out_of_bounds BLOCK_MAX 0 None p ≡ false
+pub first-taken : (session : Session) (p : NamedPiece) → session ≡ fresh → is_out_of_bounds BLOCK_MAX 0 None p.piece ≡ false
     → IsTaken (meets BLOCK_MAX session p).0
 unfolding meets
 first-taken session p is inside = rw (is, inside) (handing-taken p.name _ _ _)
 
-pub open-taken : (session : Session) (p : RedPiece) (reach : ℕ) (end : Option ℕ) → FoundOpen session reach end
-    → is_out_of_bounds BLOCK_MAX reach end p ≡ false → IsTaken (meets BLOCK_MAX session p).0
+pub open-taken : (session : Session) (p : NamedPiece) (reach : ℕ) (end : Option ℕ) → FoundOpen session reach end
+    → is_out_of_bounds BLOCK_MAX reach end p.piece ≡ false → IsTaken (meets BLOCK_MAX session p).0
 unfolding meets
 open-taken session p reach end found inside =
-    let test : is_out_of_bounds BLOCK_MAX (length found.cells) found.known p ≡ false = rw (found.reach_is, found.length_is) at inside in
+    let test : is_out_of_bounds BLOCK_MAX (length found.cells) found.known p.piece ≡ false = rw (found.reach_is, found.length_is) at inside in
     rw (found.is_open, test) (handing-taken p.name _ _ _)
 
 pub OnErr-by : {T E A B : Type 0} (r : Result T E) → (A → B) → OnErr r A → OnErr r B
@@ -294,10 +295,10 @@ OnErr-always (Err e) h = h
 
 -- ---- a first piece
 
-pub opens-out : (p : RedPiece) → is_out_of_bounds BLOCK_MAX 0 None p ≡ true → is_unfinished (meets BLOCK_MAX fresh p).1 ≡ false
+pub opens-out : (p : NamedPiece) → is_out_of_bounds BLOCK_MAX 0 None p.piece ≡ true → is_unfinished (meets BLOCK_MAX fresh p).1 ≡ false
 opens-out p out = rw (first-out fresh p refl out) refl
 
-pub opens-inside : (p : RedPiece) → is_out_of_bounds BLOCK_MAX 0 None p ≡ false → (alone : Bool) → (p.ends && (p.offset == 0)) ≡ alone
+pub opens-inside : (p : NamedPiece) → is_out_of_bounds BLOCK_MAX 0 None p.piece ≡ false → (alone : Bool) → (p.piece.ends && (p.piece.offset == 0)) ≡ alone
     → is_unfinished (meets BLOCK_MAX fresh p).1 ≡ not alone
 opens-inside p inside true is = rw (first-alone fresh p refl inside is) refl
 opens-inside p inside false is = rw (first-open fresh p refl inside is) refl

@@ -6,7 +6,9 @@ use Rattle.edge_traits.specs.declared.status.Status.TheVariants as statuses
 use Rattle.edge_traits.specs.Settled.{Settled, at_end, goes_on as going_on}
 use Rattle.ltp_session.specs.declared.name.SessionName.{SessionName}
 use Rattle.command_frame.specs.InputLines.{lines_of, ended_part, lines_within}
-use Rattle.gateway_run.specs.LineContent.{RedPiece, LineContent, no_hex, no_segment, other, red, content_of}
+use Rattle.ltp_session.specs.RedPart.{RedPiece}
+use Rattle.ltp_session.proofs.RedPartLemmas.{red_part-whole}
+use Rattle.gateway_run.specs.LineContent.{NamedPiece, LineContent, no_hex, no_segment, other, red, content_of}
 use Rattle.gateway_run.specs.Session.{Session, fresh, open_part, handed_up, Reply, nothing, up, note, skip, is_out_of_bounds, handing_up, meets}
 use Rattle.gateway_run.specs.KeptSessions.{Kept, session_in, with_session, unfinished, same_name}
 use Rattle.gateway_run.specs.WrittenLines.{skip_line, reply_line}
@@ -14,9 +16,9 @@ use Rattle.command_frame.specs.Within.{or_limit, within}
 use Rattle.command_frame.specs.Lines.{Turn, passes, ends_run, turn_at, after_turn, lines_settle, lines_from}
 use Rattle.command_frame.proofs.FrontLemmas.{from-limit, from-end}
 use Rattle.gateway_run.specs.Receive.{Limits, content_turn, receive_rules, received}
-use Rattle.gateway_run.specs.RedPart.{counts, with_piece, taken}
-use Rattle.gateway_run.specs.ReceiverLaw.{BecomesWhole, opens, closes, one_if, so_many, unfinished_after, Fate, goes_on, refused, past_limit, content_fate, fate, replies_text, EndsSo, KeepsReceiverLaw}
-use Rattle.gateway_run.proofs.LawLemmas.{Told, with_counted, MetByLaw, meets-law, red_part-whole}
+use Rattle.gateway_run.specs.Taken.{counts, with_piece, taken}
+use Rattle.gateway_run.specs.ReceiverLaw.{CompletesRedPart, opens, closes, one_if, so_many, unfinished_after, Fate, goes_on, refused, past_limit, content_fate, fate, replies_text, EndsSo, KeepsReceiverLaw}
+use Rattle.gateway_run.proofs.LawLemmas.{Told, with_counted, MetByLaw, meets-law}
 use Rattle.gateway_run.proofs.CountLemmas.{so_many-more, met-count}
 use Rattle.gateway_run.proofs.TableLemmas.{same_name-is, same_name-refl, session_in-with, unfinished-with}
 
@@ -29,7 +31,7 @@ taken-more most name pieces [] line = refl
 taken-more most name pieces (first ∷ lines) line =
     taken-more most name (with_piece most name pieces (content_of first)) lines line
 
-own_piece : (most : ℕ) (pieces : List RedPiece) (p : RedPiece) → with_piece most p.name pieces (red p) ≡ with_counted most pieces p
+own_piece : (most : ℕ) (pieces : List RedPiece) (p : NamedPiece) → with_piece most p.name pieces (red p) ≡ with_counted most pieces p.piece
 own_piece most pieces p = rw (same_name-refl p.name) refl
 
 -- ---- what is handed up is of the piece's session
@@ -44,12 +46,12 @@ bounds-name : (own name : SessionName) (t : Bool) (state : Session) (w : Option 
 bounds-name own name true state w cells known body is = absurd (cc)
 bounds-name own name false state w cells known body is = handing-name own name w cells known body is
 
-pub meets-name : (most : ℕ) (session : Session) (p : RedPiece) (name : SessionName) (body : List ℕ)
+pub meets-name : (most : ℕ) (session : Session) (p : NamedPiece) (name : SessionName) (body : List ℕ)
     → (meets most session p).0 ≡ up name body → p.name ≡ name
 unfolding meets
-meets-name most fresh p name body is = bounds-name p.name name (is_out_of_bounds most 0 None p) _ _ _ _ body is
+meets-name most fresh p name body is = bounds-name p.name name (is_out_of_bounds most 0 None p.piece) _ _ _ _ body is
 meets-name most (open_part cells known) p name body is =
-    bounds-name p.name name (is_out_of_bounds most (length cells) known p) _ _ _ _ body is
+    bounds-name p.name name (is_out_of_bounds most (length cells) known p.piece) _ _ _ _ body is
 meets-name most handed_up p name body is = absurd (cc)
 
 -- ---- one line
@@ -62,7 +64,7 @@ pub record ShowsAll (most : ℕ) (kept : List Kept) (before : List (List ℕ)) :
 -- the reply hands up exactly what becomes whole with this line
 abbrev pub ReplyByLaw : ℕ → List (List ℕ) → List ℕ → Reply → Type 0
 ReplyByLaw most before line reply = (name : SessionName) (body : List ℕ)
-    → ((reply ≡ up name body) ↔ BecomesWhole most before line name body)
+    → ((reply ≡ up name body) ↔ CompletesRedPart most before line name body)
 
 pub record GoesOnByLaw (limits : Limits) (n : ℕ) (before : List (List ℕ)) (line text : List ℕ) (kept : List Kept) : Type 0 where
   pub reply : Reply
@@ -89,11 +91,11 @@ TurnByLaw limits n before line (ends_run text status) = StopsByLaw limits n befo
 idle-law : (most : ℕ) (before : List (List ℕ)) (line : List ℕ) (reply : Reply) (name : SessionName) (body : List ℕ)
     → (reply ≡ up name body → ⊥)
     → taken most name [] (before ++ line ∷ []) ≡ taken most name [] before
-    → ((reply ≡ up name body) ↔ BecomesWhole most before line name body)
+    → ((reply ≡ up name body) ↔ CompletesRedPart most before line name body)
 idle-law most before line reply name body quiet same = (
   λ is. absurd (quiet is),
   λ whole.
-      let part = rw same at whole.now in
+      let part = rw same at whole.part in
       let is = red_part-whole (taken most name [] before) body part in
       let not_yet = whole.not_before in absurd (cc),
 )
@@ -121,14 +123,14 @@ module _ (limits : Limits) (n : ℕ) (kept : List Kept) (before : List (List ℕ
       }
 
   -- a red piece
-  module _ (p : RedPiece) (is : content_of line ≡ red p) where
+  module _ (p : NamedPiece) (is : content_of line ≡ red p) where
     now_taken : (name : SessionName) → taken limits.block name [] (before ++ line ∷ [])
-        ≡ (if same_name p.name name && counts limits.block (taken limits.block name [] before) p
-        then p ∷ taken limits.block name [] before else taken limits.block name [] before)
+        ≡ (if same_name p.name name && counts limits.block (taken limits.block name [] before) p.piece
+        then p.piece ∷ taken limits.block name [] before else taken limits.block name [] before)
     now_taken name = taken-more limits.block name [] before line ∙ ap (with_piece limits.block name (taken limits.block name [] before)) is
 
     by_law : MetByLaw p.name (meets limits.block (session_in p.name kept) p) (taken limits.block p.name [] before)
-        (with_counted limits.block (taken limits.block p.name [] before) p)
+        (with_counted limits.block (taken limits.block p.name [] before) p.piece)
     by_law = meets-law limits.block (session_in p.name kept) (taken limits.block p.name [] before) p (shows.each p.name)
 
     apart_taken : (name : SessionName) → same_name p.name name ≡ false
@@ -136,22 +138,22 @@ module _ (limits : Limits) (n : ℕ) (kept : List Kept) (before : List (List ℕ
     apart_taken name apart = now_taken name ∙ rw apart refl
 
     own_taken : taken limits.block p.name [] (before ++ line ∷ [])
-        ≡ with_counted limits.block (taken limits.block p.name [] before) p
+        ≡ with_counted limits.block (taken limits.block p.name [] before) p.piece
     own_taken = now_taken p.name ∙ rw (same_name-refl p.name) refl
 
     own_reply_law : (body : List ℕ)
-        → (((meets limits.block (session_in p.name kept) p).0 ≡ up p.name body) ↔ BecomesWhole limits.block before line p.name body)
+        → (((meets limits.block (session_in p.name kept) p).0 ≡ up p.name body) ↔ CompletesRedPart limits.block before line p.name body)
     own_reply_law body = (
       λ hands.
           let given = by_law.hands body hands in
-          record { not_before = given.0; now = rw own_taken given.1 },
+          record { not_before = given.0; part = rw own_taken given.1 },
       λ whole.
-          let part = rw own_taken at whole.now in
+          let part = rw own_taken at whole.part in
           by_law.handed body whole.not_before part,
     )
 
     reply_law : (name : SessionName) (body : List ℕ) (t : Bool) → same_name p.name name ≡ t
-        → (((meets limits.block (session_in p.name kept) p).0 ≡ up name body) ↔ BecomesWhole limits.block before line name body)
+        → (((meets limits.block (session_in p.name kept) p).0 ≡ up name body) ↔ CompletesRedPart limits.block before line name body)
     reply_law name body false apart =
         idle-law limits.block before line _ name body
         (λ hands.
@@ -177,7 +179,7 @@ module _ (limits : Limits) (n : ℕ) (kept : List Kept) (before : List (List ℕ
 
     so_many-piece : (test : List RedPiece → List RedPiece → Bool) → so_many test limits.block [] (before ++ line ∷ [])
         ≡ so_many test limits.block [] before
-        + one_if (test (taken limits.block p.name [] before) (with_counted limits.block (taken limits.block p.name [] before) p))
+        + one_if (test (taken limits.block p.name [] before) (with_counted limits.block (taken limits.block p.name [] before) p.piece))
     so_many-piece test =
         so_many-more test limits.block [] before line
         ∙ rw (is, own_piece limits.block (taken limits.block p.name [] before) p) refl
@@ -188,7 +190,7 @@ module _ (limits : Limits) (n : ℕ) (kept : List Kept) (before : List (List ℕ
       arith,
       so_many-piece closes,
       so_many-piece opens,
-      met-count limits.block (session_in p.name kept) (meets limits.block (session_in p.name kept) p).1 (taken limits.block p.name [] before) p (shows.each p.name) by_law.told,
+      met-count limits.block (session_in p.name kept) (meets limits.block (session_in p.name kept) p).1 (taken limits.block p.name [] before) p.piece (shows.each p.name) by_law.told,
       unfinished-with p.name (meets limits.block (session_in p.name kept) p).1 kept,
       shows.count,
     )
@@ -263,7 +265,7 @@ pub record KeepsFrom (limits : Limits) (n : ℕ) (longer : Bool) (before lines :
   pub ends : EndsFrom limits n longer before lines status (length replies) closing
   pub none_before : (i : ℕ) → i < length replies → fate limits (n + i) (before ++ take i lines) (get_or lines i []) ≡ goes_on
   pub law : (i : ℕ) (name : SessionName) (body : List ℕ) → i < length replies
-      → ((get_or replies i nothing ≡ up name body) ↔ BecomesWhole limits.block (before ++ take i lines) (get_or lines i []) name body)
+      → ((get_or replies i nothing ≡ up name body) ↔ CompletesRedPart limits.block (before ++ take i lines) (get_or lines i []) name body)
 
 module _ (limits : Limits) (n : ℕ) (longer : Bool) (before : List (List ℕ)) (line : List ℕ) (lines : List (List ℕ)) where
   ends_stop : (text : List ℕ) (status : Status) → StopsByLaw limits n before line text status
@@ -331,7 +333,7 @@ module _ (limits : Limits) (n : ℕ) (longer : Bool) (before : List (List ℕ)) 
 
       each : (i : ℕ) (name : SessionName) (body : List ℕ) → i < length (turn.reply ∷ later.replies)
           → ((get_or (turn.reply ∷ later.replies) i nothing ≡ up name body)
-          ↔ BecomesWhole limits.block (before ++ take i (line ∷ lines)) (get_or (line ∷ lines) i []) name body)
+          ↔ CompletesRedPart limits.block (before ++ take i (line ∷ lines)) (get_or (line ∷ lines) i []) name body)
       each zero name body low = rw (append-nil before) (turn.law name body)
       each (suc i) name body low = rw (← append_assoc before (line ∷ []) (take i lines)) (later.law i name body (omega arith))
 

@@ -9,7 +9,7 @@ pub mod Session
 pub mod KeptSessions
 pub mod WrittenLines
 pub mod Receive
-pub mod RedPart
+pub mod Taken
 pub mod ReceiverLaw
 pub mod KeepReceiving
 -- what only ties code to these

@@ -1,24 +1,17 @@
 -- What a line of `receive` says: its content. A line is one datagram in hex.
-use Rattle.std.specs.Prelude.{ℕ, Bool, ◌==◌, ◌&&◌, List, Result, Ok, Err, if◌then◌else◌}
+use Rattle.std.specs.Prelude.{ℕ, ◌==◌, ◌&&◌, List, Result, Ok, Err, if◌then◌else◌}
 use Rattle.hex_text.specs.Hex.{FromHexError, decode_of}
 use Rattle.ltp_segment.specs.declared.fault.SegmentCause.{SegmentCause}
 use Rattle.ltp_segment.specs.Reading.{segment_of}
 use Rattle.ltp_segment.specs.Values.{SegmentValue, ContentValue, a_piece, a_report, a_report_ack, a_sender_cancel, a_sender_cancel_ack, a_receiver_cancel, a_receiver_cancel_ack, PieceValue}
 use Rattle.ltp_segment.specs.Kinds.{is_red, ends_red_part}
 use Rattle.ltp_session.specs.declared.name.SessionName.{SessionName}
-use Rattle.ltp_session.specs.Cells.{stop_of}
+use Rattle.ltp_session.specs.RedPart.{RedPiece}
 
--- a piece of a red part: whose session, where it begins, whether the red part ends with it, and
--- its octets
-pub record RedPiece : Type 0 where
+-- a piece of a red part, and whose session it is of
+pub record NamedPiece : Type 0 where
   pub name : SessionName
-  pub offset : ℕ
-  pub ends : Bool
-  pub body : List ℕ
-
--- the place after a piece's last octet
-abbrev pub stop : RedPiece → ℕ
-stop p = stop_of p.offset p.body
+  pub piece : RedPiece
 
 -- a line is no hex; its datagram is no segment, by the field at a place; it is a segment that is
 -- no red piece of service 1; or it is one
@@ -26,12 +19,15 @@ pub data LineContent : Type 0 where
   no_hex : LineContent
   no_segment : ℕ → SegmentCause → LineContent
   other : LineContent
-  red : RedPiece → LineContent
+  red : NamedPiece → LineContent
 
 abbrev pub piece_content : SessionName → PieceValue → LineContent
 piece_content name p =
     if is_red p.kind && (p.service == 1)
-    then red (record { name = name; offset = p.offset; ends = ends_red_part p.kind; body = p.body })
+    then red (record {
+      name = name;
+      piece = record { offset = p.offset; ends = ends_red_part p.kind; body = p.body };
+    })
     else other
 
 abbrev pub content_in : SessionName → ContentValue → LineContent

@@ -7,7 +7,7 @@ use Rattle.command_frame.specs.Task.{Settling}
 use Rattle.command_frame.specs.Within.{within}
 use Rattle.command_frame.specs.Lines.{Turn, passes, ends_run, LineRules, by_lines}
 use Rattle.ltp_segment.specs.declared.session.TheConstants.{BLOCK_MAX}
-use Rattle.gateway_run.specs.LineContent.{RedPiece, LineContent, no_hex, no_segment, other, red, content_of}
+use Rattle.gateway_run.specs.LineContent.{NamedPiece, LineContent, no_hex, no_segment, other, red, content_of}
 use Rattle.gateway_run.specs.Session.{Session, Reply, meets}
 use Rattle.gateway_run.specs.KeptSessions.{Kept, session_in, with_session, unfinished}
 use Rattle.gateway_run.specs.WrittenLines.{skip_line, hex_line, cause_line, reply_line}
@@ -33,7 +33,7 @@ after_reply limits n reply kept =
     if nat_lt limits.sessions (unfinished kept) then ends_run [] statuses.Limit
     else passes (reply_line n reply) kept
 
-abbrev pub after_met : Limits → ℕ → List Kept → RedPiece → Reply × Session → Turn (List Kept)
+abbrev pub after_met : Limits → ℕ → List Kept → NamedPiece → Reply × Session → Turn (List Kept)
 after_met limits n kept p met = after_reply limits n met.0 (with_session p.name met.1 kept)
 
 -- the answer to line n of this content

@@ -1,20 +1,21 @@
 -- The receiver's law: each red part is handed up with the line that completes it, a refused line
 -- ends the run, and so does a limit.
-use Rattle.std.specs.Prelude.{◌≡◌, ℕ, ◌+◌, ◌-◌, ◌<◌, Bool, true, false, not, ◌&&◌, ◌||◌, nat_lt, All, List, [], ◌∷◌, ◌++◌, length, take, slice_index, slice_index_or, ◌↔◌, ◌⊎◌, if◌then◌else◌}
+use Rattle.std.specs.Prelude.{◌≡◌, ℕ, ◌+◌, ◌-◌, ◌<◌, Bool, true, false, not, ◌&&◌, ◌||◌, nat_lt, List, [], ◌∷◌, ◌++◌, length, take, slice_index_or, ◌↔◌, ◌⊎◌, if◌then◌else◌}
 use Rattle.edge_traits.specs.declared.status.Status.{Status}
 use Rattle.edge_traits.specs.declared.status.Status.TheVariants as statuses
 use Rattle.ltp_session.specs.declared.name.SessionName.{SessionName}
 use Rattle.command_frame.specs.InputLines.{lines_within}
-use Rattle.gateway_run.specs.LineContent.{RedPiece, LineContent, no_hex, no_segment, other, red, content_of}
+use Rattle.ltp_session.specs.RedPart.{RedPiece, is_whole, BecomesWhole}
+use Rattle.gateway_run.specs.LineContent.{LineContent, no_hex, no_segment, other, red, content_of}
 use Rattle.gateway_run.specs.Session.{Reply, nothing, up}
 use Rattle.gateway_run.specs.WrittenLines.{hex_line, cause_line, reply_line}
 use Rattle.gateway_run.specs.Receive.{Limits}
-use Rattle.gateway_run.specs.RedPart.{is_whole, IsRedPart, with_piece, taken}
+use Rattle.gateway_run.specs.Taken.{with_piece, taken}
 
 -- with this line, after those before it, the session's red part becomes whole, and is this
-pub record BecomesWhole (most : ℕ) (before : List (List ℕ)) (line : List ℕ) (name : SessionName) (body : List ℕ) : Type 0 where
-  pub not_before : is_whole (taken most name [] before) ≡ false
-  pub now : IsRedPart (taken most name [] (before ++ line ∷ [])) body
+abbrev pub CompletesRedPart : ℕ → List (List ℕ) → List ℕ → SessionName → List ℕ → Type 0
+CompletesRedPart most before line name body =
+    BecomesWhole (taken most name [] before) (taken most name [] (before ++ line ∷ [])) body
 
 -- ---- how many sessions are unfinished: those opened, less those whose red part became whole
 
@@ -107,16 +108,4 @@ pub record KeepsReceiverLaw (limits : Limits) (most : ℕ) (input text : List �
       → fate limits (1 + i) (take i (lines_within most input)) (slice_index_or (lines_within most input) i []) ≡ goes_on
   pub law : (i : ℕ) (name : SessionName) (body : List ℕ) → i < length replies
       → ((slice_index_or replies i nothing ≡ up name body)
-      ↔ BecomesWhole limits.block (take i (lines_within most input)) (slice_index_or (lines_within most input) i []) name body)
-
--- ---- pieces of one block
-
--- every octet that a piece has is the block's at its place
-abbrev pub IsOfBlock : List ℕ → RedPiece → Type 0
-IsOfBlock block p = (k : ℕ) → k < length p.body
-    → (p.offset + k < length block) × (slice_index p.body k ≡ slice_index block (p.offset + k))
-
--- where all pieces are of one block, the red part is the front of it
-abbrev pub IsFrontOfBlock : List ℕ → List RedPiece → List ℕ → Type 0
-IsFrontOfBlock block pieces body = All (IsOfBlock block) pieces → IsRedPart pieces body
-    → body ≡ take (length body) block
+      ↔ CompletesRedPart limits.block (take i (lines_within most input)) (slice_index_or (lines_within most input) i []) name body)

@@ -2,7 +2,8 @@
 use Rattle.std.specs.Prelude.{ℕ, Bool, ◌||◌, List, [], Option, None, Some, if◌then◌else◌}
 use Rattle.ltp_session.specs.declared.name.SessionName.{SessionName}
 use Rattle.ltp_session.specs.Cells.{reach_of, filled, whole_part, length_after, is_misplaced, is_no_part}
-use Rattle.gateway_run.specs.LineContent.{RedPiece, stop}
+use Rattle.ltp_session.specs.RedPart.{RedPiece, red_stop}
+use Rattle.gateway_run.specs.LineContent.{NamedPiece}
 
 -- a session: none of its pieces came; its cells (an octet where one came) and the length of its
 -- red part, once an end of it came; or its red part was handed up
@@ -23,8 +24,8 @@ pub data Reply : Type 0 where
 -- and whose length is known or not. It is empty or ends past the greatest block; it ends past the
 -- red part; or the red part ends with it elsewhere than before, or below an octet that came.
 abbrev pub is_out_of_bounds : (most reach : ℕ) → Option ℕ → RedPiece → Bool
-is_out_of_bounds most reach length p =
-    is_no_part most p.offset p.body || is_misplaced reach length p.ends (stop p)
+is_out_of_bounds most reach length piece =
+    is_no_part most piece.offset piece.body || is_misplaced reach length piece.ends (red_stop piece)
 
 -- the red part is handed up as soon as it is whole
 abbrev pub handing_up : SessionName → Option (List ℕ) → List (Option ℕ) → Option ℕ → Reply × Session
@@ -35,16 +36,17 @@ handing_up name (Some body) cells length = (up name body, handed_up)
 abbrev pub takes : SessionName → List (Option ℕ) → Option ℕ → Reply × Session
 takes name cells length = handing_up name (whole_part cells length) cells length
 
-abbrev pub meets_open : List (Option ℕ) → Option ℕ → RedPiece → Reply × Session
+abbrev pub meets_open : List (Option ℕ) → Option ℕ → NamedPiece → Reply × Session
 meets_open cells length p =
-    takes p.name (filled cells p.offset p.body) (length_after length p.ends (stop p))
+    takes p.name (filled cells (p.piece).offset (p.piece).body)
+    (length_after length (p.piece).ends (red_stop p.piece))
 
 -- a piece meets its session: one that was handed up skips it, before its bounds are looked at; one
 -- out of bounds changes nothing
-unfoldable pub meets : ℕ → Session → RedPiece → Reply × Session
+unfoldable pub meets : ℕ → Session → NamedPiece → Reply × Session
 meets most fresh p =
-    if is_out_of_bounds most 0 None p then (note, fresh) else meets_open [] None p
+    if is_out_of_bounds most 0 None p.piece then (note, fresh) else meets_open [] None p
 meets most (open_part cells length) p =
-    if is_out_of_bounds most (reach_of cells) length p then (note, open_part cells length)
+    if is_out_of_bounds most (reach_of cells) length p.piece then (note, open_part cells length)
     else meets_open cells length p
 meets most handed_up p = (skip, handed_up)

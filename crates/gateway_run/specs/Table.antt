@@ -13,7 +13,7 @@ use Rattle.gateway_run.specs.declared.table.Sessions.{Sessions}
 use Rattle.gateway_run.specs.declared.table.Found.{Found}
 use Rattle.gateway_run.specs.declared.table.Found.TheVariants as founds
 use Rattle.gateway_run.specs.declared.table.Reply.{Reply as CodeReply}
-use Rattle.gateway_run.specs.LineContent.{RedPiece}
+use Rattle.gateway_run.specs.LineContent.{NamedPiece}
 use Rattle.gateway_run.specs.Session.{Session, fresh, open_part, handed_up, Reply, nothing, up, note, skip, meets}
 use Rattle.gateway_run.specs.KeptSessions.{Kept, session_in, with_session, unfinished, same_name}
 use Rattle.gateway_run.specs.OpenPart.{Stands}
@@ -71,11 +71,11 @@ found_at (Some (standings.Open part)) = founds.Open (reach_of part.value.cells) 
 found_at (Some standings.HandedUp) = founds.HandedUp
 
 -- a piece met its session: what it brought about, and the table after it
-abbrev pub MeetsAs : List Kept → RedPiece → CodeReply → Sessions → Reply × Session → Type 0
+abbrev pub MeetsAs : List Kept → NamedPiece → CodeReply → Sessions → Reply × Session → Type 0
 MeetsAs kept p replied now met =
     (reply p.name replied ≡ met.0) × Shows now (with_session p.name met.1 kept)
 
-abbrev pub Meets : List Kept → RedPiece → CodeReply → Sessions → Type 0
+abbrev pub Meets : List Kept → NamedPiece → CodeReply → Sessions → Type 0
 Meets kept p replied now =
     MeetsAs kept p replied now (meets BLOCK_MAX (session_in p.name kept) p)
 

@@ -1,8 +1,7 @@
 //! Laws about what `receive` answers, each the contract of a function that does nothing.
 
 ghost use Rattle.std.specs.Prelude.{ℕ, List};
-ghost use Rattle.gateway_run.specs.LineContent.{RedPiece};
-ghost use Rattle.gateway_run.specs.ReceiverLaw.{IsFrontOfBlock};
+ghost use Rattle.ltp_session.specs.RedPart.{IsFrontOfBlock};
 ghost use Rattle.edge_traits.specs.Settled.{EarliestDecides};
 ghost use Rattle.command_frame.specs.Within.{within};
 ghost use Rattle.gateway_run.specs.Receive.{Limits, settles};
@@ -14,7 +13,7 @@ ghost use Rattle.gateway_run.specs.declared.commands.command.Command.{Command};
 /// Where every piece of a session is of one block, its red part is the front of that block: it
 /// is handed up as it was sent.
 pub fn red_part_is_front_of_block()
-    ensures { (block : List ℕ) (pieces : List RedPiece) (body : List ℕ) → IsFrontOfBlock block pieces body }
+    ensures { IsFrontOfBlock }
 {}
 
 /// The earliest place decides: what octets settle while the input goes on is a front of what they

@@ -2,7 +2,7 @@
 ghost use Rattle.std.specs.Prelude.{◌≡◌, ◌<◌, ◌≤◌, [], None, length, OnOk, IfOk};
 ghost use Rattle.std.specs.Option.{option_map};
 ghost use Rattle.ltp_session.specs.Cells.{filled, whole_part, length_after as after};
-ghost use Rattle.gateway_run.specs.LineContent.{stop};
+ghost use Rattle.ltp_session.specs.RedPart.{red_stop};
 ghost use Rattle.gateway_run.specs.Session.{is_out_of_bounds as bounds};
 ghost use Rattle.gateway_run.specs.Views.{red_piece};
 ghost use Rattle.gateway_run.specs.OpenPart.{Stands};
@@ -44,9 +44,9 @@ pub fn is_out_of_bounds(reach: u64, length: Option<u64>, piece: &Piece<'_>) -> b
 /// Takes a piece that can be one of the red part. Where memory runs out, the part may be empty.
 pub fn take(alloc: Global, part: &mut OpenPart, piece: &Piece<'_>) -> Result<(), AllocError>
     requires some { 0 < length piece.now.body.now }
-    requires fits { stop (red_piece piece.now) ≤ BLOCK_MAX }
+    requires fits { red_stop (red_piece piece.now) ≤ BLOCK_MAX }
     ensures { OnOk result (Stands part.new (filled part.old.cells piece.now.offset piece.now.body.now)
-        (after part.old.length piece.now.ends (stop (red_piece piece.now)))) }
+        (after part.old.length piece.now.ends (red_stop (red_piece piece.now)))) }
 {
     let stop = piece.offset + piece.body.len() as u64;
     let cells = mem::replace(&mut part.cells, Cells::new(alloc));

@@ -4,7 +4,7 @@ ghost use Rattle.ltp_segment.specs.declared.session.TheConstants.{BLOCK_MAX};
 ghost use Rattle.ltp_session.specs.Cells.{reach_of};
 ghost use Rattle.gateway_run.specs.KeptSessions.{Kept, session_in, with_session, is_unfinished, unfinished};
 ghost use Rattle.gateway_run.specs.Session.{meets, fresh, is_out_of_bounds as bounds};
-ghost use Rattle.gateway_run.specs.Views.{red_piece};
+ghost use Rattle.gateway_run.specs.Views.{named_piece, red_piece};
 ghost use Rattle.gateway_run.specs.Table.{Shows, LacksFirst, LacksOpen, Puts, Meets, IsTaken, key_cmp, found_at};
 ghost use Rattle.std.specs.BTreeMap.{get};
 
@@ -29,7 +29,7 @@ pub fn no_sessions(alloc: Global) -> Sessions
 /// No memory is taken. The session is looked for only where so many are unfinished.
 pub fn is_one_too_many(sessions: &Sessions, piece: &Piece<'_>, most: usize) -> bool
     ensures { (kept : List Kept) → Shows sessions.now kept → sessions.now.unfinished ≤ most → result ≡ nat_lt most (unfinished
-        (with_session piece.now.name (meets BLOCK_MAX (session_in piece.now.name kept) (red_piece piece.now)).1 kept)) }
+        (with_session piece.now.name (meets BLOCK_MAX (session_in piece.now.name kept) (named_piece piece.now)).1 kept)) }
 {
     if sessions.unfinished < most {
         return false;
@@ -43,7 +43,7 @@ pub fn is_one_too_many(sessions: &Sessions, piece: &Piece<'_>, most: usize) -> b
 
 /// Whether a session of which nothing came is unfinished after the piece.
 fn opens(piece: &Piece<'_>) -> bool
-    ensures { result ≡ is_unfinished (meets BLOCK_MAX fresh (red_piece piece.now)).1 }
+    ensures { result ≡ is_unfinished (meets BLOCK_MAX fresh (named_piece piece.now)).1 }
 {
     !is_out_of_bounds(0, None, piece) && !is_alone(piece)
 }
@@ -55,9 +55,9 @@ pub fn meet<'a>(
     piece: &Piece<'a>,
 ) -> Result<Reply<'a>, AllocError>
     ensures met { (kept : List Kept) → Shows sessions.old kept → sessions.old.unfinished < 2 ^ 32
-        → IfOk result (λ reply. Meets kept (red_piece piece.now) reply sessions.new) }
+        → IfOk result (λ reply. Meets kept (named_piece piece.now) reply sessions.new) }
     ensures memory { (kept : List Kept) → Shows sessions.old kept
-        → OnErr result (IsTaken (meets BLOCK_MAX (session_in piece.now.name kept) (red_piece piece.now)).0) }
+        → OnErr result (IsTaken (meets BLOCK_MAX (session_in piece.now.name kept) (named_piece piece.now)).0) }
 {
     let key = (piece.name.originator, piece.name.number);
     match find(sessions, key) {
@@ -93,7 +93,7 @@ fn meet_first<'a>(
     piece: &Piece<'a>,
 ) -> Result<Reply<'a>, AllocError>
     ensures met { (kept : List Kept) → LacksFirst sessions.old kept piece.now.name → sessions.old.unfinished < 2 ^ 32
-        → IfOk result (λ reply. Meets kept (red_piece piece.now) reply sessions.new) }
+        → IfOk result (λ reply. Meets kept (named_piece piece.now) reply sessions.new) }
     ensures memory { OnErr result (bounds BLOCK_MAX 0 None (red_piece piece.now) ≡ false) }
 {
     if is_out_of_bounds(0, None, piece) {
@@ -128,7 +128,7 @@ fn meet_open<'a>(
     requires { bounds BLOCK_MAX (reach_of part.value.cells) part.value.length (red_piece piece.now) ≡ false }
     ensures { (kept : List Kept) (cells : List (Option ℕ)) (length : Option ℕ)
         → LacksOpen sessions.old kept piece.now.name part.value cells length
-        → IfOk result (λ reply. Meets kept (red_piece piece.now) reply sessions.new) }
+        → IfOk result (λ reply. Meets kept (named_piece piece.now) reply sessions.new) }
 {
     take(alloc, &mut part, piece)?;
     match whole(alloc, &part)? {

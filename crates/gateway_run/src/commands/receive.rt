@@ -8,7 +8,7 @@ ghost use Rattle.gateway_run.specs.LineContent.{segment_content, content_of as c
 ghost use Rattle.gateway_run.specs.KeptSessions.{Kept};
 ghost use Rattle.gateway_run.specs.WrittenLines.{reply_line};
 ghost use Rattle.gateway_run.specs.Receive.{the_limits, receive_rules, content_turn};
-ghost use Rattle.gateway_run.specs.Views.{red_piece, reply as replied};
+ghost use Rattle.gateway_run.specs.Views.{named_piece, reply as replied};
 ghost use Rattle.gateway_run.specs.Turns.{ShowsFew, WantsMemory};
 
 use crate::line_content::{LineContent, content_of};
@@ -160,10 +160,10 @@ fn answer_piece(
 ) -> Result<Option<Status>, AllocError>
     ensures status { IfOk result (λ ends. IfSome ends IsStop) }
     ensures turn { (kept : List Kept) → ShowsFew sessions.old kept
-        → IfOk result (TurnsAs (ShowsFew sessions.new) (content_turn the_limits number kept (red (red_piece piece.now)))
+        → IfOk result (TurnsAs (ShowsFew sessions.new) (content_turn the_limits number kept (red (named_piece piece.now)))
         (string_bytes text.old) (string_bytes text.new)) }
     ensures memory { (kept : List Kept) → ShowsFew sessions.old kept
-        → OnErr result (WantsMemory (content_turn the_limits number kept (red (red_piece piece.now)))) }
+        → OnErr result (WantsMemory (content_turn the_limits number kept (red (named_piece piece.now)))) }
     ensures left { IfOk result (λ ends. IfSome ends (λ status. sessions.new ≡ sessions.old)) }
 {
     if is_one_too_many(sessions, piece, MOST_SESSIONS) {

@@ -2,7 +2,7 @@ use Rattle.std.proofs.Common.{◌≡◌, ◌≤◌, ◌<◌, ◌∙◌, refl, sy
 use Rattle.ltp_segment.specs.declared.session.TheConstants.{BLOCK_MAX}
 use Rattle.gateway_run.specs.KeptSessions.{session_in, unfinished}
 use Rattle.gateway_run.specs.Session.{Session, fresh, handed_up, meets}
-use Rattle.gateway_run.specs.Views.{red_piece}
+use Rattle.gateway_run.specs.Views.{named_piece}
 use Rattle.gateway_run.proofs.SessionsLemmas.{found_handed_up, found_open, lacks_first, fewer_too_many, fresh_too_many, open_too_many, none_too_many}
 use Rattle.gateway_run.proofs.sessions.is_one_too_many.Goals as goal
 
@@ -15,8 +15,8 @@ pub returns-in-Fresh : goal.returns-in-Fresh
 returns-in-Fresh c = λ kept shows low.
     let lacks = lacks_first c.args.sessions.now kept _ shows (sym c.find.ensures ∙ c.in-Fresh.is) in
     let full : unfinished kept ≡ c.args.most = omega (arith, low, shows.count, c.if-sessions-most.false) in
-    let same : meets BLOCK_MAX (session_in c.args.piece.now.name kept) (red_piece c.args.piece.now) ≡ meets BLOCK_MAX fresh (red_piece c.args.piece.now) =
-    ap (λ (s : Session). meets BLOCK_MAX s (red_piece c.args.piece.now)) lacks.first in
+    let same : meets BLOCK_MAX (session_in c.args.piece.now.name kept) (named_piece c.args.piece.now) ≡ meets BLOCK_MAX fresh (named_piece c.args.piece.now) =
+    ap (λ (s : Session). meets BLOCK_MAX s (named_piece c.args.piece.now)) lacks.first in
     rw same (c.opens.ensures ∙ sym (fresh_too_many c.args.most kept c.args.piece.now.name _ full lacks.first))
 
 pub returns-in-Open : goal.returns-in-Open
@@ -29,6 +29,6 @@ returns-in-Open c = λ kept shows low.
 pub returns-in-HandedUp : goal.returns-in-HandedUp
 returns-in-HandedUp c = λ kept shows low.
     let few : unfinished kept ≤ c.args.most = rw shows.count at low in
-    let is = found_handed_up _ (session_in c.args.piece.now.name kept) BLOCK_MAX (red_piece c.args.piece.now)
+    let is = found_handed_up _ (session_in c.args.piece.now.name kept) BLOCK_MAX (named_piece c.args.piece.now)
     (shows.each c.args.piece.now.name) (sym c.find.ensures ∙ c.in-HandedUp.is) in
     rw is (sym (none_too_many c.args.most kept c.args.piece.now.name handed_up few (omega arith)))

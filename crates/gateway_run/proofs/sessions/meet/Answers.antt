@@ -2,7 +2,7 @@ use Rattle.std.proofs.Common.{◌≡◌, ◌∙◌, refl, sym, true, length}
 use Rattle.ltp_segment.specs.declared.session.TheConstants.{BLOCK_MAX}
 use Rattle.gateway_run.specs.KeptSessions.{session_in}
 use Rattle.gateway_run.specs.Session.{handed_up, open_part, is_out_of_bounds}
-use Rattle.gateway_run.specs.Views.{red_piece}
+use Rattle.gateway_run.specs.Views.{named_piece, red_piece}
 use Rattle.gateway_run.proofs.SessionsLemmas.{found_handed_up, handed_up_of, found_entry, found_open, lacks_first, shows_same, others_of, open-out, first-taken, open-taken, OnErr-by, OnErr-always}
 use Rattle.gateway_run.proofs.sessions.meet.Goals as goal
 
@@ -10,7 +10,7 @@ pub returns-in-HandedUp-clause-met : goal.returns-in-HandedUp-clause-met
 returns-in-HandedUp-clause-met c = λ kept shows few.
     let test = sym c.find.ensures ∙ c.in-HandedUp.is in
     let stands = shows.each c.args.piece.now.name in
-    rw (found_handed_up _ (session_in c.args.piece.now.name kept) BLOCK_MAX (red_piece c.args.piece.now) stands test)
+    rw (found_handed_up _ (session_in c.args.piece.now.name kept) BLOCK_MAX (named_piece c.args.piece.now) stands test)
     (refl, shows_same c.args.sessions.now kept _ handed_up shows (handed_up_of _ _ stands test))
 
 pub returns-in-Fresh-clause-met : goal.returns-in-Fresh-clause-met
@@ -21,7 +21,7 @@ pub returns-in-Fresh-clause-memory : goal.returns-in-Fresh-clause-memory
 returns-in-Fresh-clause-memory c = λ kept shows.
     let lacks = lacks_first c.args.sessions.now kept _ shows (sym c.find.ensures ∙ c.in-Fresh.is) in
     OnErr-by c.meet_first.result
-    (λ inside. first-taken (session_in c.args.piece.now.name kept) (red_piece c.args.piece.now) lacks.first inside)
+    (λ inside. first-taken (session_in c.args.piece.now.name kept) (named_piece c.args.piece.now) lacks.first inside)
     c.meet_first.ensures.memory
 
 pub returns-then-is_out_of_bounds-clause-met : goal.returns-then-is_out_of_bounds-clause-met
@@ -30,7 +30,7 @@ returns-then-is_out_of_bounds-clause-met c = λ kept shows few.
     (shows.each c.args.piece.now.name) (sym c.find.ensures ∙ c.in-Open.is) in
     let test : is_out_of_bounds BLOCK_MAX (length found.cells) found.known (red_piece c.args.piece.now) ≡ true =
     rw (← found.reach_is, ← found.length_is) (sym c.is_out_of_bounds.ensures ∙ c.if-is_out_of_bounds.true) in
-    rw (open-out _ (red_piece c.args.piece.now) found.cells found.known found.is_open test)
+    rw (open-out _ (named_piece c.args.piece.now) found.cells found.known found.is_open test)
     (refl, shows_same c.args.sessions.now kept _ (open_part found.cells found.known) shows found.is_open)
 
 pub returns-in-Some-Open-clause-met : goal.returns-in-Some-Open-clause-met
@@ -48,5 +48,5 @@ returns-in-Some-Open-clause-memory c = λ kept shows.
     let found = found_open _ (session_in c.args.piece.now.name kept) c.in-Open.reach c.in-Open.length
     (shows.each c.args.piece.now.name) (sym c.find.ensures ∙ c.in-Open.is) in
     OnErr-always c.meet_open.result
-    (open-taken _ (red_piece c.args.piece.now) c.in-Open.reach c.in-Open.length found
+    (open-taken _ (named_piece c.args.piece.now) c.in-Open.reach c.in-Open.length found
     (sym c.is_out_of_bounds.ensures ∙ c.if-is_out_of_bounds.false))

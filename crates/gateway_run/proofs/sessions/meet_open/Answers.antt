@@ -1,10 +1,10 @@
 use Rattle.std.proofs.Common.{◌≡◌, refl, false, arith, None, Some, length}
 use Rattle.ltp_segment.specs.declared.session.TheConstants.{BLOCK_MAX}
 use Rattle.ltp_session.specs.Cells.{filled, length_after}
+use Rattle.ltp_session.specs.RedPart.{red_stop}
 use Rattle.gateway_run.specs.declared.table.Standing.TheVariants as standings
-use Rattle.gateway_run.specs.LineContent.{stop}
 use Rattle.gateway_run.specs.Session.{handed_up, open_part, is_out_of_bounds}
-use Rattle.gateway_run.specs.Views.{red_piece}
+use Rattle.gateway_run.specs.Views.{named_piece, red_piece}
 use Rattle.gateway_run.proofs.TableLemmas.{unfinished-open}
 use Rattle.gateway_run.proofs.SessionsLemmas.{open-inside, shows_put}
 use Rattle.gateway_run.proofs.sessions.meet_open.Goals as goal
@@ -15,7 +15,7 @@ returns-in-Some c = λ kept cells known lacks.
     rw (← lacks.stands.came, ← lacks.stands.length_is) c.requires in
     let stands = rw (c.deref_mut.ensures.value, lacks.stands.came, lacks.stands.length_is) at c.in_ok-take.ensures in
     let w = rw (c.in-Some.is, c.deref.ensures, stands.came, stands.length_is) at c.in_ok-body.ensures in
-    rw (open-inside _ (red_piece c.args.piece.now) cells known (Some c.in-Some.body.items) lacks.is_open test w) (
+    rw (open-inside _ (named_piece c.args.piece.now) cells known (Some c.in-Some.body.items) lacks.is_open test w) (
       refl,
       shows_put c.args.sessions.now c.put.new.sessions _ kept _ standings.HandedUp handed_up
           lacks.others c.in_ok-put-in-Some.ensures refl refl
@@ -34,10 +34,10 @@ returns c = λ kept cells known lacks.
     rw (← lacks.stands.came, ← lacks.stands.length_is) c.requires in
     let stands = rw (c.deref_mut.ensures.value, lacks.stands.came, lacks.stands.length_is) at c.in_ok-take.ensures in
     let w = rw (c.in-None.is, c.deref.ensures, stands.came, stands.length_is) at c.in_ok-body.ensures in
-    rw (open-inside _ (red_piece c.args.piece.now) cells known None lacks.is_open test w) (
+    rw (open-inside _ (named_piece c.args.piece.now) cells known None lacks.is_open test w) (
       refl,
       shows_put c.args.sessions.now c.put-in-None.new.sessions c.put-in-None.new.sessions kept _ _
           (open_part (filled cells c.args.piece.now.offset c.args.piece.now.body.now)
-          (length_after known c.args.piece.now.ends (stop (red_piece c.args.piece.now))))
+          (length_after known c.args.piece.now.ends (red_stop (red_piece c.args.piece.now))))
           lacks.others c.in_ok-put-in-None.ensures (_, _, refl, stands) refl (rw lacks.is_open refl),
     )

@@ -45,6 +45,7 @@ none_at = record {
   sessions_ended = no_ends;
   polls_failed = 0;
   sends_failed = 0;
+  foreign_datagrams = 0;
   green_octets = 0;
 }
 
@@ -86,6 +87,8 @@ counters_after (things.Ended how) c =
     record c { sessions_ended = end_after how c.sessions_ended }
 counters_after things.PollFailed c = record c { polls_failed = more c.polls_failed 1 }
 counters_after things.SendFailed c = record c { sends_failed = more c.sends_failed 1 }
+counters_after (things.Foreign datagrams) c =
+    record c { foreign_datagrams = more c.foreign_datagrams datagrams }
 counters_after (things.Green octets) c =
     record c { green_octets = more c.green_octets octets }
 

@@ -17,7 +17,7 @@ all_at c =
     ∷ c.blocks.hop_limit ∷ c.blocks.storage ∷ c.datagrams_received ∷ c.octets_received
     ∷ c.datagrams_sent ∷ c.octets_sent ∷ c.datagrams_dropped ∷ c.sessions_begun
     ∷ c.sessions_ended.sent ∷ c.sessions_ended.failed ∷ c.sessions_ended.cancelled
-    ∷ c.polls_failed ∷ c.sends_failed ∷ c.green_octets ∷ []
+    ∷ c.polls_failed ∷ c.sends_failed ∷ c.foreign_datagrams ∷ c.green_octets ∷ []
 
 -- each is a number that it can hold
 abbrev pub AllFit : List ℕ → Type 0

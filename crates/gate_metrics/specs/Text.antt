@@ -162,7 +162,9 @@ families c g =
 -- face and at the new one, too
 abbrev pub beside : Counters → (old new : ℕ) → List Family
 beside c old new =
-    counter (codes "green_bytes_total") (codes "Octets of green data that came.")
+    counter (codes "foreign_datagrams_total") (codes "Datagrams from elsewhere that were dropped.")
+    (by_face c.old.foreign_datagrams c.new.foreign_datagrams)
+    ∷ counter (codes "green_bytes_total") (codes "Octets of green data that came.")
     (by_face c.old.green_octets c.new.green_octets)
     ∷ gauge (codes "gathered_bytes") (codes "Octets of the pieces that wait to be sent.")
     (by_face old new)

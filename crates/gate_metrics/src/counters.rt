@@ -43,6 +43,11 @@ pub enum Counted {
     PollFailed,
     /// A send failed.
     SendFailed,
+    /// Datagrams came from elsewhere than the face's peer, and were dropped.
+    Foreign {
+        /// How many.
+        datagrams: u64,
+    },
     /// Green data came.
     Green {
         /// How many octets it has.
@@ -93,6 +98,7 @@ pub struct FaceCounters {
     pub(crate) sessions_ended: EndCounters,
     pub(crate) polls_failed: u64,
     pub(crate) sends_failed: u64,
+    pub(crate) foreign_datagrams: u64,
     pub(crate) green_octets: u64,
 }
 
@@ -141,6 +147,7 @@ impl FaceCounters {
             sessions_ended: EndCounters::new(),
             polls_failed: 0,
             sends_failed: 0,
+            foreign_datagrams: 0,
             green_octets: 0,
         }
     }
@@ -164,6 +171,7 @@ impl FaceCounters {
             Counted::Ended { how } => self.sessions_ended.count(how),
             Counted::PollFailed => add(&mut self.polls_failed, 1),
             Counted::SendFailed => add(&mut self.sends_failed, 1),
+            Counted::Foreign { datagrams } => add(&mut self.foreign_datagrams, datagrams),
             Counted::Green { octets } => add(&mut self.green_octets, octets),
         }
     }

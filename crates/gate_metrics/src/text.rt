@@ -119,7 +119,7 @@ fn push_troubles(text: &mut String, counters: &Counters) -> Result<(), AllocErro
     )
 }
 
-/// Appends what is told of green data, and of pieces that wait.
+/// Appends what is told of datagrams from elsewhere, of green data, and of pieces that wait.
 fn push_beside(
     text: &mut String,
     counters: &Counters,
@@ -129,6 +129,13 @@ fn push_beside(
     ensures { OnOk result (string_bytes text.new ≡ string_bytes text.old
         ++ flat_map spec.family_text (spec.beside counters.now old_gathered new_gathered)) }
 {
+    push_counter(
+        text,
+        "foreign_datagrams_total",
+        "Datagrams from elsewhere that were dropped.",
+        counters.old.foreign_datagrams,
+        counters.new.foreign_datagrams,
+    )?;
     push_counter(
         text,
         "green_bytes_total",

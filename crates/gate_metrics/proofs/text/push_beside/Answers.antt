@@ -7,5 +7,6 @@ pub returns : goal.returns
 returns c =
     on_ok_weaker c.push_gauge.result
     (λ h. before (string_bytes c.args.text.now) (string_bytes c.push_counter.new.text) (string_bytes c.push_gauge.new.text) _ _ c.in_ok-push_counter.ensures
-    (ends (string_bytes c.push_counter.new.text) (string_bytes c.push_gauge.new.text) _ h))
+    (before (string_bytes c.push_counter.new.text) (string_bytes c.push_counter-2.new.text) (string_bytes c.push_gauge.new.text) _ _ c.in_ok-push_counter-2.ensures
+    (ends (string_bytes c.push_counter-2.new.text) (string_bytes c.push_gauge.new.text) _ h)))
     c.push_gauge.ensures

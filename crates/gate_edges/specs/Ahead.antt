@@ -1,6 +1,6 @@
 -- What an outside will give from here on, call after call.
 
-use Rattle.std.specs.Prelude.{ℕ, Bool, List, [], ◌∷◌, Option, None, Some, if◌then◌else◌}
+use Rattle.std.specs.Prelude.{ℕ, ◌+◌, ◌-◌, ◌^◌, min, Bool, List, [], ◌∷◌, Option, None, Some, if◌then◌else◌}
 use Rattle.edge_traits.specs.Faults.{fails_next, after_next}
 use Rattle.gate_cases.specs.declared.face.Face.{Face}
 use Rattle.gate_cases.specs.declared.face.Face.TheVariants.{Old, New}
@@ -21,10 +21,16 @@ after_reading (first ∷ second ∷ later) = second ∷ later
 
 -- ---- a link
 
--- what its polls will give, a datagram or none there, one for each poll that doesn't fail; past the
--- end none is there. And which of its calls will fail, polls and sends in one list; past the end none
+-- what a poll gives: so many datagrams from elsewhere, which it drops, and then one of the peer's or none
+abbrev pub Given : Type 0
+Given = ℕ × Option (List ℕ)
+
+-- what its polls will give, one for each poll that doesn't fail; past the end nothing is there. How many
+-- datagrams from elsewhere they dropped since that was last asked, up to the greatest number that 64 bits
+-- show. And which of its calls will fail, polls and sends in one list; past the end none
 pub record LinkAhead : Type 0 where
-  pub gives : List (Option (List ℕ))
+  pub gives : List Given
+  pub dropped : ℕ
   pub failing : List Bool
 
 -- what a poll comes to
@@ -33,27 +39,37 @@ pub data Polled : Type 0 where
   empty : Polled
   gave : List ℕ → Polled
 
-abbrev pub given : List (Option (List ℕ)) → Polled
+abbrev pub given : List Given → Polled
 given [] = empty
-given (None ∷ later) = empty
-given (Some datagram ∷ later) = gave datagram
+given ((foreign, None) ∷ later) = empty
+given ((foreign, Some datagram) ∷ later) = gave datagram
 
-abbrev pub after_given : List (Option (List ℕ)) → List (Option (List ℕ))
+abbrev pub after_given : List Given → List Given
 after_given [] = []
 after_given (first ∷ later) = later
 
--- a poll that fails takes nothing
+abbrev pub dropped_by : List Given → ℕ → ℕ
+dropped_by [] dropped = dropped
+dropped_by ((foreign, datagram) ∷ later) dropped = min (dropped + foreign) (2 ^ 64 - 1)
+
+-- a poll that fails takes and drops nothing
 abbrev pub polled_of : LinkAhead → Polled
 polled_of link = if fails_next link.failing then failed else given link.gives
 
 abbrev pub link_past_poll : LinkAhead → LinkAhead
 link_past_poll link = record {
   gives = if fails_next link.failing then link.gives else after_given link.gives;
+  dropped =
+      if fails_next link.failing then link.dropped else dropped_by link.gives link.dropped;
   failing = after_next link.failing;
 }
 
+-- it is asked how many datagrams from elsewhere were dropped
+abbrev pub link_past_count : LinkAhead → LinkAhead
+link_past_count link = record link { dropped = 0 }
+
 abbrev pub link_past_send : LinkAhead → LinkAhead
-link_past_send link = record { gives = link.gives; failing = after_next link.failing }
+link_past_send link = record link { failing = after_next link.failing }
 
 -- ---- all of it
 
@@ -86,6 +102,13 @@ polled_at face ahead = polled_of (link_of face ahead)
 
 abbrev pub past_poll : Face → Ahead → Ahead
 past_poll face ahead = with_link face (link_past_poll (link_of face ahead)) ahead
+
+-- it is asked how many datagrams from elsewhere the polls of a face's link dropped
+abbrev pub dropped_at : Face → Ahead → ℕ
+dropped_at face ahead = (link_of face ahead).dropped
+
+abbrev pub past_count : Face → Ahead → Ahead
+past_count face ahead = with_link face (link_past_count (link_of face ahead)) ahead
 
 -- a datagram is sent at a face
 abbrev pub send_fails : Face → Ahead → Bool

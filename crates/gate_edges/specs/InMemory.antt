@@ -1,9 +1,9 @@
 -- What an outside in memory keeps.
 
-use Rattle.std.specs.Prelude.{ℕ, List, [], ◌∷◌, ◌++◌, map, Option}
+use Rattle.std.specs.Prelude.{List, [], ◌∷◌, ◌++◌, map}
 use Rattle.journal_file.specs.Values.{RecordValue, a_begun, a_done, a_mark, a_clear, a_reserved}
 use Rattle.journal_file.specs.Ties.{kept_of}
-use Rattle.gate_edges.specs.Ahead.{LinkAhead}
+use Rattle.gate_edges.specs.Ahead.{Given, LinkAhead}
 use Rattle.gate_edges.specs.declared.mem_acts.MemAct.{MemAct}
 use Rattle.gate_edges.specs.declared.mem_acts.MemAct.TheVariants as acts
 use Rattle.gate_edges.specs.declared.mem_records.MemRecord.{MemRecord}
@@ -27,6 +27,6 @@ made_in (acts.Shown text) = shown text ∷ []
 made_in (acts.Committed records) = committed (map value_of records.items) ∷ []
 made_in (acts.Installed kept) = installed (kept_of kept) ∷ []
 
--- a face to which this comes after what comes already: a datagram, or none at one poll
-abbrev pub with_given : Option (List ℕ) → LinkAhead → LinkAhead
-with_given given link = record { gives = link.gives ++ given ∷ []; failing = link.failing }
+-- a face of which a poll gives this after what comes already
+abbrev pub with_given : Given → LinkAhead → LinkAhead
+with_given given link = record link { gives = link.gives ++ given ∷ [] }

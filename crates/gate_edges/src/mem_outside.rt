@@ -167,6 +167,13 @@ impl Outside for MemOutside {
         }
     }
 
+    fn take_foreign(&mut self, face: Face) -> u64 {
+        match face {
+            Face::Old => self.old.take_foreign(),
+            Face::New => self.new.take_foreign(),
+        }
+    }
+
     /// Keeps the datagram as sent, or as lost where this call is to fail.
     fn send(&mut self, face: Face, datagram: &[u8]) -> Result<(), Failed> {
         let sent = match face {

@@ -4,7 +4,8 @@ ghost use Rattle.std.specs.Prelude.{◌≡◌, ◌<◌, ◌≤◌, ◌^◌, List
 ghost use Rattle.edge_traits.specs.Content.{Gains};
 ghost use Rattle.edge_traits.specs.Datagrams.{PollsAtMost};
 ghost use Rattle.edge_traits.specs.Faults.{Calls, Went};
-ghost use Rattle.gate_edges.specs.Ahead.{Ahead, polled_at, past_poll, reading_next, past_reading};
+ghost use Rattle.gate_edges.specs.Ahead.{Ahead, polled_at, past_poll, dropped_at, past_count};
+ghost use Rattle.gate_edges.specs.Ahead.{reading_next, past_reading};
 ghost use Rattle.gate_edges.specs.Ahead.{send_fails, past_send, show_fails, past_show};
 ghost use Rattle.gate_edges.specs.Made.{Made, AsTold, Writes, Shows, Commits, Installs, Stored, polled_in, tried};
 ghost use Rattle.journal_file.specs.Length.{entries_length, gate_of};
@@ -41,13 +42,22 @@ pub trait Outside {
         ensures writes { writes self.new ≡ writes self.old }
         ensures stores { stores self.new ≡ stores self.old };
 
-    /// Takes the next datagram at a face into the front of `buf` and answers its length, or None where
-    /// no datagram is there.
+    /// Takes the next datagram of a face's peer into the front of `buf` and answers its length, or None
+    /// where none is there. What comes from elsewhere is dropped and counted.
     fn poll(&mut self, face: Face, buf: &mut [u8]) -> Result<Option<usize>, Failed>
         requires { LONGEST_DATAGRAM ≤ length buf.old }
         ensures bound { PollsAtMost result buf.new }
         ensures ahead { AsTold (ahead self.old) (ahead self.new) (polled_in buf.new result)
             (polled_at face) (past_poll face) }
+        ensures made { made self.new ≡ made self.old }
+        ensures writes { writes self.new ≡ writes self.old }
+        ensures stores { stores self.new ≡ stores self.old };
+
+    /// How many datagrams from elsewhere the polls of a face dropped since this was last asked, up to the
+    /// greatest number that 64 bits show.
+    fn take_foreign(&mut self, face: Face) -> u64
+        ensures ahead { AsTold (ahead self.old) (ahead self.new) result
+            (dropped_at face) (past_count face) }
         ensures made { made self.new ≡ made self.old }
         ensures writes { writes self.new ≡ writes self.old }
         ensures stores { stores self.new ≡ stores self.old };

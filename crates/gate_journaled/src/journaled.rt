@@ -82,6 +82,10 @@ impl<O: Outside + Drop, S: Store + Drop> Outside for Journaled<O, S> {
         self.outside.poll(face, buf)
     }
 
+    fn take_foreign(&mut self, face: Face) -> u64 {
+        self.outside.take_foreign(face)
+    }
+
     fn send(&mut self, face: Face, datagram: &[u8]) -> Result<(), Failed> {
         self.outside.send(face, datagram)
     }

@@ -86,6 +86,10 @@ impl<T: Timer + Drop, C: Clocks + Drop, K: Sink + Drop, B: Board + Drop, S: Stor
         self.sockets.next(face, buf)
     }
 
+    fn take_foreign(&mut self, face: Face) -> u64 {
+        self.sockets.take_foreign(face)
+    }
+
     fn send(&mut self, face: Face, datagram: &[u8]) -> Result<(), Failed> {
         self.sockets.send(face, datagram)
     }

@@ -1,5 +1,6 @@
 //! The sockets of both faces.
 
+ghost use Rattle.std.specs.Prelude.{◌≡◌, ◌+◌, ◌-◌, ◌^◌, min, false, Ok, None};
 ghost use Rattle.edge_traits.specs.Datagrams.{PollsAtMost};
 
 use crate::accepting::takes;
@@ -34,6 +35,8 @@ pub struct Side {
     accept: Accept,
     /// Nothing was there when the socket was polled last.
     idle: bool,
+    /// How many datagrams from elsewhere were dropped since that was last asked.
+    foreign: u64,
 }
 
 impl Side {
@@ -45,12 +48,16 @@ impl Side {
             peer,
             accept,
             idle: false,
+            foreign: 0,
         })
     }
 
-    /// The next datagram that the face takes. At most 256 from elsewhere are dropped before it.
+    /// The next datagram that the face takes. At most 256 from elsewhere are dropped before it, and counted.
     fn next(&mut self, buf: &mut [u8]) -> Result<Option<usize>, Failed>
-        ensures { PollsAtMost result buf.new }
+        ensures bound { PollsAtMost result buf.new }
+        // Where none is taken though more may be there, so many were dropped.
+        ensures dropped { result ≡ Ok None → self.new.idle ≡ false
+            → self.new.foreign ≡ min (self.old.foreign + 256) (2 ^ 64 - 1) }
     {
         self.idle = false;
         'foreign: for _ in 0..MOST_FOREIGN {
@@ -59,6 +66,7 @@ impl Side {
                     if takes(self.accept, &self.peer, &from) {
                         return Ok(Some(length));
                     }
+                    self.foreign = self.foreign.saturating_add(1);
                 }
                 Err(error) if error.kind() == ErrorKind::WouldBlock => {
                     self.idle = true;
@@ -68,6 +76,16 @@ impl Side {
             }
         }
         Ok(None)
+    }
+
+    /// How many datagrams from elsewhere were dropped since this was last asked.
+    fn take_foreign(&mut self) -> u64
+        ensures answer { result ≡ self.old.foreign }
+        ensures none { self.new.foreign ≡ 0 }
+    {
+        let foreign = self.foreign;
+        self.foreign = 0;
+        foreign
     }
 
     /// Sends a datagram to the peer. Where the system has no room for it, it is tried again after a pause,
@@ -142,6 +160,14 @@ impl<T: Timer + Drop> Sockets<T> {
         }
         self.came = false;
         next
+    }
+
+    /// How many datagrams from elsewhere were dropped at a face since this was last asked.
+    pub(crate) fn take_foreign(&mut self, face: Face) -> u64 {
+        match face {
+            Face::Old => self.old.take_foreign(),
+            Face::New => self.new.take_foreign(),
+        }
     }
 
     /// Waits until something comes, at most a millisecond.

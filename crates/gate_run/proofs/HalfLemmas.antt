@@ -15,7 +15,7 @@ use Rattle.peer_half.specs.Half.{half}
 use Rattle.gate_run.specs.Comes.{most_polls, comes, past_polls}
 use Rattle.gate_run.specs.Course.{Point, recorded, old_sent, new_sent, ended, shows_in, past_sendings, past_shows, ahead_past_half}
 use Rattle.gate_run.specs.Outcome.{made_by_all}
-use Rattle.gate_run.specs.Stages.{IsAt, Reached, Goes, and_on, hears_over, polls_within, commits_over, sends_over, sends_both, tells_over, sends_and_tells, answers_over, half_over}
+use Rattle.gate_run.specs.Stages.{IsAt, Reached, Goes, and_on, hears_over, past_counted, polls_within, commits_over, sends_over, sends_both, tells_over, sends_and_tells, answers_over, half_over}
 use Rattle.gate_run.specs.declared.stop.Stop.{Stop}
 use Rattle.gate_run.specs.declared.stop.Stop.TheVariants.{NoMemory}
 use Rattle.gate_run.proofs.PollLemmas.{hears-are}
@@ -23,12 +23,12 @@ use Rattle.gate_run.proofs.SendLemmas.{sent_to, sends-are}
 
 -- ---- what is done before anything is sent
 
-pub heard-so : {X E : Type 0} (Shows_read Shows : Standing → Type 0) (result : Result X E) (ahead ahead_now : Option Ahead) (face : Face) (reading : Reading) (p : Point)
+pub heard-so : (Shows_read Shows : Standing → Type 0) (ahead ahead_now : Option Ahead) (face : Face) (reading : Reading) (p : Point)
     → reading ≡ reading_next p.ahead → ahead ≡ Some (past_reading p.ahead)
     → Shows_read (ticks (resumes (reads reading p.standing)))
-    → ((q : Point) → IsAt Shows_read ahead q → OnOk result (IsAt Shows ahead_now (polls_within most_polls face q)))
-    → OnOk result (IsAt Shows ahead_now (hears_over face p))
-heard-so Shows_read Shows result ahead ahead_now face reading p is told shown polls =
+    → ((q : Point) → IsAt Shows_read ahead q → IsAt Shows ahead_now (past_counted face (polls_within most_polls face q)))
+    → IsAt Shows ahead_now (hears_over face p)
+heard-so Shows_read Shows ahead ahead_now face reading p is told shown polls =
     let q : Point = record { ahead = past_reading p.ahead; standing = ticks (resumes (reads (reading_next p.ahead) p.standing)) } in
     let at : IsAt Shows_read ahead q = record { shown = rw is at shown; told = told } in
     rw (sym (hears-are face p)) (polls q at)

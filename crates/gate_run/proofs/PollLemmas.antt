@@ -3,12 +3,12 @@
 use Rattle.std.proofs.Common.{◌≡◌, ℕ, zero, suc, true, false, Option, refl, sym, ◌∙◌, ap, if◌then◌else◌}
 use Rattle.gate_cases.specs.declared.face.Face.{Face}
 use Rattle.gate_cases.specs.declared.face.Face.TheVariants.{Old, New}
-use Rattle.gate_edges.specs.Ahead.{Ahead, LinkAhead, Polled, failed, empty, gave, polled_at, link_of, with_link, link_past_poll, past_poll, past_reading, reading_next}
+use Rattle.gate_edges.specs.Ahead.{Ahead, LinkAhead, Polled, failed, empty, gave, polled_at, link_of, with_link, link_past_count, link_past_poll, past_poll, past_reading, reading_next}
 use Rattle.peer_half.specs.Standing.{Standing}
-use Rattle.peer_half.specs.Parts.{reads, resumes, ticks, arrives, arrives_all, ends_polling}
+use Rattle.peer_half.specs.Parts.{reads, resumes, ticks, arrives, arrives_all, drops_foreign, ends_polling}
 use Rattle.gate_run.specs.Comes.{Taken, taken_by, takes, most_polls, comes}
 use Rattle.gate_run.specs.Course.{Point}
-use Rattle.gate_run.specs.Stages.{IsAt, is_given, after_polled, past_polled, polls_within, hears_over}
+use Rattle.gate_run.specs.Stages.{IsAt, is_given, after_polled, past_counted, past_polled, polls_within, hears_over}
 use Rattle.gate_run.proofs.MadeLemmas.{if-true, if-false}
 
 -- ---- in the loop
@@ -101,6 +101,19 @@ polls-are (suc n) face p =
     (rest ∙ ap (λ link. taken_to face (takes n link) (past_polled face p))
     (link-of-with face (link_past_poll (link_of face p.ahead)) p.ahead))
 
+-- ---- what they dropped is counted
+
+-- where polls lead once that is done, by what they come to
+abbrev pub counted_to : Face → Taken → Point → Point
+counted_to face taken p = record {
+  ahead = with_link face (link_past_count taken.link) p.ahead;
+  standing = drops_foreign face (taken.link).dropped (ends_polling face taken.poll_failed (arrives_all face taken.datagrams p.standing));
+}
+
+counted-are : (face : Face) (taken : Taken) (p : Point) → past_counted face (taken_to face taken p) ≡ counted_to face taken p
+counted-are Old taken p = refl
+counted-are New taken p = refl
+
 -- ---- what is done before anything is sent
 
 link-of-read : (face : Face) (ahead : Ahead) → link_of face (past_reading ahead) ≡ link_of face ahead
@@ -108,10 +121,11 @@ link-of-read Old ahead = refl
 link-of-read New ahead = refl
 
 pub hears-are : (face : Face) (p : Point)
-    → polls_within most_polls face record { ahead = past_reading p.ahead; standing = ticks (resumes (reads (reading_next p.ahead) p.standing)) }
+    → past_counted face (polls_within most_polls face record { ahead = past_reading p.ahead; standing = ticks (resumes (reads (reading_next p.ahead) p.standing)) })
     ≡ hears_over face p
 unfolding comes
 hears-are face p =
-    polls-are most_polls face record { ahead = past_reading p.ahead; standing = ticks (resumes (reads (reading_next p.ahead) p.standing)) }
-    ∙ ap (λ link. taken_to face (takes most_polls link) record { ahead = past_reading p.ahead; standing = ticks (resumes (reads (reading_next p.ahead) p.standing)) })
-    (link-of-read face p.ahead)
+    let q : Point = record { ahead = past_reading p.ahead; standing = ticks (resumes (reads (reading_next p.ahead) p.standing)) } in
+    ap (λ r. past_counted face r) (polls-are most_polls face q)
+    ∙ (counted-are face (takes most_polls (link_of face q.ahead)) q
+    ∙ ap (λ link. counted_to face (takes most_polls link) q) (link-of-read face p.ahead))

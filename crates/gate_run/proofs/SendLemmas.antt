@@ -120,8 +120,8 @@ past-one face acted act p s = ap (λ ahead. record {
     links : (face : Face) (ahead : Ahead)
         → with_link face (past_sends (length acted.acts) (link_of face (past_send face ahead))) (past_send face ahead)
         ≡ with_link face (past_sends (suc (length acted.acts)) (link_of face ahead)) ahead
-    links Old ahead = ap (λ v. record ahead { old = record { gives = (ahead.old).gives; failing = v } }) (drops (ahead.old).failing)
-    links New ahead = ap (λ v. record ahead { new = record { gives = (ahead.new).gives; failing = v } }) (drops (ahead.new).failing)
+    links Old ahead = ap (λ v. record ahead { old = record ahead.old { failing = v } }) (drops (ahead.old).failing)
+    links New ahead = ap (λ v. record ahead { new = record ahead.new { failing = v } }) (drops (ahead.new).failing)
 
 past-none : (face : Face) (p : Point) → stays p ≡ sent_to face (stands p.standing) p
 past-none face p = ap (λ ahead. record { point = record { ahead = ahead; standing = p.standing }; acts = [] }) (links face p.ahead)

@@ -3,7 +3,8 @@
 use Rattle.std.specs.Prelude.{ℕ, zero, suc, Bool, true, false, List, [], ◌∷◌}
 use Rattle.gate_cases.specs.declared.face.Face.{Face}
 use Rattle.gate_edges.specs.Ahead.{Ahead, LinkAhead, Polled, failed, empty, gave, polled_of}
-use Rattle.gate_edges.specs.Ahead.{link_past_poll, link_of, with_link, past_reading, reading_next}
+use Rattle.gate_edges.specs.Ahead.{link_past_poll, link_past_count, link_of, with_link}
+use Rattle.gate_edges.specs.Ahead.{past_reading, reading_next}
 use Rattle.gate_edges.specs.Ahead.{show_fails}
 use Rattle.peer_half.specs.Half.{Came}
 
@@ -37,9 +38,11 @@ most_polls = 256
 abbrev pub taken_at : Face → Ahead → Taken
 taken_at face ahead = takes most_polls (link_of face ahead)
 
--- the clocks were read, and the face's link was polled
+-- the clocks were read, and the face's link was polled and asked how many datagrams from elsewhere were
+-- dropped
 abbrev pub past_polls : Face → Ahead → Ahead
-past_polls face ahead = with_link face (taken_at face ahead).link (past_reading ahead)
+past_polls face ahead =
+    with_link face (link_past_count (taken_at face ahead).link) (past_reading ahead)
 
 -- what comes to a face's half
 unfoldable pub comes : Face → Ahead → Came
@@ -47,6 +50,7 @@ comes face ahead = record {
   reading = reading_next ahead;
   datagrams = (taken_at face ahead).datagrams;
   poll_failed = (taken_at face ahead).poll_failed;
+  foreign = ((taken_at face ahead).link).dropped;
   old_failing = ((past_polls face ahead).old).failing;
   new_failing = ((past_polls face ahead).new).failing;
   show_fails = show_fails ahead;

@@ -44,7 +44,7 @@ ended face p = ends_sending (new_sent face p).standing
 
 -- so many datagrams were sent, or lost
 abbrev pub past_sends : ℕ → LinkAhead → LinkAhead
-past_sends n link = record { gives = link.gives; failing = drop n link.failing }
+past_sends n link = record link { failing = drop n link.failing }
 
 -- the metrics were shown, or not
 abbrev pub past_shows : (shows : Bool) → Ahead → Ahead

@@ -8,14 +8,15 @@ use Rattle.edge_traits.specs.Faults.{Calls, NoneFailed, LastFailed}
 use Rattle.gate_cases.specs.declared.face.Face.{Face}
 use Rattle.gate_cases.specs.declared.face.Face.TheVariants.{Old, New}
 use Rattle.gate_edges.specs.Ahead.{Ahead, Polled, failed, empty, gave, polled_at, past_poll}
+use Rattle.gate_edges.specs.Ahead.{dropped_at, past_count}
 use Rattle.gate_edges.specs.Ahead.{send_fails, past_send, show_fails, past_show}
 use Rattle.gate_edges.specs.Made.{Made, written}
 use Rattle.outbox.specs.Outbox.{next_of}
 use Rattle.gate_face.specs.Halves.{taking}
 use Rattle.peer_half.specs.Standing.{Standing, doing_at, face_of, wall_of}
 use Rattle.peer_half.specs.Acts.{Act, Acted}
-use Rattle.peer_half.specs.Parts.{arrives, fails_polling, commits, goes, tried, where_some, ends_sending}
-use Rattle.peer_half.specs.Parts.{writes, makes_anew, installs, shows, shows_now}
+use Rattle.peer_half.specs.Parts.{arrives, fails_polling, drops_foreign, commits, goes, tried, where_some}
+use Rattle.peer_half.specs.Parts.{ends_sending, writes, makes_anew, installs, shows, shows_now}
 use Rattle.peer_half.specs.Half.{half}
 use Rattle.gate_run.specs.Comes.{comes, past_polls}
 use Rattle.gate_run.specs.Course.{Point, heard, past_half, past_shows, shows_in}
@@ -107,6 +108,13 @@ polls_within zero face p = p
 polls_within (suc n) face p =
     if is_given (polled_at face p.ahead) then polls_within n face (past_polled face p)
     else past_polled face p
+
+-- the datagrams from elsewhere that were dropped are counted
+abbrev pub past_counted : Face → Point → Point
+past_counted face p = record {
+  ahead = past_count face p.ahead;
+  standing = drops_foreign face (dropped_at face p.ahead) p.standing;
+}
 
 -- the clocks were read already; what comes is taken
 abbrev pub hears_over : Face → Point → Point

@@ -4,7 +4,7 @@ ghost use Rattle.std.specs.Prelude.{◌≡◌, ◌≤◌, ◌<◌, ◌^◌, ℕ,
 ghost use Rattle.gate_edges.specs.Ahead.{polled_at, reading_next, past_reading};
 ghost use Rattle.gate_run.specs.Comes.{most_polls};
 ghost use Rattle.gate_run.specs.Course.{Point};
-ghost use Rattle.gate_run.specs.Stages.{IsAt, Goes, StopsWriting, StopsStoring, is_given, past_polled};
+ghost use Rattle.gate_run.specs.Stages.{IsAt, Goes, StopsWriting, StopsStoring, is_given, past_counted, past_polled};
 ghost use Rattle.gate_run.specs.Stages.{polls_within, hears_over, makes_anew_over, sends_and_tells};
 ghost use Rattle.gate_run.specs.Stages.{answers_over, half_over, turn_over, turns_over};
 
@@ -97,8 +97,21 @@ impl<T: HalfParts + Drop> Driven<T> {
         Ok(())
     }
 
+    /// Counts the datagrams from elsewhere that the polls of a face dropped.
+    fn count_foreign<O: Outside>(&mut self, face: Face, outside: &mut O)
+        ensures at { (p : Point) → IsAt (T.Shows self.old.parts) (O.ahead outside.old) p
+            → IsAt (T.Shows self.new.parts) (O.ahead outside.new) (past_counted face p) }
+        ensures made { O.made outside.new ≡ O.made outside.old }
+        ensures writes { O.writes outside.new ≡ O.writes outside.old }
+        ensures stores { O.stores outside.new ≡ O.stores outside.old }
+    {
+        let datagrams = outside.take_foreign(face);
+        self.parts.foreign(face, datagrams);
+    }
+
     /// What is done before anything is made outside, once the clocks were read: pieces of earlier runs
-    /// are added, time passes, and what comes at the half's face is taken.
+    /// are added, time passes, what comes at the half's face is taken, and what comes from elsewhere is
+    /// counted.
     fn hear<O: Outside>(
         &mut self,
         face: Face,
@@ -116,7 +129,9 @@ impl<T: HalfParts + Drop> Driven<T> {
         self.parts.read(reading)?;
         self.parts.resume()?;
         self.parts.tick()?;
-        self.polls(face, outside)
+        self.polls(face, outside)?;
+        self.count_foreign(face, outside);
+        Ok(())
     }
 
     /// What is done after that: the records are committed, and then both faces send and the half is

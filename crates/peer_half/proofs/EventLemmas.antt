@@ -150,6 +150,9 @@ by-polled : (face : Face) (failed : Bool) (s t : Standing) (wanted : List PeerEv
 by-polled face true s t wanted (events, (are, goes)) = (events, (are, record { setup = goes.setup; moments = goes.moments; gate = goes.gate }))
 by-polled face false s t wanted by = by
 
+by-dropped : (face : Face) (datagrams : ℕ) (s t : Standing) (wanted : List PeerEvent) → GoesBy s t wanted → GoesBy s (parts.drops_foreign face datagrams t) wanted
+by-dropped face datagrams s t wanted (events, (are, goes)) = (events, (are, record { setup = goes.setup; moments = goes.moments; gate = goes.gate }))
+
 -- ---- a half
 
 abbrev heard : Face → Came → List PeerEvent
@@ -184,9 +187,10 @@ events-at-once face came s =
     at-once face came s r t (hears face came s)
     (ap (λ (x : Standing). x.setup) (reads-rest came.reading s)) (ap (λ (x : Standing). x.moments) (reads-rest came.reading s)) (ap (λ (x : Standing). x.gate) (reads-rest came.reading s))
     (kept-resumes r)
+    (by-dropped face came.foreign t (parts.ends_polling face came.poll_failed (arrives_all face came.datagrams u)) (heard face came)
     (by-polled face came.poll_failed t (arrives_all face came.datagrams u) (heard face came)
     (by-then t u (arrives_all face came.datagrams u) (a_tick ∷ []) (map (arrival face) came.datagrams)
-    (by-one a_tick t u (goes-again None a_tick t)) (by-arrives face came.datagrams u)))
+    (by-one a_tick t u (goes-again None a_tick t)) (by-arrives face came.datagrams u))))
 
 -- ---- the moments of a half
 

@@ -6,16 +6,17 @@ use Rattle.gate_cases.specs.declared.face.Face.TheVariants.{Old, New}
 use Rattle.outbox.specs.declared.reading.Reading.{Reading}
 use Rattle.peer_half.specs.Standing.{Standing}
 use Rattle.peer_half.specs.Acts.{Acted, and_then}
-use Rattle.peer_half.specs.Parts.{reads, resumes, ticks, arrives_all, ends_polling, commits, sends}
-use Rattle.peer_half.specs.Parts.{ends_sending, writes, installs, shows}
+use Rattle.peer_half.specs.Parts.{reads, resumes, ticks, arrives_all, ends_polling, drops_foreign}
+use Rattle.peer_half.specs.Parts.{commits, sends, ends_sending, writes, installs, shows}
 
 -- what comes to a half: what the clocks show; the datagrams that its polls give, in order, and
--- whether the last poll failed; which of the sends fail at each face, in order; and whether the
--- metrics can't be put in place
+-- whether the last poll failed; how many from elsewhere its polls dropped; which of the sends fail at
+-- each face, in order; and whether the metrics can't be put in place
 pub record Came : Type 0 where
   pub reading : Reading
   pub datagrams : List (List ℕ)
   pub poll_failed : Bool
+  pub foreign : ℕ
   pub old_failing : List Bool
   pub new_failing : List Bool
   pub show_fails : Bool
@@ -26,11 +27,12 @@ pub record IsPolled (came : Came) : Type 0 where
   pub failed : came.poll_failed ≡ true → length came.datagrams < 256
 
 -- what is done before anything is made outside: the clocks are read, pieces of earlier runs
--- are added, the sessions tick, and what came at the half's face is taken
+-- are added, the sessions tick, and what came at the half's face is taken; what came from elsewhere is
+-- counted
 abbrev pub hears : Face → Came → Standing → Standing
 hears face came s =
-    ends_polling face came.poll_failed
-    (arrives_all face came.datagrams (ticks (resumes (reads came.reading s))))
+    drops_foreign face came.foreign (ends_polling face came.poll_failed
+    (arrives_all face came.datagrams (ticks (resumes (reads came.reading s)))))
 
 -- what is done after that: the half's records are committed; the old face sends, then the new one; the
 -- lines are written; the journal's file is made anew, where it is large; and then the metrics are shown,

@@ -150,6 +150,10 @@ fails_polling face s = saying (events.Link face links.PollFailed) s
 abbrev pub ends_polling : Face → (failed : Bool) → Standing → Standing
 ends_polling face failed s = if failed then fails_polling face s else s
 
+-- the polls dropped so many datagrams from elsewhere: no line tells of them
+abbrev pub drops_foreign : Face → ℕ → Standing → Standing
+drops_foreign face datagrams s = counting face (things.Foreign datagrams) s
+
 -- ---- the records of the half are committed
 
 -- the last of them reserve numbers ahead of those that the engines have given

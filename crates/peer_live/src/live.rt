@@ -99,6 +99,10 @@ impl HalfParts for LiveGate {
         Ok(())
     }
 
+    fn foreign(&mut self, face: Face, datagrams: u64) {
+        self.work.foreign(face, datagrams);
+    }
+
     fn reserve(&mut self) -> Result<(), AllocError> {
         if self.spent {
             return Err(AllocError);

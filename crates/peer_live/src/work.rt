@@ -250,6 +250,13 @@ impl Work {
         self.kept.say(&Event::Link { face, what })
     }
 
+    /// So many datagrams from elsewhere were dropped at a face by the polls of the half.
+    pub fn foreign(&mut self, face: Face, datagrams: u64)
+        ensures { IsWhole self.old → Does self.old self.new (parts.drops_foreign face datagrams) }
+    {
+        self.kept.count(face, Counted::Foreign { datagrams });
+    }
+
     // ---- the journal
 
     /// The last records of the half: session numbers are reserved.

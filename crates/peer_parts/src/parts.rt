@@ -51,6 +51,11 @@ pub trait HalfParts {
         ensures { OnOk result ((s : Standing)
             → Shows self.old s → Shows self.new (parts.fails_polling face s)) };
 
+    /// So many datagrams from elsewhere were dropped at a face by the polls of the half. It takes no memory.
+    fn foreign(&mut self, face: Face, datagrams: u64)
+        ensures { (s : Standing)
+            → Shows self.old s → Shows self.new (parts.drops_foreign face datagrams s) };
+
     /// The last records of the half: session numbers are reserved. Without a journal there are none.
     fn reserve(&mut self) -> Result<(), AllocError>
         ensures { OnOk result ((s : Standing)

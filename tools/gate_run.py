@@ -15,7 +15,8 @@ Status 0 where all of this holds, and 1 else:
   holds; and one of a place at which no bundle stands;
 - the sessions that it names bring exactly the pieces of that bundle's passage to the other node, with their ages kept;
 - each of these sessions has a line that it was sent, and nothing failed or was cancelled;
-- the metrics are a text of their format, and count the bundles and the sessions that the lines tell of;
+- the metrics are a text of their format, and count the bundles and the sessions that the lines tell of, and the datagrams
+  that come from another host, of which no line tells;
 - at a rate the octets that come in any second, as the system stamps them, are no more than it allows;
 - with contacts each datagram comes within one, or at most 50 ms after it, and each that opened or closed has its line.
 """
@@ -41,6 +42,8 @@ OPTIONS = {"bundles": 60, "seconds": 120, "loss": 3, "repeats": 3, "delays": 5, 
            "contacts": 0}
 CUT = SERVED[1]
 NAMES = {"old": OLD, "new": NEW}        # of the faces, in lines and metrics
+STRANGER = "127.0.0.2"
+FOREIGN = {OLD: 3, NEW: 300}    # how many datagrams the stranger sends to each face: a poll drops at most 256
 MOST_OPEN = 40              # sessions at a face of the gateway, of 64
 MANY = 1 << 30              # pieces that may wait there
 SLACK = 0.01                # seconds of a rate that may be owed at any moment, and a second's edges
@@ -269,8 +272,17 @@ class Trial:
                 first += 1
             must(within <= rate * (1 + SLACK) + 10_000, f"{within} octets came in a second")
 
+    def send_foreign(self):
+        """Lets a stranger send datagrams of no octets to both faces."""
+        with socket.socket(socket.AF_INET, socket.SOCK_DGRAM) as stranger:
+            stranger.bind((STRANGER, 0))
+            for face, node in self.nodes.items():
+                for _ in range(FOREIGN[face]):
+                    stranger.sendto(b"", ("127.0.0.1", node.gate))
+
     def judge_metrics(self):
         """The metrics are written every ten seconds, so the last of them are waited for."""
+        self.send_foreign()
         time.sleep(11)
         with open(self.gated.metrics, encoding="utf-8") as text:
             found = samples_of(text.read())
@@ -281,6 +293,8 @@ class Trial:
             must(found[f'fimdahol_sessions_begun_total{{face="{name}"}}'] == begun, f"{name}: {begun} sessions begun")
             must(found[f'fimdahol_sessions_ended_total{{face="{name}",how="sent"}}'] == begun, f"{name}: {begun} sent")
             must(found[f'fimdahol_sending_sessions{{face="{name}"}}'] == 0, f"{name} still sends")
+            foreign = found[f'fimdahol_foreign_datagrams_total{{face="{name}"}}']
+            must(foreign == FOREIGN[face], f"{name}: {foreign} datagrams from elsewhere")
 
 
 def main(words):

@@ -37,24 +37,26 @@ fn readings(alloc: Global, moments: &[u64]) -> Result<Vec<Reading>, AllocError>
 fn link(alloc: Global, gives: &[&str], failing: &[bool]) -> Result<MemFace, Fail> {
     let mut link = MemFace::new(alloc, failing)?;
     for given in gives {
-        if *given == "-" {
-            link.put_none()?;
+        let rest = given.trim_start_matches('+');
+        let foreign = given.len().saturating_sub(rest.len()) as u64;
+        if rest == "-" {
+            link.put_foreign(foreign)?;
         } else {
-            put(alloc, &mut link, given)?;
+            put(alloc, &mut link, foreign, rest)?;
         }
     }
     Ok(link)
 }
 
-/// Has a datagram come on a link.
-fn put(alloc: Global, link: &mut MemFace, hex: &str) -> Result<(), Fail> {
+/// Has a datagram come on a link, after so many from elsewhere.
+fn put(alloc: Global, link: &mut MemFace, foreign: u64, hex: &str) -> Result<(), Fail> {
     let Ok(datagram) = hex::decode(alloc, hex.as_bytes()) else {
         return Err(Fail::new("a row isn't hex"));
     };
     if datagram.len() > LONGEST_DATAGRAM {
         return Err(Fail::new("a row is no datagram"));
     }
-    link.put(&datagram)?;
+    link.put_after(foreign, &datagram)?;
     Ok(())
 }
 

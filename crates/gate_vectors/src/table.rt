@@ -6,7 +6,8 @@ pub(crate) struct Run {
     pub(crate) file: &'static str,
     /// What the clock shows in each half: the wall clock and the monotonic one alike.
     pub(crate) readings: &'static [u64],
-    /// What the polls of each face give, in hex, the old face first; `-` where nothing is there.
+    /// What the polls of each face give, in hex, the old face first; `-` where nothing is there. A `+` before it
+    /// is a datagram from elsewhere, which that poll drops.
     pub(crate) gives: [&'static [&'static str]; 2],
     /// Which calls of each face fail, polls and sends counted alike.
     pub(crate) failing: [&'static [bool]; 2],
@@ -481,6 +482,10 @@ fimdahol_next_contact_seconds{face="new"} 40.500
 # HELP fimdahol_journal_pending_pieces Pieces in the journal that haven't ended.
 # TYPE fimdahol_journal_pending_pieces gauge
 fimdahol_journal_pending_pieces 0
+# HELP fimdahol_foreign_datagrams_total Datagrams from elsewhere that were dropped.
+# TYPE fimdahol_foreign_datagrams_total counter
+fimdahol_foreign_datagrams_total{face="old"} 0
+fimdahol_foreign_datagrams_total{face="new"} 0
 # HELP fimdahol_green_bytes_total Octets of green data that came.
 # TYPE fimdahol_green_bytes_total counter
 fimdahol_green_bytes_total{face="old"} 0
@@ -490,7 +495,135 @@ fimdahol_green_bytes_total{face="new"} 0
 fimdahol_gathered_bytes{face="old"} 0
 fimdahol_gathered_bytes{face="new"} 0
 "#,
-        ends: &[4884],
+        ends: &[5110],
+    },
+    // The same, with three datagrams from elsewhere, which no line tells of: two before the one that is taken.
+    Run {
+        file: r#"[gateway]
+endpoint = "ipn:9.0"
+metrics = "m"
+[old]
+bind = "a"
+peer = "b"
+first_session = 1
+[new]
+bind = "c"
+peer = "d"
+first_session = 1
+[[new.contact]]
+from = 2000-01-01T00:17:30.5Z
+to = 2000-01-01T00:17:31Z
+"#,
+        readings: &[1010000, 1010000],
+        gives: [
+            &[
+                "++0301010001001702000681100d02010101000000008768053c00010803616263",
+                "+-",
+            ],
+            &["-"],
+        ],
+        failing: [&[], &[]],
+        showing: &[],
+        made: r#"sent old 0801010002021700010017
+{"at":"2000-01-01T00:16:50.000Z","event":"contact_closed","face":"new","until":"2000-01-01T00:17:30.500Z"}
+{"at":"2000-01-01T00:16:50.000Z","event":"start","first_session":[1,1],"marks":0,"pending":0}
+{"at":"2000-01-01T00:16:50.000Z","event":"passed","face":"old","first":1,"pieces":1,"session":1,"subject":{"creation":[1000,5],"destination":"ipn:2.1","fragment":null,"payload":3,"source":"ipn:1.1","version":6}}
+shown
+# HELP fimdahol_blocks_total Blocks that came whole, by what became of them.
+# TYPE fimdahol_blocks_total counter
+fimdahol_blocks_total{face="old",case="passed"} 1
+fimdahol_blocks_total{face="old",case="bad_bundle"} 0
+fimdahol_blocks_total{face="old",case="untranslated"} 0
+fimdahol_blocks_total{face="old",case="expired"} 0
+fimdahol_blocks_total{face="old",case="hop_limit"} 0
+fimdahol_blocks_total{face="old",case="storage"} 0
+fimdahol_blocks_total{face="new",case="passed"} 0
+fimdahol_blocks_total{face="new",case="bad_bundle"} 0
+fimdahol_blocks_total{face="new",case="untranslated"} 0
+fimdahol_blocks_total{face="new",case="expired"} 0
+fimdahol_blocks_total{face="new",case="hop_limit"} 0
+fimdahol_blocks_total{face="new",case="storage"} 0
+# HELP fimdahol_datagrams_received_total Datagrams that came.
+# TYPE fimdahol_datagrams_received_total counter
+fimdahol_datagrams_received_total{face="old"} 1
+fimdahol_datagrams_received_total{face="new"} 0
+# HELP fimdahol_received_bytes_total Octets of the datagrams that came.
+# TYPE fimdahol_received_bytes_total counter
+fimdahol_received_bytes_total{face="old"} 32
+fimdahol_received_bytes_total{face="new"} 0
+# HELP fimdahol_datagrams_sent_total Datagrams that went.
+# TYPE fimdahol_datagrams_sent_total counter
+fimdahol_datagrams_sent_total{face="old"} 1
+fimdahol_datagrams_sent_total{face="new"} 0
+# HELP fimdahol_sent_bytes_total Octets of the datagrams that went.
+# TYPE fimdahol_sent_bytes_total counter
+fimdahol_sent_bytes_total{face="old"} 11
+fimdahol_sent_bytes_total{face="new"} 0
+# HELP fimdahol_datagrams_dropped_total Datagrams for which the outbox had no room.
+# TYPE fimdahol_datagrams_dropped_total counter
+fimdahol_datagrams_dropped_total{face="old"} 0
+fimdahol_datagrams_dropped_total{face="new"} 0
+# HELP fimdahol_sessions_begun_total Sending sessions that began.
+# TYPE fimdahol_sessions_begun_total counter
+fimdahol_sessions_begun_total{face="old"} 0
+fimdahol_sessions_begun_total{face="new"} 1
+# HELP fimdahol_sessions_ended_total Sending sessions that ended, by how.
+# TYPE fimdahol_sessions_ended_total counter
+fimdahol_sessions_ended_total{face="old",how="sent"} 0
+fimdahol_sessions_ended_total{face="old",how="failed"} 0
+fimdahol_sessions_ended_total{face="old",how="cancelled"} 0
+fimdahol_sessions_ended_total{face="new",how="sent"} 0
+fimdahol_sessions_ended_total{face="new",how="failed"} 0
+fimdahol_sessions_ended_total{face="new",how="cancelled"} 0
+# HELP fimdahol_poll_failures_total Polls that failed.
+# TYPE fimdahol_poll_failures_total counter
+fimdahol_poll_failures_total{face="old"} 0
+fimdahol_poll_failures_total{face="new"} 0
+# HELP fimdahol_send_failures_total Sends that failed.
+# TYPE fimdahol_send_failures_total counter
+fimdahol_send_failures_total{face="old"} 0
+fimdahol_send_failures_total{face="new"} 0
+# HELP fimdahol_sending_sessions Sending sessions that are kept.
+# TYPE fimdahol_sending_sessions gauge
+fimdahol_sending_sessions{face="old"} 0
+fimdahol_sending_sessions{face="new"} 1
+# HELP fimdahol_receiving_sessions Receiving sessions that are kept.
+# TYPE fimdahol_receiving_sessions gauge
+fimdahol_receiving_sessions{face="old"} 1
+fimdahol_receiving_sessions{face="new"} 0
+# HELP fimdahol_outbox_datagrams Datagrams that wait.
+# TYPE fimdahol_outbox_datagrams gauge
+fimdahol_outbox_datagrams{face="old"} 0
+fimdahol_outbox_datagrams{face="new"} 1
+# HELP fimdahol_outbox_bytes Octets of the datagrams that wait.
+# TYPE fimdahol_outbox_bytes gauge
+fimdahol_outbox_bytes{face="old"} 0
+fimdahol_outbox_bytes{face="new"} 50
+# HELP fimdahol_link_open 1 where the link is open.
+# TYPE fimdahol_link_open gauge
+fimdahol_link_open{face="old"} 1
+fimdahol_link_open{face="new"} 0
+# HELP fimdahol_next_contact_seconds Seconds until the link opens; 0 where it is open.
+# TYPE fimdahol_next_contact_seconds gauge
+fimdahol_next_contact_seconds{face="old"} 0.000
+fimdahol_next_contact_seconds{face="new"} 40.500
+# HELP fimdahol_journal_pending_pieces Pieces in the journal that haven't ended.
+# TYPE fimdahol_journal_pending_pieces gauge
+fimdahol_journal_pending_pieces 0
+# HELP fimdahol_foreign_datagrams_total Datagrams from elsewhere that were dropped.
+# TYPE fimdahol_foreign_datagrams_total counter
+fimdahol_foreign_datagrams_total{face="old"} 3
+fimdahol_foreign_datagrams_total{face="new"} 0
+# HELP fimdahol_green_bytes_total Octets of green data that came.
+# TYPE fimdahol_green_bytes_total counter
+fimdahol_green_bytes_total{face="old"} 0
+fimdahol_green_bytes_total{face="new"} 0
+# HELP fimdahol_gathered_bytes Octets of the pieces that wait to be sent.
+# TYPE fimdahol_gathered_bytes gauge
+fimdahol_gathered_bytes{face="old"} 0
+fimdahol_gathered_bytes{face="new"} 0
+"#,
+        ends: &[5110],
     },
 ];
 

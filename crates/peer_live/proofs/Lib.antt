@@ -4,3 +4,4 @@ pub mod ShowsLemmas
 pub mod PartLemmas
 pub mod ResumeLemmas
 pub mod StartLemmas
+pub mod QuietLemmas

@@ -1,6 +1,6 @@
 //! Both faces.
 
-ghost use Rattle.std.specs.Prelude.{◌≡◌, IfOk, OnOk};
+ghost use Rattle.std.specs.Prelude.{◌≡◌, [], true, IfOk, OnErr, OnOk};
 ghost use Rattle.gateway_core.specs.Gate.{at_face, with_face};
 ghost use Rattle.gate_face.specs.Faces.{starts_face};
 ghost use Rattle.gate_face.specs.Halves.{losing, taking};
@@ -87,10 +87,11 @@ impl Faces {
     }
 
     /// Datagrams wait from here on, each at its face, or are dropped. Of half of its memory a face has so
-    /// many octets left for its outbox, the old one first.
+    /// many octets left for its outbox, the old one first. Memory is wanted only where there are some.
     #[tactic(auto, unfolding(peer_half::specs::Steps::putting_all))]
     pub fn put_all(&mut self, out: Vec<Routed>, left: (u64, u64)) -> Result<(), AllocError>
-        ensures { OnOk result (self.new ≡ putting_all left out.items self.old) }
+        ensures after { OnOk result (self.new ≡ putting_all left out.items self.old) }
+        ensures wanted { OnErr result (out.items ≡ [] → ⊥) }
     {
         'putting: for routed in out {
             let Routed { face, datagram } = routed;
@@ -99,10 +100,12 @@ impl Faces {
         Ok(())
     }
 
-    /// A datagram waits at a face from here on, or is dropped.
+    /// A datagram waits at a face from here on, or is dropped. Memory is wanted only where it fits there.
     fn put(&mut self, face: Face, datagram: Octets, left: (u64, u64)) -> Result<(), AllocError>
-        ensures { OnOk result (self.new ≡ with_face self.old face
+        ensures after { OnOk result (self.new ≡ with_face self.old face
             (putting_within (at_face left face) datagram (at_face self.old face))) }
+        ensures wanted { OnErr result
+            (is_within (at_face left face) (at_face self.old face).outbox datagram ≡ true) }
     {
         match face {
             Face::Old => put_within(&mut self.old_face, left.0, datagram),
@@ -112,9 +115,10 @@ impl Faces {
 }
 
 /// A datagram waits at a face from here on, where at most so many octets wait there then; or it is dropped
-/// and counted, as one for which the outbox has no room.
+/// and counted, as one for which the outbox has no room. Memory is wanted only where it fits.
 fn put_within(face: &mut FaceRun, most: u64, datagram: Octets) -> Result<(), AllocError>
-    ensures { OnOk result (face.new ≡ putting_within most datagram face.old) }
+    ensures after { OnOk result (face.new ≡ putting_within most datagram face.old) }
+    ensures wanted { OnErr result (is_within most (face.old).outbox datagram ≡ true) }
 {
     if is_within(face.outbox(), most, datagram.as_slice()) {
         face.put(datagram)

@@ -1,8 +1,9 @@
 //! What a gateway at work keeps besides its gate.
 
-ghost use Rattle.std.specs.Prelude.{◌≡◌, ◌<◌, ◌^◌, [], false, IfOk, OnOk};
+ghost use Rattle.std.specs.Prelude.{◌≡◌, ◌<◌, ◌^◌, [], None, false, true, IfOk, OnErr, OnOk};
+ghost use Rattle.gate_face.specs.Contacts.{told_at};
 ghost use Rattle.gate_face.specs.Faces.{starts_face};
-ghost use Rattle.gate_face.specs.Halves.{taking};
+ghost use Rattle.gate_face.specs.Halves.{full_event, lost_event, taking};
 ghost use Rattle.gate_face.specs.Schedules.{HasPlan};
 ghost use Rattle.gate_log.specs.Lines.{IsNamed};
 ghost use Rattle.gate_metrics.specs.Counting.{none_counted};
@@ -66,13 +67,15 @@ impl Kept {
     }
 
     /// The clocks are read, and what there is to tell of the contacts is said. Answers the moments of
-    /// the faces.
+    /// the faces. Memory is wanted only where there is something to tell.
     pub fn read(&mut self, reading: Reading) -> Result<(FaceMoments, FaceMoments), AllocError>
         requires { reading.wall < 2 ^ 62 }
         ensures old { IfOk result (λ m. m.0 ≡ face_moments reading self.old.faces.0) }
         ensures new { IfOk result (λ m. m.1 ≡ face_moments reading self.old.faces.1) }
         ensures small { IfOk result (λ m. ((m.0).at < 2 ^ 62) × ((m.1).at < 2 ^ 62)) }
         ensures after { OnOk result (self.new ≡ spec.reads reading self.old) }
+        ensures wanted { OnErr result (told_at (self.old.faces.0).outbox reading ≡ None
+            → told_at (self.old.faces.1).outbox reading ≡ None → ⊥) }
     {
         let (old, of_old) = read_face(&mut self.faces.old_face, reading);
         let (new, of_new) = read_face(&mut self.faces.new_face, reading);
@@ -90,17 +93,19 @@ impl Kept {
         self.log.say(event)
     }
 
-    /// Says an event where a piece was added that it tells of.
+    /// Says an event where a piece was added that it tells of. Memory is wanted only there.
     pub fn say_if(&mut self, added: bool, event: &Event) -> Result<(), AllocError>
         requires { IsNamed event.now }
-        ensures { OnOk result (self.new ≡ spec.says_if added event.now self.old) }
+        ensures after { OnOk result (self.new ≡ spec.says_if added event.now self.old) }
+        ensures wanted { OnErr result (added ≡ true) }
     {
         if added { self.say(event) } else { Ok(()) }
     }
 
-    /// Says an event of a face's link, where there is one.
+    /// Says an event of a face's link, where there is one. Memory is wanted only there.
     fn say_of(&mut self, face: Face, what: Option<LinkEvent>) -> Result<(), AllocError>
-        ensures { OnOk result (self.new ≡ spec.says_of face what self.old) }
+        ensures after { OnOk result (self.new ≡ spec.says_of face what self.old) }
+        ensures wanted { OnErr result (what ≡ None → ⊥) }
     {
         match what {
             Some(what) => self.say(&Event::Link { face, what }),
@@ -140,14 +145,15 @@ impl Kept {
         self.put_all(alloc, answer, left)
     }
 
-    /// What the gateway sends waits from here on, or is dropped.
+    /// What the gateway sends waits from here on, or is dropped. Memory is wanted only where it sends.
     pub fn put_all(
         &mut self,
         alloc: Global,
         answer: PeerAnswer,
         left: (u64, u64),
     ) -> Result<(), AllocError>
-        ensures { OnOk result (self.new ≡ spec.puts left answer.out self.old) }
+        ensures after { OnOk result (self.new ≡ spec.puts left answer.out self.old) }
+        ensures wanted { OnErr result (answer.out ≡ [] → ⊥) }
     {
         let mut answer = answer;
         self.faces.put_all(answer.take_out(alloc), left)
@@ -169,9 +175,11 @@ impl Kept {
         self.log.count(face, Counted::SendFailed);
     }
 
-    /// Says what went wrong at a face in this half.
+    /// Says what went wrong at a face in this half. Memory is wanted only where something did.
     pub fn say_troubles(&mut self, face: Face) -> Result<(), AllocError>
-        ensures { OnOk result (self.new ≡ spec.troubles face self.old) }
+        ensures after { OnOk result (self.new ≡ spec.troubles face self.old) }
+        ensures wanted { OnErr result (full_event (at_face self.old.faces face) ≡ None
+            → lost_event (at_face self.old.faces face) ≡ None → ⊥) }
     {
         let full = self.faces.at(face).full();
         let lost = self.faces.at(face).lost();

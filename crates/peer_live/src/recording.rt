@@ -1,6 +1,7 @@
 //! The journal, where one is kept: what the parts of a half do to it.
 
-ghost use Rattle.std.specs.Prelude.{◌≡◌, ◌==◌, false, not, length, map, option_map, IfOk, IfSome, OnOk};
+ghost use Rattle.std.specs.Prelude.{◌≡◌, ◌==◌, [], false, not, length, map, option_map, IfOk, IfSome, OnErr, OnOk};
+ghost use Rattle.std.specs.Option.{is_some};
 ghost use Rattle.journal_file.specs.Length.{entries_length, gate_of};
 ghost use Rattle.journal_file.specs.Ties.{kept_of, record_of};
 ghost use Rattle.peer_half.specs.Journals.{anew_in, is_large, kept_in, past_commit, records_in};
@@ -34,19 +35,21 @@ pub(crate) fn record(
     journal.keeping.step(alloc, step, &opened)
 }
 
-/// The half ends, with the next numbers of both faces: numbers are reserved.
+/// The half ends, with the next numbers of both faces: numbers are reserved. Memory is wanted only where there is
+/// a record.
 pub(crate) fn reserve(
     alloc: Global,
     journal: &mut Option<Journal>,
     old: u64,
     new: u64,
 ) -> Result<(), AllocError>
-    ensures { OnOk result (journal.new ≡ reserved_in old new journal.old) }
+    ensures after { OnOk result (journal.new ≡ reserved_in old new journal.old) }
+    ensures wanted { OnErr result (records_in (reserved_in old new journal.old) ≡ [] → ⊥) }
 {
-    let Some(journal) = journal else {
-        return Ok(());
-    };
-    journal.keeping.reserve(alloc, old, new)
+    match journal {
+        Some(journal) => journal.keeping.reserve(alloc, old, new),
+        None => Ok(()),
+    }
 }
 
 /// Whether there are records that are to be committed.
@@ -59,12 +62,13 @@ pub(crate) fn has_records(journal: &Option<Journal>) -> bool
     }
 }
 
-/// The records that are to be committed.
+/// The records that are to be committed. Memory is wanted only where there are some.
 pub(crate) fn records(
     alloc: Global,
     journal: &Option<Journal>,
 ) -> Result<Vec<Record<'_>>, AllocError>
-    ensures { IfOk result (λ records. map record_of records.items ≡ records_in journal.now) }
+    ensures those { IfOk result (λ records. map record_of records.items ≡ records_in journal.now) }
+    ensures wanted { OnErr result (records_in journal.now ≡ [] → ⊥) }
 {
     match journal {
         Some(journal) => journal.keeping.records(alloc),
@@ -129,6 +133,16 @@ pub(crate) fn pending(journal: &Option<Journal>) -> usize
     match journal {
         Some(journal) => journal.keeping.pending(),
         None => 0,
+    }
+}
+
+/// Whether a piece of earlier runs is still to be added at a face.
+pub(crate) fn has_kept(journal: &Option<Journal>, face: Face) -> bool
+    ensures { result ≡ is_some (first_waiting face journal.now) }
+{
+    match journal {
+        Some(journal) => journal.keeping.next_kept(face).is_some(),
+        None => false,
     }
 }
 

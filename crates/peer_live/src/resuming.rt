@@ -1,12 +1,13 @@
 //! Pieces that wait of earlier runs are added.
 
-ghost use Rattle.std.specs.Prelude.{◌≡◌, IfOk, IfSome, OnOk, map};
+ghost use Rattle.std.specs.Prelude.{◌≡◌, None, IfOk, IfSome, OnErr, OnOk, map};
 ghost use Rattle.gate_log.specs.Lines.{IsNamed};
 ghost use Rattle.gate_log.specs.Subjects.{IsSubject};
 ghost use Rattle.peer_gateway.specs.Answers.{added_seen};
 ghost use Rattle.peer_gateway.specs.Steps.{next_if};
 ghost use Rattle.peer_half.specs.Standing.{Standing};
 ghost use Rattle.peer_half.specs.Parts as parts;
+ghost use Rattle.peer_parts.specs.Quiet.{NothingKept};
 ghost use Rattle.peer_live.specs.Telling.{added_event};
 
 use crate::recording;
@@ -20,13 +21,28 @@ use std::alloc::AllocError;
 impl Work {
     ghost use Rattle.peer_live.specs.Shows.{Does, IsWhole, ShowsWork, added_if, resumes_one, tries_one};
 
-    /// Pieces of earlier runs that wait are added, as long as there is room for them.
+    /// Pieces of earlier runs that wait are added, as long as there is room for them. Memory is wanted only where
+    /// one is still to be added.
     pub fn resume(&mut self) -> Result<(), AllocError>
         requires { IsWhole self.old }
-        ensures { OnOk result (Does self.old self.new parts.resumes) }
+        ensures after { OnOk result (Does self.old self.new parts.resumes) }
+        ensures wanted { OnErr result ((s : Standing) → ShowsWork self.old s → NothingKept s → ⊥) }
     {
-        self.resume_at(Face::Old)?;
-        self.resume_at(Face::New)
+        self.resume_if(Face::Old)?;
+        self.resume_if(Face::New)
+    }
+
+    /// Those that wait at a face are added, if there are some.
+    fn resume_if(&mut self, face: Face) -> Result<(), AllocError>
+        requires { IsWhole self.old }
+        ensures after { OnOk result (Does self.old self.new (parts.resumes_at face)) }
+        ensures wanted { OnErr result (parts.first_waiting face (self.old).journal ≡ None → ⊥) }
+    {
+        if recording::has_kept(&self.journal, face) {
+            self.resume_at(face)
+        } else {
+            Ok(())
+        }
     }
 
     /// Those that wait at a face are added, one after the other.

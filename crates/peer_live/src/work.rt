@@ -1,9 +1,10 @@
 //! The gateway at work, while memory lasts.
 
-ghost use Rattle.std.specs.Prelude.{◌≡◌, ◌==◌, ◌<◌, ◌^◌, ◌++◌, not, map, option_map, IfOk, IfSome, OnOk, None, Some, flat_map, length};
+ghost use Rattle.std.specs.Prelude.{◌≡◌, ◌==◌, ◌<◌, ◌^◌, ◌++◌, [], true, not, map, option_map, IfOk, IfSome, OnErr, OnOk, None, Some, flat_map, length};
 ghost use Rattle.std.specs.String.{string_bytes};
 ghost use Rattle.gate_log.specs.declared.event.Event.TheVariants as events;
 ghost use Rattle.gate_log.specs.Lines.{line_of};
+ghost use Rattle.gate_face.specs.Contacts.{told_at};
 ghost use Rattle.gate_face.specs.Halves.{taking};
 ghost use Rattle.outbox.specs.Outbox.{next_of};
 ghost use Rattle.journal_file.specs.Length.{entries_length, gate_of};
@@ -15,6 +16,7 @@ ghost use Rattle.peer_half.specs.Standing.{Standing, doing_at, face_of, saying, 
 ghost use Rattle.peer_half.specs.Starts.{cancels_in, starts_at};
 ghost use Rattle.peer_half.specs.Steps.{left_in};
 ghost use Rattle.peer_half.specs.Parts as parts;
+ghost use Rattle.peer_parts.specs.Quiet.{NothingLost, NothingRecorded, NothingSaid};
 
 use crate::journal::Journal;
 use crate::kept::Kept;
@@ -142,11 +144,12 @@ impl Work {
 
     // ---- a half
 
-    /// The clocks are read.
+    /// The clocks are read. Memory is wanted only where a line is said.
     pub fn read(&mut self, reading: Reading) -> Result<(), AllocError>
         requires whole { IsWhole self.old }
         requires small { reading.wall < 2 ^ 62 }
-        ensures { OnOk result (Does self.old self.new (parts.reads reading)) }
+        ensures after { OnOk result (Does self.old self.new (parts.reads reading)) }
+        ensures wanted { OnErr result ((s : Standing) → ShowsWork self.old s → NothingSaid reading s → ⊥) }
     {
         self.read_clocks(reading)?;
         self.start()
@@ -156,7 +159,10 @@ impl Work {
     fn read_clocks(&mut self, reading: Reading) -> Result<(), AllocError>
         requires whole { IsWhole self.old }
         requires small { reading.wall < 2 ^ 62 }
-        ensures { OnOk result (Does self.old self.new (reads_clocks reading)) }
+        ensures after { OnOk result (Does self.old self.new (reads_clocks reading)) }
+        ensures started { self.new.started ≡ self.old.started }
+        ensures wanted { OnErr result (told_at ((self.old).kept.faces.0).outbox reading ≡ None
+            → told_at ((self.old).kept.faces.1).outbox reading ≡ None → ⊥) }
     {
         let of_faces = self.kept.read(reading)?;
         let (old, new) = of_faces;
@@ -165,10 +171,11 @@ impl Work {
         Ok(())
     }
 
-    /// The line `start`, in the first half.
+    /// The line `start`, in the first half. Memory is wanted only there.
     fn start(&mut self) -> Result<(), AllocError>
         requires { IsWhole self.old }
-        ensures { OnOk result (Does self.old self.new parts.starting) }
+        ensures after { OnOk result (Does self.old self.new parts.starting) }
+        ensures wanted { OnErr result (self.old.started ≡ true → ⊥) }
     {
         if self.started {
             return Ok(());
@@ -259,10 +266,11 @@ impl Work {
 
     // ---- the journal
 
-    /// The last records of the half: session numbers are reserved.
+    /// The last records of the half: session numbers are reserved. Memory is wanted only where there is a record.
     pub fn reserve(&mut self) -> Result<(), AllocError>
         requires { IsWhole self.old }
-        ensures { OnOk result (Does self.old self.new parts.reserves) }
+        ensures after { OnOk result (Does self.old self.new parts.reserves) }
+        ensures wanted { OnErr result ((s : Standing) → ShowsWork self.old s → NothingRecorded s → ⊥) }
     {
         let old = self.gate.next_session(Face::Old);
         let new = self.gate.next_session(Face::New);
@@ -277,10 +285,12 @@ impl Work {
         recording::has_records(&self.journal)
     }
 
-    /// The records that are to be committed.
+    /// The records that are to be committed. Memory is wanted only where there are some.
     pub fn records(&self) -> Result<Vec<Record<'_>>, AllocError>
-        ensures { IfOk result (λ records. (s : Standing)
+        ensures those { IfOk result (λ records. (s : Standing)
             → ShowsWork self.now s → map record_of records.items ≡ records_in s.journal) }
+        ensures wanted { OnErr result ((s : Standing)
+            → ShowsWork self.now s → records_in s.journal ≡ [] → ⊥) }
     {
         recording::records(self.alloc, &self.journal)
     }
@@ -351,10 +361,11 @@ impl Work {
         }
     }
 
-    /// Both faces have sent: what went wrong there in this half is told.
+    /// Both faces have sent: what went wrong there in this half is told. Memory is wanted only where something did.
     pub fn end_sending(&mut self) -> Result<(), AllocError>
         requires { IsWhole self.old }
-        ensures { OnOk result (Does self.old self.new parts.ends_sending) }
+        ensures after { OnOk result (Does self.old self.new parts.ends_sending) }
+        ensures wanted { OnErr result ((s : Standing) → ShowsWork self.old s → NothingLost s → ⊥) }
     {
         self.kept.say_troubles(Face::Old)?;
         self.kept.say_troubles(Face::New)

@@ -1,6 +1,6 @@
 //! The parts of a half of a run among other implementations.
 
-ghost use Rattle.std.specs.Prelude.{◌≡◌, ◌++◌, ◌<◌, ◌^◌, ℕ, ◌==◌, not, Some, length, map, flat_map, option_map, IfOk, IfSome, OnOk};
+ghost use Rattle.std.specs.Prelude.{◌≡◌, ◌++◌, ◌<◌, ◌^◌, ℕ, ◌==◌, [], not, Some, length, map, flat_map, option_map, IfOk, IfSome, OnErr, OnOk};
 ghost use Rattle.std.specs.String.{string_bytes};
 ghost use Rattle.gate_log.specs.declared.event.Event.TheVariants as events;
 ghost use Rattle.gate_log.specs.Lines.{line_of};
@@ -12,6 +12,7 @@ ghost use Rattle.peer_half.specs.Journals.{anew_in, is_large, kept_in};
 ghost use Rattle.journal_file.specs.Length.{entries_length, gate_of};
 ghost use Rattle.peer_half.specs.Journals.{past_commit, records_in};
 ghost use Rattle.journal_file.specs.Ties.{kept_of, record_of};
+ghost use Rattle.peer_parts.specs.Quiet.{NothingKept, NothingLost, NothingRecorded, NothingSaid};
 
 use endpoint::Octets;
 use gate_cases::Face;
@@ -20,21 +21,27 @@ use outbox::Reading;
 use std::alloc::AllocError;
 
 /// A gateway at work among other implementations, driven part by part through the halves of a run. After want
-/// of memory each part that may want some answers with that again.
+/// of memory each part that may want some answers with that again. Till then, memory is wanted only where
+/// `specs/Quiet.antt` doesn't say that there is nothing to do.
 pub trait HalfParts {
     // It stands for a run of the definition that stands so.
     ghost Shows: { Self → Standing → Type 0 };
 
-    /// The clocks are read, and the wall clock shows less than 2^62.
+    /// The clocks are read, and the wall clock shows less than 2^62. Memory is wanted only where a line is
+    /// said.
     fn read(&mut self, reading: Reading) -> Result<(), AllocError>
         requires { reading.wall < 2 ^ 62 }
-        ensures { OnOk result ((s : Standing)
-            → Shows self.old s → Shows self.new (parts.reads reading s)) };
+        ensures after { OnOk result ((s : Standing)
+            → Shows self.old s → Shows self.new (parts.reads reading s)) }
+        ensures wanted { OnErr result ((s : Standing)
+            → Shows self.old s → NothingSaid reading s → ⊥) };
 
-    /// Pieces of earlier runs are added, as long as there is room for them.
+    /// Pieces of earlier runs are added, as long as there is room for them. Memory is wanted only where one
+    /// is still to be added.
     fn resume(&mut self) -> Result<(), AllocError>
-        ensures { OnOk result ((s : Standing)
-            → Shows self.old s → Shows self.new (parts.resumes s)) };
+        ensures after { OnOk result ((s : Standing)
+            → Shows self.old s → Shows self.new (parts.resumes s)) }
+        ensures wanted { OnErr result ((s : Standing) → Shows self.old s → NothingKept s → ⊥) };
 
     /// Time passes.
     fn tick(&mut self) -> Result<(), AllocError>
@@ -56,20 +63,25 @@ pub trait HalfParts {
         ensures { (s : Standing)
             → Shows self.old s → Shows self.new (parts.drops_foreign face datagrams s) };
 
-    /// The last records of the half: session numbers are reserved. Without a journal there are none.
+    /// The last records of the half: session numbers are reserved. Without a journal there are none. Memory is
+    /// wanted only where there is a record.
     fn reserve(&mut self) -> Result<(), AllocError>
-        ensures { OnOk result ((s : Standing)
-            → Shows self.old s → Shows self.new (parts.reserves s)) };
+        ensures after { OnOk result ((s : Standing)
+            → Shows self.old s → Shows self.new (parts.reserves s)) }
+        ensures wanted { OnErr result ((s : Standing) → Shows self.old s → NothingRecorded s → ⊥) };
 
     /// Whether there are records of the half that are to be committed. It takes no memory.
     fn has_records(&self) -> bool
         ensures { (s : Standing)
             → Shows self.now s → result ≡ not (length (records_in s.journal) == 0) };
 
-    /// The records of the half that are to be committed, in their order.
+    /// The records of the half that are to be committed, in their order. Memory is wanted only where there
+    /// are some.
     fn records(&self) -> Result<Vec<Record<'_>>, AllocError>
-        ensures { IfOk result (λ records. (s : Standing)
-            → Shows self.now s → map record_of records.items ≡ records_in s.journal) };
+        ensures those { IfOk result (λ records. (s : Standing)
+            → Shows self.now s → map record_of records.items ≡ records_in s.journal) }
+        ensures wanted { OnErr result ((s : Standing)
+            → Shows self.now s → records_in s.journal ≡ [] → ⊥) };
 
     /// They were committed, and the gate of the journal's file moved on by so many octets. It takes no
     /// memory.
@@ -108,10 +120,12 @@ pub trait HalfParts {
         ensures { (s : Standing)
             → Shows self.old s → Shows self.new (parts.goes face failed datagram.now s) };
 
-    /// Both faces have sent: what went wrong there in this half is told.
+    /// Both faces have sent: what went wrong there in this half is told. Memory is wanted only where something
+    /// did.
     fn end_sending(&mut self) -> Result<(), AllocError>
-        ensures { OnOk result ((s : Standing)
-            → Shows self.old s → Shows self.new (parts.ends_sending s)) };
+        ensures after { OnOk result ((s : Standing)
+            → Shows self.old s → Shows self.new (parts.ends_sending s)) }
+        ensures wanted { OnErr result ((s : Standing) → Shows self.old s → NothingLost s → ⊥) };
 
     /// The lines of this half, end to end.
     fn text(&self) -> &str

@@ -15,4 +15,4 @@ returns-clause-does c =
     does-one c.args.self.now c.settle.new.self c.add_kept.new.self c.say_if.new.self c.args.pending c.octets-octets.result c.in_ok-answer.answer c.in_ok-session.session
     c.in_ok-subject_of.field-0 c.added_event-event.result c.is_any-added.result c.requires c.octets-octets.ensures c.in_ok-answer.ensures.done c.in_ok-session.ensures
     (c.in_ok-subject_of.ensures.exact ∙ ap subject_of c.as_slice.ensures) c.added_event-event.ensures.event (c.is_any-added.ensures ∙ ap any_added c.added.ensures)
-    c.in_ok-settle.ensures c.in_ok-say_if.ensures
+    c.in_ok-settle.ensures c.in_ok-say_if.ensures.after

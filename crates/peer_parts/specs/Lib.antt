@@ -1,0 +1,2 @@
+-- When a part of a half needs no memory.
+pub mod Quiet

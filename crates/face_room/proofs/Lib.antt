@@ -1,3 +1,4 @@
 pub mod NeedLemmas
 pub mod BlockLemmas
 pub mod RoomLemmas
+pub mod QueueLemmas

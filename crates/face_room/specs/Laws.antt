@@ -8,7 +8,8 @@ use Rattle.piece_gathering.specs.Gathered.{front_of}
 use Rattle.face_room.specs.declared.bounds.Bounds.{Bounds}
 use Rattle.face_room.specs.declared.bounds.TheConstants.{BLOCK_MAX, HEADER_MAX, NUMBERS}
 use Rattle.face_room.specs.declared.load.Load.{Load}
-use Rattle.face_room.specs.Bounds.{AreBounds, need, for_pieces}
+use Rattle.face_room.specs.Bounds.{AreBounds, half, need, for_pieces}
+use Rattle.face_room.specs.Queues.{may_wait, puts, queued_after}
 use Rattle.face_room.specs.Loads.{no_blocks, with_sizes, is_within, has_room}
 use Rattle.face_room.specs.Faces.{FaceValue, total, sizes_of, load_of, with_waiting, with_gone}
 
@@ -77,3 +78,18 @@ pub record AreSent (b : Bounds) (face : FaceValue) : Type 0 where
 
 abbrev pub GoesWithin : Type 0
 GoesWithin = (b : Bounds) (face : FaceValue) → AreBounds b → AreSent b face
+
+-- ---- what waits in the outbox
+
+-- Datagrams of these sizes are made, and so much is kept besides the outbox. Of each it is said whether it is put. No
+-- more wait than may, and half of the memory isn't passed, where that was so before. Where all of them would be within
+-- half of the memory, a datagram is dropped only where the outbox has no room for it.
+pub record QueueWithin (b : Bounds) (kept queued : ℕ) (sizes : List ℕ) : Type 0 where
+  pub each : length (puts (may_wait b kept) queued sizes) ≡ length sizes
+  pub waits : queued ≤ b.outbox → queued_after (may_wait b kept) queued sizes ≤ b.outbox
+  pub within : kept + queued ≤ half b → kept + queued_after (may_wait b kept) queued sizes ≤ half b
+  pub alone : kept + (queued + total sizes) ≤ half b
+      → puts (may_wait b kept) queued sizes ≡ puts (λ octets. nat_le octets b.outbox) queued sizes
+
+abbrev pub QueuesWithin : Type 0
+QueuesWithin = (b : Bounds) (kept queued : ℕ) (sizes : List ℕ) → QueueWithin b kept queued sizes

@@ -1,7 +1,8 @@
 //! The bounds of a face.
 
-ghost use Rattle.std.specs.Prelude.{◌≡◌, ◌*◌, ◌<◌, ◌≤◌};
+ghost use Rattle.std.specs.Prelude.{◌≡◌, ◌+◌, ◌*◌, ◌<◌, ◌≤◌, true};
 ghost use Rattle.face_room.specs.Bounds.{AreBounds, half, for_pieces, need};
+ghost use Rattle.face_room.specs.Queues.{may_wait};
 
 /// The most octets of a block that a session carries: 4 MiB. Own rule.
 pub const BLOCK_MAX: u64 = 4_194_304;
@@ -25,6 +26,8 @@ pub struct Bounds {
     pub wanted: u64,
     /// The most octets of data in a segment.
     pub segment: u64,
+    /// The most octets that wait in its outbox.
+    pub outbox: u64,
 }
 
 impl Bounds {
@@ -42,6 +45,20 @@ impl Bounds {
         ensures { result ≡ for_pieces self }
     {
         self.half() * 15 / 16
+    }
+
+    /// Whether a datagram of so many octets may wait in its outbox after so many that wait there, while it
+    /// keeps so many besides. It takes no memory.
+    pub fn may_wait(self, kept: u64, queued: u64, octets: u64) -> bool
+        ensures exact { result ≡ may_wait self kept (queued + octets) }
+        ensures small { result ≡ true → queued + octets ≤ self.outbox }
+    {
+        let half = self.half();
+        queued <= self.outbox
+            && octets <= self.outbox - queued
+            && kept <= half
+            && queued <= half - kept
+            && octets <= half - kept - queued
     }
 }
 

@@ -2,7 +2,7 @@
 
 ghost use Rattle.std.specs.Prelude.{◌≡◌};
 ghost use Rattle.face_room.specs.declared.bounds.TheConstants.{BLOCK_MAX, HEADER_MAX, NUMBERS};
-ghost use Rattle.face_room.specs.Laws.{IdleHasRoom, FewerHaveRoom, AloneEach, FrontsAreBlocks, GoesWithin};
+ghost use Rattle.face_room.specs.Laws.{IdleHasRoom, FewerHaveRoom, AloneEach, FrontsAreBlocks, GoesWithin, QueuesWithin};
 
 /// An idle face has room for each piece that a session carries, at the least memory and the shortest
 /// segments.
@@ -31,4 +31,10 @@ pub fn fronts_are_blocks()
 /// What has room waits, and goes once a session is free; and the face stays within its bounds.
 pub fn goes_within()
     ensures { GoesWithin }
+{}
+
+/// Datagrams that are put stay within the outbox and half of the memory; and where all of them would, none is
+/// dropped but for want of room in the outbox.
+pub fn queues_within()
+    ensures { QueuesWithin }
 {}

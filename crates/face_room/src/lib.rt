@@ -11,6 +11,9 @@
 //! idle face has room for each piece ([`idle_has_room`]); what has room goes as soon as a session is free, and
 //! leaves the face within its bounds ([`goes_within`]); and pieces that have as many octets as are wanted
 //! take a number of their own each ([`alone_each`]).
+//!
+//! Of a datagram that a face made, [`Bounds::may_wait`] says whether it is put into the outbox: where more octets
+//! than may wait there would, or more than half of the memory would be kept, it is dropped ([`queues_within`]).
 #![tactic(auto)]
 
 mod bounds;
@@ -18,5 +21,7 @@ mod laws;
 mod load;
 
 pub use bounds::{BLOCK_MAX, Bounds, HEADER_MAX, NUMBERS, need};
-pub use laws::{alone_each, fewer_have_room, fronts_are_blocks, goes_within, idle_has_room};
+pub use laws::{
+    alone_each, fewer_have_room, fronts_are_blocks, goes_within, idle_has_room, queues_within,
+};
 pub use load::{Load, Waiting, has_room, is_within, with_piece};

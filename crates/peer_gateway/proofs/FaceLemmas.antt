@@ -1,6 +1,6 @@
 -- What a face of the code did is what the definition's does.
 
-use Rattle.std.proofs.Common.{◌≡◌, ℕ, ◌+◌, ◌<◌, ◌≤◌, ◌^◌, Bool, true, false, nat_lt, List, [], ◌∷◌, ◌++◌, map, length, take, Result, Ok, Err, OnOk, All, refl, sym, ap, subst, ◌∙◌, arith, append_assoc}
+use Rattle.std.proofs.Common.{◌≡◌, ℕ, ◌-◌, ◌<◌, ◌≤◌, ◌^◌, min, Bool, true, false, nat_lt, List, [], ◌∷◌, ◌++◌, map, length, take, Result, Ok, Err, OnOk, All, refl, sym, ap, subst, ◌∙◌, arith, append_assoc}
 use Rattle.std.specs.List.{flat_map}
 use Rattle.std.proofs.lemmas.List.{map-append, append-nil, length-take-le}
 use Rattle.std.proofs.lemmas.List.Elements.{All-nil, All-push, All-drop, All-take}
@@ -14,8 +14,13 @@ use Rattle.piece_gathering.specs.Fronts.{AreWithin}
 use Rattle.face_room.specs.declared.bounds.Bounds.{Bounds}
 use Rattle.face_room.specs.declared.bounds.TheConstants.{BLOCK_MAX}
 use Rattle.face_room.specs.Bounds.{AreBounds}
+use Rattle.face_room.specs.Queues.{may_wait, puts, queued_after}
 use Rattle.face_room.specs.Loads.{with_sizes}
+use Rattle.face_room.proofs.QueueLemmas.{puts-same, queued-same, may-saturated}
+use Rattle.gate_cases.specs.declared.face.Face.{Face}
 use Rattle.gateway_core.specs.Effects.{datagram_at}
+use Rattle.peer_cases.specs.declared.settings.PeerSettings.{PeerSettings}
+use Rattle.peer_sessions.specs.Keys.{FaceKeys}
 use Rattle.peer_sessions.specs.declared.sessions.Told.{Told as Said}
 use Rattle.peer_sessions.specs.declared.keys.Keys.{Keys}
 use Rattle.peer_sessions.specs.Views.{PeerSessionsValue, face_keys}
@@ -25,15 +30,17 @@ use Rattle.peer_gateway.specs.declared.faces.FaceParts.{FaceParts}
 use Rattle.peer_gateway.specs.declared.moments.FaceMoments.{FaceMoments}
 use Rattle.peer_gateway.specs.declared.waits.Waits.{Waits}
 use Rattle.peer_gateway.specs.Keys.{AreKeys}
-use Rattle.peer_gateway.specs.Gate.{PeerFace, FaceTold, octets_out, starts_out, told_engine, told_green}
-use Rattle.peer_gateway.specs.Going.{going_octets, is_free, gathers, told_if}
+use Rattle.peer_gateway.specs.Gate.{PeerFace, FaceTold, kept_inside, may_queue, puts_out, with_queued, sizes_out, starts_face, starts_out, starts_puts, told_engine, told_green}
+use Rattle.peer_gateway.specs.Going.{going_octets, with_block, is_free, gathers, told_if}
 use Rattle.peer_gateway.specs.Steps.{told_of, told_at, forgotten_told}
 use Rattle.peer_gateway.specs.Laws.{IsSizedAt}
+use Rattle.peer_gateway.specs.declared.queue.Queue.{Queue}
+use Rattle.peer_gateway.specs.Queue.{sizes_in, may_of, puts_by, queue_after}
 use Rattle.peer_gateway.specs.Answers.{Answered, with_out, with_told, with_added, with_begun as and_begun}
 use Rattle.peer_gateway.specs.Views.{cancels_of}
 use Rattle.peer_gateway.specs.Waits.{no_waits, waits_of, waits_with, waits_after}
-use Rattle.peer_gateway.specs.Faces.{FaceSetup, keys_at, face_of, setup_at, IsSized, IsFace, face_does, face_waits, block_at, face_goes, FaceDid, FaceHeard, told_in, octets_in, then_said, Tells, Took, Sent, Starts}
-use Rattle.peer_gateway.proofs.AnswerLemmas.{out-at, octets-out}
+use Rattle.peer_gateway.specs.Faces.{FaceSetup, keys_at, face_of, setup_at, IsSized, IsFace, face_does, face_waits, block_at, face_goes, FaceDid, FaceHeard, told_in, puts_in, queued_in, Puts, then_said, Tells, Took, sends_block, Sent, IsEmpty, Starts}
+use Rattle.peer_gateway.proofs.AnswerLemmas.{out-at, sizes-out}
 use Rattle.peer_gateway.proofs.BlockLemmas.{octets-few, octets-some, going-few}
 use Rattle.peer_gateway.proofs.GoingLemmas.{ready-few}
 use Rattle.peer_gateway.proofs.WaitLemmas.{waits-push, waits-gone, needs_of}
@@ -65,7 +72,7 @@ waited f piece octets is_report gathering waits before after (Ok x) face sized a
   whole = subst (λ (g : GatheringValue). IsFace (with_waiting f g waits)) (sym added) (waits-too f piece waits face sized is);
   setup = refl;
   is = ap (λ (g : GatheringValue). record (face_of f) { gathering = g }) added;
-  answer = told ∙ rw (same, append-nil before.out, append-nil before.told, append-nil before.begun) refl;
+  answer = told ∙ rw (same, append-nil before.out, append-nil before.puts, append-nil before.told, append-nil before.begun) refl;
 }
 
 -- ---- pieces are taken
@@ -122,9 +129,9 @@ took f until needs pieces gathering waits waits_on face some is left count on so
       pieces_are = is;
     }
 
--- ---- sessions did something
+-- ---- datagrams were made
 
--- as many octets are queued, and sessions with the same keys are whole
+-- so many octets are queued, and sessions with the same keys are whole
 pub is-face : (f : FaceParts) (sessions : PeerSessionsValue) (queued : ℕ) → IsFace f → sessions.spent ≡ false → sessions.keys ≡ keys_at f
     → IsFace (record f { sessions = sessions; queued = queued })
 is-face f sessions queued face whole keys = record {
@@ -137,20 +144,48 @@ is-face f sessions queued face whole keys = record {
   sized = face.sized;
 }
 
+-- the same may wait by what the code keeps
+may-same : (f : FaceParts) (q : Queue) (n : ℕ) → IsFace f → q.bounds ≡ f.bounds → q.kept ≡ min (kept_inside (keys_at f) (face_of f)) (2 ^ 64 - 1)
+    → may_of q n ≡ may_queue (keys_at f) (face_of f) n
+may-same f q n face bounds kept =
+    ap (λ (b : Bounds). may_wait b q.kept n) (bounds ∙ face.bounds)
+    ∙ (ap (λ (k : ℕ). may_wait (keys_at f).bounds k n) kept
+    ∙ may-saturated (keys_at f).bounds (kept_inside (keys_at f) (face_of f)) n (subst AreBounds face.bounds face.are))
+
+pub put-so : (f : FaceParts) (q after_queue : Queue) (before after : Answered) (out : List (List ℕ)) → IsFace f
+    → q.bounds ≡ f.bounds → q.kept ≡ min (kept_inside (keys_at f) (face_of f)) (2 ^ 64 - 1) → q.queued ≡ f.queued
+    → after_queue ≡ queue_after q out → after ≡ with_out before (map (datagram_at f.face) out) (puts_by q out)
+    → Puts f (record f { queued = after_queue.queued }) before after out
+put-so f q after_queue before after out face bounds kept queued is answer =
+    let same : (n : ℕ) → may_of q n ≡ may_queue (keys_at f) (face_of f) n = λ n. may-same f q n face bounds kept in
+    let sizes = sizes_in out in record {
+      whole = is-face f f.sessions after_queue.queued face face.whole refl;
+      new_is = ap (λ (n : ℕ). record f { queued = n })
+          (ap (λ (x : Queue). x.queued) is
+          ∙ (queued-same (may_of q) (may_queue (keys_at f) (face_of f)) q.queued sizes same
+          ∙ ap (λ (n : ℕ). queued_after (may_queue (keys_at f) (face_of f)) n sizes) queued));
+      answer = answer
+          ∙ ap (with_out before (map (datagram_at f.face) out))
+          (puts-same (may_of q) (may_queue (keys_at f) (face_of f)) q.queued sizes same
+          ∙ ap (λ (n : ℕ). puts (may_queue (keys_at f) (face_of f)) n sizes) queued);
+    }
+
+-- ---- sessions did something
+
 -- what was told of it is what the definition tells
 said-told : (said : Said) (old new : PeerSessionsValue) (step : SessionsStep) → Does old new step said → told_in said ≡ told_of step
 said-told said old new step does = rw (does.gone, does.forgotten, does.effects) refl
 
 pub heard : (f mid new : FaceParts) (before after : Answered) (step : SessionsStep) (said : Said) (ups : List Up)
     → mid ≡ record f { sessions = mid.sessions } → Does f.sessions mid.sessions step said → Tells mid new before after said ups
-    → FaceDid f new before after (face_does f.face (face_of f) step)
+    → FaceDid f new before after (face_does (keys_at f) f.face (face_of f) step)
 heard f mid new before after step said ups same does tells = record {
   whole = tells.whole;
   setup = tells.setup ∙ (ap setup_at same ∙ ap (λ k. record { face = f.face; settings = f.settings; keys = k }) does.keys);
-  is = tells.is ∙ (ap (λ (m : FaceParts). record (face_of m) { queued = m.queued + octets_in (said.effects).out }) same
-      ∙ rw (does.sessions, does.effects, octets-out (step.effects).out) refl);
-  answer = tells.answer ∙ (ap (λ (m : FaceParts). then_said before m.face said) same
-      ∙ rw (said-told said f.sessions mid.sessions step does, does.effects, out-at f.face (step.effects).out, append-nil before.added, append-nil before.begun) refl);
+  is = tells.is ∙ (ap (λ (m : FaceParts). record (face_of m) { queued = queued_in m (said.effects).out }) same
+      ∙ rw (does.sessions, does.keys, does.effects, sizes-out (step.effects).out) refl);
+  answer = tells.answer ∙ (ap (λ (m : FaceParts). then_said before m said) same
+      ∙ rw (said-told said f.sessions mid.sessions step does, does.sessions, does.keys, does.effects, out-at f.face (step.effects).out, sizes-out (step.effects).out, append-nil before.added, append-nil before.begun) refl);
 }
 
 -- its sessions did a step, and nothing was told of it yet
@@ -171,15 +206,14 @@ heard-all f mid new before after step said ups many fewer same does tells first 
       ended = rw (first, left) refl;
     }
 
-pub tells : (f : FaceParts) (queued : ℕ) (before a b c d e : Answered) (said : Said) → IsFace f
-    → queued ≡ f.queued + octets_in (said.effects).out
-    → a ≡ with_out before (map (datagram_at f.face) (said.effects).out)
-    → b ≡ with_told a (map (told_at f.face) (map told_engine (evictions (said.gone).items)))
-    → c ≡ with_told b (map (told_at f.face) (forgotten_told said.forgotten))
-    → d ≡ with_told c (map (told_at f.face) (map told_engine (said.effects).notes))
-    → e ≡ with_told d (map (told_at f.face) (map told_green (said.effects).greens))
-    → Tells f (record f { queued = queued }) before e said (said.effects).ups
-tells f queued before a b c d e said face count sent gone forgotten notes greens =
+pub tells : (f new : FaceParts) (before a b c d e : Answered) (said : Said) (numbers : List ℕ) → Puts f new before a (said.effects).out
+    → numbers ≡ (said.gone).items → b ≡ with_told a (map (told_at new.face) (map told_engine (evictions numbers)))
+    → c ≡ with_told b (map (told_at new.face) (forgotten_told said.forgotten))
+    → d ≡ with_told c (map (told_at new.face) (map told_engine (said.effects).notes))
+    → e ≡ with_told d (map (told_at new.face) (map told_green (said.effects).greens))
+    → Tells f new before e said (said.effects).ups
+tells f new before a b c d e said numbers put are gone forgotten notes greens =
+    let there : new.face ≡ f.face = ap (λ (x : FaceParts). x.face) put.new_is in
     let one : List FaceTold = map (told_at f.face) (map told_engine (evictions (said.gone).items)) in
     let two : List FaceTold = map (told_at f.face) (forgotten_told said.forgotten) in
     let three : List FaceTold = map (told_at f.face) (map told_engine (said.effects).notes) in
@@ -195,32 +229,34 @@ tells f queued before a b c d e said face count sent gone forgotten notes greens
     ∙ ap (λ (told : List FaceTold). two ++ told)
     (map-append (told_at f.face) (map told_engine (said.effects).notes) (map told_green (said.effects).greens))))))) in
     record {
-      whole = is-face f f.sessions queued face face.whole refl;
-      setup = refl;
-      is = ap (λ n. record (face_of f) { queued = n }) count;
-      answer = rw (greens, notes, forgotten, gone, sent, all) refl;
+      whole = put.whole;
+      setup = ap setup_at put.new_is;
+      is = ap face_of put.new_is;
+      answer = rw (greens, notes, forgotten, gone, are, there, put.answer, all) refl;
       ups_are = refl;
     }
 
 -- ---- a block begins
 
-pub sends : (f : FaceParts) (sessions : PeerSessionsValue) (queued : ℕ) (before after : Answered) (step : EngineStep) (effects : Effects) → IsFace f
-    → Begins f.sessions sessions step effects → queued ≡ f.queued + octets_in effects.out
-    → after ≡ with_out before (map (datagram_at f.face) effects.out)
-    → Sent f (record f { sessions = sessions; queued = queued }) before after step
-sends f sessions queued before after step effects face begins count sent = record {
-  whole = is-face f sessions queued face begins.whole begins.keys;
-  setup = ap (λ k. record { face = f.face; settings = f.settings; keys = k }) begins.keys;
-  is = rw (count, begins.sessions, begins.effects, octets-out (step.effects).out) refl;
-  answer = sent ∙ rw (begins.effects, out-at f.face (step.effects).out) refl;
+-- it is being sent, and its datagrams weren't made yet
+pub begun-face : (f : FaceParts) (sessions : PeerSessionsValue) (step : EngineStep) (effects : Effects) → IsFace f
+    → Begins f.sessions sessions step effects → IsFace (record f { sessions = sessions })
+begun-face f sessions step effects face begins = is-face f sessions f.queued face begins.whole begins.keys
+
+pub sends : (f : FaceParts) (sessions : PeerSessionsValue) (new : FaceParts) (before after : Answered) (step : EngineStep) (effects : Effects)
+    → Begins f.sessions sessions step effects → Puts (record f { sessions = sessions }) new before after effects.out → Sent f new before after step
+sends f sessions new before after step effects begins put = record {
+  whole = put.whole;
+  setup = ap setup_at put.new_is ∙ ap (λ k. record { face = f.face; settings = f.settings; keys = k }) begins.keys;
+  is = ap face_of put.new_is ∙ rw (begins.sessions, begins.keys, begins.effects, sizes-out (step.effects).out) refl;
+  answer = put.answer ∙ rw (begins.sessions, begins.keys, begins.effects, out-at f.face (step.effects).out, sizes-out (step.effects).out) refl;
 }
 
-pub sends-ok : {A E : Type 0} (f : FaceParts) (sessions : PeerSessionsValue) (queued : ℕ) (before after : Answered) (step : EngineStep) (effects : Effects)
-    (result : Result A E) → IsFace f → Begins f.sessions sessions step effects → queued ≡ f.queued + octets_in effects.out
-    → OnOk result (after ≡ with_out before (map (datagram_at f.face) effects.out))
-    → OnOk result (Sent f (record f { sessions = sessions; queued = queued }) before after step)
-sends-ok f sessions queued before after step effects (Err e) face begins count sent = tt
-sends-ok f sessions queued before after step effects (Ok x) face begins count sent = sends f sessions queued before after step effects face begins count sent
+pub sends-ok : {A E : Type 0} (f : FaceParts) (sessions : PeerSessionsValue) (new : FaceParts) (before after : Answered) (step : EngineStep) (effects : Effects)
+    (result : Result A E) → Begins f.sessions sessions step effects → OnOk result (Puts (record f { sessions = sessions }) new before after effects.out)
+    → OnOk result (Sent f new before after step)
+sends-ok f sessions new before after step effects (Err e) begins put = tt
+sends-ok f sessions new before after step effects (Ok x) begins put = sends f sessions new before after step effects begins put
 
 -- ---- the pieces that are ready go
 
@@ -278,11 +314,15 @@ went f mid new m until count octets session before sent told after pieces block 
     let ready-is : count ≡ ready f.gathering until =
     count-is ∙ (ap length took.pieces_are ∙ length-take-le (ready f.gathering until) (f.gathering).waiting (ready-few f.gathering until)) in
     let size : octets ≡ length whole = octets-is ∙ ap length block-is in
+    let puts-are : puts_out (keys_at mid) (sends_block mid step) (step.effects).out ≡ puts_out s.keys (with_block (face_of f) until step) (step.effects).out =
+    ap (λ k. puts_out k (sends_block mid step) (step.effects).out) mid-keys
+    ∙ ap (λ (p : PeerFace). puts_out s.keys (record p { sessions = with_begun p.sessions step }) (step.effects).out) took.is in
     record {
       whole = goes.whole;
       setup = new-setup;
-      is = goes.is ∙ ap (λ (p : PeerFace). record p { sessions = with_begun p.sessions step; queued = p.queued + octets_out (step.effects).out }) took.is;
-      answer = begins ∙ rw (says, goes.answer, new-face, new-keys, mid-face, session-is, ready-is, size, block-is, append-nil before.added) refl;
+      is = goes.is ∙ (ap (λ k. with_queued k (sends_block mid step) (step.effects).out) mid-keys
+          ∙ ap (λ (p : PeerFace). with_queued s.keys (record p { sessions = with_begun p.sessions step }) (step.effects).out) took.is);
+      answer = begins ∙ rw (says, goes.answer, puts-are, new-face, new-keys, mid-face, session-is, ready-is, size, block-is, append-nil before.added) refl;
     }
 
 pub went-ok : {A E : Type 0} (f mid new : FaceParts) (m : FaceMoments) (until count octets session : ℕ) (before sent told after : Answered)
@@ -301,28 +341,58 @@ went-ok f mid new m until count octets session before sent told after pieces blo
 
 -- ---- a face begins
 
-pub starts-so : (f : FaceParts) (keys : Keys) (now : ℕ) (marks : List ℕ) (before after : Answered) (out : List (List ℕ))
+pub empty-so : (f : FaceParts) (keys : Keys) (now : ℕ) (marks : List ℕ)
     → AreKeys (face_keys keys) → AreBounds keys.bounds → f.bounds ≡ keys.bounds
     → f.sessions ≡ record { spent = false; keys = face_keys keys; sessions = starts_sessions (face_keys keys) now marks }
-    → f.gathering ≡ nothing_waits keys.bounds.wanted keys.wait_ms → f.queued ≡ octets_in out → f.waits ≡ no_waits
-    → out ≡ map segment_octets (cancels_of keys.peer marks) → after ≡ with_out before (map (datagram_at f.face) out)
-    → Starts f.face f.settings (face_keys keys) now marks before after f
+    → f.gathering ≡ nothing_waits keys.bounds.wanted keys.wait_ms → f.queued ≡ 0 → f.waits ≡ no_waits
+    → IsEmpty f.face f.settings (face_keys keys) now marks f
 unfolding with_sizes
-starts-so f keys now marks before after out agree are bounds sessions gathering queued waits cancels sent =
-    let octets : f.queued ≡ octets_out (starts_out (face_keys keys) marks) =
-    queued ∙ (ap octets_in cancels ∙ octets-out (starts_out (face_keys keys) marks)) in
+empty-so f keys now marks agree are bounds sessions gathering queued waits = record {
+  whole = record {
+    whole = ap (λ (s : PeerSessionsValue). s.spent) sessions;
+    keys = subst AreKeys (sym (ap (λ (s : PeerSessionsValue). s.keys) sessions)) agree;
+    bounds = bounds ∙ sym (ap (λ (s : PeerSessionsValue). s.keys.bounds) sessions);
+    are = subst AreBounds (sym bounds) are;
+    wanted = ap (λ (g : GatheringValue). g.wanted) gathering ∙ sym (ap (λ (b : Bounds). b.wanted) bounds);
+    waits = waits ∙ sym (ap (λ (g : GatheringValue). waits_of f.bounds g.waiting) gathering);
+    sized = subst (λ (g : GatheringValue). All (IsSized f.settings f.face) g.waiting) (sym gathering) (All-nil (IsSized f.settings f.face));
+  };
+  setup = ap (λ (s : PeerSessionsValue). record { face = f.face; settings = f.settings; keys = s.keys }) sessions;
+  is = rw (sessions, gathering, queued) refl;
+}
+
+-- whether each cancel is put, and how many octets wait then
+record StartsQueue (f : FaceParts) (k : FaceKeys) (marks : List ℕ) (out : List (List ℕ)) : Type 0 where
+  queued : queued_in f out ≡ queued_after (may_wait k.bounds 0) 0 (sizes_out (starts_out k marks))
+  puts_are : puts_in f out ≡ starts_puts k marks
+
+starts-queue : (f : FaceParts) (k : FaceKeys) (now : ℕ) (marks : List ℕ) (out : List (List ℕ)) → keys_at f ≡ k
+    → face_of f ≡ record (starts_face k now marks) { queued = 0 } → out ≡ map segment_octets (starts_out k marks) → StartsQueue f k marks out
+starts-queue f k now marks out keys is cancels =
+    let sizes : sizes_in out ≡ sizes_out (starts_out k marks) = ap sizes_in cancels ∙ sizes-out (starts_out k marks) in
     record {
-      whole = record {
-        whole = ap (λ (s : PeerSessionsValue). s.spent) sessions;
-        keys = subst AreKeys (sym (ap (λ (s : PeerSessionsValue). s.keys) sessions)) agree;
-        bounds = bounds ∙ sym (ap (λ (s : PeerSessionsValue). s.keys.bounds) sessions);
-        are = subst AreBounds (sym bounds) are;
-        wanted = ap (λ (g : GatheringValue). g.wanted) gathering ∙ sym (ap (λ (b : Bounds). b.wanted) bounds);
-        waits = waits ∙ sym (ap (λ (g : GatheringValue). waits_of f.bounds g.waiting) gathering);
-        sized = subst (λ (g : GatheringValue). All (IsSized f.settings f.face) g.waiting) (sym gathering) (All-nil (IsSized f.settings f.face));
-      };
-      setup = ap (λ (s : PeerSessionsValue). record { face = f.face; settings = f.settings; keys = s.keys }) sessions;
-      is = rw (sessions, gathering, octets) refl;
-      answer = sent ∙ (ap (λ (w : List (List ℕ)). with_out before (map (datagram_at f.face) w)) cancels
-          ∙ ap (with_out before) (out-at f.face (starts_out (face_keys keys) marks)));
+      queued = ap (λ (x : FaceKeys). queued_after (may_queue x (face_of f)) (face_of f).queued (sizes_in out)) keys
+          ∙ (ap (λ (p : PeerFace). queued_after (may_queue k p) p.queued (sizes_in out)) is
+          ∙ ap (λ (ns : List ℕ). queued_after (may_wait k.bounds 0) 0 ns) sizes);
+      puts_are = ap (λ (x : FaceKeys). puts (may_queue x (face_of f)) (face_of f).queued (sizes_in out)) keys
+          ∙ (ap (λ (p : PeerFace). puts (may_queue k p) p.queued (sizes_in out)) is
+          ∙ ap (λ (ns : List ℕ). puts (may_wait k.bounds 0) 0 ns) sizes);
+    }
+
+pub starts-so : (f new : FaceParts) (face : Face) (settings : PeerSettings) (keys : Keys) (now : ℕ) (marks : List ℕ) (before after : Answered)
+    (out : List (List ℕ)) → IsEmpty face settings (face_keys keys) now marks f → out ≡ map segment_octets (cancels_of keys.peer marks)
+    → Puts f new before after out → Starts face settings (face_keys keys) now marks before after new
+starts-so f new face settings keys now marks before after out empty cancels put =
+    let k = face_keys keys in
+    let there : f.face ≡ face = ap (λ (x : FaceSetup). x.face) empty.setup in
+    let queue = starts-queue f k now marks out (ap (λ (x : FaceSetup). x.keys) empty.setup) empty.is cancels in
+    record {
+      whole = put.whole;
+      setup = ap setup_at put.new_is ∙ empty.setup;
+      is = ap face_of put.new_is
+          ∙ (ap (λ (p : PeerFace). record p { queued = queued_in f out }) empty.is
+          ∙ ap (λ (n : ℕ). record (starts_face k now marks) { queued = n }) queue.queued);
+      answer = put.answer
+          ∙ (ap (λ (w : List (List ℕ)). with_out before (map (datagram_at f.face) w) (puts_in f out)) cancels
+          ∙ rw (there, queue.puts_are, out-at face (starts_out k marks)) refl);
     }

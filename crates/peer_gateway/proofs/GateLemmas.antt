@@ -101,11 +101,11 @@ waits-at faces.New p piece is_report whole =
     ap (λ face. at_gate faces.New (gate_of p) (face_waits face piece is_report (face_of p.new_face))) whole.new_is
 
 pub does-at : (face : Face) (p : Parts) (step : SessionsStep) → IsWhole p
-    → at_gate face (gate_of p) (face_does (face_at p face).face (face_of (face_at p face)) step) ≡ does_at face (gate_of p) step
+    → at_gate face (gate_of p) (face_does (keys_at (face_at p face)) (face_at p face).face (face_of (face_at p face)) step) ≡ does_at (setup_in p) face (gate_of p) step
 does-at faces.Old p step whole =
-    ap (λ face. at_gate faces.Old (gate_of p) (face_does face (face_of p.old_face) step)) whole.old_is
+    ap (λ face. at_gate faces.Old (gate_of p) (face_does (keys_at p.old_face) face (face_of p.old_face) step)) whole.old_is
 does-at faces.New p step whole =
-    ap (λ face. at_gate faces.New (gate_of p) (face_does face (face_of p.new_face) step)) whole.new_is
+    ap (λ face. at_gate faces.New (gate_of p) (face_does (keys_at p.new_face) face (face_of p.new_face) step)) whole.new_is
 
 pub did-as : (p q : Parts) (a b : Answered) (one other : PeerStep) → one ≡ other → Did p q a b one → Did p q a b other
 did-as p q a b one other same did = subst (Did p q a b) same did
@@ -219,22 +219,22 @@ went-there face at p q a b result m until is whole same did =
     (λ f. go (setup_in p) f (moments_of m) until (gate_of p)) is whole same (go-at at p m until whole) did
 
 ticks-at : (face : Face) (p : Parts) (m : Moments) → IsWhole p
-    → at_gate face (gate_of p) (face_does (face_at p face).face (face_of (face_at p face))
+    → at_gate face (gate_of p) (face_does (keys_at (face_at p face)) (face_at p face).face (face_of (face_at p face))
     (ticks (keys_at (face_at p face)) (face_of (face_at p face)).sessions (at_face (m.old, m.new) face).at))
-    ≡ does_at face (gate_of p) (ticks (at_face (setup_in p).keys face) (at_face (gate_of p).faces face).sessions ((moments_of m).at face))
+    ≡ does_at (setup_in p) face (gate_of p) (ticks (at_face (setup_in p).keys face) (at_face (gate_of p).faces face).sessions ((moments_of m).at face))
 ticks-at faces.Old p m whole = does-at faces.Old p (ticks (keys_at p.old_face) (face_of p.old_face).sessions m.old.at) whole
 ticks-at faces.New p m whole = does-at faces.New p (ticks (keys_at p.new_face) (face_of p.new_face).sessions m.new.at) whole
 
 pub ticked-there : {A E : Type 0} (face at : Face) (p q : Parts) (a b : Answered) (result : Result A E) (m : Moments) → face ≡ at
     → IsWhole p → SameBut at p q
-    → OnOk result (FaceDid (face_at p at) (face_at q at) a b (face_does (face_at p at).face (face_of (face_at p at))
+    → OnOk result (FaceDid (face_at p at) (face_at q at) a b (face_does (keys_at (face_at p at)) (face_at p at).face (face_of (face_at p at))
     (ticks (keys_at (face_at p at)) (face_of (face_at p at)).sessions (at_face (m.old, m.new) at).at)))
-    → OnOk result (Did p q a b (does_at face (gate_of p)
+    → OnOk result (Did p q a b (does_at (setup_in p) face (gate_of p)
     (ticks (at_face (setup_in p).keys face) (at_face (gate_of p).faces face).sessions ((moments_of m).at face))))
 ticked-there face at p q a b result m is whole same did =
-    there face at p q a b result (face_does (face_at p at).face (face_of (face_at p at))
+    there face at p q a b result (face_does (keys_at (face_at p at)) (face_at p at).face (face_of (face_at p at))
     (ticks (keys_at (face_at p at)) (face_of (face_at p at)).sessions (at_face (m.old, m.new) at).at))
-    (λ f. does_at f (gate_of p) (ticks (at_face (setup_in p).keys f) (at_face (gate_of p).faces f).sessions ((moments_of m).at f)))
+    (λ f. does_at (setup_in p) f (gate_of p) (ticks (at_face (setup_in p).keys f) (at_face (gate_of p).faces f).sessions ((moments_of m).at f)))
     is whole same (ticks-at at p m whole) did
 
 -- ---- one call after another

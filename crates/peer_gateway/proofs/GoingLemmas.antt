@@ -117,13 +117,13 @@ ticked : (s : PeerSetup) (m : PeerMoments) (face : Face) (g : PeerGate) → Noth
 unfolding ticks_peer and_then
 ticked s m faces.Old g =
     let h = (ticks_face s m faces.Old g).gate in
-    let i = (does_at faces.New h (ticks s.keys.1 h.faces.1.sessions (m.at faces.New))).gate in
+    let i = (does_at s faces.New h (ticks s.keys.1 h.faces.1.sessions (m.at faces.New))).gate in
     let stays = old-stays s m (m.at faces.New) (length (waiting_at faces.New i)) i in
-    let before = go-all-none s faces.Old m (m.at faces.Old) (does_at faces.Old g (ticks s.keys.0 g.faces.0.sessions (m.at faces.Old))).gate in
+    let before = go-all-none s faces.Old m (m.at faces.Old) (does_at s faces.Old g (ticks s.keys.0 g.faces.0.sessions (m.at faces.Old))).gate in
     subst (λ (f : PeerFace). is_free s.keys.0 f ≡ true → ready f.gathering (m.at faces.Old) ≡ 0) (sym stays) before
 ticked s m faces.New g =
     let h = (ticks_face s m faces.Old g).gate in
-    go-all-none s faces.New m (m.at faces.New) (does_at faces.New h (ticks s.keys.1 h.faces.1.sessions (m.at faces.New))).gate
+    go-all-none s faces.New m (m.at faces.New) (does_at s faces.New h (ticks s.keys.1 h.faces.1.sessions (m.at faces.New))).gate
 
 due-none : (ended : Bool) (s : PeerSetup) (m : PeerMoments) (face : Face) (g : PeerGate) → ended ≡ true
     → NothingGoes s face (m.at face) (due_if ended s m face g).gate
@@ -135,5 +135,5 @@ unfolding and_then
 ready_goes = record {
   ticked = ticked;
   ended = λ s m face g step is.
-      due-none _ s m face (in_turn (passes s face m) (step.effects).ups (does_at face g step).gate).gate is;
+      due-none _ s m face (in_turn (passes s face m) (step.effects).ups (does_at s face g step).gate).gate is;
 }

@@ -1,9 +1,12 @@
 pub mod GoingLemmas
 pub mod TurnLemmas
 pub mod StepLemmas
+pub mod QueueLemmas
+pub mod PutLemmas
 pub mod OrderLemmas
 pub mod BlockLemmas
 pub mod HeadLemmas
+pub mod BoundLemmas
 pub mod AgeLemmas
 pub mod LengthLemmas
 pub mod SizeLemmas

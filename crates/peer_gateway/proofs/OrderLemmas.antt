@@ -84,7 +84,7 @@ order-both s m face g first next one more =
     (begun_at face (first.effects).begun ++ begun_at face (second.effects).begun) w (waiting_at face second.gate)) (sym all) is)
 
 order-hearing : (s : PeerSetup) (m : PeerMoments) (face at : Face) (step : SessionsStep) (g : PeerGate)
-    → GoInOrder s m face g (does_at at g step)
+    → GoInOrder s m face g (does_at s at g step)
 order-hearing s m faces.Old faces.Old step g = none-went s.settings faces.Old (m.leaves faces.Old) (waiting_at faces.Old g)
 order-hearing s m faces.Old faces.New step g = none-went s.settings faces.Old (m.leaves faces.Old) (waiting_at faces.Old g)
 order-hearing s m faces.New faces.Old step g = none-went s.settings faces.New (m.leaves faces.New) (waiting_at faces.New g)

@@ -121,7 +121,7 @@ did-tells p face told a b whole is = record {
   whole = whole;
   setup = refl;
   gate = refl;
-  answer = is ∙ rw (append-nil a.out, append-nil a.added, append-nil a.begun) refl;
+  answer = is ∙ rw (append-nil a.out, append-nil a.puts, append-nil a.added, append-nil a.begun) refl;
 }
 
 pub did-left : (p : Parts) (face : Face) (index : Option ℕ) (session : ℕ) (left : Option LeftOut) (a b : Answered) → IsWhole p
@@ -357,7 +357,7 @@ heard-at faces.Old p q a b (Ok up) m read whole same heard =
     let step = hears (keys_at p.old_face) (face_of p.old_face).sessions read m.old.at in
     record {
       did = did-as p q a b _ _ (does-at faces.Old p step whole)
-          (did-at faces.Old p q a b (face_does p.old_face.face (face_of p.old_face) step) whole same heard.did);
+          (did-at faces.Old p q a b (face_does (keys_at p.old_face) p.old_face.face (face_of p.old_face) step) whole same heard.did);
       ups = heard.ups;
       ended = heard.ended;
     }
@@ -365,7 +365,7 @@ heard-at faces.New p q a b (Ok up) m read whole same heard =
     let step = hears (keys_at p.new_face) (face_of p.new_face).sessions read m.new.at in
     record {
       did = did-as p q a b _ _ (does-at faces.New p step whole)
-          (did-at faces.New p q a b (face_does p.new_face.face (face_of p.new_face) step) whole same heard.did);
+          (did-at faces.New p q a b (face_does (keys_at p.new_face) p.new_face.face (face_of p.new_face) step) whole same heard.did);
       ups = heard.ups;
       ended = heard.ended;
     }
@@ -394,5 +394,5 @@ arrives-so p q r t a b c d face m read heard ups (Ok x) hears is passed due =
     let all = subst (λ us. Did q r b c (in_turn (passes (setup_in q) face m) us (gate_of q))) same passed in
     let last = subst (λ (e : Bool). Did r t c d (due_if e (setup_in r) m face (gate_of r))) hears.ended due in
     did-then (λ s h. and_then (in_turn (passes s face m) (step.effects).ups h) (due_if ended s m face))
-    p q t a b d (does_at face (gate_of p) step) hears.did
+    p q t a b d (does_at (setup_in p) face (gate_of p) step) hears.did
     (did-then (λ s. due_if ended s m face) q r t b c d (in_turn (passes (setup_in q) face m) (step.effects).ups (gate_of q)) all last)

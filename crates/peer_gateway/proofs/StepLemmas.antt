@@ -29,7 +29,7 @@ pub record IsKept (s : PeerSetup) (m : PeerMoments) (Holds : PeerGate → PeerSt
   pub both : (g : PeerGate) (first : PeerStep) (next : PeerGate → PeerStep) → Holds g first → Holds first.gate (next first.gate)
       → Holds g (and_then first next)
   pub telling : (face : Face) (told : Told) (g : PeerGate) → Holds g (tells face told g)
-  pub hearing : (face : Face) (step : SessionsStep) (g : PeerGate) → Holds g (does_at face g step)
+  pub hearing : (face : Face) (step : SessionsStep) (g : PeerGate) → Holds g (does_at s face g step)
   pub waiting : (face : Face) (piece : Piece) (is_report : Bool) (g : PeerGate) → Holds g (waits_too face piece is_report g)
   pub going : (face : Face) (until : ℕ) (g : PeerGate) → next_count (at_face s.keys face) until (at_face g.faces face) ≢ 0
       → Holds g (go s face m until g)
@@ -147,7 +147,7 @@ due-keeps s m Holds kept false face g = kept.nothing g
 arrives-keeps : (s : PeerSetup) (m : PeerMoments) (Holds : PeerGate → PeerStep → Type 0) → IsKept s m Holds
     → (face : Face) (step : SessionsStep) (g : PeerGate) → Holds g (arrives_with s face m g step)
 arrives-keeps s m Holds kept face step g =
-    let first = does_at face g step in
+    let first = does_at s face g step in
     let ended = has_ended (at_face g.faces face).sessions step in
     let last = due_if ended s m face in
     let second = in_turn (passes s face m) (step.effects).ups first.gate in
@@ -160,7 +160,7 @@ tick-keeps : (s : PeerSetup) (m : PeerMoments) (Holds : PeerGate → PeerStep �
     → (face : Face) → Keeps Holds (ticks_face s m face)
 tick-keeps s m Holds kept face g =
     let step = ticks (at_face s.keys face) (at_face g.faces face).sessions (m.at face) in
-    let first = does_at face g step in
+    let first = does_at s face g step in
     kept.both g first (due s m face) (kept.hearing face step g) (all-keeps s m Holds kept face (m.at face) first.gate)
 
 kept-keeps : (s : PeerSetup) (m : PeerMoments) (Holds : PeerGate → PeerStep → Type 0) → IsKept s m Holds

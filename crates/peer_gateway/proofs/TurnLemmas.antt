@@ -22,26 +22,21 @@ use Rattle.peer_gateway.specs.Laws.{told_without, without_places, tells_end, Row
 
 -- ---- one step after another
 
-abbrev pub effects_of : List RoutedValue → List FaceTold → List AddedAt → List BegunAt → PeerEffects
-effects_of out told added begun = record { out = out; told = told; added = added; begun = begun }
+abbrev pub effects_of : List RoutedValue → List Bool → List FaceTold → List AddedAt → List BegunAt → PeerEffects
+effects_of out puts told added begun = record { out = out; puts = puts; told = told; added = added; begun = begun }
 
 more-assoc : (a b c : PeerEffects) → with_more (with_more a b) c ≡ with_more a (with_more b c)
 more-assoc a b c =
-    ap (λ (out : List RoutedValue). effects_of out ((a.told ++ b.told) ++ c.told) ((a.added ++ b.added) ++ c.added) ((a.begun ++ b.begun) ++ c.begun))
-    (append_assoc a.out b.out c.out)
-    ∙ (ap (λ (told : List FaceTold). effects_of (a.out ++ (b.out ++ c.out)) told ((a.added ++ b.added) ++ c.added) ((a.begun ++ b.begun) ++ c.begun))
-    (append_assoc a.told b.told c.told)
-    ∙ (ap (λ (added : List AddedAt). effects_of (a.out ++ (b.out ++ c.out)) (a.told ++ (b.told ++ c.told)) added ((a.begun ++ b.begun) ++ c.begun))
-    (append_assoc a.added b.added c.added)
-    ∙ ap (λ (begun : List BegunAt). effects_of (a.out ++ (b.out ++ c.out)) (a.told ++ (b.told ++ c.told)) (a.added ++ (b.added ++ c.added)) begun)
-    (append_assoc a.begun b.begun c.begun)))
+    rw (
+      append_assoc a.out b.out c.out,
+      append_assoc a.puts b.puts c.puts,
+      append_assoc a.told b.told c.told,
+      append_assoc a.added b.added c.added,
+      append_assoc a.begun b.begun c.begun,
+    ) refl
 
 more-none : (a : PeerEffects) → with_more a no_effects ≡ a
-more-none a =
-    ap (λ (out : List RoutedValue). effects_of out (a.told ++ []) (a.added ++ []) (a.begun ++ [])) (append-nil a.out)
-    ∙ (ap (λ (told : List FaceTold). effects_of a.out told (a.added ++ []) (a.begun ++ [])) (append-nil a.told)
-    ∙ (ap (λ (added : List AddedAt). effects_of a.out a.told added (a.begun ++ [])) (append-nil a.added)
-    ∙ ap (λ (begun : List BegunAt). effects_of a.out a.told a.added begun) (append-nil a.begun)))
+more-none a = rw (append-nil a.out, append-nil a.puts, append-nil a.told, append-nil a.added, append-nil a.begun) refl
 
 none-more : (a : PeerEffects) → with_more no_effects a ≡ a
 none-more a = refl
@@ -83,7 +78,7 @@ unfolding and_then
 without-then first next =
     let second = next first.gate in
     ap (λ (told : List FaceTold). step_of second.gate
-    (effects_of ((first.effects).out ++ (second.effects).out) told ((first.effects).added ++ (second.effects).added) ((first.effects).begun ++ (second.effects).begun)))
+    (effects_of ((first.effects).out ++ (second.effects).out) ((first.effects).puts ++ (second.effects).puts) told ((first.effects).added ++ (second.effects).added) ((first.effects).begun ++ (second.effects).begun)))
     (map-append told_without (first.effects).told (second.effects).told)
 
 -- steps that are the same but for places, one after the other

@@ -1,10 +1,11 @@
 -- What the code answers to an event, as the definition's effects.
 
-use Rattle.std.specs.Prelude.{ℕ, List, [], ◌∷◌, ◌++◌, map, Option, None, Some}
+use Rattle.std.specs.Prelude.{ℕ, Bool, List, [], ◌∷◌, ◌++◌, map, Option, None, Some}
 use Rattle.gate_cases.specs.declared.face.Face.{Face}
 use Rattle.block_types.specs.declared.losing.LeftOut.{LeftOut}
 use Rattle.gateway_core.specs.declared.effects.Routed.{Routed}
 use Rattle.gateway_core.specs.Effects.{routed_of}
+use Rattle.peer_gateway.specs.declared.told.Outgoing.{Outgoing}
 use Rattle.peer_gateway.specs.declared.told.Remark.{Remark}
 use Rattle.peer_gateway.specs.declared.told.Remark.TheVariants as remarks
 use Rattle.peer_gateway.specs.declared.told.RemarkAt.{RemarkAt}
@@ -15,14 +16,27 @@ use Rattle.peer_gateway.specs.Gate.{Told, FaceTold, AddedAt, BegunAt, PeerEffect
 -- each segment as its datagram
 pub record Answered : Type 0 where
   pub out : List Routed
+  pub puts : List Bool
   pub told : List FaceTold
   pub added : List AddedAt
   pub begun : List BegunAt
 
 abbrev pub answer_of : PeerEffects → Answered
-answer_of e = record { out = map routed_of e.out; told = e.told; added = e.added; begun = e.begun }
+answer_of e = record {
+  out = map routed_of e.out;
+  puts = e.puts;
+  told = e.told;
+  added = e.added;
+  begun = e.begun;
+}
 
 -- ---- what the code keeps
+
+abbrev pub routed_seen : Outgoing → Routed
+routed_seen o = record { face = o.face; datagram = o.datagram }
+
+abbrev pub put_seen : Outgoing → Bool
+put_seen o = o.is_put
 
 abbrev pub remark_seen : Remark → Told
 remark_seen (remarks.Engine note) = told_engine note
@@ -48,19 +62,20 @@ begun_seen b = record { face = b.face; session = b.session; block = b.block; pie
 -- ---- one after the other
 
 abbrev pub nothing_answered : Answered
-nothing_answered = record { out = []; told = []; added = []; begun = [] }
+nothing_answered = record { out = []; puts = []; told = []; added = []; begun = [] }
 
 -- an answer, and effects after it
 abbrev pub then_done : Answered → PeerEffects → Answered
 then_done a e = record {
   out = a.out ++ map routed_of e.out;
+  puts = a.puts ++ e.puts;
   told = a.told ++ e.told;
   added = a.added ++ e.added;
   begun = a.begun ++ e.begun;
 }
 
-abbrev pub with_out : Answered → List Routed → Answered
-with_out a out = record a { out = a.out ++ out }
+abbrev pub with_out : Answered → List Routed → List Bool → Answered
+with_out a out puts = record a { out = a.out ++ out; puts = a.puts ++ puts }
 
 abbrev pub with_told : Answered → List FaceTold → Answered
 with_told a told = record a { told = a.told ++ told }

@@ -18,6 +18,7 @@ use Rattle.block_types.specs.declared.losing.LeftOut.{LeftOut}
 use Rattle.bundle_rows.specs.declared.next.End.{End}
 use Rattle.face_room.specs.Bounds.{need}
 use Rattle.face_room.specs.Faces.{load_of, total, sizes_of}
+use Rattle.face_room.specs.Queues.{may_wait, puts, queued_after}
 use Rattle.gateway_core.specs.Gate.{RoutedValue, segment_at}
 use Rattle.peer_cases.specs.declared.room.FaceRoom.{FaceRoom}
 use Rattle.peer_sessions.specs.Keys.{FaceKeys}
@@ -35,14 +36,17 @@ pub record PeerMoments : Type 0 where
 
 -- ---- datagrams
 
--- how many octets segments have as datagrams
+-- how many octets segments have as datagrams, each and together
+abbrev pub sizes_out : List SegmentValue → List ℕ
+sizes_out segments = map (λ (segment : SegmentValue). length (segment_octets segment)) segments
+
 abbrev pub octets_out : List SegmentValue → ℕ
 octets_out segments = sum_by (λ (segment : SegmentValue). length (segment_octets segment)) segments
 
 -- ---- a gate
 
 -- A face's sessions; the pieces that wait there; and how many octets are in its outbox: those that an event
--- finds there, and those of each datagram that was made since.
+-- finds there, and those of each datagram that was put since.
 pub record PeerFace : Type 0 where
   pub sessions : Sessions
   pub gathering : GatheringValue
@@ -51,29 +55,6 @@ pub record PeerFace : Type 0 where
 pub record PeerGate : Type 0 where
   pub faces : PeerFace × PeerFace
   pub counter : ℕ
-
--- sessions of the peer of which an earlier run had claimed a part, and no whole block, aren't handed up in this
--- one: each is cancelled once at the start, in order, and the cancels wait in the outbox
-abbrev pub cancel_of : FaceKeys → ℕ → SegmentValue
-cancel_of k mark =
-    record { originator = (k.party).peer; session = mark; content = a_receiver_cancel by_system }
-
-abbrev pub starts_out : FaceKeys → List ℕ → List SegmentValue
-starts_out k marks = map (cancel_of k) marks
-
--- at a moment of the face, with such sessions
-abbrev pub starts_face : FaceKeys → ℕ → List ℕ → PeerFace
-starts_face k now marks = record {
-  sessions = starts_sessions k now marks;
-  gathering = gathers_from k;
-  queued = octets_out (starts_out k marks);
-}
-
-abbrev pub starts_peer_gate : PeerSetup → ℕ × ℕ → List ℕ × List ℕ → PeerGate
-starts_peer_gate s now marks = record {
-  faces = (starts_face s.keys.0 now.0 marks.0, starts_face s.keys.1 now.1 marks.1);
-  counter = 0;
-}
 
 -- what a face keeps of what it sends, and what room there is for more
 abbrev pub room_at : FaceKeys → PeerFace → FaceRoom
@@ -93,6 +74,49 @@ abbrev pub kept_inside : FaceKeys → PeerFace → ℕ
 kept_inside k f =
     total (blocks_in ((f.sessions).engine).senders)
     + sum_by (need (k.bounds).segment) (sizes_of (f.gathering).waiting)
+
+-- ---- what is put into an outbox
+
+-- how many octets may wait in a face's outbox, by what the face keeps besides as it stands
+abbrev pub may_queue : FaceKeys → PeerFace → ℕ → Bool
+may_queue k f octets = may_wait k.bounds (kept_inside k f) octets
+
+-- A face made these segments, in order: each is put as a datagram into its outbox where it may wait there, or
+-- dropped. Whether each is put; and the face once they are.
+abbrev pub puts_out : FaceKeys → PeerFace → List SegmentValue → List Bool
+puts_out k f out = puts (may_queue k f) f.queued (sizes_out out)
+
+abbrev pub with_queued : FaceKeys → PeerFace → List SegmentValue → PeerFace
+with_queued k f out = record f { queued = queued_after (may_queue k f) f.queued (sizes_out out) }
+
+-- ---- a gate at its beginning
+
+-- sessions of the peer of which an earlier run had claimed a part, and no whole block, aren't handed up in this
+-- one: each is cancelled once at the start, in order, and the cancels wait in the outbox
+abbrev pub cancel_of : FaceKeys → ℕ → SegmentValue
+cancel_of k mark =
+    record { originator = (k.party).peer; session = mark; content = a_receiver_cancel by_system }
+
+abbrev pub starts_out : FaceKeys → List ℕ → List SegmentValue
+starts_out k marks = map (cancel_of k) marks
+
+-- whether each cancel is put: nothing is kept besides
+abbrev pub starts_puts : FaceKeys → List ℕ → List Bool
+starts_puts k marks = puts (may_wait k.bounds 0) 0 (sizes_out (starts_out k marks))
+
+-- at a moment of the face, with such sessions
+abbrev pub starts_face : FaceKeys → ℕ → List ℕ → PeerFace
+starts_face k now marks = record {
+  sessions = starts_sessions k now marks;
+  gathering = gathers_from k;
+  queued = queued_after (may_wait k.bounds 0) 0 (sizes_out (starts_out k marks));
+}
+
+abbrev pub starts_peer_gate : PeerSetup → ℕ × ℕ → List ℕ × List ℕ → PeerGate
+starts_peer_gate s now marks = record {
+  faces = (starts_face s.keys.0 now.0 marks.0, starts_face s.keys.1 now.1 marks.1);
+  counter = 0;
+}
 
 -- ---- what it tells
 
@@ -138,9 +162,11 @@ is_at faces.Old faces.New = false
 is_at faces.New faces.Old = false
 is_at faces.New faces.New = true
 
--- segments that are to be sent, what is told, and what a journal has to know, each in its order
+-- the segments that were made, and of each whether it is put into its face's outbox; what is told; and what a
+-- journal has to know; each in its order
 pub record PeerEffects : Type 0 where
   pub out : List RoutedValue
+  pub puts : List Bool
   pub told : List FaceTold
   pub added : List AddedAt
   pub begun : List BegunAt
@@ -151,11 +177,12 @@ pub record PeerStep : Type 0 where
   pub effects : PeerEffects
 
 abbrev pub no_effects : PeerEffects
-no_effects = record { out = []; told = []; added = []; begun = [] }
+no_effects = record { out = []; puts = []; told = []; added = []; begun = [] }
 
 abbrev pub with_more : PeerEffects → PeerEffects → PeerEffects
 with_more first more = record {
   out = first.out ++ more.out;
+  puts = first.puts ++ more.puts;
   told = first.told ++ more.told;
   added = first.added ++ more.added;
   begun = first.begun ++ more.begun;

@@ -1,6 +1,6 @@
 -- Pieces wait at a face until a session is free, and go in blocks.
 
-use Rattle.std.specs.Prelude.{ℕ, zero, suc, ◌+◌, ◌-◌, ◌^◌, ◌==◌, Bool, true, false, ◌&&◌, not, nat_lt, if◌then◌else◌, List, [], ◌∷◌, length, Option, Some, None}
+use Rattle.std.specs.Prelude.{ℕ, zero, suc, ◌-◌, ◌^◌, ◌==◌, Bool, true, false, ◌&&◌, not, nat_lt, if◌then◌else◌, List, [], ◌∷◌, length, Option, Some, None}
 use Rattle.std.specs.List.{flat_map}
 use Rattle.std.specs.Option.{is_none}
 use Rattle.ltp_session.specs.Engine.{EngineStep}
@@ -19,7 +19,7 @@ use Rattle.peer_cases.specs.Rows.{came_in}
 use Rattle.peer_sessions.specs.Keys.{FaceKeys}
 use Rattle.peer_sessions.specs.Sessions.{block_begins, with_begun}
 use Rattle.peer_gateway.specs.Keys.{PeerSetup}
-use Rattle.peer_gateway.specs.Gate.{PeerMoments, PeerFace, PeerGate, PeerStep, FaceTold, no_effects, stays_so, and_then, routed_at, octets_out, told_began}
+use Rattle.peer_gateway.specs.Gate.{PeerMoments, PeerFace, PeerGate, PeerStep, FaceTold, no_effects, stays_so, and_then, routed_at, puts_out, with_queued, told_began}
 
 -- ---- ages
 
@@ -63,12 +63,16 @@ next_count k until f = if is_free k f then ready f.gathering until else 0
 abbrev pub block_of : PeerSetup → Face → PeerMoments → ℕ → PeerFace → List ℕ
 block_of s face m until f = flat_map (going_octets s.settings face (m.leaves face)) (going f.gathering until)
 
-abbrev pub after_block : PeerFace → ℕ → EngineStep → PeerFace
-after_block f until step = record {
+-- a face once the block is being sent and its pieces wait no longer, and once its datagrams were made
+abbrev pub with_block : PeerFace → ℕ → EngineStep → PeerFace
+with_block f until step = record {
   sessions = with_begun f.sessions step;
   gathering = gone_from f.gathering until;
-  queued = f.queued + octets_out (step.effects).out;
+  queued = f.queued;
 }
+
+abbrev pub after_block : FaceKeys → PeerFace → ℕ → EngineStep → PeerFace
+after_block k f until step = with_queued k (with_block f until step) (step.effects).out
 
 -- that a block begins is told where pieces gather
 abbrev pub told_if : Bool → Face → ℕ → ℕ → ℕ → List FaceTold
@@ -81,9 +85,10 @@ gathers k = not ((k.bounds).wanted == 0)
 
 abbrev pub block_goes : PeerSetup → Face → ℕ → PeerGate → List ℕ → PeerFace → EngineStep → PeerStep
 block_goes s face until g block f step = record {
-  gate = record g { faces = with_face g.faces face (after_block f until step) };
+  gate = record g { faces = with_face g.faces face (after_block (at_face s.keys face) f until step) };
   effects = record {
     out = routed_at face (step.effects).out;
+    puts = puts_out (at_face s.keys face) (with_block f until step) (step.effects).out;
     told = told_if (gathers (at_face s.keys face)) face (ready f.gathering until) (length block)
         ((f.sessions).engine).next;
     added = [];

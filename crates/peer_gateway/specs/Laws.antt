@@ -1,7 +1,7 @@
 -- What holds of the steps.
 
-use Rattle.std.specs.Prelude.{◌≡◌, ◌≢◌, ℕ, ◌+◌, ◌^◌, ◌<◌, ◌≤◌, Bool, true, if◌then◌else◌, List, [], ◌∷◌, ◌++◌, map, length, take, drop, Option, Some, None, is_some, IfSome}
-use Rattle.std.specs.List.{All, AllByRecursion, flat_map, filter}
+use Rattle.std.specs.Prelude.{◌≡◌, ◌≢◌, ℕ, ◌+◌, ◌^◌, ◌<◌, ◌≤◌, nat_le, Bool, true, if◌then◌else◌, List, [], ◌∷◌, ◌++◌, map, length, take, drop, Option, Some, None, is_some, IfSome}
+use Rattle.std.specs.List.{All, AllByRecursion, flat_map, filter, sum_by}
 use Rattle.wire_fields.specs.Reading.{IsOctets}
 use Rattle.bundle6.specs.Spelling.{IsCounted}
 use Rattle.bundle_meaning.specs.declared.full.Full.{Full}
@@ -24,8 +24,11 @@ use Rattle.bundle_age.specs.Raised.{raised_by}
 use Rattle.bundle_rows.specs.declared.next.End.{End}
 use Rattle.bundle_rows.specs.Rows.{row_of}
 use Rattle.face_room.specs.declared.bounds.TheConstants.{BLOCK_MAX, HEADER_MAX, NUMBERS}
-use Rattle.face_room.specs.Bounds.{need}
-use Rattle.gateway_core.specs.Gate.{at_face}
+use Rattle.face_room.specs.Bounds.{half, need}
+use Rattle.face_room.specs.Queues.{puts}
+use Rattle.gateway_core.specs.declared.effects.Routed.{Routed}
+use Rattle.gateway_core.specs.Effects.{routed_of}
+use Rattle.gateway_core.specs.Gate.{at_face, if_same}
 use Rattle.peer_cases.specs.declared.settings.PeerSettings.{PeerSettings}
 use Rattle.peer_cases.specs.Arrivals.{Came}
 use Rattle.peer_cases.specs.Pieces.{wire_octets, greatest_size}
@@ -33,9 +36,9 @@ use Rattle.peer_cases.specs.Rows.{came_in, bundles_in}
 use Rattle.peer_sessions.specs.Keys.{FaceKeys}
 use Rattle.peer_sessions.specs.Sessions.{SessionsStep, block_begins}
 use Rattle.peer_gateway.specs.Keys.{PeerSetup, AreKeys}
-use Rattle.peer_gateway.specs.Gate.{PeerMoments, PeerFace, PeerGate, PeerStep, Told, FaceTold, AddedAt, BegunAt, stays_so, and_then, in_turn, tells, is_at, octets_out}
+use Rattle.peer_gateway.specs.Gate.{PeerMoments, PeerFace, PeerGate, PeerStep, Told, FaceTold, AddedAt, BegunAt, stays_so, and_then, in_turn, tells, is_at, kept_inside, octets_out, sizes_out}
 use Rattle.peer_gateway.specs.Gate.{told_engine, told_forgotten, told_green, told_began, told_bundle, told_case, told_left, told_reported, told_unreported, told_end}
-use Rattle.peer_gateway.specs.Going.{stay_of, going_octets, is_free, next_count, block_of, no_time, adds}
+use Rattle.peer_gateway.specs.Going.{stay_of, going_octets, is_free, next_count, block_of, no_time, go, adds}
 use Rattle.peer_gateway.specs.Steps.{passes, has_ended, arrives_with, ticks_peer, PeerEvent, does}
 
 -- ---- what is ready waits only where no session is free
@@ -142,6 +145,54 @@ pub record HasSmallHeads (k : FaceKeys) (block : List ℕ) (out : List SegmentVa
 abbrev pub HeadsAreSmall : Type 0
 HeadsAreSmall = (k : FaceKeys) (e : Engine) (block : List ℕ) (now : ℕ) → AreKeys k → e.next < NUMBERS
     → length block ≤ BLOCK_MAX → HasSmallHeads k block ((block_begins k e block now).effects).out
+
+-- ---- datagrams are put when they are made
+
+-- the datagrams that are put at a face, of those that were made, in order
+unfoldable pub put_at : Face → List Bool → List Routed → List (List ℕ)
+put_at at [] out = []
+put_at at (is_put ∷ puts) [] = []
+put_at at (is_put ∷ puts) (routed ∷ out) =
+    (if is_put then if_same routed.face at (routed.datagram ∷ []) [] else []) ++ put_at at puts out
+
+-- the octets of datagrams
+abbrev pub octets_of : List (List ℕ) → ℕ
+octets_of datagrams = sum_by (λ (datagram : List ℕ). length datagram) datagrams
+
+-- Of each datagram that a step made it is said whether it is put; a face's outbox has the octets that it had, and
+-- those of each datagram that was put there; and no more than may wait, where that was so before.
+pub record IsQueued (k : FaceKeys) (at : Face) (g : PeerGate) (step : PeerStep) : Type 0 where
+  pub each : length (step.effects).puts ≡ length (step.effects).out
+  pub queued : (at_face (step.gate).faces at).queued
+      ≡ (at_face g.faces at).queued + octets_of (put_at at (step.effects).puts (map routed_of (step.effects).out))
+  pub within : (at_face g.faces at).queued ≤ (k.bounds).outbox
+      → (at_face (step.gate).faces at).queued ≤ (k.bounds).outbox
+
+abbrev pub QueuedIsPut : Type 0
+QueuedIsPut = (s : PeerSetup) (event : PeerEvent) (m : PeerMoments) (at : Face) (g : PeerGate)
+    → IsQueued (at_face s.keys at) at g (does s event m g)
+
+-- ---- what a face keeps stays within half of its memory
+
+-- all that it keeps of what it sends has at most so many octets
+abbrev pub IsWithin : FaceKeys → PeerFace → Type 0
+IsWithin k f = kept_inside k f + f.queued ≤ half k.bounds
+
+-- Where pieces go at a face that is so, it stays so; and of their block each datagram is put, unless more octets
+-- would wait then than the outbox takes.
+pub record GoesWithin (s : PeerSetup) (face : Face) (m : PeerMoments) (until : ℕ) (g : PeerGate) : Type 0 where
+  pub stays : IsWithin (at_face s.keys face) (at_face ((go s face m until g).gate).faces face)
+  pub put : ((go s face m until g).effects).puts
+      ≡ puts (λ octets. nat_le octets ((at_face s.keys face).bounds).outbox) (at_face g.faces face).queued
+      (sizes_out ((block_begins (at_face s.keys face) ((at_face g.faces face).sessions).engine
+      (block_of s face m until (at_face g.faces face)) (m.at face)).effects).out)
+
+abbrev pub FirstsArePut : Type 0
+FirstsArePut = (s : PeerSetup) (face : Face) (m : PeerMoments) (until : ℕ) (g : PeerGate)
+    → AreKeys (at_face s.keys face)
+    → All (IsSizedAt s.settings face (m.leaves face)) ((at_face g.faces face).gathering).waiting
+    → next_count (at_face s.keys face) until (at_face g.faces face) ≢ 0
+    → IsWithin (at_face s.keys face) (at_face g.faces face) → GoesWithin s face m until g
 
 -- ---- ages are raised once
 

@@ -5,6 +5,7 @@ pub mod Going
 pub mod Steps
 pub mod Laws
 -- what ties code to it
+pub mod Queue
 pub mod Answers
 pub mod Views
 pub mod Waits

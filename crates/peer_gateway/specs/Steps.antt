@@ -24,7 +24,7 @@ use Rattle.peer_cases.specs.Cases.{decided, is_unreported}
 use Rattle.peer_cases.specs.Rows.{Item, a_bundle, an_end, came_in, items_of}
 use Rattle.peer_gateway.specs.Keys.{PeerSetup}
 use Rattle.peer_sessions.specs.Sessions.{Sessions, SessionsStep, evictions, hears, ticks}
-use Rattle.peer_gateway.specs.Gate.{PeerMoments, PeerGate, PeerStep, Told, FaceTold, no_effects, stays_so, and_then, in_turn, tells, room_at, routed_at, octets_out}
+use Rattle.peer_gateway.specs.Gate.{PeerMoments, PeerFace, PeerGate, PeerStep, Told, FaceTold, no_effects, stays_so, and_then, in_turn, tells, room_at, routed_at, puts_out, with_queued}
 use Rattle.peer_gateway.specs.Gate.{told_engine, told_forgotten, told_green, told_bundle, told_case, told_left, told_reported, told_unreported, told_end}
 use Rattle.peer_gateway.specs.Going.{adds, piece_at, due, gathers, stayed_size}
 
@@ -45,17 +45,19 @@ told_of step =
 abbrev pub told_at : Face → Told → FaceTold
 told_at face told = record { face = face; told = told }
 
--- what they do is done at their face, and waits in its outbox
-abbrev pub does_at : Face → PeerGate → SessionsStep → PeerStep
-does_at face g step = record {
+-- what they do is done at their face, and what they send is put into its outbox by what the face keeps then
+abbrev pub with_sessions : PeerFace → SessionsStep → PeerFace
+with_sessions f step = record f { sessions = step.sessions }
+
+abbrev pub does_at : PeerSetup → Face → PeerGate → SessionsStep → PeerStep
+does_at s face g step = record {
   gate = record g {
-    faces = with_face g.faces face (record (at_face g.faces face) {
-      sessions = step.sessions;
-      queued = (at_face g.faces face).queued + octets_out (step.effects).out;
-    });
+    faces = with_face g.faces face
+        (with_queued (at_face s.keys face) (with_sessions (at_face g.faces face) step) (step.effects).out);
   };
   effects = record no_effects {
     out = routed_at face (step.effects).out;
+    puts = puts_out (at_face s.keys face) (with_sessions (at_face g.faces face) step) (step.effects).out;
     told = map (told_at face) (told_of step);
   };
 }
@@ -148,7 +150,7 @@ due_if ended s m face g = if ended then due s m face g else stays_so g
 -- goes, where a session ended
 abbrev pub arrives_with : PeerSetup → Face → PeerMoments → PeerGate → SessionsStep → PeerStep
 arrives_with s face m g step =
-    and_then (does_at face g step) (λ h.
+    and_then (does_at s face g step) (λ h.
     and_then (in_turn (passes s face m) (step.effects).ups h)
     (due_if (has_ended (at_face g.faces face).sessions step) s m face))
 
@@ -158,7 +160,7 @@ arrives_peer s face read m g = arrives_with s face m g (hears_at s face g read (
 -- a face's sessions tick, and what is ready goes
 abbrev pub ticks_face : PeerSetup → PeerMoments → Face → PeerGate → PeerStep
 ticks_face s m face g =
-    and_then (does_at face g (ticks (at_face s.keys face) (at_face g.faces face).sessions (m.at face)))
+    and_then (does_at s face g (ticks (at_face s.keys face) (at_face g.faces face).sessions (m.at face)))
     (due s m face)
 
 -- time passes: the old face first

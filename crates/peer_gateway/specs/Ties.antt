@@ -18,7 +18,7 @@ use Rattle.peer_gateway.specs.declared.faces.FaceParts.{FaceParts}
 use Rattle.peer_gateway.specs.declared.faces.Heard.{Heard}
 use Rattle.peer_gateway.specs.declared.parts.Parts.{Parts}
 use Rattle.peer_gateway.specs.Keys.{PeerSetup}
-use Rattle.peer_gateway.specs.Gate.{PeerMoments, PeerGate, PeerEffects, PeerStep, no_effects, routed_at, starts_out}
+use Rattle.peer_gateway.specs.Gate.{PeerMoments, PeerGate, PeerEffects, PeerStep, no_effects, routed_at, starts_out, starts_puts}
 use Rattle.peer_gateway.specs.Going.{piece_at}
 use Rattle.peer_gateway.specs.Steps.{does_at, has_ended, PeerEvent, with_outboxes, peer_step}
 use Rattle.peer_gateway.specs.Answers.{Answered, answer_of, then_done}
@@ -81,7 +81,7 @@ pub record SameBut (face : Face) (old new : Parts) : Type 0 where
 
 -- the sessions of a face heard something, and handed something up
 pub record HeardAt (old new : Parts) (before after : Answered) (face : Face) (step : SessionsStep) (heard : Heard) : Type 0 where
-  pub did : Did old new before after (does_at face (gate_of old) step)
+  pub did : Did old new before after (does_at (setup_in old) face (gate_of old) step)
   pub ups : heard.ups ≡ map up_of (step.effects).ups
   pub ended : heard.has_ended ≡ has_ended (at_face (gate_of old).faces face).sessions step
 
@@ -110,6 +110,7 @@ pub record PeerGatewayValue : Type 0 where
 abbrev pub starts_effects : PeerSetup → List ℕ × List ℕ → PeerEffects
 starts_effects s marks = record no_effects {
   out = routed_at faces.Old (starts_out s.keys.0 marks.0) ++ routed_at faces.New (starts_out s.keys.1 marks.1);
+  puts = starts_puts s.keys.0 marks.0 ++ starts_puts s.keys.1 marks.1;
 }
 
 -- the step of an event was done, at its moments and with so many octets in each outbox

@@ -4,12 +4,13 @@ ghost use Rattle.std.specs.Prelude.{◌≡◌, ◌∷◌, ◌++◌, [], map, OnO
 ghost use Rattle.gateway_core.specs.Effects.{datagram_at};
 ghost use Rattle.peer_sessions.specs.Sessions.{evictions};
 ghost use Rattle.peer_gateway.specs.Gate.{told_engine, told_green};
+ghost use Rattle.peer_gateway.specs.Queue.{puts_by, queue_after};
 ghost use Rattle.peer_gateway.specs.Steps.{told_at, forgotten_told};
 
 use crate::pushing::{push_datagrams, push_gone, push_greens, push_notes};
-use crate::told::{Added, BlockBegun, Remark, RemarkAt};
+use crate::queue::Queue;
+use crate::told::{Added, BlockBegun, Outgoing, Remark, RemarkAt};
 use gate_cases::Face;
-use gateway_core::Routed;
 use ltp_engine::{Greens, Notes};
 use ltp_segment::Outs;
 use piece_gathering::Piece;
@@ -20,7 +21,7 @@ use std::mem;
 /// What a gateway answers to an event, in the order in which it comes to be.
 #[derive(Debug, Drop)]
 pub struct PeerAnswer {
-    out: Vec<Routed>,
+    out: Vec<Outgoing>,
     told: Vec<RemarkAt>,
     added: Vec<Added>,
     begun: Vec<BlockBegun>,
@@ -28,12 +29,13 @@ pub struct PeerAnswer {
 
 impl Model for PeerAnswer {
     ghost use Rattle.std.specs.Prelude.{map};
-    ghost use Rattle.peer_gateway.specs.Answers.{Answered, told_seen, added_seen, begun_seen};
+    ghost use Rattle.peer_gateway.specs.Answers.{Answered, routed_seen, put_seen, told_seen, added_seen, begun_seen};
 
     ghost Value = { Answered };
 
     ghost view = { λ answer. record {
-      out = answer.out.items;
+      out = map routed_seen answer.out.items;
+      puts = map put_seen answer.out.items;
       told = map told_seen answer.told.items;
       added = map added_seen answer.added.items;
       begun = map begun_seen answer.begun.items;
@@ -41,7 +43,7 @@ impl Model for PeerAnswer {
 }
 
 impl PeerAnswer {
-    ghost use Rattle.peer_gateway.specs.Answers.{nothing_answered, told_seen, added_seen, begun_seen, remark_seen};
+    ghost use Rattle.peer_gateway.specs.Answers.{nothing_answered, routed_seen, put_seen, told_seen, added_seen, begun_seen, remark_seen};
     ghost use Rattle.peer_gateway.specs.Answers.{with_out, with_told, with_added, with_begun};
 
     /// Nothing is done. It takes no memory.
@@ -56,9 +58,10 @@ impl PeerAnswer {
         }
     }
 
-    /// The datagrams that are to be sent.
-    pub fn out(&self) -> &[Routed]
-        ensures { result.now ≡ self.now.out }
+    /// The datagrams that were made, and of each whether it is put into its face's outbox.
+    pub fn out(&self) -> &[Outgoing]
+        ensures out { map routed_seen result.now ≡ self.now.out }
+        ensures puts { map put_seen result.now ≡ self.now.puts }
     {
         self.out.as_slice()
     }
@@ -86,10 +89,11 @@ impl PeerAnswer {
 
     // ---- what is taken out of it, so that it is moved and not copied; none of it takes memory
 
-    /// The datagrams that are to be sent.
-    pub fn take_out(&mut self, alloc: Global) -> Vec<Routed>
-        ensures taken { result.items ≡ self.old.out }
-        ensures left { self.new ≡ record self.old { out = [] } }
+    /// The datagrams that were made, and of each whether it is put into its face's outbox.
+    pub fn take_out(&mut self, alloc: Global) -> Vec<Outgoing>
+        ensures out { map routed_seen result.items ≡ self.old.out }
+        ensures puts { map put_seen result.items ≡ self.old.puts }
+        ensures left { self.new ≡ record self.old { out = []; puts = [] } }
     {
         mem::replace(&mut self.out, Vec::new(alloc))
     }
@@ -112,11 +116,18 @@ impl PeerAnswer {
 
     // ---- what is added to it
 
-    /// Datagrams go out at a face.
-    pub(crate) fn send(&mut self, face: Face, out: Outs) -> Result<(), AllocError>
-        ensures { OnOk result (self.new ≡ with_out self.old (map (datagram_at face) out)) }
+    /// Datagrams were made at a face: each is put into its outbox, where it may wait there, or dropped.
+    pub(crate) fn send(
+        &mut self,
+        face: Face,
+        queue: &mut Queue,
+        out: Outs,
+    ) -> Result<(), AllocError>
+        ensures answer { OnOk result (self.new ≡ with_out self.old (map (datagram_at face) out)
+            (puts_by queue.old out)) }
+        ensures queue { OnOk result (queue.new ≡ queue_after queue.old out) }
     {
-        push_datagrams(&mut self.out, face, out)
+        push_datagrams(&mut self.out, face, queue, out)
     }
 
     /// Sessions of a face were closed.

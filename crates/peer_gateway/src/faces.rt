@@ -9,12 +9,14 @@ ghost use Rattle.peer_gateway.specs.Gate.{room_at, kept_inside};
 ghost use Rattle.peer_gateway.specs.Going.{is_free, next_count, gathers, told_if};
 
 use crate::answer::PeerAnswer;
-use crate::going::{block_of, octets_in};
+use crate::going::block_of;
+use crate::queue::Queue;
 use crate::told::{BlockBegun, Remark};
 use crate::waits::{Waits, needs_in, plus};
 use face_room::{Bounds, Load, NUMBERS};
 use gate_cases::Face;
 use ltp_engine::{Effects, Ups};
+use ltp_segment::Outs;
 use peer_cases::{FaceRoom, PeerSettings};
 use peer_sessions::{PeerSessions, Told};
 use piece_gathering::{Gathering, Piece};
@@ -44,7 +46,7 @@ pub(crate) struct Heard {
 
 impl FaceParts {
     ghost use Rattle.peer_gateway.specs.Faces.{keys_at, face_of, setup_at, IsFace, IsSized, FaceDid, FaceHeard};
-    ghost use Rattle.peer_gateway.specs.Faces.{face_does, face_waits, face_goes, Tells, Took, Sent};
+    ghost use Rattle.peer_gateway.specs.Faces.{face_does, face_waits, face_goes, Puts, Tells, Took, Sent};
     ghost use Rattle.peer_gateway.specs.Answers.{with_told};
 
     // ---- what a face is asked
@@ -130,7 +132,7 @@ impl FaceParts {
     pub fn tick(&mut self, now: u64, answer: &mut PeerAnswer) -> Result<(), AllocError>
         requires whole { IsFace self.old }
         requires moment { now < 2 ^ 62 }
-        ensures { OnOk result (FaceDid self.old self.new answer.old answer.new (face_does self.old.face (face_of self.old)
+        ensures { OnOk result (FaceDid self.old self.new answer.old answer.new (face_does (keys_at self.old) self.old.face (face_of self.old)
             (ticks (keys_at self.old) (face_of self.old).sessions now))) }
     {
         let told = self.sessions.tick(now)?;
@@ -154,13 +156,27 @@ impl FaceParts {
             greens,
             notes,
         } = effects;
-        self.queued = plus(self.queued, octets_in(out.as_slice())?)?;
-        answer.send(self.face, out)?;
+        self.put(out, answer)?;
         answer.tell_gone(self.face, gone.as_slice())?;
         answer.tell_forgotten(self.face, forgotten)?;
         answer.tell_notes(self.face, notes)?;
         answer.tell_greens(self.face, greens)?;
         Ok(ups)
+    }
+
+    /// Datagrams were made: each is put into its outbox by what the face keeps now, or dropped.
+    pub fn put(&mut self, out: Outs, answer: &mut PeerAnswer) -> Result<(), AllocError>
+        requires whole { IsFace self.old }
+        ensures { OnOk result (Puts self.old self.new answer.old answer.new out) }
+    {
+        let mut queue = Queue {
+            bounds: self.bounds,
+            kept: self.kept(),
+            queued: self.queued,
+        };
+        answer.send(self.face, &mut queue, out)?;
+        self.queued = queue.queued;
+        Ok(())
     }
 
     // ---- pieces
@@ -243,8 +259,7 @@ impl FaceParts {
     {
         let effects = self.sessions.submit(block, now)?;
         let Effects { out, .. } = effects;
-        self.queued = plus(self.queued, octets_in(out.as_slice())?)?;
-        answer.send(self.face, out)
+        self.put(out, answer)
     }
 
     /// That a block begins is told where pieces gather.

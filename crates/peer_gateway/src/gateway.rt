@@ -5,7 +5,7 @@ ghost use Rattle.ltp_segment.specs.Reading.{segment_of};
 ghost use Rattle.ltp_engine.specs.Sessions.{is_open, is_handed_up};
 ghost use Rattle.piece_gathering.specs.Gathered.{octets_waiting};
 ghost use Rattle.gateway_core.specs.Gate.{at_face};
-ghost use Rattle.peer_gateway.specs.Gate.{starts_peer_gate, kept_inside};
+ghost use Rattle.peer_gateway.specs.Gate.{starts_peer_gate};
 ghost use Rattle.peer_gateway.specs.Going.{gathers};
 ghost use Rattle.peer_gateway.specs.Steps.{a_datagram, a_tick, a_kept_piece};
 ghost use Rattle.peer_gateway.specs.Views.{AreMoments, IsConfig, moments_of, setup_with};
@@ -137,17 +137,6 @@ impl PeerGateway {
         ensures { result ≡ min (octets_waiting (at_face self.now.gate.faces face).gathering.waiting) (2 ^ 64 - 1) }
     {
         self.parts.face(face).gathering.octets()
-    }
-
-    /// What a face keeps of what it sends, but for its outbox: the octets of the blocks that are being sent,
-    /// and what the pieces that wait will need; up to the greatest number that 64 bits show.
-    pub fn kept(&self, face: Face) -> u64
-        requires { self.now.spent ≡ false }
-        ensures { result ≡ min (kept_inside (at_face self.now.setup.keys face) (at_face self.now.gate.faces face))
-            (2 ^ 64 - 1) }
-    {
-        let _ = self.spent;
-        self.parts.whole_face(face).kept()
     }
 
     // ---- events

@@ -1,12 +1,10 @@
 //! The octets of pieces that go.
 
 ghost use Rattle.std.specs.Prelude.{◌≡◌, ◌∷◌, ◌++◌, [], IfOk};
-ghost use Rattle.std.specs.List.{flat_map, sum_by};
+ghost use Rattle.std.specs.List.{flat_map};
 ghost use Rattle.peer_gateway.specs.Going.{going_octets};
-ghost use Rattle.peer_gateway.specs.Faces.{octets_in};
 
 use crate::staying::stayed;
-use crate::waits::plus;
 use endpoint::Octets;
 use gate_cases::Face;
 use peer_cases::PeerSettings;
@@ -57,15 +55,4 @@ fn joined(octets: Octets, more: Octets) -> Result<Octets, AllocError>
     let mut more = more.into_vec();
     all.append(&mut more)?;
     Ok(Octets::from_vec(all))
-}
-
-/// How many octets datagrams have.
-pub(crate) fn octets_in(datagrams: &[Octets]) -> Result<u64, AllocError>
-    ensures { IfOk result (λ n. n ≡ octets_in datagrams.now) }
-{
-    let mut octets = 0u64;
-    'each: for datagram in datagrams {
-        octets = plus(octets, datagram.len() as u64)?;
-    }
-    Ok(octets)
 }

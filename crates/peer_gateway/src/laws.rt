@@ -2,6 +2,7 @@
 
 ghost use Rattle.peer_gateway.specs.Laws.{CompleteGoes, CompleteAtOnce, ReadyGoes, PiecesInOrder, NothingRefused, HeadsAreSmall};
 ghost use Rattle.peer_gateway.specs.Laws.{AgeRaisedOnce, SizedForAnyStay, RowsPassInTurn};
+ghost use Rattle.peer_gateway.specs.Laws.{QueuedIsPut, FirstsArePut};
 
 /// After a piece was added, nothing that is complete waits at its face while a session is free there. Where
 /// none is wanted in a block, that is each piece.
@@ -32,6 +33,18 @@ pub fn nothing_refused()
 /// have at most as many octets as it was given room for.
 pub fn heads_are_small()
     ensures { HeadsAreSmall }
+{}
+
+/// Of each datagram that is made it is said whether it is put into its face's outbox. The octets of an outbox are
+/// those that were there and those of each datagram that was put, and no more than may wait there.
+pub fn queued_is_put()
+    ensures { QueuedIsPut }
+{}
+
+/// Where a block begins at a face that keeps at most half of its memory, that stays so, and no datagram of the
+/// block is dropped but where the outbox takes no more.
+pub fn firsts_are_put()
+    ensures { FirstsArePut }
 {}
 
 /// Where ages are raised, a piece goes as octets that read as its record with its age raised by the stay, once.

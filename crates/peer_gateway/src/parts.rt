@@ -6,7 +6,7 @@ ghost use Rattle.face_room.specs.declared.bounds.TheConstants.{BLOCK_MAX};
 ghost use Rattle.gateway_core.specs.Gate.{at_face};
 ghost use Rattle.peer_sessions.specs.Sessions.{ticks};
 ghost use Rattle.gateway_core.specs.Effects.{routed_of};
-ghost use Rattle.peer_gateway.specs.Gate.{starts_peer_gate, starts_out, routed_at};
+ghost use Rattle.peer_gateway.specs.Gate.{starts_peer_gate, starts_out, starts_puts, routed_at};
 ghost use Rattle.peer_gateway.specs.Answers.{with_out};
 ghost use Rattle.peer_gateway.specs.Going.{next_count, no_time, go, go_all, waits_too, adds, due};
 ghost use Rattle.peer_gateway.specs.Steps.{does_at, ticks_face, ticks_peer, kept_piece, adds_kept};
@@ -59,8 +59,10 @@ impl Parts {
         ensures gate { IfOk result (λ p. gate_of p ≡ starts_peer_gate (setup_with config)
             (moments.old.at, moments.new.at) (old_marks.now, new_marks.now)) }
         ensures answer { OnOk result (answer.new ≡ with_out (with_out answer.old
-            (map routed_of (routed_at Face.Old (starts_out (setup_with config).keys.0 old_marks.now))))
-            (map routed_of (routed_at Face.New (starts_out (setup_with config).keys.1 new_marks.now)))) }
+            (map routed_of (routed_at Face.Old (starts_out (setup_with config).keys.0 old_marks.now)))
+            (starts_puts (setup_with config).keys.0 old_marks.now))
+            (map routed_of (routed_at Face.New (starts_out (setup_with config).keys.1 new_marks.now)))
+            (starts_puts (setup_with config).keys.1 new_marks.now)) }
     {
         let PeerConfig {
             settings,
@@ -264,7 +266,7 @@ impl Parts {
     ) -> Result<(), AllocError>
         requires whole { IsWhole self.old }
         requires moments { AreMoments moments }
-        ensures { OnOk result (Did self.old self.new answer.old answer.new (does_at face (gate_of self.old)
+        ensures { OnOk result (Did self.old self.new answer.old answer.new (does_at (setup_in self.old) face (gate_of self.old)
             (ticks (at_face (setup_in self.old).keys face) (at_face (gate_of self.old).faces face).sessions ((moments_of moments).at face)))) }
     {
         match face {

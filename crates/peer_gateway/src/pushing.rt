@@ -5,25 +5,36 @@ ghost use Rattle.gateway_core.specs.Effects.{datagram_at};
 ghost use Rattle.peer_sessions.specs.Sessions.{evictions};
 ghost use Rattle.peer_gateway.specs.Gate.{told_engine, told_green};
 ghost use Rattle.peer_gateway.specs.Steps.{told_at};
-ghost use Rattle.peer_gateway.specs.Answers.{told_seen};
+ghost use Rattle.peer_gateway.specs.Queue.{puts_by, queue_after};
+ghost use Rattle.peer_gateway.specs.Answers.{routed_seen, put_seen, told_seen};
 
-use crate::told::{Remark, RemarkAt};
+use crate::queue::Queue;
+use crate::told::{Outgoing, Remark, RemarkAt};
 use gate_cases::Face;
-use gateway_core::Routed;
 use ltp_engine::{Greens, Notes};
 use ltp_segment::{Note, Outs};
 use std::alloc::AllocError;
 
-/// Datagrams of a face after others.
+/// Datagrams of a face after others: each is put into its outbox, where it may wait there, or dropped.
 pub(crate) fn push_datagrams(
-    out: &mut Vec<Routed>,
+    out: &mut Vec<Outgoing>,
     face: Face,
+    queue: &mut Queue,
     datagrams: Outs,
 ) -> Result<(), AllocError>
-    ensures { OnOk result (out.new.items ≡ out.old.items ++ map (datagram_at face) datagrams) }
+    ensures out { OnOk result (map routed_seen out.new.items
+        ≡ map routed_seen out.old.items ++ map (datagram_at face) datagrams) }
+    ensures puts { OnOk result (map put_seen out.new.items
+        ≡ map put_seen out.old.items ++ puts_by queue.old datagrams) }
+    ensures queue { OnOk result (queue.new ≡ queue_after queue.old datagrams) }
 {
     'each: for datagram in datagrams.into_vec() {
-        out.push(Routed { face, datagram })?;
+        let is_put = queue.put(datagram.len() as u64);
+        out.push(Outgoing {
+            face,
+            datagram,
+            is_put,
+        })?;
     }
     Ok(())
 }

@@ -9,7 +9,6 @@ ghost use Rattle.peer_gateway.specs.Views.{cancels_of};
 
 use crate::answer::PeerAnswer;
 use crate::faces::FaceParts;
-use crate::going::octets_in;
 use crate::waits::Waits;
 use gate_cases::Face;
 use ltp_segment::{Outs, write_cancel};
@@ -22,7 +21,7 @@ use std::alloc::{AllocError, Global};
 const BY_SYSTEM: u8 = 4;
 
 impl FaceParts {
-    ghost use Rattle.peer_gateway.specs.Faces.{Starts};
+    ghost use Rattle.peer_gateway.specs.Faces.{IsEmpty, Starts};
 
     /// A face at its beginning, at a moment, with the sessions of the peer that were acknowledged in an
     /// earlier run: each is cancelled.
@@ -40,9 +39,26 @@ impl FaceParts {
         requires bounds { AreBounds keys.bounds }
         ensures { IfOk result (Starts face settings (face_keys keys) now marks.now answer.old answer.new) }
     {
+        let mut parts = FaceParts::empty(alloc, face, settings, keys, marks, now)?;
         let out = cancels(alloc, keys.peer, marks)?;
-        let queued = octets_in(out.as_slice())?;
-        answer.send(face, out)?;
+        parts.put(out, answer)?;
+        Ok(parts)
+    }
+
+    /// The same before they are cancelled.
+    fn empty(
+        alloc: Global,
+        face: Face,
+        settings: PeerSettings,
+        keys: Keys,
+        marks: &[u64],
+        now: u64,
+    ) -> Result<FaceParts, AllocError>
+        requires fit { AreFit keys }
+        requires keys { AreKeys (face_keys keys) }
+        requires bounds { AreBounds keys.bounds }
+        ensures { IfOk result (IsEmpty face settings (face_keys keys) now marks.now) }
+    {
         Ok(FaceParts {
             alloc,
             face,
@@ -50,7 +66,7 @@ impl FaceParts {
             bounds: keys.bounds,
             sessions: PeerSessions::new(alloc, keys, marks, now)?,
             gathering: Gathering::new(alloc, keys.bounds.wanted, keys.wait_ms),
-            queued,
+            queued: 0,
             waits: Waits::none(),
         })
     }

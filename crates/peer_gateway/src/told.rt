@@ -98,6 +98,17 @@ pub struct RemarkAt {
     pub remark: Remark,
 }
 
+/// A datagram that was made at a face.
+#[derive(Debug, Drop)]
+pub struct Outgoing {
+    /// The face.
+    pub face: Face,
+    /// Its octets.
+    pub datagram: Octets,
+    /// Whether it is put into the face's outbox; else it is dropped.
+    pub is_put: bool,
+}
+
 /// A piece was added at a face.
 #[derive(Debug, Drop)]
 pub struct Added {

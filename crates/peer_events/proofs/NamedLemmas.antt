@@ -153,8 +153,8 @@ named-sessions step =
     (All-append IsNamedTold (map told_engine (step.effects).notes) (map told_green (step.effects).greens)
     (named-notes (step.effects).notes) (named-greens (step.effects).greens)))
 
-named-does : (face : Face) (g : PeerGate) (step : SessionsStep) → TellsNamed (does_at face g step)
-named-does face g step = All-map IsNamedAt (told_at face) (told_of step) (named-sessions step)
+named-does : (s : PeerSetup) (face : Face) (g : PeerGate) (step : SessionsStep) → TellsNamed (does_at s face g step)
+named-does s face g step = All-map IsNamedAt (told_at face) (told_of step) (named-sessions step)
 
 -- ---- events
 
@@ -164,13 +164,13 @@ named-due false s m face g = named-so g
 
 named-with : (s : PeerSetup) (face : Face) (m : PeerMoments) (g : PeerGate) (step : SessionsStep) → TellsNamed (arrives_with s face m g step)
 named-with s face m g step =
-    named-then _ _ (named-does face g step) (λ h.
+    named-then _ _ (named-does s face g step) (λ h.
     named-then _ _ (named-turn (passes s face m) (named-passes s face m) (step.effects).ups h)
     (named-due (has_ended (at_face g.faces face).sessions step) s m face))
 
 named-ticks : (s : PeerSetup) (m : PeerMoments) (face : Face) (g : PeerGate) → TellsNamed (ticks_face s m face g)
 named-ticks s m face g =
-    named-then _ _ (named-does face g (ticks (at_face s.keys face) (at_face g.faces face).sessions (m.at face)))
+    named-then _ _ (named-does s face g (ticks (at_face s.keys face) (at_face g.faces face).sessions (m.at face)))
     (λ h. named-all s face m (m.at face) h)
 
 named-kept : (s : PeerSetup) (face : Face) (piece : Piece) (m : PeerMoments) (g : PeerGate) → TellsNamed (adds_kept s face piece m g)

@@ -1,6 +1,7 @@
 -- The records of a step, one after the other, as the code appends them.
 use Rattle.std.proofs.Common.{◌≡◌, ℕ, ◌+◌, ◌<◌, ◌≤◌, Bool, true, false, if◌then◌else◌, List, [], ◌∷◌, ◌++◌, length, map, take, drop, get_or, Option, None, Some, refl, sym, ap, ◌∙◌, subst, append_assoc}
-use Rattle.std.proofs.lemmas.List.{append-nil, at_drop_more, drop_all, take_more, take_all}
+use Rattle.std.proofs.lemmas.List.{append-nil, at_drop_more, drop_all, length-map, take_more, take_all}
+use Rattle.std.proofs.Math.ListN.{get_or-map}
 use Rattle.gateway_core.specs.declared.effects.Routed.{Routed}
 use Rattle.journal_file.specs.declared.kept.Pending.{Pending}
 use Rattle.journal_file.specs.declared.kept.Mark.{Mark}
@@ -11,7 +12,8 @@ use Rattle.gate_records.specs.Happened.{Happened, reports_on}
 use Rattle.gate_records.specs.Records.{due_mark, mark_with, marks_then, mark_records}
 use Rattle.gate_records.specs.Ties.{clear_of}
 use Rattle.peer_gateway.specs.declared.told.Added.{Added}
-use Rattle.peer_gateway.specs.Answers.{added_seen}
+use Rattle.peer_gateway.specs.declared.told.Outgoing.{Outgoing}
+use Rattle.peer_gateway.specs.Answers.{added_seen, routed_seen}
 use Rattle.peer_gateway.specs.Gate.{AddedAt}
 use Rattle.peer_records.specs.Laws.{AreShort}
 use Rattle.peer_records.specs.Records.{pending_with, begun_records}
@@ -65,6 +67,17 @@ pub piece-begun : (a : AddedAt) (s : SaidValue) (id : ℕ) (p : Pending) → a.i
     → said_with (a_begun p ∷ []) s ≡ begins (a ∷ []) s
 unfolding begun_records
 piece-begun a s id p is next this = rw (this, next, is) refl
+
+-- ---- datagrams, as they are seen
+
+pub seen-low : (out : List Outgoing) (i : ℕ) → i < length out → i < length (map routed_seen out)
+seen-low out i low = rw (length-map out routed_seen) low
+
+pub seen-high : (out : List Outgoing) (i : ℕ) → length out ≤ i → length (map routed_seen out) ≤ i
+seen-high out i high = rw (length-map out routed_seen) high
+
+pub seen-at : (out : List Outgoing) (i : ℕ) (o : Outgoing) → o ≡ get_or out i o → routed_seen o ≡ get_or (map routed_seen out) i (routed_seen o)
+seen-at out i o at = ap routed_seen at ∙ sym (get_or-map routed_seen out i o)
 
 -- ---- marks
 

@@ -6,6 +6,7 @@ ghost use Rattle.gate_records.specs.Keeping.{reserve_to};
 ghost use Rattle.gate_records.specs.Laws.{ReportSmall};
 ghost use Rattle.gate_records.specs.Records.{due_mark, mark_with, mark_records, clear_records, reserving, reserved_records};
 ghost use Rattle.gate_records.specs.Ties.{clear_of};
+ghost use Rattle.peer_gateway.specs.Answers.{routed_seen};
 ghost use Rattle.peer_records.specs.Happened.{marking};
 ghost use Rattle.peer_records.specs.Said.{happened_by, said_with};
 
@@ -15,8 +16,8 @@ use crate::said::Said;
 use crate::step::StepDone;
 use gate_cases::Face;
 use gate_records::GateSessions;
-use gateway_core::Routed;
 use journal_file::Mark;
+use peer_gateway::Outgoing;
 use std::alloc::{AllocError, Global};
 
 /// How many session numbers are reserved ahead.
@@ -33,18 +34,18 @@ impl Said {
         alloc: Global,
         step: &StepDone<'_>,
         gate: &G,
-        out: &[Routed],
+        out: &[Outgoing],
     ) -> Result<(), AllocError>
         ensures ok { OnOk result (self.new ≡ said_with (mark_records
             (marking (happened_by step.now (G.opened gate.now) (G.handed_up gate.now)))
-            out.now ((self.old).kept).marks) self.old) }
-        ensures small { OnOk result (ReportSmall out.now) }
+            (map routed_seen out.now) ((self.old).kept).marks) self.old) }
+        ensures small { OnOk result (ReportSmall (map routed_seen out.now)) }
         ensures wanted { OnErr result (mark_records
             (marking (happened_by step.now (G.opened gate.now) (G.handed_up gate.now)))
-            out.now ((self.old).kept).marks ≡ [] → ⊥) }
+            (map routed_seen out.now) ((self.old).kept).marks ≡ [] → ⊥) }
     {
-        'out: for routed in out {
-            self.mark(alloc, step, gate, routed)?;
+        'out: for outgoing in out {
+            self.mark(alloc, step, gate, outgoing)?;
         }
         Ok(())
     }
@@ -55,17 +56,17 @@ impl Said {
         alloc: Global,
         step: &StepDone<'_>,
         gate: &G,
-        routed: &Routed,
+        outgoing: &Outgoing,
     ) -> Result<(), AllocError>
         ensures ok { OnOk result (self.new ≡ said_with (mark_with (due_mark
             (marking (happened_by step.now (G.opened gate.now) (G.handed_up gate.now)))
-            (routed.now).face (reports_on (routed.now).datagram) ((self.old).kept).marks)) self.old) }
-        ensures small { IfSome (reports_on (routed.now).datagram) (λ session. session < 2 ^ 64) }
+            (outgoing.now).face (reports_on (outgoing.now).datagram) ((self.old).kept).marks)) self.old) }
+        ensures small { IfSome (reports_on (outgoing.now).datagram) (λ session. session < 2 ^ 64) }
         ensures wanted { OnErr result (mark_with (due_mark
             (marking (happened_by step.now (G.opened gate.now) (G.handed_up gate.now)))
-            (routed.now).face (reports_on (routed.now).datagram) ((self.old).kept).marks) ≡ [] → ⊥) }
+            (outgoing.now).face (reports_on (outgoing.now).datagram) ((self.old).kept).marks) ≡ [] → ⊥) }
     {
-        match due_mark(gate, step.wall, routed, self.kept.marks.as_slice()) {
+        match due_mark(gate, step.wall, outgoing, self.kept.marks.as_slice()) {
             Some(mark) => self.append(alloc, StepRecord::Marked(mark)),
             None => Ok(()),
         }

@@ -11,8 +11,8 @@ ghost use Rattle.peer_records.specs.Said.{happened_by};
 use crate::step::{StepDone, reports_on};
 use gate_cases::Face;
 use gate_records::GateSessions;
-use gateway_core::Routed;
 use journal_file::Mark;
+use peer_gateway::Outgoing;
 use std::alloc::{AllocError, Global};
 
 /// The mark that is due for a datagram: it reports on a session of the peer that isn't handed up, and
@@ -20,19 +20,19 @@ use std::alloc::{AllocError, Global};
 pub(crate) fn due_mark<G: GateSessions>(
     gate: &G,
     wall: u64,
-    routed: &Routed,
+    outgoing: &Outgoing,
     marks: &[Mark],
 ) -> Option<Mark>
     ensures due { (h : Happened) → h.wall ≡ wall → h.is_handed_up ≡ G.handed_up gate.now
-        → result ≡ due_mark h (routed.now).face (reports_on (routed.now).datagram) marks.now }
-    ensures small { IfSome (reports_on (routed.now).datagram) (λ session. session < 2 ^ 64) }
+        → result ≡ due_mark h (outgoing.now).face (reports_on (outgoing.now).datagram) marks.now }
+    ensures small { IfSome (reports_on (outgoing.now).datagram) (λ session. session < 2 ^ 64) }
 {
-    let session = reports_on(routed.datagram.as_slice())?;
-    if gate.is_handed_up(routed.face, session) || is_marked(marks, routed.face, session) {
+    let session = reports_on(outgoing.datagram.as_slice())?;
+    if gate.is_handed_up(outgoing.face, session) || is_marked(marks, outgoing.face, session) {
         return None;
     }
     Some(Mark {
-        face: routed.face,
+        face: outgoing.face,
         session,
         when: wall,
     })

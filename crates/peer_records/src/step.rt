@@ -5,15 +5,14 @@ ghost use Rattle.gate_events.specs.Own.{is_of};
 ghost use Rattle.gate_records.specs.Happened.{reports_on};
 ghost use Rattle.gate_records.specs.Ties.{own_of};
 ghost use Rattle.peer_events.specs.Own.{own_seen};
-ghost use Rattle.peer_gateway.specs.Answers.{told_seen, added_seen, begun_seen};
+ghost use Rattle.peer_gateway.specs.Answers.{routed_seen, told_seen, added_seen, begun_seen};
 
 use crate::told::{came_whole, is_cancelled_by, may_be_over};
 use gate_cases::Face;
 use gate_records::GateSessions;
-use gateway_core::Routed;
 use ltp_segment::{Content, decode};
 use peer_events::OwnBlock;
-use peer_gateway::{Added, BlockBegun, PeerAnswer, RemarkAt};
+use peer_gateway::{Added, BlockBegun, Outgoing, PeerAnswer, RemarkAt};
 
 /// What a step of a gateway among other implementations did, as far as the journal has to know it.
 #[derive(Clone, Copy, Debug)]
@@ -22,7 +21,7 @@ pub struct StepDone<'a> {
     pub wall: u64,
     /// The own sessions that were open before it.
     pub own: &'a [OwnBlock],
-    /// What it answered: the datagrams that it sends, what it tells, the pieces that were added, and the
+    /// What it answered: the datagrams that it made, what it tells, the pieces that were added, and the
     /// sessions that it began.
     pub answer: &'a PeerAnswer,
     /// The id of a piece of an earlier run, where it was to add that one.
@@ -42,9 +41,9 @@ impl StepDone<'_> {
         self.wall
     }
 
-    /// What it sends.
-    pub(crate) fn out(&self) -> &[Routed]
-        ensures { result.now ≡ ((self.now).answer.now).out }
+    /// The datagrams that it made.
+    pub(crate) fn out(&self) -> &[Outgoing]
+        ensures { map routed_seen result.now ≡ ((self.now).answer.now).out }
     {
         self.answer.out()
     }

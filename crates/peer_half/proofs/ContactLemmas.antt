@@ -20,7 +20,7 @@ use Rattle.outbox.specs.Run as outbox_run
 use Rattle.outbox.specs.Schedule.{ScheduleValue}
 use Rattle.gate_events.specs.Own.{OpenAt}
 use Rattle.gate_face.specs.Faces.{FaceStanding}
-use Rattle.gate_face.specs.Halves.{putting, taking}
+use Rattle.gate_face.specs.Halves.{taking}
 use Rattle.journal_file.specs.declared.kept.Pending.{Pending}
 use Rattle.journal_file.specs.Values.{KeptValue, RecordValue}
 use Rattle.peer_gateway.specs.Answers.{Answered, answer_of}
@@ -29,7 +29,7 @@ use Rattle.peer_events.specs.Counts.{begun_counted}
 use Rattle.peer_events.specs.Events.{events_of, own_after_step}
 use Rattle.peer_half.specs.Standing.{Standing, counting, doing_at, face_of, wall_of}
 use Rattle.peer_half.specs.Journals.{Journalled, is_large, kept_in, records_in}
-use Rattle.peer_half.specs.Steps.{after_dropping, happened_in, happens_again, happens_with, is_within, left_in, opens_in, putting_all, putting_within, recorded_with, step_of, telling}
+use Rattle.peer_half.specs.Steps.{happened_in, happens_again, happens_with, opens_in, putting_all, putting_if, recorded_with, step_of, telling}
 use Rattle.peer_half.specs.Acts.{Act, Acted, stands, after_acts}
 use Rattle.peer_half.specs.Parts as parts
 use Rattle.peer_half.specs.Parts.{arrives_all, reads, resumes_within, sends_within, tries}
@@ -45,42 +45,40 @@ link_in f = ((f.outbox).schedule, (f.outbox).reading)
 abbrev link_of : Face → Standing → ScheduleValue × Option Reading
 link_of at s = link_in (at_face s.faces at)
 
-link-within : (most : ℕ) (datagram : List ℕ) (f : FaceStanding) → link_in (putting_within most datagram f) ≡ link_in f
-link-within most datagram f = by (is_within most f.outbox datagram)
-  where
-    by : (t : Bool) → link_in (if t then putting datagram f else record f { outbox = after_dropping f.outbox }) ≡ link_in f
-    by true = refl
-    by false = refl
+link-one : (is_put : Bool) (datagram : List ℕ) (f : FaceStanding) → link_in (putting_if is_put datagram f) ≡ link_in f
+link-one true datagram f = refl
+link-one false datagram f = refl
 
-link-put : (at face : Face) (most : ℕ) (datagram : List ℕ) (fs : FaceStanding × FaceStanding)
-    → link_in (at_face (with_face fs face (putting_within most datagram (at_face fs face))) at) ≡ link_in (at_face fs at)
-link-put faces.Old faces.Old most datagram fs = link-within most datagram fs.0
-link-put faces.Old faces.New most datagram fs = refl
-link-put faces.New faces.Old most datagram fs = refl
-link-put faces.New faces.New most datagram fs = link-within most datagram fs.1
+link-put : (at face : Face) (is_put : Bool) (datagram : List ℕ) (fs : FaceStanding × FaceStanding)
+    → link_in (at_face (with_face fs face (putting_if is_put datagram (at_face fs face))) at) ≡ link_in (at_face fs at)
+link-put faces.Old faces.Old is_put datagram fs = link-one is_put datagram fs.0
+link-put faces.Old faces.New is_put datagram fs = refl
+link-put faces.New faces.Old is_put datagram fs = refl
+link-put faces.New faces.New is_put datagram fs = link-one is_put datagram fs.1
 
-link-puts : (at : Face) (most : ℕ × ℕ) (out : List Routed) (fs : FaceStanding × FaceStanding)
-    → link_in (at_face (putting_all most out fs) at) ≡ link_in (at_face fs at)
+link-puts : (at : Face) (puts : List Bool) (out : List Routed) (fs : FaceStanding × FaceStanding)
+    → link_in (at_face (putting_all puts out fs) at) ≡ link_in (at_face fs at)
 unfolding putting_all
-link-puts at most [] fs = refl
-link-puts at most (routed ∷ more) fs =
-    link-puts at most more (with_face fs routed.face (putting_within (at_face most routed.face) routed.datagram (at_face fs routed.face)))
-    ∙ link-put at routed.face (at_face most routed.face) routed.datagram fs
+link-puts at [] out fs = refl
+link-puts at (is_put ∷ puts) [] fs = refl
+link-puts at (is_put ∷ puts) (routed ∷ more) fs =
+    link-puts at puts more (with_face fs routed.face (putting_if is_put routed.datagram (at_face fs routed.face)))
+    ∙ link-put at routed.face is_put routed.datagram fs
 
-link-telling : (at : Face) (opened : OpenAt) (most : ℕ × ℕ) (answer : Answered) (s : Standing) → link_of at (telling opened most answer s) ≡ link_of at s
-link-telling at opened most answer s =
+link-telling : (at : Face) (opened : OpenAt) (answer : Answered) (s : Standing) → link_of at (telling opened answer s) ≡ link_of at s
+link-telling at opened answer s =
     ap (λ t. link_of at t) (said-rest (events_of opened s.own answer.told)
     (record s {
-      faces = putting_all most answer.out s.faces;
+      faces = putting_all answer.puts answer.out s.faces;
       own = own_after_step opened answer.told answer.begun s.own;
       counters = begun_counted answer.begun s.counters;
     }))
-    ∙ link-puts at most answer.out s.faces
+    ∙ link-puts at answer.puts answer.out s.faces
 
 link-happens : (at : Face) (event : PeerEvent) (journal : Option Journalled) (s : Standing) → link_of at (happens_with event journal s) ≡ link_of at s
 unfolding happens_with
 link-happens at event journal s =
-    link-telling at (opens_in (step_of event s).gate) (left_in s.setup (step_of event s).gate) (answer_of (step_of event s).effects)
+    link-telling at (opens_in (step_of event s).gate) (answer_of (step_of event s).effects)
     (record s { gate = (step_of event s).gate; journal = journal })
 
 link-occurs : (at : Face) (again : Option ℕ) (event : PeerEvent) (s : Standing) → link_of at (happens_again again event s) ≡ link_of at s

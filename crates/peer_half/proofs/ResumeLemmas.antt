@@ -20,7 +20,7 @@ use Rattle.peer_records.specs.Keeping.{PeerKeeping, one_if, to_add_at}
 use Rattle.peer_records.specs.Records.{after_step}
 use Rattle.peer_half.specs.Journals.{Journalled}
 use Rattle.peer_half.specs.Standing.{Standing}
-use Rattle.peer_half.specs.Steps.{happened_in, left_in, outboxes_in, putting_all, recorded_with, step_of}
+use Rattle.peer_half.specs.Steps.{happened_in, outboxes_in, putting_all, recorded_with, step_of}
 use Rattle.peer_half.specs.Parts.{any_added, begin_of, first_pending, first_waiting, is_added, next_resumed, pending_in, resumed, resumes_at, resumes_within, tries, where_some}
 use Rattle.peer_half.specs.Laws.{AddsFront, AddsInOrder, AddsWhileRoom}
 use Rattle.peer_half.proofs.StandingLemmas.{happens-rest}
@@ -211,7 +211,7 @@ after_with step journal s = record s {
   said = s.said;
   gate = step.gate;
   journal = journal;
-  faces = putting_all (left_in s.setup step.gate) (answer_of step.effects).out s.faces;
+  faces = putting_all (answer_of step.effects).puts (answer_of step.effects).out s.faces;
 }
 
 still-none : (p : Pending) (s : Standing) (journal : Option Journalled)

@@ -15,7 +15,7 @@ use Rattle.peer_events.specs.Counts.{begun_counted}
 use Rattle.peer_events.specs.Events.{events_of, own_after_step}
 use Rattle.peer_half.specs.Standing.{Standing, saying, saying_all, saying_of}
 use Rattle.peer_half.specs.Journals.{Journalled}
-use Rattle.peer_half.specs.Steps.{happens_with, left_in, opens_in, putting_all, step_of}
+use Rattle.peer_half.specs.Steps.{happens_with, opens_in, putting_all, step_of}
 use Rattle.peer_half.specs.Parts as parts
 use Rattle.peer_half.specs.Parts.{reads}
 
@@ -61,7 +61,7 @@ after_event event journal s =
     record (rest_of s) {
       gate = (step_of event s).gate;
       journal = journal;
-      faces = putting_all (left_in s.setup (step_of event s).gate) answer.out s.faces;
+      faces = putting_all answer.puts answer.out s.faces;
       own = own_after_step (opens_in (step_of event s).gate) answer.told answer.begun s.own;
     }
 
@@ -74,7 +74,7 @@ happens-rest event journal s =
     (record s {
       gate = step.gate;
       journal = journal;
-      faces = putting_all (left_in s.setup step.gate) answer.out s.faces;
+      faces = putting_all answer.puts answer.out s.faces;
       own = own_after_step (opens_in step.gate) answer.told answer.begun s.own;
       counters = begun_counted answer.begun s.counters;
     })

@@ -1,6 +1,6 @@
 -- What holds of each half, in other words than its definition's.
 
-use Rattle.std.specs.Prelude.{◌≡◌, ◌≢◌, ℕ, ◌+◌, ◌<◌, ◌≤◌, Bool, false, List, [], ◌∷◌, ◌++◌, map, Option, None, IsSomeAnd, IfSome, ◌⊎◌}
+use Rattle.std.specs.Prelude.{◌≡◌, ◌≢◌, ℕ, ◌<◌, ◌≤◌, Bool, false, List, [], ◌∷◌, ◌++◌, map, Option, None, IsSomeAnd, IfSome, ◌⊎◌}
 use Rattle.std.specs.List.{AllByRecursion, flat_map}
 use Rattle.ltp_segment.specs.Reading.{segment_of}
 use Rattle.contact_plan.specs.Windows.{IsPlan}
@@ -16,19 +16,20 @@ use Rattle.outbox.specs.Laws.{IsOpenAt}
 use Rattle.outbox.specs.Outbox.{octets_in}
 use Rattle.outbox.specs.Schedule.{ScheduleValue}
 use Rattle.outbox.specs.declared.reading.Reading.{Reading}
-use Rattle.face_room.specs.Bounds.{half as half_of}
 use Rattle.gate_face.specs.Faces.{FaceStanding}
 use Rattle.gate_records.specs.Keeping.{NUMBERS}
 use Rattle.peer_gateway.specs.declared.config.PeerConfig.{PeerConfig}
-use Rattle.peer_gateway.specs.Gate.{PeerGate, PeerMoments, kept_inside}
+use Rattle.peer_gateway.specs.Gate.{PeerGate, PeerMoments, PeerStep}
 use Rattle.peer_gateway.specs.Keys.{PeerSetup}
 use Rattle.peer_gateway.specs.Steps.{PeerEvent, a_datagram, a_kept_piece, a_tick, peer_step}
+use Rattle.peer_gateway.specs.Answers.{answer_of}
+use Rattle.peer_gateway.specs.Laws.{put_at}
 use Rattle.peer_gateway.specs.Views.{IsConfig, setup_with}
 use Rattle.peer_records.specs.Keeping.{PeerKeeping, held, times, to_add_at}
 use Rattle.peer_half.specs.Setup.{IsRunnable, setup_in, types_in, used_up}
 use Rattle.peer_half.specs.Moments.{leaves_at, moments_at}
 use Rattle.peer_half.specs.Standing.{Standing, face_of, wall_of}
-use Rattle.peer_half.specs.Steps.{happens_again, putting_all}
+use Rattle.peer_half.specs.Steps.{happens_again, step_of}
 use Rattle.peer_half.specs.Acts.{Act, sent, lost, said, shown, committed, installed}
 use Rattle.peer_half.specs.Parts.{is_added, next_at, next_resumed, reads, reserves, resumes_at, sends}
 use Rattle.peer_half.specs.Half.{Came, half, hears}
@@ -180,36 +181,34 @@ EventsAtOnce =
 abbrev pub outbox_at : Face → Standing → ℕ
 outbox_at face s = octets_in (waiting_at face s)
 
--- Where an event leaves more octets in a face's outbox than it found, all that the face keeps of what it sends
--- has at most half of its memory; and the outbox has at most as many as it may.
-abbrev pub PutsWithinHalf : Type 0
-PutsWithinHalf =
-    (again : Option ℕ) (event : PeerEvent) (s : Standing) (face : Face)
-    → (outbox_at face (happens_again again event s) ≤ outbox_at face s)
-    ⊎ ((kept_inside (at_face (s.setup).keys face) (at_face ((happens_again again event s).gate).faces face)
-    + outbox_at face (happens_again again event s) ≤ half_of (at_face (s.setup).keys face).bounds)
-    × (outbox_at face (happens_again again event s) ≤ ((face_of face s).outbox).limit))
+-- A face's outbox takes as many octets as the gate knows of, and no more wait there.
+pub record IsFitted (face : Face) (s : Standing) : Type 0 where
+  pub limit : ((face_of face s).outbox).limit ≡ ((at_face (s.setup).keys face).bounds).outbox
+  pub within : outbox_at face s ≤ ((face_of face s).outbox).limit
 
--- the datagrams of a step at a face
+-- With an event, at a face that is so: what waits there is what waited, and after it what the gate puts, in order:
+-- none of that is dropped. The outbox has as many octets then as the gate counts; and the face stays so.
+pub record PutsCounted (face : Face) (step : PeerStep) (before after : Standing) : Type 0 where
+  pub waits : waiting_at face after
+      ≡ waiting_at face before ++ put_at face (answer_of step.effects).puts (answer_of step.effects).out
+  pub counted : outbox_at face after ≡ (at_face (after.gate).faces face).queued
+  pub fitted : IsFitted face after
+
+abbrev pub PutsAsCounted : Type 0
+PutsAsCounted =
+    (again : Option ℕ) (event : PeerEvent) (s : Standing) (face : Face)
+    → IsFitted face s → PutsCounted face (step_of event s) s (happens_again again event s)
+
+-- the datagrams that a step made at a face
 abbrev pub datagrams_at : Face → List Routed → List (List ℕ)
 datagrams_at face out =
     flat_map (λ (routed : Routed). if_same routed.face face (routed.datagram ∷ []) []) out
 
--- Where there is room for all that a step sends at a face, all of it waits, in order, after what waited, and
--- nothing is dropped there.
 abbrev pub waits_in : Face → FaceStanding × FaceStanding → List (List ℕ)
 waits_in face fs = ((at_face fs face).outbox).waiting
 
 abbrev pub dropped_in : Face → FaceStanding × FaceStanding → ℕ
 dropped_in face fs = ((at_face fs face).outbox).dropped
-
-abbrev pub FitsWaits : Type 0
-FitsWaits =
-    (most : ℕ × ℕ) (out : List Routed) (fs : FaceStanding × FaceStanding) (face : Face)
-    → octets_in (waits_in face fs) + octets_in (datagrams_at face out) ≤ at_face most face
-    → octets_in (waits_in face fs) + octets_in (datagrams_at face out) ≤ ((at_face fs face).outbox).limit
-    → (waits_in face (putting_all most out fs) ≡ waits_in face fs ++ datagrams_at face out)
-    × (dropped_in face (putting_all most out fs) ≡ dropped_in face fs)
 
 -- ---- pieces of earlier runs
 

@@ -58,6 +58,7 @@ bounds_in c = record {
   memory = c.memory;
   wanted = c.aggregate;
   segment = c.segment;
+  outbox = c.outbox;
 }
 
 abbrev pub keys_in : FaceConfig → Option ℕ → ℕ → FaceKeys

@@ -7,7 +7,7 @@ use Rattle.peer_gateway.specs.Answers.{Answered, answer_of}
 use Rattle.peer_gateway.specs.Ties.{starts_effects}
 use Rattle.peer_half.specs.Journals.{marked_each}
 use Rattle.peer_half.specs.Standing.{Standing, starts_empty, with_faces}
-use Rattle.peer_half.specs.Steps.{left_in, putting_all}
+use Rattle.peer_half.specs.Steps.{putting_all}
 
 -- A session that earlier runs had claimed in part isn't handed up, so that no two runs claim parts of one
 -- block; and its peer is told by a cancel of reason 4, SYS_CNCLD: the system ends the session (RFC 5326,
@@ -15,10 +15,10 @@ use Rattle.peer_half.specs.Steps.{left_in, putting_all}
 abbrev pub cancels_in : Standing → Answered
 cancels_in s = answer_of (starts_effects s.setup (marked_each s.journal))
 
--- the cancels wait in the outboxes
+-- the cancels are put into the outboxes, or dropped
 abbrev pub cancelling : Standing → Standing
 cancelling s =
-    with_faces (putting_all (left_in s.setup s.gate) (cancels_in s).out s.faces) s
+    with_faces (putting_all (cancels_in s).puts (cancels_in s).out s.faces) s
 
 -- before the first half
 unfoldable pub starts_at : GateFile → Option KeptValue → ℕ → Standing

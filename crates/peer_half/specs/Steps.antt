@@ -1,17 +1,14 @@
 -- The steps of the gate in a half, all at the moments of its reading.
 
-use Rattle.std.specs.Prelude.{ℕ, ◌+◌, ◌-◌, nat_le, Bool, if◌then◌else◌, List, [], ◌∷◌, length, map, Option, None, Some}
+use Rattle.std.specs.Prelude.{ℕ, Bool, true, false, List, [], ◌∷◌, map, Option, None, Some}
 use Rattle.ltp_engine.specs.Sessions.{is_open, is_handed_up}
-use Rattle.face_room.specs.Bounds.{half}
 use Rattle.gateway_core.specs.declared.effects.Routed.{Routed}
 use Rattle.gateway_core.specs.Gate.{at_face, with_face}
 use Rattle.gate_events.specs.Own.{OpenAt}
-use Rattle.outbox.specs.Outbox.{OutboxValue, octets_in, one_more}
+use Rattle.outbox.specs.Outbox.{octets_in}
 use Rattle.gate_face.specs.Faces.{FaceStanding}
-use Rattle.gate_face.specs.Halves.{putting}
-use Rattle.peer_sessions.specs.Keys.{FaceKeys}
-use Rattle.peer_gateway.specs.Keys.{PeerSetup}
-use Rattle.peer_gateway.specs.Gate.{PeerFace, PeerGate, PeerStep, kept_inside}
+use Rattle.gate_face.specs.Halves.{putting, refusing}
+use Rattle.peer_gateway.specs.Gate.{PeerGate, PeerStep}
 use Rattle.peer_gateway.specs.Steps.{PeerEvent, peer_step}
 use Rattle.peer_gateway.specs.Answers.{Answered, answer_of}
 use Rattle.peer_events.specs.Own.{own_seen}
@@ -22,37 +19,20 @@ use Rattle.peer_records.specs.Halves.{recording}
 use Rattle.peer_half.specs.Journals.{Journalled}
 use Rattle.peer_half.specs.Standing.{Standing, saying_all}
 
--- ---- what a step sends waits at its face, in order
+-- ---- what a step made is put at its face, or dropped, in order
 
--- so many octets of half of a face's memory are left for its outbox, besides the blocks that are being sent and
--- what the pieces that wait will need
-abbrev pub left_for : FaceKeys → PeerFace → ℕ
-left_for k f = half k.bounds - kept_inside k f
+-- a datagram is put into the outbox; or it is dropped, and counted as one for which the outbox has no room
+abbrev pub putting_if : (is_put : Bool) → List ℕ → FaceStanding → FaceStanding
+putting_if true datagram f = putting datagram f
+putting_if false datagram f = refusing f
 
-abbrev pub left_in : PeerSetup → PeerGate → ℕ × ℕ
-left_in s g = (left_for s.keys.0 g.faces.0, left_for s.keys.1 g.faces.1)
-
--- with a datagram at most so many octets wait
-abbrev pub is_within : ℕ → OutboxValue → List ℕ → Bool
-is_within most b datagram = nat_le (octets_in b.waiting + length datagram) most
-
--- a datagram is dropped, and counted
-abbrev pub after_dropping : OutboxValue → OutboxValue
-after_dropping b = record b { dropped = one_more b.dropped }
-
--- it is put into the outbox where at most so many octets wait then; else it is dropped, as one for which the
--- outbox has no room
-abbrev pub putting_within : ℕ → List ℕ → FaceStanding → FaceStanding
-putting_within most datagram f =
-    if is_within most f.outbox datagram then putting datagram f
-    else record f { outbox = after_dropping f.outbox }
-
-unfoldable pub putting_all : ℕ × ℕ → List Routed → FaceStanding × FaceStanding → FaceStanding × FaceStanding
-putting_all most [] faces = faces
-putting_all most (routed ∷ more) faces =
-    putting_all most more
-    (with_face faces routed.face
-    (putting_within (at_face most routed.face) routed.datagram (at_face faces routed.face)))
+-- each as the gate says of it
+unfoldable pub putting_all : List Bool → List Routed → FaceStanding × FaceStanding → FaceStanding × FaceStanding
+putting_all [] out faces = faces
+putting_all (is_put ∷ puts) [] faces = faces
+putting_all (is_put ∷ puts) (routed ∷ more) faces =
+    putting_all puts more
+    (with_face faces routed.face (putting_if is_put routed.datagram (at_face faces routed.face)))
 
 -- ---- the own sessions
 
@@ -64,15 +44,15 @@ opens_in g face session = is_open session (((at_face g.faces face).sessions).eng
 abbrev pub ups_in : PeerGate → OpenAt
 ups_in g face session = is_handed_up session (((at_face g.faces face).sessions).engine).receivers
 
--- ---- a step: what it did, which sessions are open after it, and what is left for the outboxes then
+-- ---- a step: what it did, and which sessions are open after it
 
--- what it sends waits; the sessions that it began are counted; what it tells is said, and which own sessions
+-- what it made is put or dropped; the sessions that it began are counted; what it tells is said, and which own sessions
 -- ended; and those that it began are own sessions
-abbrev pub telling : OpenAt → ℕ × ℕ → Answered → Standing → Standing
-telling opened most answer s =
+abbrev pub telling : OpenAt → Answered → Standing → Standing
+telling opened answer s =
     saying_all (events_of opened s.own answer.told)
     (record s {
-      faces = putting_all most answer.out s.faces;
+      faces = putting_all answer.puts answer.out s.faces;
       own = own_after_step opened answer.told answer.begun s.own;
       counters = begun_counted answer.begun s.counters;
     })
@@ -89,8 +69,7 @@ step_of event s = peer_step s.setup event s.moments (outboxes_in s) s.gate
 -- after which this is known of the journal
 unfoldable pub happens_with : PeerEvent → Option Journalled → Standing → Standing
 happens_with event journal s =
-    telling (opens_in (step_of event s).gate) (left_in s.setup (step_of event s).gate)
-    (answer_of (step_of event s).effects)
+    telling (opens_in (step_of event s).gate) (answer_of (step_of event s).effects)
     (record s { gate = (step_of event s).gate; journal = journal })
 
 -- ---- what is to be recorded of a step

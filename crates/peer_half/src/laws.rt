@@ -2,8 +2,8 @@
 //! stands below.
 
 ghost use Rattle.peer_half.specs.Laws.{DatagramsGoFirst, GoesInContact, GoesInOrder};
-ghost use Rattle.peer_half.specs.Laws.{AddsInOrder, AddsWhileRoom, EventsAtOnce, FitsWaits, GivenIsReserved};
-ghost use Rattle.peer_half.specs.Laws.{LeavesWhenOpen, PutsWithinHalf, ReadsMoments, RunnableSetsUp};
+ghost use Rattle.peer_half.specs.Laws.{AddsInOrder, AddsWhileRoom, EventsAtOnce, GivenIsReserved};
+ghost use Rattle.peer_half.specs.Laws.{LeavesWhenOpen, PutsAsCounted, ReadsMoments, RunnableSetsUp};
 
 /// A runnable file sets up a gateway as one is taken, with the types of blocks that the file says.
 pub fn runnable_sets_up()
@@ -46,14 +46,10 @@ pub fn events_at_once()
     ensures { EventsAtOnce }
 {}
 
-/// A datagram waits only where all that its face keeps of what it sends has at most half of its memory then.
-pub fn puts_within_half()
-    ensures { PutsWithinHalf }
-{}
-
-/// Where there is room for all that a step sends at a face, all of it waits, in order.
-pub fn fits_waits()
-    ensures { FitsWaits }
+/// What the gate puts into an outbox waits there, in order: the outbox drops none of it. So the gate counts the octets
+/// that wait there.
+pub fn puts_as_counted()
+    ensures { PutsAsCounted }
 {}
 
 /// Pieces of earlier runs are added in order, each once, under the ids that they had.

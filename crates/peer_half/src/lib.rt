@@ -4,8 +4,8 @@
 //! A half reads the clocks, adds pieces of earlier runs while there is room for them, lets the sessions tick, takes
 //! the datagrams that came at its face, counts those from elsewhere that were dropped there, commits its records to the journal, lets the old face send and then the new
 //! one, writes the lines, makes the journal's file anew where it is large, and then shows the metrics
-//! (`specs/Half.antt`). What a step of the gate sends waits in the outbox of its face, where the outbox and half of
-//! the face's memory have room for it (`specs/Steps.antt`). A run is halves of the old face and of the new one in
+//! (`specs/Half.antt`). Each datagram that a step of the gate makes is put into the outbox of its face, or dropped, as
+//! the step says of it (`specs/Steps.antt`). A run is halves of the old face and of the new one in
 //! turn (`specs/Run.antt`), after what earlier runs kept is recovered (`specs/Starts.antt`). How a file sets up the
 //! gateway says `specs/Setup.antt`. [`laws`] says of halves what doesn't stand in their definition. There is no
 //! code here.

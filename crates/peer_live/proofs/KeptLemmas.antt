@@ -51,16 +51,16 @@ kept-says-all (event ∷ more) s =
 -- ---- parts
 
 -- a step was done, and nothing is said yet
-abbrev pub stepped : OpenAt → ℕ × ℕ → Answered → Standing → Standing
-stepped opened most answer s = record s {
-  faces = putting_all most answer.out s.faces;
+abbrev pub stepped : OpenAt → Answered → Standing → Standing
+stepped opened answer s = record s {
+  faces = putting_all answer.puts answer.out s.faces;
   own = own_after_step opened answer.told answer.begun s.own;
   counters = begun_counted answer.begun s.counters;
 }
 
-pub kept-tells : (opened : OpenAt) (most : ℕ × ℕ) (answer : Answered) (s : Standing)
-    → tells opened most answer (kept_of s) ≡ kept_of (telling opened most answer s)
-kept-tells opened most answer s = kept-says-all (events_of opened s.own answer.told) (stepped opened most answer s)
+pub kept-tells : (opened : OpenAt) (answer : Answered) (s : Standing)
+    → tells opened answer (kept_of s) ≡ kept_of (telling opened answer s)
+kept-tells opened answer s = kept-says-all (events_of opened s.own answer.told) (stepped opened answer s)
 
 pub kept-reads : (now : Reading) (s : Standing) → reads now (kept_of s) ≡ kept_of (reads_clocks now s)
 kept-reads now s =
@@ -95,8 +95,8 @@ unfolding saying_all
 rest-says-all [] s = refl
 rest-says-all (event ∷ more) s = rest-says-all more (saying event s)
 
-pub rest-tells : (opened : OpenAt) (most : ℕ × ℕ) (answer : Answered) (s : Standing) → rest_of (telling opened most answer s) ≡ rest_of s
-rest-tells opened most answer s = rest-says-all (events_of opened s.own answer.told) (stepped opened most answer s)
+pub rest-tells : (opened : OpenAt) (answer : Answered) (s : Standing) → rest_of (telling opened answer s) ≡ rest_of s
+rest-tells opened answer s = rest-says-all (events_of opened s.own answer.told) (stepped opened answer s)
 
 pub rest-reads : (now : Reading) (s : Standing) → rest_of (reads_clocks now s) ≡ rest_of (reading_clocks now s)
 rest-reads now s =

@@ -30,7 +30,7 @@ use Rattle.peer_live.proofs.ShowsLemmas.{does-event, does-then, kept-goes}
 
 pub whole-kept : (w : Work) (kept : KeptValue) → IsWhole w → IsWhole (record w { kept = kept })
 whole-kept w kept whole =
-    record { gate = whole.gate; moments = whole.moments; old_half = whole.old_half; new_half = whole.new_half }
+    record { gate = whole.gate; moments = whole.moments }
 
 -- ---- the clocks are read
 
@@ -71,8 +71,6 @@ does-read w kept old new now whole wall_low old_low new_low old_is new_is is = r
   whole = record {
     gate = whole.gate;
     moments = record { wall = wall_low; old = old_low; new = new_low };
-    old_half = whole.old_half;
-    new_half = whole.new_half;
   };
   goes_on = λ s shows. read-goes w kept old new now s old_is new_is is shows;
 }
@@ -153,7 +151,7 @@ journal-goes w journal s known is shows = record {
 
 pub whole-journal : (w : Work) (journal : Option Journalled) → IsWhole w → IsWhole (record w { journal = journal })
 whole-journal w journal whole =
-    record { gate = whole.gate; moments = whole.moments; old_half = whole.old_half; new_half = whole.new_half }
+    record { gate = whole.gate; moments = whole.moments }
 
 abbrev next_of_old : PeerGate → ℕ
 next_of_old g = (((g.faces.0).sessions).engine).next

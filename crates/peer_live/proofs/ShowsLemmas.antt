@@ -1,7 +1,6 @@
 -- A gateway at work goes on as the definition of a half says.
 
 use Rattle.std.proofs.Common.{◌≡◌, ℕ, map, Option, refl, ap, sym, subst, ◌∙◌}
-use Rattle.face_room.specs.Bounds.{half}
 use Rattle.outbox.specs.declared.reading.Reading.{Reading}
 use Rattle.peer_events.specs.Named.{AllNamed}
 use Rattle.peer_events.specs.Own.{own_seen}
@@ -16,7 +15,7 @@ use Rattle.peer_records.specs.Happened.{PeerHappened}
 use Rattle.peer_half.specs.Journals.{Journalled}
 use Rattle.peer_half.specs.Standing.{Standing}
 use Rattle.peer_half.specs.Parts.{reads, starting}
-use Rattle.peer_half.specs.Steps.{happened_in, happens_again, happens_with, left_in, opens_in, outboxes_in, recorded_with, step_of}
+use Rattle.peer_half.specs.Steps.{happened_in, happens_again, happens_with, opens_in, outboxes_in, recorded_with, step_of}
 use Rattle.peer_live.specs.declared.work.Work.{Work}
 use Rattle.peer_live.specs.Telling.{KeptValue, kept_of, outboxes_of, tells}
 use Rattle.peer_live.specs.Shows.{Does, IsWhole, ShowsWork, did, reads_clocks, settles}
@@ -87,9 +86,9 @@ did-is w gate again event answer s shows whole step =
     rw (wall_is, own_is, step.gate_is, step.answer_is) refl
 
 settled-kept : (w : Work) (gate : PeerGatewayValue) (event : PeerEvent) (answer : Answered) (s : Standing) → ShowsWork w s → Stepped gate answer event s
-    → tells (opens_in gate.gate) (left_in gate.setup gate.gate) answer w.kept
-    ≡ tells (opens_in (step_of event s).gate) (left_in s.setup (step_of event s).gate) (answer_of (step_of event s).effects) (kept_of s)
-settled-kept w gate event answer s shows step = rw (step.gate_is, step.setup, step.answer_is, shows.kept) refl
+    → tells (opens_in gate.gate) answer w.kept
+    ≡ tells (opens_in (step_of event s).gate) (answer_of (step_of event s).effects) (kept_of s)
+settled-kept w gate event answer s shows step = rw (step.gate_is, step.answer_is, shows.kept) refl
 
 pub settled-goes : (w : Work) (gate : PeerGatewayValue) (again : Option ℕ) (event : PeerEvent) (answer : Answered) (s : Standing)
     → ShowsWork w s → IsWhole w → Stepped gate answer event s
@@ -102,9 +101,9 @@ settled-goes w gate again event answer s shows whole step =
     let known_is : journal ≡ known =
     ap (λ (h : PeerHappened). recorded_with h w.journal) (did-is w gate again event answer s shows whole step)
     ∙ ap (λ (j : Option Journalled). recorded_with (happened_in again event s) j) shows.journal in
-    let told = kept-tells (opens_in (step_of event s).gate) (left_in s.setup (step_of event s).gate) (answer_of (step_of event s).effects) after in
+    let told = kept-tells (opens_in (step_of event s).gate) (answer_of (step_of event s).effects) after in
     kept-goes (record w { gate = gate; journal = journal })
-    (tells (opens_in gate.gate) (left_in gate.setup gate.gate) answer w.kept) after (happens_again again event s)
+    (tells (opens_in gate.gate) answer w.kept) after (happens_again again event s)
     (record {
       setup = step.setup;
       gate = step.gate_is;
@@ -117,7 +116,7 @@ settled-goes w gate again event answer s shows whole step =
       journal = known_is;
     })
     (settled-kept w gate event answer s shows step ∙ told)
-    (rest-tells (opens_in (step_of event s).gate) (left_in s.setup (step_of event s).gate) (answer_of (step_of event s).effects) after)
+    (rest-tells (opens_in (step_of event s).gate) (answer_of (step_of event s).effects) after)
 
 -- the names of what it tells have texts
 pub named-after : (old new : PeerGatewayValue) (event : PeerEvent) (m : PeerMoments) (octets : ℕ × ℕ) (answer : Answered)
@@ -131,13 +130,11 @@ pub whole-after : (w : Work) (gate : PeerGatewayValue) (event : PeerEvent) (octe
 whole-after w gate event octets answer whole steps = record {
   gate = steps.whole;
   moments = whole.moments;
-  old_half = whole.old_half ∙ ap (λ (u : PeerSetup). half (u.keys.0).bounds) (sym steps.setup);
-  new_half = whole.new_half ∙ ap (λ (u : PeerSetup). half (u.keys.1).bounds) (sym steps.setup);
 }
 
 pub whole-settled : (w : Work) (again : Option ℕ) (answer : Answered) → IsWhole w → IsWhole (settles again answer w)
 whole-settled w again answer whole =
-    record { gate = whole.gate; moments = whole.moments; old_half = whole.old_half; new_half = whole.new_half }
+    record { gate = whole.gate; moments = whole.moments }
 
 pub does-event : (w new : Work) (gate : PeerGatewayValue) (again : Option ℕ) (event : PeerEvent) (octets : ℕ × ℕ) (answer : Answered) → IsWhole w
     → octets ≡ outboxes_of (w.kept).faces → PeerSteps w.gate gate event (moments_of w.moments) octets answer

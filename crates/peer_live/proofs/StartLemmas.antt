@@ -4,7 +4,6 @@ use Rattle.std.proofs.Common.{◌≡◌, ℕ, false, List, Option, None, refl, a
 use Rattle.gate_cases.specs.declared.face.Face.TheVariants as faces
 use Rattle.gate_config.specs.declared.file.GateFile.{GateFile}
 use Rattle.journal_file.specs.Values.{KeptValue as JournalValue}
-use Rattle.gateway_core.specs.declared.effects.Routed.{Routed}
 use Rattle.peer_gateway.specs.Answers.{Answered, answer_of}
 use Rattle.peer_gateway.specs.declared.moments.Moments.{Moments}
 use Rattle.peer_gateway.specs.Gate.{PeerGate, PeerMoments, starts_peer_gate}
@@ -16,7 +15,6 @@ use Rattle.peer_half.specs.Setup.{setup_in}
 use Rattle.peer_half.specs.Moments.{same}
 use Rattle.peer_half.specs.Standing.{Standing, starts_empty}
 use Rattle.peer_half.specs.Starts.{cancels_in, starts_at}
-use Rattle.peer_half.specs.Steps.{left_in}
 use Rattle.peer_live.specs.declared.work.Work.{Work}
 use Rattle.peer_live.specs.Telling.{KeptValue, kept_of, puts}
 use Rattle.peer_live.specs.Shows.{Does, IsWhole, ShowsWork, sends_out}
@@ -80,23 +78,17 @@ cancels-are answer setup marks journal file kept wall is setup_is marks_are jour
 
 -- ---- the cancels wait
 
-left-is : (w : Work) (s : Standing) → ShowsWork w s → left_in (w.gate).setup (w.gate).gate ≡ left_in s.setup s.gate
-left-is w s shows =
-    ap (λ (u : PeerSetup). left_in u (w.gate).gate) shows.setup ∙ ap (λ (g : PeerGate). left_in s.setup g) shows.gate
-
-pub does-send-out : (w : Work) (kept : KeptValue) (left : ℕ × ℕ) (out : List Routed) → IsWhole w → left ≡ left_in (w.gate).setup (w.gate).gate
-    → kept ≡ puts left out w.kept → Does w (record w { kept = kept }) (sends_out out)
-does-send-out w kept left out whole left_is kept_is = record {
+pub does-send-out : (w : Work) (kept : KeptValue) (answer : Answered) → IsWhole w → kept ≡ puts answer w.kept
+    → Does w (record w { kept = kept }) (sends_out answer)
+does-send-out w kept answer whole kept_is = record {
   whole = whole-kept w kept whole;
-  goes_on = λ s shows.
-      kept-goes w kept s (sends_out out s) shows
-      (kept_is ∙ ap (λ (n : ℕ × ℕ). puts n out w.kept) (left_is ∙ left-is w s shows) ∙ ap (puts (left_in s.setup s.gate) out) shows.kept) refl;
+  goes_on = λ s shows. kept-goes w kept s (sends_out answer s) shows (kept_is ∙ ap (puts answer) shows.kept) refl;
 }
 
 pub starts-so : (old new : Work) (answer : Answered) (file : GateFile) (kept : Option JournalValue) (wall : ℕ)
-    → ShowsWork old (starts_empty file kept wall) → answer ≡ cancels_in (starts_empty file kept wall) → Does old new (sends_out answer.out)
+    → ShowsWork old (starts_empty file kept wall) → answer ≡ cancels_in (starts_empty file kept wall) → Does old new (sends_out answer)
     → ShowsWork new (starts_at file kept wall)
 unfolding starts_at
 starts-so old new answer file kept wall shows answer_is does =
-    subst (λ (a : Answered). ShowsWork new (sends_out a.out (starts_empty file kept wall))) answer_is
+    subst (λ (a : Answered). ShowsWork new (sends_out a (starts_empty file kept wall))) answer_is
     (does.goes_on (starts_empty file kept wall) shows)

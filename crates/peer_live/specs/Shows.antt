@@ -4,9 +4,7 @@ use Rattle.std.specs.Prelude.{◌≡◌, ℕ, Bool, false, List, map, Option, No
 use Rattle.gate_cases.specs.declared.face.Face.{Face}
 use Rattle.gate_cases.specs.declared.face.Face.TheVariants.{Old, New}
 use Rattle.journal_file.specs.declared.kept.Pending.{Pending}
-use Rattle.face_room.specs.Bounds.{half}
 use Rattle.gate_face.specs.Contacts.{told_at}
-use Rattle.gateway_core.specs.declared.effects.Routed.{Routed}
 use Rattle.outbox.specs.declared.reading.Reading.{Reading}
 use Rattle.peer_events.specs.Own.{own_seen}
 use Rattle.peer_gateway.specs.Answers.{Answered}
@@ -14,7 +12,7 @@ use Rattle.peer_gateway.specs.Views.{AreMoments, moments_of}
 use Rattle.peer_records.specs.Happened.{PeerHappened}
 use Rattle.peer_half.specs.Standing.{Standing, saying_of, with_faces}
 use Rattle.peer_half.specs.Parts.{is_added, next_resumed, reading_clocks, resumed, tries, where_some}
-use Rattle.peer_half.specs.Steps.{left_in, opens_in, putting_all, recorded_with, ups_in}
+use Rattle.peer_half.specs.Steps.{opens_in, putting_all, recorded_with, ups_in}
 use Rattle.peer_live.specs.declared.work.Work.{Work}
 use Rattle.peer_live.specs.Telling.{kept_of, tells}
 
@@ -37,13 +35,10 @@ pub record ShowsLive (spent : Bool) (w : Work) (s : Standing) : Type 0 where
 
 -- ---- what ties the code to it
 
--- What holds of a gateway at work between its calls. What it has at hand of how its gateway is set up is so:
--- half of the memory of each face.
+-- what holds of a gateway at work between its calls
 pub record IsWhole (w : Work) : Type 0 where
   pub gate : (w.gate).spent ≡ false
   pub moments : AreMoments w.moments
-  pub old_half : w.old_half ≡ half (((w.gate).setup).keys.0).bounds
-  pub new_half : w.new_half ≡ half (((w.gate).setup).keys.1).bounds
 
 -- a part of a half was done, and left the gateway whole
 pub record Does (old new : Work) (part : Standing → Standing) : Type 0 where
@@ -79,15 +74,15 @@ records again answer w = record w { journal = recorded_with (did again answer w)
 -- once it is recorded and done
 abbrev pub settles : Option ℕ → Answered → Work → Work
 settles again answer w = record w {
-  kept = tells (opens_in (w.gate).gate) (left_in (w.gate).setup (w.gate).gate) answer w.kept;
+  kept = tells (opens_in (w.gate).gate) answer w.kept;
   journal = recorded_with (did again answer w) w.journal;
 }
 
 -- ---- at a start
 
--- the cancels wait in the outboxes
-abbrev pub sends_out : List Routed → Standing → Standing
-sends_out out s = with_faces (putting_all (left_in s.setup s.gate) out s.faces) s
+-- the cancels are put, or dropped
+abbrev pub sends_out : Answered → Standing → Standing
+sends_out answer s = with_faces (putting_all answer.puts answer.out s.faces) s
 
 -- ---- pieces of earlier runs
 

@@ -11,7 +11,6 @@ use Rattle.gate_log.specs.declared.subject.Subject.{Subject}
 use Rattle.gate_log.specs.Lines.{line_of}
 use Rattle.gate_metrics.specs.declared.counters.Counted.{Counted}
 use Rattle.gate_metrics.specs.declared.counters.Counted.TheVariants as things
-use Rattle.gateway_core.specs.declared.effects.Routed.{Routed}
 use Rattle.gateway_core.specs.Gate.{at_face, with_face}
 use Rattle.gate_events.specs.Own.{OpenAt}
 use Rattle.gate_events.specs.Log.{LogValue, after_saying, after_saying_all, started_at, with_counted}
@@ -82,15 +81,14 @@ reads now k =
       log = started_at now.wall k.log;
     }))
 
--- datagrams wait, or are dropped, where so many octets are left for each outbox
-abbrev pub puts : ℕ × ℕ → List Routed → KeptValue → KeptValue
-puts most out k = record k { faces = putting_all most out k.faces }
+-- the datagrams that the gate answers are put or dropped, as it says
+abbrev pub puts : Answered → KeptValue → KeptValue
+puts answer k = record k { faces = putting_all answer.puts answer.out k.faces }
 
--- a step of the gate: which sessions are open after it, what is left for each outbox then, and what it
--- answered
-abbrev pub tells : OpenAt → ℕ × ℕ → Answered → KeptValue → KeptValue
-tells opened most answer k = record {
-  faces = putting_all most answer.out k.faces;
+-- a step of the gate: which sessions are open after it, and what it answered
+abbrev pub tells : OpenAt → Answered → KeptValue → KeptValue
+tells opened answer k = record {
+  faces = putting_all answer.puts answer.out k.faces;
   own = own_after_step opened answer.told answer.begun k.own;
   log = after_saying_all (events_of opened k.own answer.told) (with_begun answer.begun k.log);
 }

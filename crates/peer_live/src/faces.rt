@@ -1,19 +1,19 @@
 //! Both faces.
 
-ghost use Rattle.std.specs.Prelude.{◌≡◌, [], true, IfOk, OnErr, OnOk};
+ghost use Rattle.std.specs.Prelude.{◌≡◌, [], true, map, IfOk, OnErr, OnOk};
 ghost use Rattle.gateway_core.specs.Gate.{at_face, with_face};
 ghost use Rattle.gate_face.specs.Faces.{starts_face};
 ghost use Rattle.gate_face.specs.Halves.{losing, taking};
 ghost use Rattle.gate_face.specs.Schedules.{HasPlan};
 ghost use Rattle.outbox.specs.Outbox.{next_of};
-ghost use Rattle.peer_half.specs.Steps.{is_within, putting_all, putting_within};
+ghost use Rattle.peer_gateway.specs.Answers.{put_seen, routed_seen};
+ghost use Rattle.peer_half.specs.Steps.{putting_all, putting_if};
 
 use endpoint::Octets;
 use gate_cases::Face;
 use gate_config::FaceConfig;
 use gate_face::FaceRun;
-use gateway_core::Routed;
-use outbox::Outbox;
+use peer_gateway::Outgoing;
 use std::alloc::{AllocError, Global};
 use std::marker::Model;
 
@@ -86,52 +86,48 @@ impl Faces {
         }
     }
 
-    /// Datagrams wait from here on, each at its face, or are dropped. Of half of its memory a face has so
-    /// many octets left for its outbox, the old one first. Memory is wanted only where there are some.
+    /// Datagrams were made: each is put into the outbox of its face, or dropped, as it says. Memory is wanted
+    /// only where there are some.
     #[tactic(auto, unfolding(peer_half::specs::Steps::putting_all))]
-    pub fn put_all(&mut self, out: Vec<Routed>, left: (u64, u64)) -> Result<(), AllocError>
-        ensures after { OnOk result (self.new ≡ putting_all left out.items self.old) }
+    pub fn put_all(&mut self, out: Vec<Outgoing>) -> Result<(), AllocError>
+        ensures after { OnOk result (self.new
+            ≡ putting_all (map put_seen out.items) (map routed_seen out.items) self.old) }
         ensures wanted { OnErr result (out.items ≡ [] → ⊥) }
     {
-        'putting: for routed in out {
-            let Routed { face, datagram } = routed;
-            self.put(face, datagram, left)?;
+        'putting: for outgoing in out {
+            let Outgoing {
+                face,
+                datagram,
+                is_put,
+            } = outgoing;
+            self.put(face, is_put, datagram)?;
         }
         Ok(())
     }
 
-    /// A datagram waits at a face from here on, or is dropped. Memory is wanted only where it fits there.
-    fn put(&mut self, face: Face, datagram: Octets, left: (u64, u64)) -> Result<(), AllocError>
+    /// A datagram is put into the outbox of a face, or dropped. Memory is wanted only where it is put.
+    fn put(&mut self, face: Face, is_put: bool, datagram: Octets) -> Result<(), AllocError>
         ensures after { OnOk result (self.new ≡ with_face self.old face
-            (putting_within (at_face left face) datagram (at_face self.old face))) }
-        ensures wanted { OnErr result
-            (is_within (at_face left face) (at_face self.old face).outbox datagram ≡ true) }
+            (putting_if is_put datagram (at_face self.old face))) }
+        ensures wanted { OnErr result (is_put ≡ true) }
     {
         match face {
-            Face::Old => put_within(&mut self.old_face, left.0, datagram),
-            Face::New => put_within(&mut self.new_face, left.1, datagram),
+            Face::Old => put_if(&mut self.old_face, is_put, datagram),
+            Face::New => put_if(&mut self.new_face, is_put, datagram),
         }
     }
 }
 
-/// A datagram waits at a face from here on, where at most so many octets wait there then; or it is dropped
-/// and counted, as one for which the outbox has no room. Memory is wanted only where it fits.
-fn put_within(face: &mut FaceRun, most: u64, datagram: Octets) -> Result<(), AllocError>
-    ensures after { OnOk result (face.new ≡ putting_within most datagram face.old) }
-    ensures wanted { OnErr result (is_within most (face.old).outbox datagram ≡ true) }
+/// A datagram is put into the outbox of a face; or it is dropped and counted, as one for which the outbox has
+/// no room. Memory is wanted only where it is put.
+fn put_if(face: &mut FaceRun, is_put: bool, datagram: Octets) -> Result<(), AllocError>
+    ensures after { OnOk result (face.new ≡ putting_if is_put datagram face.old) }
+    ensures wanted { OnErr result (is_put ≡ true) }
 {
-    if is_within(face.outbox(), most, datagram.as_slice()) {
+    if is_put {
         face.put(datagram)
     } else {
         face.refuse();
         Ok(())
     }
-}
-
-/// Whether with a datagram at most so many octets wait.
-fn is_within(outbox: &Outbox, most: u64, datagram: &[u8]) -> bool
-    ensures { result ≡ is_within most outbox.now datagram.now }
-{
-    let octets = outbox.octets();
-    octets <= most && datagram.len() as u64 <= most - octets
 }

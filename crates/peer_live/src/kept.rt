@@ -128,35 +128,29 @@ impl Kept {
     }
 
     /// What a step of the gateway answered: the sessions that it began are counted, what it tells is said,
-    /// and what it sends waits, where it fits what its face has left for its outbox, or is dropped.
+    /// and each datagram that it made is put or dropped, as it says.
     pub fn tell(
         &mut self,
         alloc: Global,
         answer: PeerAnswer,
         gate: &PeerGateway,
-        left: (u64, u64),
     ) -> Result<(), AllocError>
         requires whole { gate.now.spent ≡ false }
         requires named { AllNamed answer.told }
-        ensures { OnOk result (self.new ≡ spec.tells (opens_in (gate.now).gate) left answer self.old) }
+        ensures { OnOk result (self.new ≡ spec.tells (opens_in (gate.now).gate) answer self.old) }
     {
         let opened = Opened { gate };
         self.own.tell(alloc, answer.told(), answer.begun(), &opened, &mut self.log)?;
-        self.put_all(alloc, answer, left)
+        self.put_all(alloc, answer)
     }
 
-    /// What the gateway sends waits from here on, or is dropped. Memory is wanted only where it sends.
-    pub fn put_all(
-        &mut self,
-        alloc: Global,
-        answer: PeerAnswer,
-        left: (u64, u64),
-    ) -> Result<(), AllocError>
-        ensures after { OnOk result (self.new ≡ spec.puts left answer.out self.old) }
+    /// Each datagram that the gateway made is put or dropped, as it says. Memory is wanted only where it made some.
+    pub fn put_all(&mut self, alloc: Global, answer: PeerAnswer) -> Result<(), AllocError>
+        ensures after { OnOk result (self.new ≡ spec.puts answer self.old) }
         ensures wanted { OnErr result (answer.out ≡ [] → ⊥) }
     {
         let mut answer = answer;
-        self.faces.put_all(answer.take_out(alloc), left)
+        self.faces.put_all(answer.take_out(alloc))
     }
 
     /// Takes out the datagram that may go next at a face, if one may.

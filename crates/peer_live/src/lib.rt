@@ -2,9 +2,9 @@
 //!
 //! A [`LiveGate`] is set up by a file, and drives the gateway of `peer_gateway` through the halves of a
 //! run, part by part, as `peer_parts` names them: it has the gateway, a face of `gate_face` on each side,
-//! the sessions of its own and the log of `gate_events`. Datagrams that the gateway sends are moved into
-//! the outbox of their face, where that and half of the face's memory have room for them; what it tells
-//! becomes lines; and what came, went and was lost is counted.
+//! the sessions of its own and the log of `gate_events`. Datagrams that the gateway makes are moved into
+//! the outbox of their face, or dropped, as the gateway says of each; what it tells becomes lines; and what
+//! came, went and was lost is counted.
 //!
 //! Where a journal is kept, what each step did is handed to `peer_records` before its datagrams are moved,
 //! so that the records of a half are there when it sends. A run that goes on from what earlier runs kept

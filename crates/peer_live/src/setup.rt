@@ -102,7 +102,7 @@ fn keys_in(config: &FaceConfig, reserved: Option<u64>, wall: u64) -> Keys
     }
 }
 
-/// How many sessions there are at a face each way, and how many octets.
+/// How many sessions there are at a face each way, and how many octets there, and in its outbox.
 fn bounds_in(config: &FaceConfig) -> Bounds
     ensures { result ≡ spec.bounds_in config.now }
 {
@@ -111,6 +111,7 @@ fn bounds_in(config: &FaceConfig) -> Bounds
         memory: config.memory,
         wanted: config.aggregate,
         segment: config.segment,
+        outbox: config.outbox,
     }
 }
 

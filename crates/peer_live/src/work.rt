@@ -14,7 +14,6 @@ ghost use Rattle.peer_half.specs.Setup.{IsRunnable, used_up};
 ghost use Rattle.peer_half.specs.Journals.{anew_in, is_large, kept_in, past_commit, records_in};
 ghost use Rattle.peer_half.specs.Standing.{Standing, doing_at, face_of, saying, starts_empty, wall_of};
 ghost use Rattle.peer_half.specs.Starts.{cancels_in, starts_at};
-ghost use Rattle.peer_half.specs.Steps.{left_in};
 ghost use Rattle.peer_half.specs.Parts as parts;
 ghost use Rattle.peer_parts.specs.Quiet.{NothingLost, NothingRecorded, NothingSaid};
 
@@ -48,9 +47,6 @@ pub(crate) struct Work {
     pub kept: Kept,
     /// What is known of the journal, where one is kept.
     pub journal: Option<Journal>,
-    /// Half of what each face may keep: that is for what it sends.
-    old_half: u64,
-    new_half: u64,
     /// The numbers of the first sessions.
     old_first: u64,
     new_first: u64,
@@ -103,7 +99,6 @@ impl Work {
             r.1 ≡ cancels_in (starts_empty file.now (option_map kept_of kept) wall)) }
     {
         let config = config_of(alloc, file, &kept, wall)?;
-        let (old_half, new_half) = (config.old.bounds.half(), config.new.bounds.half());
         let (old_first, new_first) = (config.old.first_session, config.new.first_session);
         let journal = journal_of(alloc, file, kept, wall)?;
         let old_marks = marked_at(alloc, &journal, Face::Old)?;
@@ -123,8 +118,6 @@ impl Work {
             moments,
             kept,
             journal,
-            old_half,
-            new_half,
             old_first,
             new_first,
             started: false,
@@ -133,13 +126,12 @@ impl Work {
         Ok((work, cancels))
     }
 
-    /// What the gateway sends waits, or is dropped.
+    /// Each datagram that the gateway made is put or dropped, as it says.
     fn send(&mut self, answer: PeerAnswer) -> Result<(), AllocError>
         requires { IsWhole self.old }
-        ensures { OnOk result (Does self.old self.new (sends_out answer.out)) }
+        ensures { OnOk result (Does self.old self.new (sends_out answer)) }
     {
-        let left = self.left();
-        self.kept.put_all(self.alloc, answer, left)
+        self.kept.put_all(self.alloc, answer)
     }
 
     // ---- a half
@@ -220,8 +212,7 @@ impl Work {
         ensures { OnOk result (self.new ≡ settles again answer self.old) }
     {
         self.record(again, &answer)?;
-        let left = self.left();
-        self.kept.tell(self.alloc, answer, &self.gate, left)
+        self.kept.tell(self.alloc, answer, &self.gate)
     }
 
     /// What a step of the gateway answered is recorded, where a journal is kept.
@@ -236,16 +227,6 @@ impl Work {
             again,
         };
         recording::record(self.alloc, &mut self.journal, &step, &self.gate)
-    }
-
-    /// How many octets of half of its memory are left for the outbox of each face.
-    fn left(&self) -> (u64, u64)
-        requires { IsWhole self.now }
-        ensures { result ≡ left_in ((self.now).gate).setup ((self.now).gate).gate }
-    {
-        let old = self.old_half.saturating_sub(self.gate.kept(Face::Old));
-        let new = self.new_half.saturating_sub(self.gate.kept(Face::New));
-        (old, new)
     }
 
     /// The last poll of the half failed.

@@ -3,4 +3,4 @@ use Rattle.peer_live.proofs.StartLemmas.{does-send-out}
 use Rattle.peer_live.proofs.work.Work.send.Goals as goal
 
 pub returns : goal.returns
-returns c = on_ok_weaker c.put_all.result (λ put. does-send-out c.args.self.now c.put_all.new.self c.left-left.result _ c.requires c.left-left.ensures put) c.put_all.ensures.after
+returns c = on_ok_weaker c.put_all.result (λ put. does-send-out c.args.self.now c.put_all.new.self c.args.answer c.requires put) c.put_all.ensures.after

@@ -136,11 +136,11 @@ few-if : (at : Face) (g : PeerGate) (test : Bool) (first second : PeerStep) → 
 few-if at g true first second one more few = one few
 few-if at g false first second one more few = more few
 
-few-does : (at face : Face) (g : PeerGate) (step : SessionsStep) → step.sessions.engine.next ≡ next_in face g → Few at g (does_at face g step).gate
-few-does faces.Old faces.Old g step same few = few-same faces.Old g (does_at faces.Old g step).gate same few
-few-does faces.Old faces.New g step same few = few
-few-does faces.New faces.Old g step same few = few
-few-does faces.New faces.New g step same few = few-same faces.New g (does_at faces.New g step).gate same few
+few-does : (s : PeerSetup) (at face : Face) (g : PeerGate) (step : SessionsStep) → step.sessions.engine.next ≡ next_in face g → Few at g (does_at s face g step).gate
+few-does s faces.Old faces.Old g step same few = few-same faces.Old g (does_at s faces.Old g step).gate same few
+few-does s faces.Old faces.New g step same few = few
+few-does s faces.New faces.Old g step same few = few
+few-does s faces.New faces.New g step same few = few-same faces.New g (does_at s faces.New g step).gate same few
 
 number-left : (k : FaceKeys) (until : ℕ) (f : PeerFace) → (next_count k until f == 0) ≡ false → ((f.sessions).engine).next < NUMBERS
 number-left k until f some = by (is_free k f) refl some
@@ -232,7 +232,7 @@ few-arrives : (s : PeerSetup) (at face : Face) (read : Result SegmentValue (ℕ 
 unfolding arrives_peer
 few-arrives s at face read m g =
     let heard : SessionsStep = hears_at s face g read (m.at face) in
-    few-then at g (does_at face g heard) _ (few-does at face g heard (next-hears (at_face s.keys face) (at_face g.faces face).sessions read (m.at face)))
+    few-then at g (does_at s face g heard) _ (few-does s at face g heard (next-hears (at_face s.keys face) (at_face g.faces face).sessions read (m.at face)))
     (λ h. few-then at h (in_turn (steps.passes s face m) (heard.effects).ups h) (due_if (has_ended (at_face g.faces face).sessions heard) s m face)
     (few-turn at (steps.passes s face m) (λ up i. few-turn at (steps.passes_item s face m up.session) (λ item j. few-item s at face m up.session item j) (items_of face up.body) i) (heard.effects).ups h)
     (λ i. few-ended s at face m (has_ended (at_face g.faces face).sessions heard) i))
@@ -240,8 +240,8 @@ few-arrives s at face read m g =
 few-face : (s : PeerSetup) (at face : Face) (m : PeerMoments) (g : PeerGate) → Few at g (steps.ticks_face s m face g).gate
 few-face s at face m g =
     let ticked : SessionsStep = ticks (at_face s.keys face) (at_face g.faces face).sessions (m.at face) in
-    few-then at g (does_at face g ticked) (due s m face)
-    (few-does at face g ticked (next-ticks (at_face s.keys face) (at_face g.faces face).sessions (m.at face))) (λ h. few-due s at face m h)
+    few-then at g (does_at s face g ticked) (due s m face)
+    (few-does s at face g ticked (next-ticks (at_face s.keys face) (at_face g.faces face).sessions (m.at face))) (λ h. few-due s at face m h)
 
 few-ticks : (s : PeerSetup) (at : Face) (m : PeerMoments) (g : PeerGate) → Few at g (ticks_peer s m g).gate
 unfolding ticks_peer

@@ -18,12 +18,12 @@ use Rattle.outbox.specs.Outbox.{OutboxValue, after_reading, after_sending, next_
 use Rattle.outbox.specs.Run as box
 use Rattle.outbox.specs.Run.{Call, datagrams_of, puts, reads, refuses, sends}
 use Rattle.gate_face.specs.Faces.{FaceStanding}
-use Rattle.gate_face.specs.Halves.{full_event, lost_event, putting, taking}
+use Rattle.gate_face.specs.Halves.{full_event, lost_event, taking}
 use Rattle.peer_gateway.specs.Answers.{answer_of}
 use Rattle.peer_half.specs.Journals.{is_large, kept_in, records_in}
 use Rattle.peer_half.specs.Standing.{Standing, doing_at, face_of, saying_of, starts_empty, wall_of}
 use Rattle.peer_half.specs.Starts.{cancels_in, starts_at}
-use Rattle.peer_half.specs.Steps.{after_dropping, is_within, left_in, putting_all, putting_within, step_of}
+use Rattle.peer_half.specs.Steps.{putting_all, putting_if, step_of}
 use Rattle.peer_half.specs.Acts.{Act, Acted, after_acts, and_then, stands}
 use Rattle.peer_half.specs.Parts as parts
 use Rattle.peer_half.specs.Parts.{sends_within}
@@ -117,37 +117,34 @@ fed-then a b c first more = record {
       ∙ ap (λ (x : OutboxValue). (x, a.1)) (sym (run-append first.calls more.calls a.0)));
 }
 
-fed-one : (most : ℕ) (datagram : List ℕ) (f : FaceStanding) → IsFed (box_of f) (box_of (putting_within most datagram f))
-fed-one most datagram f = by (is_within most f.outbox datagram)
-  where
-    by : (room : Bool) → IsFed (box_of f) (box_of (if room then putting datagram f else record f { outbox = after_dropping f.outbox }))
-    by true = record { calls = puts datagram ∷ []; only = tt; box_is = refl }
-    by false = record { calls = refuses ∷ []; only = tt; box_is = refl }
+fed-one : (is_put : Bool) (datagram : List ℕ) (f : FaceStanding) → IsFed (box_of f) (box_of (putting_if is_put datagram f))
+fed-one true datagram f = record { calls = puts datagram ∷ []; only = tt; box_is = refl }
+fed-one false datagram f = record { calls = refuses ∷ []; only = tt; box_is = refl }
 
-fed-at : (at face : Face) (most : ℕ) (datagram : List ℕ) (fs : FaceStanding × FaceStanding)
-    → IsFed (box_of (at_face fs at)) (box_of (at_face (with_face fs face (putting_within most datagram (at_face fs face))) at))
-fed-at faces.Old faces.Old most datagram fs = fed-one most datagram fs.0
-fed-at faces.Old faces.New most datagram fs = fed-none (box_of fs.0) (box_of fs.0) refl
-fed-at faces.New faces.Old most datagram fs = fed-none (box_of fs.1) (box_of fs.1) refl
-fed-at faces.New faces.New most datagram fs = fed-one most datagram fs.1
+fed-at : (at face : Face) (is_put : Bool) (datagram : List ℕ) (fs : FaceStanding × FaceStanding)
+    → IsFed (box_of (at_face fs at)) (box_of (at_face (with_face fs face (putting_if is_put datagram (at_face fs face))) at))
+fed-at faces.Old faces.Old is_put datagram fs = fed-one is_put datagram fs.0
+fed-at faces.Old faces.New is_put datagram fs = fed-none (box_of fs.0) (box_of fs.0) refl
+fed-at faces.New faces.Old is_put datagram fs = fed-none (box_of fs.1) (box_of fs.1) refl
+fed-at faces.New faces.New is_put datagram fs = fed-one is_put datagram fs.1
 
-fed-all : (at : Face) (most : ℕ × ℕ) (out : List Routed) (fs : FaceStanding × FaceStanding)
-    → IsFed (box_of (at_face fs at)) (box_of (at_face (putting_all most out fs) at))
+fed-all : (at : Face) (told : List Bool) (out : List Routed) (fs : FaceStanding × FaceStanding)
+    → IsFed (box_of (at_face fs at)) (box_of (at_face (putting_all told out fs) at))
 unfolding putting_all
-fed-all at most [] fs = fed-none (box_of (at_face fs at)) (box_of (at_face fs at)) refl
-fed-all at most (routed ∷ more) fs =
-    let next = with_face fs routed.face (putting_within (at_face most routed.face) routed.datagram (at_face fs routed.face)) in
-    fed-then (box_of (at_face fs at)) (box_of (at_face next at)) (box_of (at_face (putting_all most more next) at))
-    (fed-at at routed.face (at_face most routed.face) routed.datagram fs) (fed-all at most more next)
+fed-all at [] out fs = fed-none (box_of (at_face fs at)) (box_of (at_face fs at)) refl
+fed-all at (is_put ∷ told) [] fs = fed-none (box_of (at_face fs at)) (box_of (at_face fs at)) refl
+fed-all at (is_put ∷ told) (routed ∷ more) fs =
+    let next = with_face fs routed.face (putting_if is_put routed.datagram (at_face fs routed.face)) in
+    fed-then (box_of (at_face fs at)) (box_of (at_face next at)) (box_of (at_face (putting_all told more next) at))
+    (fed-at at routed.face is_put routed.datagram fs) (fed-all at told more next)
 
 -- with the events of a half
 fed-keeps : (at : Face) (b : Box) → Keeps (λ (s : Standing) (events : List EventIn). IsFed b (box_at at s))
 fed-keeps at b = record {
   quiet = λ s t earlier same fed. fed-then b (box_at at s) (box_at at t) fed (fed-none (box_at at s) (box_at at t) (sym (ap (λ (x : Standing). box_at at x) same)));
   event = λ event journal s earlier fed.
-      let most = left_in s.setup (step_of event s).gate in
-      let out = (answer_of (step_of event s).effects).out in
-      fed-then b (box_at at s) (box_of (at_face (putting_all most out s.faces) at)) fed (fed-all at most out s.faces);
+      let answer = answer_of (step_of event s).effects in
+      fed-then b (box_at at s) (box_of (at_face (putting_all answer.puts answer.out s.faces) at)) fed (fed-all at answer.puts answer.out s.faces);
 }
 
 -- the clocks are read
@@ -173,7 +170,7 @@ pub fed-begins : (r : Run) (at : Face) → IsFed (starts_box r at) (box_at at (b
 unfolding starts_at
 fed-begins r at =
     let s = starts_empty r.file r.kept r.wall in
-    fed-all at (left_in s.setup s.gate) (cancels_in s).out s.faces
+    fed-all at (cancels_in s).puts (cancels_in s).out s.faces
 
 -- ---- a face sends
 

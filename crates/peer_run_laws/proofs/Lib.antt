@@ -4,6 +4,7 @@ pub mod BoxLemmas
 pub mod FaceLemmas
 pub mod OrderLemmas
 pub mod CountLemmas
+pub mod BoundLemmas
 pub mod WaitLemmas
 pub mod AheadLemmas
 pub mod RestLemmas

@@ -1,40 +1,41 @@
 -- What goes out at a face in a run is what was put there, in order.
 
-use Rattle.std.proofs.Common.{◌≡◌, ℕ, zero, suc, ◌+◌, ◌≤◌, nat_le, Bool, true, false, if◌then◌else◌, List, [], ◌∷◌, ◌++◌, length, map, Option, refl, ap, ◌∙◌, sym, subst, arith, append_assoc}
-use Rattle.std.proofs.lemmas.List.{append-nil}
-use Rattle.std.proofs.lemmas.Bool.{le-leb}
+use Rattle.std.proofs.Common.{◌≡◌, ℕ, zero, suc, ◌≤◌, Bool, List, [], ◌∷◌, ◌++◌, length, map, Option, refl, ap, ◌∙◌, sym, subst, arith, append_assoc}
+use Rattle.std.proofs.lemmas.List.{append-nil, length-map, map-append}
 use Rattle.ltp_segment.specs.Spelling.{segment_octets}
 use Rattle.ltp_segment.specs.Values.{SegmentValue}
 use Rattle.gate_cases.specs.declared.face.Face.{Face}
 use Rattle.gate_cases.specs.declared.face.Face.TheVariants as faces
 use Rattle.gate_cases.specs.Faces.{other_of}
-use Rattle.gateway_core.specs.declared.effects.Routed.{Routed}
-use Rattle.gateway_core.specs.Gate.{if_same, RoutedValue, at_face, with_face}
 use Rattle.gateway_core.specs.Effects.{routed_of}
+use Rattle.gateway_core.specs.Gate.{RoutedValue, at_face, if_same}
 use Rattle.outbox.specs.declared.reading.Reading.{Reading}
 use Rattle.outbox.specs.Laws.{GoesOutInOrder}
-use Rattle.outbox.specs.Outbox.{OutboxValue, fits, octets_in}
+use Rattle.outbox.specs.Outbox.{OutboxValue, octets_in}
 use Rattle.outbox.specs.Run as box
 use Rattle.outbox.specs.Run.{Call, datagrams_of, puts, reads, refuses, sends}
 use Rattle.gate_face.specs.Faces.{FaceStanding}
-use Rattle.gate_face.specs.Halves.{putting}
+use Rattle.face_room.specs.Queues.{may_wait}
+use Rattle.face_room.proofs.QueueLemmas.{length-puts, queues_within}
+use Rattle.peer_sessions.specs.Keys.{FaceKeys}
 use Rattle.peer_gateway.specs.Keys.{PeerSetup}
-use Rattle.peer_gateway.specs.Gate.{PeerGate, routed_at, starts_out}
+use Rattle.peer_gateway.specs.Gate.{PeerGate, routed_at, sizes_out, starts_out, starts_puts}
+use Rattle.peer_gateway.specs.Laws.{put_at}
+use Rattle.peer_gateway.proofs.PutLemmas.{made_at, put-append, put-here, put-none}
 use Rattle.peer_gateway.specs.Steps.{PeerEvent, peer_gate_after}
-use Rattle.peer_gateway.specs.Answers.{answer_of}
 use Rattle.peer_half.specs.Journals.{Journalled, kept_in}
 use Rattle.peer_half.specs.Standing.{Standing, face_of, starts_empty}
 use Rattle.peer_half.specs.Starts.{cancels_in, starts_at}
-use Rattle.peer_half.specs.Steps.{after_dropping, is_within, left_in, outboxes_in, putting_all, putting_within, step_of}
 use Rattle.peer_half.specs.Acts.{Acted}
 use Rattle.peer_half.specs.Parts.{reading_clocks}
 use Rattle.peer_half.specs.Half.{Came, answers, half, hears}
 use Rattle.peer_half.specs.Run.{halves, recovers}
 use Rattle.peer_half.specs.Runs.{EventIn, Run, acts_of, after_events, after_halves, begins_at, event_at, events_in, first_gate, marked_before, setup_of, stands_at}
-use Rattle.peer_half.specs.Laws.{datagrams_at, tried_at, waiting_at, waits_in}
-use Rattle.peer_half.proofs.StandingLemmas.{after_event}
-use Rattle.peer_run_laws.specs.Faces.{GoesOnceInOrder, HasRoom, PutsAllWithRoom, cancels_at, config_of, left_with, put_by, put_first, put_in, put_over, put_with, sent_over, sent_with}
-use Rattle.peer_run_laws.proofs.WalkLemmas.{Keeps, keeps-hears}
+use Rattle.peer_half.specs.Laws.{IsFitted, datagrams_at, tried_at, waiting_at}
+use Rattle.peer_half.proofs.PutLemmas.{after-puts, all-wait, limit-all, octets-append, octets-same}
+use Rattle.peer_half.proofs.StandingLemmas.{after_event, quiet_of}
+use Rattle.peer_run_laws.specs.Faces.{GoesOnceInOrder, IsFittedInRuns, cancels_at, config_of, put_by, put_first, put_over, put_with}
+use Rattle.peer_run_laws.proofs.WalkLemmas.{Core, Keeps, core-answers, keeps-hears}
 use Rattle.peer_run_laws.proofs.BoxLemmas.{Box, many_sends, none-installed, sent-answers, tried-append}
 use Rattle.peer_run_laws.proofs.GateLemmas.{IsGateOf, gate-begins, gate-event, gate-halves, gate-keeps}
 
@@ -46,117 +47,50 @@ limit_of f = (f.outbox).limit
 abbrev pub waits_at : FaceStanding → List (List ℕ)
 waits_at f = (f.outbox).waiting
 
-limit-within : (left : ℕ) (datagram : List ℕ) (f : FaceStanding) → limit_of (putting_within left datagram f) ≡ limit_of f
-limit-within left datagram f = by (is_within left f.outbox datagram)
-  where
-    by : (room : Bool) → limit_of (if room then putting datagram f else record f { outbox = after_dropping f.outbox }) ≡ limit_of f
-    by true = refl
-    by false = refl
-
-octets-append : (xs ys : List (List ℕ)) → octets_in (xs ++ ys) ≡ octets_in xs + octets_in ys
-octets-append [] ys = omega arith
-octets-append (x ∷ xs) ys = let rest = octets-append xs ys in omega (arith, rest)
-
-pub octets-push : (waiting : List (List ℕ)) (datagram : List ℕ) → octets_in (waiting ++ datagram ∷ []) ≡ octets_in waiting + length datagram
-octets-push waiting datagram = let more = octets-append waiting (datagram ∷ []) in omega (arith, more)
-
--- one, and then others
-put-one : (left : ℕ) (datagram : List ℕ) (more : List (List ℕ)) (f : FaceStanding)
-    → waits_at (putting_within left datagram f) ++ put_in (limit_of f) left (octets_in (waits_at (putting_within left datagram f))) more
-    ≡ waits_at f ++ put_in (limit_of f) left (octets_in (waits_at f)) (datagram ∷ more)
-unfolding put_in
-put-one left datagram more f = by (is_within left f.outbox datagram) refl (fits f.outbox datagram) refl
-  where
-    w : List (List ℕ)
-    w = waits_at f
-
-    by : (room : Bool) → is_within left f.outbox datagram ≡ room → (fit : Bool) → fits f.outbox datagram ≡ fit
-        → waits_at (putting_within left datagram f) ++ put_in (limit_of f) left (octets_in (waits_at (putting_within left datagram f))) more
-        ≡ w ++ put_in (limit_of f) left (octets_in w) (datagram ∷ more)
-    by true within true fit =
-        rw (within, fit)
-        (ap (λ (n : ℕ). (w ++ datagram ∷ []) ++ put_in (limit_of f) left n more) (octets-push w datagram)
-        ∙ append_assoc w (datagram ∷ []) (put_in (limit_of f) left (octets_in w + length datagram) more))
-    by true within false fit = rw (within, fit) refl
-    by false within fit is = rw within refl
-
-abbrev pub putting_at : ℕ × ℕ → Face → List ℕ → FaceStanding × FaceStanding → FaceStanding × FaceStanding
-putting_at most face datagram fs = with_face fs face (putting_within (at_face most face) datagram (at_face fs face))
-
-put-at : (at face : Face) (most : ℕ × ℕ) (datagram : List ℕ) (more : List (List ℕ)) (fs : FaceStanding × FaceStanding)
-    → waits_in at (putting_at most face datagram fs)
-    ++ put_in (limit_of (at_face fs at)) (at_face most at) (octets_in (waits_in at (putting_at most face datagram fs))) more
-    ≡ waits_in at fs ++ put_in (limit_of (at_face fs at)) (at_face most at) (octets_in (waits_in at fs)) (if_same face at (datagram ∷ []) [] ++ more)
-put-at faces.Old faces.Old most datagram more fs = put-one most.0 datagram more fs.0
-put-at faces.Old faces.New most datagram more fs = refl
-put-at faces.New faces.Old most datagram more fs = refl
-put-at faces.New faces.New most datagram more fs = put-one most.1 datagram more fs.1
-
-pub limit-at : (at face : Face) (most : ℕ × ℕ) (datagram : List ℕ) (fs : FaceStanding × FaceStanding)
-    → limit_of (at_face (putting_at most face datagram fs) at) ≡ limit_of (at_face fs at)
-limit-at faces.Old faces.Old most datagram fs = limit-within most.0 datagram fs.0
-limit-at faces.Old faces.New most datagram fs = refl
-limit-at faces.New faces.Old most datagram fs = refl
-limit-at faces.New faces.New most datagram fs = limit-within most.1 datagram fs.1
-
-put-all : (at : Face) (most : ℕ × ℕ) (out : List Routed) (fs : FaceStanding × FaceStanding)
-    → waits_in at (putting_all most out fs)
-    ≡ waits_in at fs ++ put_in (limit_of (at_face fs at)) (at_face most at) (octets_in (waits_in at fs)) (datagrams_at at out)
-unfolding putting_all put_in
-put-all at most [] fs = sym (append-nil (waits_in at fs))
-put-all at most (routed ∷ more) fs =
-    let next = putting_at most routed.face routed.datagram fs in
-    put-all at most more next
-    ∙ (ap (λ (limit : ℕ). waits_in at next ++ put_in limit (at_face most at) (octets_in (waits_in at next)) (datagrams_at at more))
-    (limit-at at routed.face most routed.datagram fs)
-    ∙ put-at at routed.face most routed.datagram (datagrams_at at more) fs)
-
-pub limit-all : (at : Face) (most : ℕ × ℕ) (out : List Routed) (fs : FaceStanding × FaceStanding) → limit_of (at_face (putting_all most out fs) at) ≡ limit_of (at_face fs at)
-unfolding putting_all
-limit-all at most [] fs = refl
-limit-all at most (routed ∷ more) fs =
-    limit-all at most more (putting_at most routed.face routed.datagram fs) ∙ limit-at at routed.face most routed.datagram fs
-
--- with an event
-put-event : (at : Face) (event : PeerEvent) (journal : Option Journalled) (s : Standing)
-    → waiting_at at (after_event event journal s) ≡ waiting_at at s ++ put_with s.setup (limit_of (face_of at s)) at s.gate (event_at event s)
-put-event faces.Old event journal s = put-all faces.Old (left_in s.setup (step_of event s).gate) (answer_of (step_of event s).effects).out s.faces
-put-event faces.New event journal s = put-all faces.New (left_in s.setup (step_of event s).gate) (answer_of (step_of event s).effects).out s.faces
-
 -- ---- with the events of a half
 
 -- what waits is what waited first and what was put since, of which some went before
-record IsPut (setup : PeerSetup) (limit : ℕ) (at : Face) (start : PeerGate) (first before : List (List ℕ)) (s : Standing) (events : List EventIn) : Type 0 where
-  of_gate : IsGateOf setup start s events
-  limit_is : limit_of (face_of at s) ≡ limit
-  waits : before ++ waiting_at at s ≡ first ++ put_over setup limit at start events
+pub record IsPut (setup : PeerSetup) (at : Face) (start : PeerGate) (first before : List (List ℕ)) (s : Standing) (events : List EventIn) : Type 0 where
+  pub of_gate : IsGateOf setup start s events
+  pub fitted : IsFitted at s
+  pub waits : before ++ waiting_at at s ≡ first ++ put_over setup at start events
 
-put-step : (setup : PeerSetup) (limit : ℕ) (at : Face) (start : PeerGate) (first before : List (List ℕ)) (event : PeerEvent) (journal : Option Journalled) (s : Standing) (earlier : List EventIn)
-    → IsPut setup limit at start first before s earlier → IsPut setup limit at start first before (after_event event journal s) (event_at event s ∷ earlier)
+put-step : (setup : PeerSetup) (at : Face) (start : PeerGate) (first before : List (List ℕ)) (event : PeerEvent) (journal : Option Journalled) (s : Standing) (earlier : List EventIn)
+    → IsPut setup at start first before s earlier → IsPut setup at start first before (after_event event journal s) (event_at event s ∷ earlier)
 unfolding put_over
-put-step setup limit at start first before event journal s earlier so =
+put-step setup at start first before event journal s earlier so =
+    let t = after_event event journal s in
+    let here = after-puts event s t at so.fitted refl refl refl in
     let g = peer_gate_after setup start earlier in
-    let more = put_with setup limit at g (event_at event s) in
-    let is : put_with s.setup (limit_of (face_of at s)) at s.gate (event_at event s) ≡ more =
-    ap (λ (n : ℕ). put_with s.setup n at s.gate (event_at event s)) so.limit_is
-    ∙ (ap (λ (t : PeerSetup). put_with t limit at s.gate (event_at event s)) (so.of_gate).setup_is
-    ∙ ap (λ (x : PeerGate). put_with setup limit at x (event_at event s)) (so.of_gate).gate_is) in
+    let more = put_with setup at g (event_at event s) in
+    let is : put_with s.setup at s.gate (event_at event s) ≡ more =
+    ap (λ (t : PeerSetup). put_with t at s.gate (event_at event s)) (so.of_gate).setup_is
+    ∙ ap (λ (x : PeerGate). put_with setup at x (event_at event s)) (so.of_gate).gate_is in
     record {
       of_gate = gate-event setup start event journal s earlier so.of_gate;
-      limit_is = limit-all at (left_in s.setup (step_of event s).gate) (answer_of (step_of event s).effects).out s.faces ∙ so.limit_is;
-      waits = ap (λ ds. before ++ ds) (put-event at event journal s ∙ ap (λ ds. waiting_at at s ++ ds) is)
+      fitted = here.fitted;
+      waits = ap (λ ds. before ++ ds) (here.waits ∙ ap (λ ds. waiting_at at s ++ ds) is)
           ∙ (sym (append_assoc before (waiting_at at s) more)
-          ∙ (ap (λ ds. ds ++ more) so.waits ∙ append_assoc first (put_over setup limit at start earlier) more));
+          ∙ (ap (λ ds. ds ++ more) so.waits ∙ append_assoc first (put_over setup at start earlier) more));
     }
 
-put-keeps : (setup : PeerSetup) (limit : ℕ) (at : Face) (start : PeerGate) (first before : List (List ℕ)) → Keeps (IsPut setup limit at start first before)
-put-keeps setup limit at start first before = record {
+pub fitted-quiet : (at : Face) (s t : Standing) → quiet_of s ≡ quiet_of t → IsFitted at s → IsFitted at t
+fitted-quiet at s t same fitted =
+    let limit = ap (λ (x : Standing). limit_of (face_of at x)) same in
+    let octets = ap (λ (x : Standing). octets_in (waiting_at at x)) same in
+    record {
+      limit = sym limit ∙ (fitted.limit ∙ ap (λ (x : Standing). (at_face x.setup.keys at).bounds.outbox) same);
+      within = omega (arith, fitted.within, limit, octets);
+    }
+
+put-keeps : (setup : PeerSetup) (at : Face) (start : PeerGate) (first before : List (List ℕ)) → Keeps (IsPut setup at start first before)
+put-keeps setup at start first before = record {
   quiet = λ s t earlier same so. record {
     of_gate = (gate-keeps setup start).quiet s t earlier same so.of_gate;
-    limit_is = ap (λ (x : Standing). limit_of (face_of at x)) (sym same) ∙ so.limit_is;
+    fitted = fitted-quiet at s t same so.fitted;
     waits = ap (λ (x : Standing). before ++ waiting_at at x) (sym same) ∙ so.waits;
   };
-  event = put-step setup limit at start first before;
+  event = put-step setup at start first before;
 }
 
 -- the clocks are read
@@ -168,12 +102,16 @@ waits-read : (at : Face) (came : Came) (s : Standing) → waiting_at at (reading
 waits-read faces.Old came s = refl
 waits-read faces.New came s = refl
 
-put-hears : (setup : PeerSetup) (limit : ℕ) (at : Face) (start : PeerGate) (first before : List (List ℕ)) (face : Face) (came : Came) (s : Standing) (earlier : List EventIn)
-    → IsPut setup limit at start first before s earlier → IsPut setup limit at start first before (hears face came s) (after_events (events_in face came s) earlier)
-put-hears setup limit at start first before face came s earlier so =
-    keeps-hears (IsPut setup limit at start first before) (put-keeps setup limit at start first before) face came s earlier (record {
+pub fitted-read : (at : Face) (now : Reading) (s : Standing) → IsFitted at s → IsFitted at (reading_clocks now s)
+fitted-read faces.Old now s fitted = record { limit = fitted.limit; within = fitted.within }
+fitted-read faces.New now s fitted = record { limit = fitted.limit; within = fitted.within }
+
+put-hears : (setup : PeerSetup) (at : Face) (start : PeerGate) (first before : List (List ℕ)) (face : Face) (came : Came) (s : Standing) (earlier : List EventIn)
+    → IsPut setup at start first before s earlier → IsPut setup at start first before (hears face came s) (after_events (events_in face came s) earlier)
+put-hears setup at start first before face came s earlier so =
+    keeps-hears (IsPut setup at start first before) (put-keeps setup at start first before) face came s earlier (record {
       of_gate = record { setup_is = (so.of_gate).setup_is; gate_is = (so.of_gate).gate_is };
-      limit_is = limit-read at came.reading s ∙ so.limit_is;
+      fitted = fitted-read at came.reading s so.fitted;
       waits = ap (λ ds. before ++ ds) (waits-read at came s) ∙ so.waits;
     })
 
@@ -202,33 +140,46 @@ limit-answers at board came s =
     let sent = sent-answers at board came s in
     ap (λ (x : Box). x.0.limit) sent.box_is ∙ limit-sends sent.count (face_of at s).outbox
 
-put-half : GoesOutInOrder → (setup : PeerSetup) (limit : ℕ) (at : Face) (start : PeerGate) (first before : List (List ℕ)) (board : Bool) (face : Face) (came : Came) (s : Standing) (earlier : List EventIn)
-    → IsPut setup limit at start first before s earlier
-    → IsPut setup limit at start first (before ++ tried_at at (half board face came s).acts) (half board face came s).standing (after_events (events_in face came s) earlier)
+-- when faces send, no more wait than did
+pub fitted-answers : GoesOutInOrder → (at : Face) (board : Bool) (came : Came) (s : Standing) → IsFitted at s → IsFitted at (answers board came s).standing
+fitted-answers law at board came s fitted =
+    let after = (answers board came s).standing in
+    let tried = tried_at at (answers board came s).acts in
+    let limit = limit-answers at board came s in
+    let all = ap octets_in (order-answers law at board came s) in
+    let parts = octets-append tried (waiting_at at after) in
+    record {
+      limit = limit ∙ (fitted.limit ∙ ap (λ (c : Core). (at_face c.setup.keys at).bounds.outbox) (sym (core-answers board came s)));
+      within = omega (arith, fitted.within, limit, all, parts);
+    }
+
+put-half : GoesOutInOrder → (setup : PeerSetup) (at : Face) (start : PeerGate) (first before : List (List ℕ)) (board : Bool) (face : Face) (came : Came) (s : Standing) (earlier : List EventIn)
+    → IsPut setup at start first before s earlier
+    → IsPut setup at start first (before ++ tried_at at (half board face came s).acts) (half board face came s).standing (after_events (events_in face came s) earlier)
 unfolding half
-put-half law setup limit at start first before board face came s earlier so =
+put-half law setup at start first before board face came s earlier so =
     let h = hears face came s in
-    let heard = put-hears setup limit at start first before face came s earlier so in
+    let heard = put-hears setup at start first before face came s earlier so in
     record {
       of_gate = (gate-halves setup start).answers board came h (after_events (events_in face came s) earlier) heard.of_gate;
-      limit_is = limit-answers at board came h ∙ heard.limit_is;
+      fitted = fitted-answers law at board came h heard.fitted;
       waits = append_assoc before (tried_at at (answers board came h).acts) (waiting_at at (answers board came h).standing)
           ∙ (ap (λ ds. before ++ ds) (order-answers law at board came h) ∙ heard.waits);
     }
 
-put-halves : GoesOutInOrder → (setup : PeerSetup) (limit : ℕ) (at : Face) (start : PeerGate) (first before : List (List ℕ)) (board : Bool) (face : Face) (comes : List Came) (s : Standing) (earlier : List EventIn)
-    → IsPut setup limit at start first before s earlier
-    → IsPut setup limit at start first (before ++ tried_at at (halves board face comes s).acts) (halves board face comes s).standing (after_halves board face comes s earlier)
+put-halves : GoesOutInOrder → (setup : PeerSetup) (at : Face) (start : PeerGate) (first before : List (List ℕ)) (board : Bool) (face : Face) (comes : List Came) (s : Standing) (earlier : List EventIn)
+    → IsPut setup at start first before s earlier
+    → IsPut setup at start first (before ++ tried_at at (halves board face comes s).acts) (halves board face comes s).standing (after_halves board face comes s earlier)
 unfolding halves after_halves
-put-halves law setup limit at start first before board face [] s earlier so =
-    subst (λ (ds : List (List ℕ)). IsPut setup limit at start first ds s earlier) (sym (append-nil before)) so
-put-halves law setup limit at start first before board face (came ∷ more) s earlier so =
+put-halves law setup at start first before board face [] s earlier so =
+    subst (λ (ds : List (List ℕ)). IsPut setup at start first ds s earlier) (sym (append-nil before)) so
+put-halves law setup at start first before board face (came ∷ more) s earlier so =
     let now : Acted = half board face came s in
     let later : Acted = halves board (other_of face) more now.standing in
     let events = after_events (events_in face came s) earlier in
-    let rest = put-halves law setup limit at start first (before ++ tried_at at now.acts) board (other_of face) more now.standing events
-    (put-half law setup limit at start first before board face came s earlier so) in
-    subst (λ (ds : List (List ℕ)). IsPut setup limit at start first ds later.standing (after_halves board (other_of face) more now.standing events))
+    let rest = put-halves law setup at start first (before ++ tried_at at now.acts) board (other_of face) more now.standing events
+    (put-half law setup at start first before board face came s earlier so) in
+    subst (λ (ds : List (List ℕ)). IsPut setup at start first ds later.standing (after_halves board (other_of face) more now.standing events))
     (append_assoc before (tried_at at now.acts) (tried_at at later.acts) ∙ ap (λ ds. before ++ ds) (sym (tried-append at now.acts later.acts))) rest
 
 -- ---- before the first half
@@ -266,6 +217,10 @@ cancels-are r faces.New =
     ∙ (ap (λ ds. ds ++ datagrams_at faces.New (map routed_of (routed_at faces.New new))) (at-other faces.New old)
     ∙ at-same faces.New new)
 
+pub limit-setup : (r : Run) (at : Face) → (config_of r at).outbox ≡ (at_face (setup_of r).keys at).bounds.outbox
+limit-setup r faces.Old = refl
+limit-setup r faces.New = refl
+
 pub limit-starts : (r : Run) (at : Face) → limit_of (face_of at (starts_empty r.file r.kept r.wall)) ≡ (config_of r at).outbox
 limit-starts r faces.Old = refl
 limit-starts r faces.New = refl
@@ -274,21 +229,79 @@ none-starts : (r : Run) (at : Face) → waiting_at at (starts_empty r.file r.kep
 none-starts r faces.Old = refl
 none-starts r faces.New = refl
 
-first-waits : (r : Run) (at : Face) → waiting_at at (begins_at r) ≡ put_first at r
+pub starts-length : (k : FaceKeys) (face : Face) (marks : List ℕ) → length (starts_puts k marks) ≡ length (made_at face (starts_out k marks))
+starts-length k face marks =
+    let out = starts_out k marks in
+    length-puts (may_wait k.bounds 0) 0 (sizes_out out)
+    ∙ (length-map out _ ∙ sym (length-map (routed_at face out) routed_of ∙ length-map out _))
+
+-- those that are put at a face are those of its own
+pub starts-put : (s : PeerSetup) (marks : List ℕ × List ℕ) (at : Face)
+    → put_at at (starts_puts s.keys.0 marks.0 ++ starts_puts s.keys.1 marks.1)
+    (map routed_of (routed_at faces.Old (starts_out s.keys.0 marks.0) ++ routed_at faces.New (starts_out s.keys.1 marks.1)))
+    ≡ put_at at (starts_puts (at_face s.keys at) (at_face marks at)) (made_at at (starts_out (at_face s.keys at) (at_face marks at)))
+starts-put s marks at = parts at ∙ by at
+  where
+    old : List SegmentValue
+    old = starts_out s.keys.0 marks.0
+
+    new : List SegmentValue
+    new = starts_out s.keys.1 marks.1
+
+    parts : (at : Face) → put_at at (starts_puts s.keys.0 marks.0 ++ starts_puts s.keys.1 marks.1) (map routed_of (routed_at faces.Old old ++ routed_at faces.New new))
+        ≡ put_at at (starts_puts s.keys.0 marks.0) (made_at faces.Old old) ++ put_at at (starts_puts s.keys.1 marks.1) (made_at faces.New new)
+    parts at =
+        ap (put_at at (starts_puts s.keys.0 marks.0 ++ starts_puts s.keys.1 marks.1)) (map-append routed_of (routed_at faces.Old old) (routed_at faces.New new))
+        ∙ put-append at (starts_puts s.keys.0 marks.0) (starts_puts s.keys.1 marks.1) (made_at faces.Old old) (made_at faces.New new) (starts-length s.keys.0 faces.Old marks.0)
+
+    by : (at : Face) → put_at at (starts_puts s.keys.0 marks.0) (made_at faces.Old old) ++ put_at at (starts_puts s.keys.1 marks.1) (made_at faces.New new)
+        ≡ put_at at (starts_puts (at_face s.keys at) (at_face marks at)) (made_at at (starts_out (at_face s.keys at) (at_face marks at)))
+    by faces.Old =
+        let here = put_at faces.Old (starts_puts s.keys.0 marks.0) (made_at faces.Old old) in
+        ap (λ ds. here ++ ds) (put-none faces.Old faces.New (starts_puts s.keys.1 marks.1) new (λ e. absurd (cc))) ∙ append-nil here
+    by faces.New =
+        let here = put_at faces.New (starts_puts s.keys.1 marks.1) (made_at faces.New new) in
+        ap (λ ds. ds ++ here) (put-none faces.New faces.Old (starts_puts s.keys.0 marks.0) old (λ e. absurd (cc)))
+
+-- they have as many octets as may wait at most
+starts-few : (k : FaceKeys) (face : Face) (marks : List ℕ) → octets_in (put_at face (starts_puts k marks) (made_at face (starts_out k marks))) ≤ k.bounds.outbox
+starts-few k face marks =
+    let out = starts_out k marks in
+    let here = put-here face (may_wait k.bounds 0) 0 out in
+    let low = (queues_within k.bounds 0 0 (sizes_out out)).waits (omega arith) in
+    let same = octets-same (put_at face (starts_puts k marks) (made_at face out)) in
+    omega (arith, here, low, same)
+
+pub first-few : (r : Run) (at : Face) → octets_in (put_first at r) ≤ (at_face (setup_of r).keys at).bounds.outbox
+first-few r at =
+    let is = ap octets_in (starts-put (setup_of r) (marked_before r) at) in
+    let few = starts-few (at_face (setup_of r).keys at) at (at_face (marked_before r) at) in
+    omega (arith, is, few)
+
+pub first-waits : (r : Run) (at : Face) → waiting_at at (begins_at r) ≡ put_first at r
 unfolding starts_at
 first-waits r at =
     let s = starts_empty r.file r.kept r.wall in
-    let left = at_face (left_in (setup_of r) (first_gate r)) at in
-    put-all at (left_in s.setup s.gate) (cancels_in s).out s.faces
-    ∙ (ap (λ ds. ds ++ put_in (limit_of (face_of at s)) left (octets_in ds) (datagrams_at at (cancels_in s).out)) (none-starts r at)
-    ∙ (ap (λ (n : ℕ). put_in n left 0 (datagrams_at at (cancels_in s).out)) (limit-starts r at)
-    ∙ ap (put_in (config_of r at).outbox left 0) (cancels-are r at)))
+    let none = none-starts r at in
+    all-wait at (cancels_in s).puts (cancels_in s).out s.faces
+    (omega (arith, first-few r at, ap octets_in none, limit-starts r at, limit-setup r at))
+    ∙ ap (λ ds. ds ++ put_first at r) none
+
+pub fitted-begins : (r : Run) (at : Face) → IsFitted at (begins_at r)
+unfolding starts_at
+fitted-begins r at =
+    let s = starts_empty r.file r.kept r.wall in
+    let limit = limit-all at (cancels_in s).puts (cancels_in s).out s.faces ∙ limit-starts r at in
+    record {
+      limit = limit ∙ limit-setup r at;
+      within = omega (arith, limit, limit-setup r at, first-few r at, ap octets_in (first-waits r at));
+    }
 
 pub limit-begins : (r : Run) (at : Face) → limit_of (face_of at (begins_at r)) ≡ (config_of r at).outbox
 unfolding starts_at
 limit-begins r at =
     let s = starts_empty r.file r.kept r.wall in
-    limit-all at (left_in s.setup s.gate) (cancels_in s).out s.faces ∙ limit-starts r at
+    limit-all at (cancels_in s).puts (cancels_in s).out s.faces ∙ limit-starts r at
 
 -- ---- a run
 
@@ -297,83 +310,37 @@ tried-acts r at =
     tried-append at (recovers r.file r.kept r.wall).acts (halves r.board faces.Old r.comes (begins_at r)).acts
     ∙ ap (λ ds. ds ++ tried_at at (halves r.board faces.Old r.comes (begins_at r)).acts) (none-installed at (kept_in (starts_at r.file r.kept r.wall).journal))
 
-put-begins : (r : Run) (at : Face) → IsPut (setup_of r) (config_of r at).outbox at (first_gate r) (put_first at r) [] (begins_at r) []
+put-begins : (r : Run) (at : Face) → IsPut (setup_of r) at (first_gate r) (put_first at r) [] (begins_at r) []
 unfolding put_over
 put-begins r at = record {
   of_gate = gate-begins r;
-  limit_is = limit-begins r at;
+  fitted = fitted-begins r at;
   waits = first-waits r at ∙ sym (append-nil (put_first at r));
 }
 
 pub goes-once-in-order : GoesOutInOrder → GoesOnceInOrder
 goes-once-in-order law r at =
     ap (λ ds. ds ++ waiting_at at (stands_at r)) (tried-acts r at)
-    ∙ (put-halves law (setup_of r) (config_of r at).outbox at (first_gate r) (put_first at r) [] r.board faces.Old r.comes (begins_at r) [] (put-begins r at)).waits
+    ∙ (put-halves law (setup_of r) at (first_gate r) (put_first at r) [] r.board faces.Old r.comes (begins_at r) [] (put-begins r at)).waits
+
+pub fitted-in-runs : GoesOutInOrder → IsFittedInRuns
+fitted-in-runs law r at = (
+  fitted-begins r at,
+  (put-halves law (setup_of r) at (first_gate r) (put_first at r) [] r.board faces.Old r.comes (begins_at r) [] (put-begins r at)).fitted,
+)
 
 -- ---- a half alone
 
-alone : (at : Face) (s : Standing) → IsPut s.setup (limit_of (face_of at s)) at s.gate (waiting_at at s) [] s []
+alone : (at : Face) (s : Standing) → IsFitted at s → IsPut s.setup at s.gate (waiting_at at s) [] s []
 unfolding put_over peer_gate_after
-alone at s = record {
+alone at s fitted = record {
   of_gate = record { setup_is = refl; gate_is = refl };
-  limit_is = refl;
+  fitted = fitted;
   waits = sym (append-nil (waiting_at at s));
 }
 
-pub half-puts : (at face : Face) (came : Came) (s : Standing) → waiting_at at (hears face came s) ≡ waiting_at at s ++ put_by at face came s
-half-puts at face came s = (put-hears s.setup (limit_of (face_of at s)) at s.gate (waiting_at at s) [] face came s [] (alone at s)).waits
+pub half-puts : (at face : Face) (came : Came) (s : Standing) → IsFitted at s → waiting_at at (hears face came s) ≡ waiting_at at s ++ put_by at face came s
+half-puts at face came s fitted = (put-hears s.setup at s.gate (waiting_at at s) [] face came s [] (alone at s fitted)).waits
 
--- ---- where there is room for all
-
-all-in : (limit left waits : ℕ) (ds : List (List ℕ)) → waits + octets_in ds ≤ limit → waits + octets_in ds ≤ left → put_in limit left waits ds ≡ ds
-unfolding put_in
-all-in limit left waits [] small low = refl
-all-in limit left waits (d ∷ ds) small low =
-    let here : nat_le (waits + length d) left ≡ true = le-leb (waits + length d) left (omega (arith, low)) in
-    let fit : nat_le (waits + length d) limit ≡ true = le-leb (waits + length d) limit (omega (arith, small)) in
-    let rest = all-in limit left (waits + length d) ds (omega (arith, small)) (omega (arith, low)) in
-    rw (here, fit) (ap (λ more. d ∷ more) rest)
-
--- all that was sent was put
-record IsSentAll (setup : PeerSetup) (limit : ℕ) (at : Face) (start : PeerGate) (first : List (List ℕ)) (s : Standing) (events : List EventIn) : Type 0 where
-  put : IsPut setup limit at start first [] s events
-  all : HasRoom setup limit (octets_in first) at start events → put_over setup limit at start events ≡ sent_over setup at start events
-
-all-step : (setup : PeerSetup) (limit : ℕ) (at : Face) (start : PeerGate) (first : List (List ℕ)) (event : PeerEvent) (journal : Option Journalled) (s : Standing) (earlier : List EventIn)
-    → IsSentAll setup limit at start first s earlier → IsSentAll setup limit at start first (after_event event journal s) (event_at event s ∷ earlier)
-unfolding put_over sent_over HasRoom
-all-step setup limit at start first event journal s earlier so = record {
-  put = put-step setup limit at start first [] event journal s earlier so.put;
-  all = λ (small, low, before).
-      let g = peer_gate_after setup start earlier in
-      let is = so.all before in
-      let sent = sent_with setup at g (event_at event s) in
-      let found : at_face (outboxes_in s) at ≡ octets_in first + octets_in (sent_over setup at start earlier) =
-      found-at at s ∙ (ap octets_in (so.put).waits ∙ (ap (λ ds. octets_in (first ++ ds)) is ∙ octets-append first (sent_over setup at start earlier))) in
-      let parts = octets-append (sent_over setup at start earlier) sent in
-      let here = all-in limit (left_with setup at g (event_at event s)) (at_face (outboxes_in s) at) sent (omega (arith, small, parts, found)) (omega (arith, low, parts, found)) in
-      ap (λ ds. ds ++ put_with setup limit at g (event_at event s)) is ∙ ap (λ ds. sent_over setup at start earlier ++ ds) here;
-} where
-  found-at : (at : Face) (s : Standing) → at_face (outboxes_in s) at ≡ octets_in (waiting_at at s)
-  found-at faces.Old s = refl
-  found-at faces.New s = refl
-
-all-keeps : (setup : PeerSetup) (limit : ℕ) (at : Face) (start : PeerGate) (first : List (List ℕ)) → Keeps (IsSentAll setup limit at start first)
-all-keeps setup limit at start first = record {
-  quiet = λ s t earlier same so. record { put = (put-keeps setup limit at start first []).quiet s t earlier same so.put; all = so.all };
-  event = all-step setup limit at start first;
-}
-
-pub puts-all-with-room : PutsAllWithRoom
-unfolding put_over sent_over
-puts-all-with-room at face came s room =
-    let limit = limit_of (face_of at s) in
-    let start = alone at s in
-    (keeps-hears (IsSentAll s.setup limit at s.gate (waiting_at at s)) (all-keeps s.setup limit at s.gate (waiting_at at s)) face came s [] (record {
-      put = record {
-        of_gate = record { setup_is = refl; gate_is = (start.of_gate).gate_is };
-        limit_is = limit-read at came.reading s;
-        waits = waits-read at came s ∙ start.waits;
-      };
-      all = λ none. refl;
-    })).all room
+pub fitted-half : GoesOutInOrder → (board : Bool) (at face : Face) (came : Came) (s : Standing) → IsFitted at s → IsFitted at (half board face came s).standing
+fitted-half law board at face came s fitted = (put-half law s.setup at s.gate (waiting_at at s) [] board face came s [] (alone at s fitted)).fitted

@@ -169,9 +169,9 @@ pub record IsKept (s : PeerSetup) (m : PeerMoments) (Holds : PeerGate → Type 0
   pub adding : KeptByAdding s m Holds
   pub going : (face : Face) (until : ℕ) (g : PeerGate) → Holds g → Holds (go s face m until g).gate
   pub hearing : (face : Face) (read : Result SegmentValue (ℕ × SegmentCause)) (g : PeerGate) → Holds g
-      → Holds (does_at face g (hears_at s face g read (m.at face))).gate
+      → Holds (does_at s face g (hears_at s face g read (m.at face))).gate
   pub ticking : (face : Face) (g : PeerGate) → Holds g
-      → Holds (does_at face g (ticks (at_face s.keys face) (at_face g.faces face).sessions (m.at face))).gate
+      → Holds (does_at s face g (ticks (at_face s.keys face) (at_face g.faces face).sessions (m.at face))).gate
 
 all-stay : (s : PeerSetup) (m : PeerMoments) (Holds : PeerGate → Type 0) → IsKept s m Holds → (face : Face) (until : ℕ) → Stays Holds (go_all s face m until)
 all-stay s m Holds kept face until g so =
@@ -185,13 +185,13 @@ tick-stays : (s : PeerSetup) (m : PeerMoments) (Holds : PeerGate → Type 0) →
 unfolding and_then
 tick-stays s m Holds kept face g so =
     let step = ticks (at_face s.keys face) (at_face g.faces face).sessions (m.at face) in
-    all-stay s m Holds kept face (m.at face) (does_at face g step).gate (kept.ticking face g so)
+    all-stay s m Holds kept face (m.at face) (does_at s face g step).gate (kept.ticking face g so)
 
 events-stay : (s : PeerSetup) (m : PeerMoments) (Holds : PeerGate → Type 0) → IsKept s m Holds → (event : PeerEvent) → Stays Holds (does s event m)
 unfolding arrives_peer ticks_peer and_then
 events-stay s m Holds kept (a_datagram face read) g so =
     let step = hears_at s face g read (m.at face) in
-    let h = (does_at face g step).gate in
+    let h = (does_at s face g step).gate in
     let i = (in_turn (passes s face m) (step.effects).ups h).gate in
     due-stays s m Holds kept (has_ended (at_face g.faces face).sessions step) face i
     (ups-stay s m Holds kept.adding face (step.effects).ups h (kept.hearing face read g so))
@@ -204,16 +204,16 @@ events-stay s m Holds kept (a_kept_piece face octets came) g so = kept-stays s m
 abbrev pub SortedAt : PeerSetup → PeerMoments → Face → PeerGate → Type 0
 SortedAt s m at g = IsSorted (at_face s.keys at).wait_ms (m.at at) (at_face g.faces at)
 
-sorted-block : (wait now : ℕ) (f : PeerFace) (until : ℕ) (step : EngineStep) → IsSorted wait now f → IsSorted wait now (after_block f until step)
-sorted-block wait now f until step so =
+sorted-block : (k : FaceKeys) (wait now : ℕ) (f : PeerFace) (until : ℕ) (step : EngineStep) → IsSorted wait now f → IsSorted wait now (after_block k f until step)
+sorted-block k wait now f until step so =
     record { since = since-drop 0 now (ready f.gathering until) (f.gathering).waiting so.since; wait_is = so.wait_is }
 
 sorted-go : (s : PeerSetup) (m : PeerMoments) (at face : Face) (until : ℕ) (g : PeerGate) → SortedAt s m at g → SortedAt s m at (go s face m until g).gate
 unfolding go
-sorted-go s m faces.Old faces.Old until g so = sorted-block s.keys.0.wait_ms (m.at faces.Old) g.faces.0 until (block_begins s.keys.0 ((g.faces.0.sessions).engine) (block_of s faces.Old m until g.faces.0) (m.at faces.Old)) so
+sorted-go s m faces.Old faces.Old until g so = sorted-block s.keys.0 s.keys.0.wait_ms (m.at faces.Old) g.faces.0 until (block_begins s.keys.0 ((g.faces.0.sessions).engine) (block_of s faces.Old m until g.faces.0) (m.at faces.Old)) so
 sorted-go s m faces.Old faces.New until g so = so
 sorted-go s m faces.New faces.Old until g so = so
-sorted-go s m faces.New faces.New until g so = sorted-block s.keys.1.wait_ms (m.at faces.New) g.faces.1 until (block_begins s.keys.1 ((g.faces.1.sessions).engine) (block_of s faces.New m until g.faces.1) (m.at faces.New)) so
+sorted-go s m faces.New faces.New until g so = sorted-block s.keys.1 s.keys.1.wait_ms (m.at faces.New) g.faces.1 until (block_begins s.keys.1 ((g.faces.1.sessions).engine) (block_of s faces.New m until g.faces.1) (m.at faces.New)) so
 
 sorted-waits : (s : PeerSetup) (m : PeerMoments) (at face : Face) (is_report : Bool) (piece : Piece) (g : PeerGate) → piece.added ≡ m.at face → SortedAt s m at g
     → SortedAt s m at (waits_too face piece is_report g).gate
@@ -233,7 +233,7 @@ sorted-adds s m at face is_report piece g is so =
     (length ((at_face h.faces face).gathering).waiting) h (sorted-waits s m at face is_report piece g is so)
 
 -- what its sessions do doesn't touch them
-sorted-does : (s : PeerSetup) (m : PeerMoments) (at face : Face) (step : SessionsStep) (g : PeerGate) → SortedAt s m at g → SortedAt s m at (does_at face g step).gate
+sorted-does : (s : PeerSetup) (m : PeerMoments) (at face : Face) (step : SessionsStep) (g : PeerGate) → SortedAt s m at g → SortedAt s m at (does_at s face g step).gate
 sorted-does s m faces.Old faces.Old step g so = record { since = so.since; wait_is = so.wait_is }
 sorted-does s m faces.Old faces.New step g so = so
 sorted-does s m faces.New faces.Old step g so = so
@@ -259,9 +259,9 @@ ahead-so : (now n : ℕ) (x : Sessions) → IsAhead now n x.engine → IsAhead n
 ahead-so now n x ahead = record { senders = ahead.senders; receivers = ahead.receivers; next_is = refl }
 
 calm-block : (k : FaceKeys) (now : ℕ) (f : PeerFace) (until : ℕ) (block : List ℕ) → TimersWait k → IsCalm k now f
-    → IsCalm k now (after_block f until (block_begins k (f.sessions).engine block now))
+    → IsCalm k now (after_block k f until (block_begins k (f.sessions).engine block now))
 calm-block k now f until block wait so = record {
-  sorted = sorted-block k.wait_ms now f until (block_begins k (f.sessions).engine block now) so.sorted;
+  sorted = sorted-block k k.wait_ms now f until (block_begins k (f.sessions).engine block now) so.sorted;
   ahead = begins-ahead k (f.sessions).engine now ((f.sessions).engine).next block now wait.sessions (omega arith) so.ahead;
   unstale = so.unstale;
 }
@@ -293,7 +293,7 @@ calm-adds s m at face is_report piece g wait is so =
 -- after a step that leaves them so
 calm-does : (s : PeerSetup) (m : PeerMoments) (at face : Face) (step : SessionsStep) (g : PeerGate) → SortedAt s m at g
     → (at ≡ face → IsAhead (m.at at) ((step.sessions).engine).next (step.sessions).engine × (stale (at_face s.keys at) (m.at at) step.sessions ≡ []))
-    → (CalmAt s m at g ⊎ (at ≡ face)) → CalmAt s m at (does_at face g step).gate
+    → (CalmAt s m at g ⊎ (at ≡ face)) → CalmAt s m at (does_at s face g step).gate
 calm-does s m faces.Old faces.Old step g sorted leaves so =
     let (ahead, unstale) = leaves refl in record { sorted = record { since = sorted.since; wait_is = sorted.wait_is }; ahead = ahead; unstale = unstale }
 calm-does s m faces.Old faces.New step g sorted leaves (inl so) = so
@@ -533,12 +533,12 @@ next-heard s m at read g wait so =
 
 settled-does : (s : PeerSetup) (m : PeerMoments) (at : Face) (step : SessionsStep) (g : PeerGate) → has_ended (at_face g.faces at).sessions step ≡ false
     → ((step.sessions).engine).next ≡ (((at_face g.faces at).sessions).engine).next → IsSettled (at_face s.keys at) (m.at at) (at_face g.faces at)
-    → IsSettled (at_face s.keys at) (m.at at) (at_face (does_at at g step).gate.faces at)
+    → IsSettled (at_face s.keys at) (m.at at) (at_face (does_at s at g step).gate.faces at)
 settled-does s m faces.Old step g ended next so = λ free. so (free-before s.keys.0 g.faces.0 step ended next free)
 settled-does s m faces.New step g ended next so = λ free. so (free-before s.keys.1 g.faces.1 step ended next free)
 
 -- at the other face
-pub other-does : (s : PeerSetup) (m : PeerMoments) (at : Face) (step : SessionsStep) (g : PeerGate) → RestedAt s m at g → RestedAt s m at (does_at (other_of at) g step).gate
+pub other-does : (s : PeerSetup) (m : PeerMoments) (at : Face) (step : SessionsStep) (g : PeerGate) → RestedAt s m at g → RestedAt s m at (does_at s (other_of at) g step).gate
 other-does s m faces.Old step g so = so
 other-does s m faces.New step g so = so
 
@@ -552,14 +552,14 @@ other-arrives : CompleteGoes → NoneWaitsLate → (s : PeerSetup) (m : PeerMome
     → RestedAt s m at (arrives_with s (other_of at) m g step).gate
 unfolding and_then
 other-arrives complete law s m at step g wait so =
-    let h = (does_at (other_of at) g step).gate in
+    let h = (does_at s (other_of at) g step).gate in
     let i = (in_turn (passes s (other_of at) m) (step.effects).ups h).gate in
     by (has_ended (at_face g.faces (other_of at)).sessions step)
     (ups-stay s m (RestedAt s m at) (rested-kept complete law s m at wait) (other_of at) (step.effects).ups h (other-does s m at step g so))
   where
-    by : (ended : Bool) → RestedAt s m at (in_turn (passes s (other_of at) m) (step.effects).ups (does_at (other_of at) g step).gate).gate
-        → RestedAt s m at (due_if ended s m (other_of at) (in_turn (passes s (other_of at) m) (step.effects).ups (does_at (other_of at) g step).gate).gate).gate
-    by true so = other-due s m at (m.at (other_of at)) (in_turn (passes s (other_of at) m) (step.effects).ups (does_at (other_of at) g step).gate).gate so
+    by : (ended : Bool) → RestedAt s m at (in_turn (passes s (other_of at) m) (step.effects).ups (does_at s (other_of at) g step).gate).gate
+        → RestedAt s m at (due_if ended s m (other_of at) (in_turn (passes s (other_of at) m) (step.effects).ups (does_at s (other_of at) g step).gate).gate).gate
+    by true so = other-due s m at (m.at (other_of at)) (in_turn (passes s (other_of at) m) (step.effects).ups (does_at s (other_of at) g step).gate).gate so
     by false so = so
 
 -- and at this one: what is ready goes where a session ended
@@ -573,7 +573,7 @@ settled-arrives stale complete ready_law law s m at read g wait so = by (has_end
     step = hears_at s at g read (m.at at)
 
     h : PeerGate
-    h = (does_at at g step).gate
+    h = (does_at s at g step).gate
 
     i : PeerGate
     i = (in_turn (passes s at m) (step.effects).ups h).gate
@@ -619,7 +619,7 @@ ticked-calm : NoneIsStale → (s : PeerSetup) (m : PeerMoments) (at : Face) (g :
 unfolding and_then
 ticked-calm law s m at g wait so =
     let step = ticks (at_face s.keys at) (at_face g.faces at).sessions (m.at at) in
-    all-stay s m (CalmAt s m at) (calm-kept law s m at wait) at (m.at at) (does_at at g step).gate
+    all-stay s m (CalmAt s m at) (calm-kept law s m at wait) at (m.at at) (does_at s at g step).gate
     (calm-does s m at at step g so (ticked-leaves law s m at at g wait) (inr refl))
 
 calm-ticks : NoneIsStale → (s : PeerSetup) (m : PeerMoments) (at : Face) (g : PeerGate) → TimersWait (at_face s.keys at) → SortedAt s m at g → CalmAt s m at (does s a_tick m g).gate

@@ -17,8 +17,9 @@ use Rattle.outbox.specs.Outbox.{OutboxValue}
 use Rattle.piece_gathering.specs.Gathered.{ready}
 use Rattle.peer_sessions.specs.Keys.{FaceKeys}
 use Rattle.peer_sessions.specs.Sessions.{SessionsStep, block_begins, ticks}
+use Rattle.face_room.specs.Queues.{puts}
 use Rattle.peer_gateway.specs.Keys.{PeerSetup}
-use Rattle.peer_gateway.specs.Gate.{AddedAt, BegunAt, FaceTold, PeerEffects, PeerFace, PeerGate, PeerMoments, PeerStep, Told, and_then, is_at, no_effects, octets_out, stays_so, with_more}
+use Rattle.peer_gateway.specs.Gate.{AddedAt, BegunAt, FaceTold, PeerEffects, PeerFace, PeerGate, PeerMoments, PeerStep, Told, and_then, is_at, no_effects, stays_so, with_more}
 use Rattle.peer_gateway.specs.Going.{block_of, due, gathers, go, go_on, is_free, next_count, told_if}
 use Rattle.peer_gateway.specs.Steps.{PeerEvent, a_datagram, a_kept_piece, a_tick, does_at, peer_step, ticks_face, ticks_peer, told_at, told_of, with_outboxes}
 use Rattle.peer_gateway.specs.Laws.{added_at, begun_at}
@@ -68,8 +69,8 @@ told-other faces.New [] = refl
 told-other faces.Old (t ∷ told) = told-other faces.Old told
 told-other faces.New (t ∷ told) = told-other faces.New told
 
-does-other : (at : Face) (step : SessionsStep) (g : PeerGate) → IsQuietAt at (does_at (other_of at) g step).effects
-does-other at step g = record { sends = at-other at (step.effects).out; tells = told-other at (told_of step); adds = refl; begins = refl }
+does-other : (s : PeerSetup) (at : Face) (step : SessionsStep) (g : PeerGate) → IsQuietAt at (does_at s (other_of at) g step).effects
+does-other s at step g = record { sends = at-other at (step.effects).out; tells = told-other at (told_of step); adds = refl; begins = refl }
 
 began-other : (at : Face) (tells : Bool) (pieces octets session : ℕ) → told_of_face at (told_if tells (other_of at) pieces octets session) ≡ []
 began-other at false pieces octets session = refl
@@ -115,8 +116,8 @@ unfolding and_then
 ticks-other s m at g =
     let face = other_of at in
     let step = ticks (at_face s.keys face) (at_face g.faces face).sessions (m.at face) in
-    let h = (does_at face g step).gate in
-    quiet-more at (does_at face g step).effects (due s m face h).effects (does-other at step g)
+    let h = (does_at s face g step).gate in
+    quiet-more at (does_at s face g step).effects (due s m face h).effects (does-other s at step g)
     (on-other s m at (m.at face) (length ((at_face h.faces face).gathering).waiting) h)
 
 -- ---- a tick that is early
@@ -135,9 +136,10 @@ next-none k now f settled = by (is_free k f) settled
     by false so = refl
 
 -- its sessions do nothing
-does-none : (at : Face) (g : PeerGate) (step : SessionsStep) → step.gone ≡ [] → step.forgotten ≡ None → (step.effects).out ≡ [] → (step.effects).notes ≡ [] → (step.effects).greens ≡ []
-    → (does_at at g step).effects ≡ no_effects
-does-none at g step gone forgotten out notes greens = rw (gone, forgotten, out, notes, greens) refl
+does-none : (s : PeerSetup) (at : Face) (g : PeerGate) (step : SessionsStep) → step.gone ≡ [] → step.forgotten ≡ None → (step.effects).out ≡ [] → (step.effects).notes ≡ [] → (step.effects).greens ≡ []
+    → (does_at s at g step).effects ≡ no_effects
+unfolding puts
+does-none s at g step gone forgotten out notes greens = rw (gone, forgotten, out, notes, greens) refl
 
 abbrev ticked_by : PeerSetup → PeerMoments → Face → PeerGate → SessionsStep
 ticked_by s m at g = ticks (at_face s.keys at) (at_face g.faces at).sessions (m.at at)
@@ -151,7 +153,7 @@ free-still k now f so =
     next-none k now (record f { sessions = (ticks k f.sessions now).sessions }) (λ free. so.settled (sym same ∙ free))
 
 settled-still : (s : PeerSetup) (m : PeerMoments) (at : Face) (g : PeerGate) → RestedAt s m at g
-    → next_count (at_face s.keys at) (m.at at) (at_face (does_at at g (ticked_by s m at g)).gate.faces at) ≡ 0
+    → next_count (at_face s.keys at) (m.at at) (at_face (does_at s at g (ticked_by s m at g)).gate.faces at) ≡ 0
 settled-still s m faces.Old g so = free-still s.keys.0 (m.at faces.Old) g.faces.0 so
 settled-still s m faces.New g so = free-still s.keys.1 (m.at faces.New) g.faces.1 so
 
@@ -163,8 +165,8 @@ still-face s m at g so =
     let calm = so.calm in
     let still = are-still k f.sessions (m.at at) ((f.sessions).engine).next calm.ahead calm.unstale in
     let step = ticked_by s m at g in
-    let h = (does_at at g step).gate in
-    ap (λ (e : PeerEffects). with_more e (due s m at h).effects) (does-none at g step still.gone still.forgotten still.out still.notes still.greens)
+    let h = (does_at s at g step).gate in
+    ap (λ (e : PeerEffects). with_more e (due s m at h).effects) (does-none s at g step still.gone still.forgotten still.out still.notes still.greens)
     ∙ ap (λ (x : PeerStep). with_more no_effects x.effects) (none-goes s at m (m.at at) (length ((at_face h.faces at).gathering).waiting) h (settled-still s m at g so))
 
 quiet-tick : (s : PeerSetup) (m : PeerMoments) (at : Face) (g : PeerGate) → RestedAt s m at g → IsQuietAt at (ticks_peer s m g).effects
@@ -177,7 +179,7 @@ quiet-tick s m faces.Old g so =
 quiet-tick s m faces.New g so =
     let first = ticks_face s m faces.Old g in
     let step = ticked_by s m faces.Old g in
-    let after = other-due s m faces.New (m.at faces.Old) (does_at faces.Old g step).gate (other-does s m faces.New step g so) in
+    let after = other-due s m faces.New (m.at faces.Old) (does_at s faces.Old g step).gate (other-does s m faces.New step g so) in
     quiet-more faces.New first.effects (ticks_face s m faces.New first.gate).effects (ticks-other s m faces.New g)
     (subst (λ (e : PeerEffects). IsQuietAt faces.New e) (sym (still-face s m faces.New first.gate after)) (quiet-none faces.New))
 
@@ -203,10 +205,10 @@ unfolding and_then go
 as-other s m at f g so =
     let face = other_of at in
     let until = m.at face in
-    let h = (does_at face g (ticked_by s m face g)).gate in
+    let h = (does_at s face g (ticked_by s m face g)).gate in
     going-stays s m (AsAt at f) face until (λ (x : PeerGate) (is : AsAt at f x). goes at x is) (length ((at_face h.faces face).gathering).waiting) h (does at so)
   where
-    does : (at : Face) → AsAt at f g → AsAt at f (does_at (other_of at) g (ticked_by s m (other_of at) g)).gate
+    does : (at : Face) → AsAt at f g → AsAt at f (does_at s (other_of at) g (ticked_by s m (other_of at) g)).gate
     does faces.Old so = so
     does faces.New so = so
 
@@ -220,16 +222,16 @@ as-done k now f queued so =
     let still = are-still k f.sessions now ((f.sessions).engine).next calm.ahead calm.unstale in
     record { senders = still.senders; receivers = still.receivers; next = still.next; pieces = refl }
 
-as-does : (s : PeerSetup) (m : PeerMoments) (at : Face) (g : PeerGate) → RestedAt s m at g → AsAt at (at_face g.faces at) (does_at at g (ticked_by s m at g)).gate
+as-does : (s : PeerSetup) (m : PeerMoments) (at : Face) (g : PeerGate) → RestedAt s m at g → AsAt at (at_face g.faces at) (does_at s at g (ticked_by s m at g)).gate
 as-does s m faces.Old g so =
-    as-done s.keys.0 (m.at faces.Old) g.faces.0 (g.faces.0.queued + octets_out (ticked_by s m faces.Old g).effects.out) so
+    as-done s.keys.0 (m.at faces.Old) g.faces.0 _ so
 as-does s m faces.New g so =
-    as-done s.keys.1 (m.at faces.New) g.faces.1 (g.faces.1.queued + octets_out (ticked_by s m faces.New g).effects.out) so
+    as-done s.keys.1 (m.at faces.New) g.faces.1 _ so
 
 as-face : (s : PeerSetup) (m : PeerMoments) (at : Face) (g : PeerGate) → RestedAt s m at g → AsAt at (at_face g.faces at) (ticks_face s m at g).gate
 unfolding and_then
 as-face s m at g so =
-    let h = (does_at at g (ticked_by s m at g)).gate in
+    let h = (does_at s at g (ticked_by s m at g)).gate in
     subst (λ (x : PeerStep). AsAt at (at_face g.faces at) x.gate)
     (sym (none-goes s at m (m.at at) (length ((at_face h.faces at).gathering).waiting) h (settled-still s m at g so))) (as-does s m at g so)
 
@@ -239,7 +241,7 @@ as-tick s m faces.Old g so = as-other s m faces.Old g.faces.0 (ticks_face s m fa
 as-tick s m faces.New g so =
     let first = (ticks_face s m faces.Old g).gate in
     let step = ticked_by s m faces.Old g in
-    let after = other-due s m faces.New (m.at faces.Old) (does_at faces.Old g step).gate (other-does s m faces.New step g so) in
+    let after = other-due s m faces.New (m.at faces.Old) (does_at s faces.Old g step).gate (other-does s m faces.New step g so) in
     as-then g.faces.1 first.faces.1 (ticks_face s m faces.New first).gate.faces.1
     (as-other s m faces.New g.faces.1 g (as-so g.faces.1)) (as-face s m faces.New first after)
 

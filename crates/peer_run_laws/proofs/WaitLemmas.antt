@@ -19,12 +19,12 @@ use Rattle.peer_half.specs.Acts.{Acted, after_acts, stands}
 use Rattle.peer_half.specs.Parts as parts
 use Rattle.peer_half.specs.Parts.{sends_within}
 use Rattle.peer_half.specs.Half.{Came, answers, half, hears}
-use Rattle.peer_half.specs.Laws.{tried_at, waiting_at}
+use Rattle.peer_half.specs.Laws.{IsFitted, tried_at, waiting_at}
 use Rattle.peer_half.specs.Runs.{Run, begins_at}
 use Rattle.peer_run_laws.specs.Faces.{AreAtOnce, GoesAtOnceInRuns, config_of, plan_of, put_by}
 use Rattle.peer_run_laws.proofs.BoxLemmas.{Box, IsApart, OnlyPuts, apart-tells, apart-within, box-goes, box-hears, box_at, tells}
 use Rattle.peer_run_laws.proofs.FaceLemmas.{schedule-at, schedule-half}
-use Rattle.peer_run_laws.proofs.OrderLemmas.{half-puts, order-answers}
+use Rattle.peer_run_laws.proofs.OrderLemmas.{fitted-begins, fitted-half, half-puts, order-answers}
 
 -- ---- an outbox whose link is open, and that has no pace
 
@@ -128,25 +128,25 @@ emptied-half board at face came s free =
     (subst (λ (b : Box). Goes b.0) (sym fed.box_is)
     (goes-puts fed.calls (after_reading (face_of at s).outbox came.reading) fed.only (goes-read (face_of at s).outbox came.reading free)))
 
-tried-half : GoesOutInOrder → (board : Bool) (at face : Face) (came : Came) (s : Standing) → waiting_at at (half board face came s).standing ≡ []
+tried-half : GoesOutInOrder → (board : Bool) (at face : Face) (came : Came) (s : Standing) → IsFitted at s → waiting_at at (half board face came s).standing ≡ []
     → tried_at at (half board face came s).acts ≡ waiting_at at s ++ put_by at face came s
 unfolding half
-tried-half law board at face came s none =
+tried-half law board at face came s fitted none =
     let h = hears face came s in
     sym (append-nil (tried_at at (answers board came h).acts))
     ∙ (ap (λ ds. tried_at at (answers board came h).acts ++ ds) (sym none)
-    ∙ (order-answers law at board came h ∙ half-puts at face came s))
+    ∙ (order-answers law at board came h ∙ half-puts at face came s fitted))
 
 -- ---- a run
 
-once-halves : GoesOutInOrder → (at : Face) (board : Bool) (face : Face) (comes : List Came) (s : Standing) → IsFree ((face_of at s).outbox).schedule
+once-halves : GoesOutInOrder → (at : Face) (board : Bool) (face : Face) (comes : List Came) (s : Standing) → IsFitted at s → IsFree ((face_of at s).outbox).schedule
     → AreAtOnce at board face comes s
 unfolding AreAtOnce
-once-halves law at board face [] s free = tt
-once-halves law at board face (came ∷ more) s free =
+once-halves law at board face [] s fitted free = tt
+once-halves law at board face (came ∷ more) s fitted free =
     let none = emptied-half board at face came s free in
-    let rest = once-halves law at board (other_of face) more (half board face came s).standing (subst IsFree (sym (schedule-half board at face came s)) free) in
-    (none, tried-half law board at face came s none, rest)
+    let rest = once-halves law at board (other_of face) more (half board face came s).standing (fitted-half law board at face came s fitted) (subst IsFree (sym (schedule-half board at face came s)) free) in
+    (none, tried-half law board at face came s fitted none, rest)
 
 -- when it begins a face is set up as the file has it
 free-at : (r : Run) (at : Face) → (config_of r at).contacts ≡ [] → (config_of r at).rate ≡ None → IsFree ((face_of at (begins_at r)).outbox).schedule
@@ -156,4 +156,4 @@ free-at r at none unpaced = subst IsFree (sym (schedule-at r at)) (by_face at no
   by_face faces.New none unpaced = record { windows = rw none refl; rates = rw none refl; rate = unpaced }
 
 pub goes-at-once-in-runs : GoesOutInOrder → GoesAtOnceInRuns
-goes-at-once-in-runs law r at none unpaced = once-halves law at r.board faces.Old r.comes (begins_at r) (free-at r at none unpaced)
+goes-at-once-in-runs law r at none unpaced = once-halves law at r.board faces.Old r.comes (begins_at r) (fitted-begins r at) (free-at r at none unpaced)

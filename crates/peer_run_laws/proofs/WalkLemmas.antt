@@ -122,8 +122,10 @@ keeps-hears Holds keeps face came s earlier so =
     let each = keeps-each Holds keeps r earlier read in
     let ticked = keeps-again Holds keeps None a_tick t (after_events (resumed_each r) earlier) each in
     let arrived = keeps-arrives Holds keeps face came.datagrams (parts.ticks t) (event_at a_tick t ∷ after_events (resumed_each r) earlier) ticked in
+    let polled = parts.ends_polling face came.poll_failed (arrives_all face came.datagrams (parts.ticks t)) in
     subst (λ (events : List EventIn). Holds (hears face came s) events) (sym (events-append (resumed_each r) passing earlier))
-    (keeps-polled Holds keeps face came.poll_failed (arrives_all face came.datagrams (parts.ticks t)) (after_events passing (after_events (resumed_each r) earlier)) arrived)
+    (keeps.quiet polled (parts.drops_foreign face came.foreign polled) (after_events passing (after_events (resumed_each r) earlier)) refl
+    (keeps-polled Holds keeps face came.poll_failed (arrives_all face came.datagrams (parts.ticks t)) (after_events passing (after_events (resumed_each r) earlier)) arrived))
 
 -- ---- a half, and a run
 

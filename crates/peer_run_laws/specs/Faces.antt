@@ -1,6 +1,6 @@
 -- What a face sends in a run, and how its time goes.
 
-use Rattle.std.specs.Prelude.{◌≡◌, ℕ, ◌+◌, ◌-◌, ◌*◌, ◌/◌, ◌≤◌, ◌^◌, min, nat_le, Bool, ◌&&◌, if◌then◌else◌}
+use Rattle.std.specs.Prelude.{◌≡◌, ℕ, ◌+◌, ◌-◌, ◌*◌, ◌/◌, ◌≤◌, ◌^◌, min, Bool}
 use Rattle.std.specs.Prelude.{List, [], ◌∷◌, ◌++◌, length, map, ◌⊎◌, None, Some, IsSomeAnd}
 use Rattle.std.specs.List.{AllByRecursion}
 use Rattle.ltp_segment.specs.Spelling.{segment_octets}
@@ -18,27 +18,18 @@ use Rattle.gate_face.specs.Schedules.{schedule_in}
 use Rattle.peer_gateway.specs.Keys.{PeerSetup}
 use Rattle.peer_gateway.specs.Gate.{PeerGate, PeerMoments, PeerStep, starts_out}
 use Rattle.peer_gateway.specs.Steps.{peer_gate_after, peer_step}
-use Rattle.peer_gateway.specs.Answers.{answer_of}
+use Rattle.peer_gateway.specs.Answers.{Answered, answer_of}
+use Rattle.peer_gateway.specs.Laws.{put_at}
+use Rattle.peer_gateway.specs.Ties.{starts_effects}
 use Rattle.peer_half.specs.Moments.{moments_at}
 use Rattle.peer_half.specs.Standing.{Standing, face_of}
-use Rattle.peer_half.specs.Steps.{left_in}
 use Rattle.peer_half.specs.Half.{Came, half}
 use Rattle.peer_half.specs.Run.{halves}
 use Rattle.peer_half.specs.Runs.{EventIn, Run, acts_of, after_events, begins_at, events_in, events_of, first_gate}
 use Rattle.peer_half.specs.Runs.{marked_before, setup_of, stands_at}
-use Rattle.peer_half.specs.Laws.{datagrams_at, tried_at, waiting_at}
+use Rattle.peer_half.specs.Laws.{IsFitted, datagrams_at, tried_at, waiting_at}
 
 -- ---- what is put into a face's outbox
-
--- Of datagrams that come to an outbox in which so many octets wait, one after the other, those that are put into it:
--- with each of them no more octets wait than may wait there, and than are left for it of half of its face's memory.
--- The others are dropped.
-unfoldable pub put_in : (limit left waits : ℕ) → List (List ℕ) → List (List ℕ)
-put_in limit left waits [] = []
-put_in limit left waits (datagram ∷ more) =
-    if nat_le (waits + length datagram) left && nat_le (waits + length datagram) limit
-    then datagram ∷ put_in limit left (waits + length datagram) more
-    else put_in limit left waits more
 
 -- an event of the gate
 abbrev pub step_with : PeerSetup → PeerGate → EventIn → PeerStep
@@ -54,20 +45,16 @@ sent_over s at g [] = []
 sent_over s at g (event ∷ earlier) =
     sent_over s at g earlier ++ sent_with s at (peer_gate_after s g earlier) event
 
--- what is left of half of a face's memory after an event
-abbrev pub left_with : PeerSetup → Face → PeerGate → EventIn → ℕ
-left_with s at g event = at_face (left_in s (step_with s g event).gate) at
-
--- what is put into a face's outbox with an event, which finds so many octets there
-abbrev pub put_with : PeerSetup → (limit : ℕ) → Face → PeerGate → EventIn → List (List ℕ)
-put_with s limit at g event =
-    put_in limit (left_with s at g event) (at_face event.1.1 at) (sent_with s at g event)
+-- what of that is put there
+abbrev pub put_with : PeerSetup → Face → PeerGate → EventIn → List (List ℕ)
+put_with s at g event =
+    put_at at (answer_of (step_with s g event).effects).puts (answer_of (step_with s g event).effects).out
 
 -- and with some events, the newest first
-unfoldable pub put_over : PeerSetup → (limit : ℕ) → Face → PeerGate → List EventIn → List (List ℕ)
-put_over s limit at g [] = []
-put_over s limit at g (event ∷ earlier) =
-    put_over s limit at g earlier ++ put_with s limit at (peer_gate_after s g earlier) event
+unfoldable pub put_over : PeerSetup → Face → PeerGate → List EventIn → List (List ℕ)
+put_over s at g [] = []
+put_over s at g (event ∷ earlier) =
+    put_over s at g earlier ++ put_with s at (peer_gate_after s g earlier) event
 
 -- what a run's file says of a face
 abbrev pub config_of : Run → Face → FaceConfig
@@ -77,14 +64,17 @@ config_of r at = at_face ((r.file).old, (r.file).new) at
 abbrev pub cancels_at : Face → Run → List (List ℕ)
 cancels_at at r = map segment_octets (starts_out (at_face (setup_of r).keys at) (at_face (marked_before r) at))
 
+-- those of them that are put
+abbrev pub starts_with : Run → Answered
+starts_with r = answer_of (starts_effects (setup_of r) (marked_before r))
+
 abbrev pub put_first : Face → Run → List (List ℕ)
-put_first at r =
-    put_in (config_of r at).outbox (at_face (left_in (setup_of r) (first_gate r)) at) 0 (cancels_at at r)
+put_first at r = put_at at (starts_with r).puts (starts_with r).out
 
 -- all that is put into a face's outbox in a run
 abbrev pub put_into : Face → Run → List (List ℕ)
 put_into at r =
-    put_first at r ++ put_over (setup_of r) (config_of r at).outbox at (first_gate r) (events_of r)
+    put_first at r ++ put_over (setup_of r) at (first_gate r) (events_of r)
 
 -- ---- what goes out
 
@@ -93,6 +83,11 @@ put_into at r =
 abbrev pub GoesOnceInOrder : Type 0
 GoesOnceInOrder =
     (r : Run) (at : Face) → tried_at at (acts_of r) ++ waiting_at at (stands_at r) ≡ put_into at r
+
+-- So no outbox drops what the gate puts there: it takes as many octets as the gate knows of, and no more wait there,
+-- at the beginning of a run and after each half of it.
+abbrev pub IsFittedInRuns : Type 0
+IsFittedInRuns = (r : Run) (at : Face) → IsFitted at (begins_at r) × IsFitted at (stands_at r)
 
 -- ---- what is dropped
 
@@ -119,25 +114,7 @@ sent_by at face came s = sent_over s.setup at s.gate (happens_in face came s)
 
 -- and what of that is put into the face's outbox
 abbrev pub put_by : Face → Face → Came → Standing → List (List ℕ)
-put_by at face came s =
-    put_over s.setup ((face_of at s).outbox).limit at s.gate (happens_in face came s)
-
--- After each of some events all that waited at a face before them, and all that the gate sent there till then, has no
--- more octets than may wait, and than are left.
-unfoldable pub HasRoom : PeerSetup → (limit waits : ℕ) → Face → PeerGate → List EventIn → Type 0
-HasRoom s limit waits at g [] = Unit {0}
-HasRoom s limit waits at g (event ∷ earlier) =
-    (waits + octets_in (sent_over s at g (event ∷ earlier)) ≤ limit)
-    × (waits + octets_in (sent_over s at g (event ∷ earlier))
-    ≤ left_with s at (peer_gate_after s g earlier) event)
-    × HasRoom s limit waits at g earlier
-
--- then nothing is dropped in a half
-abbrev pub PutsAllWithRoom : Type 0
-PutsAllWithRoom =
-    (at face : Face) (came : Came) (s : Standing)
-    → HasRoom s.setup ((face_of at s).outbox).limit (octets_in (waiting_at at s)) at s.gate (happens_in face came s)
-    → put_by at face came s ≡ sent_by at face came s
+put_by at face came s = put_over s.setup at s.gate (happens_in face came s)
 
 -- ---- without contacts and pace
 

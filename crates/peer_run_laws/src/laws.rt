@@ -2,9 +2,10 @@
 //! a gateway and of an outbox.
 
 ghost use Rattle.peer_run_laws.specs.Gate.{GateIsOfEvents};
+ghost use Rattle.peer_run_laws.specs.Bounds.{StaysWithinHalf, StaysWithinInRuns};
 ghost use Rattle.peer_run_laws.specs.Faces.{CountsDropped, GoesAtOnceInRuns, GoesInContactInRuns};
-ghost use Rattle.peer_run_laws.specs.Faces.{GoesOnceInOrder};
-ghost use Rattle.peer_run_laws.specs.Faces.{KeepsPaceInRuns, PutsAllWithRoom};
+ghost use Rattle.peer_run_laws.specs.Faces.{GoesOnceInOrder, IsFittedInRuns};
+ghost use Rattle.peer_run_laws.specs.Faces.{KeepsPaceInRuns};
 ghost use Rattle.peer_run_laws.specs.Faces.{TimeIsHeld, TimeIsOfHalf, TimeRises};
 ghost use Rattle.peer_run_laws.specs.Ticks.{NoneWaitsLateInRuns, RunnableWaits, TicksOnce};
 
@@ -18,10 +19,10 @@ pub fn gate_is_of_events()
 
 /// What went out at a face in a run, sent or lost, and after it what still waits, is what was put there, in order:
 /// each goes out once. What was put first are the cancels of the sessions that were marked when the run began. Of what
-/// is sent at a face a datagram is put there unless more octets would wait then than may, or than are left for them of
-/// half of the face's memory.
+/// is made at a face that is put there of which the gate says so when it is made: the outbox has room for all of it.
 pub fn goes_once_in_order()
-    ensures { GoesOnceInOrder }
+    ensures order { GoesOnceInOrder }
+    ensures fitted { IsFittedInRuns }
 {
     outbox::laws::goes_out_in_order();
 }
@@ -29,12 +30,9 @@ pub fn goes_once_in_order()
 /// What is sent at a face in a run and isn't put there is counted by the face's outbox.
 pub fn counts_dropped()
     ensures { CountsDropped }
-{}
-
-/// Where there is room for all that is sent at a face in a half, all of it is put there, and nothing is dropped.
-pub fn puts_all_with_room()
-    ensures { PutsAllWithRoom }
-{}
+{
+    outbox::laws::goes_out_in_order();
+}
 
 /// Where the file has no contacts and no rate for a face, nothing waits there after a half: what waited before it, and
 /// what the half's events put there, goes out in it, in order.
@@ -58,6 +56,15 @@ pub fn keeps_pace_in_runs()
     ensures { KeepsPaceInRuns }
 {
     outbox::laws::keeps_pace();
+}
+
+/// What a face keeps of what it sends stays within half of its memory: with each event, and after each half of a run,
+/// where no piece that is added there is longer when it goes than its size says.
+pub fn stays_within_half()
+    ensures event { StaysWithinHalf }
+    ensures runs { StaysWithinInRuns }
+{
+    outbox::laws::goes_out_in_order();
 }
 
 // ---- a face's time

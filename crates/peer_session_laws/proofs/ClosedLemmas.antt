@@ -1,6 +1,6 @@
 -- No report on a session that is marked goes out in a run.
 
-use Rattle.std.proofs.Common.{◌≡◌, ℕ, zero, suc, ◌+◌, ◌≤◌, Bool, true, false, nat_le, ◌&&◌, List, [], ◌∷◌, ◌++◌, length, map, Option, None, Some, ◌⊎◌, inl, inr, if◌then◌else◌, refl, sym, ◌∙◌, subst, arith}
+use Rattle.std.proofs.Common.{◌≡◌, ℕ, zero, suc, ◌+◌, ◌≤◌, Bool, true, false, List, [], ◌∷◌, ◌++◌, map, Option, None, Some, ◌⊎◌, inl, inr, if◌then◌else◌, refl, sym, ◌∙◌, subst, arith}
 use Rattle.std.specs.List.{AllByRecursion}
 use Rattle.ltp_segment.specs.Spelling.{segment_octets}
 use Rattle.ltp_segment.specs.Values.{SegmentValue, a_receiver_cancel}
@@ -11,7 +11,8 @@ use Rattle.ltp_laws.proofs.ListLemmas.{all-append}
 use Rattle.gate_cases.specs.declared.face.Face.{Face}
 use Rattle.gate_cases.specs.declared.face.Face.TheVariants.{Old, New}
 use Rattle.gate_cases.specs.Faces.{other_of}
-use Rattle.gateway_core.specs.Gate.{if_same, RoutedValue, at_face}
+use Rattle.gateway_core.specs.declared.effects.Routed.{Routed}
+use Rattle.gateway_core.specs.Gate.{RoutedValue, at_face, if_same}
 use Rattle.gateway_core.specs.Effects.{routed_of}
 use Rattle.gate_records.specs.Happened.{reports_on}
 use Rattle.journal_file.specs.declared.kept.Pending.{Pending}
@@ -21,13 +22,15 @@ use Rattle.peer_sessions.specs.Sessions.{Sessions, hears, ticks}
 use Rattle.peer_sessions.proofs.MemoryLemmas.{LAST}
 use Rattle.peer_once.specs.Runs.{TimedEvent, sessions_in}
 use Rattle.peer_gateway.specs.Gate.{BegunAt, PeerGate, PeerMoments, starts_out}
+use Rattle.peer_gateway.specs.Laws.{put_at}
 use Rattle.peer_gateway.specs.Steps.{PeerEvent, a_datagram, a_kept_piece, a_tick, peer_gate_after, with_outboxes}
 use Rattle.peer_half.specs.Half.{Came, half}
 use Rattle.peer_half.specs.Laws.{datagrams_at, tried_at, waiting_at}
 use Rattle.peer_half.specs.Parts as parts
 use Rattle.peer_half.specs.Runs.{EventIn, acts_of, after_events, after_halves, arrived_in, begins_at, event_at, events_in, events_of, first_gate, marked_before, resumed_each, resumed_in, setup_of, stands_at}
 use Rattle.peer_half.specs.Standing.{Standing}
-use Rattle.peer_run_laws.specs.Faces.{GoesOnceInOrder, cancels_at, config_of, put_first, put_in, put_over}
+use Rattle.peer_run_laws.specs.Faces.{GoesOnceInOrder, put_first, put_over, starts_with}
+use Rattle.peer_run_laws.proofs.OrderLemmas.{cancels-are}
 use Rattle.peer_session_laws.specs.Events.{Beginning, events_at, face_of, gate_after, heard_first, step_with, with_begun}
 use Rattle.peer_session_laws.specs.Runs.{beginning_of}
 use Rattle.peer_session_laws.specs.Closed.{MarkedStayClosed, NoneReports}
@@ -163,28 +166,35 @@ out-quiet at n segments (r ∷ out) quiet all = by r.face at all.0 (out-quiet at
   by New Old is rest = rest
   by New New is rest = (one (is refl), rest)
 
-put-quiet : (limit left waits n : ℕ) (datagrams : List (List ℕ)) → NoneReports n datagrams → NoneReports n (put_in limit left waits datagrams)
-unfolding put_in
-put-quiet limit left waits n [] all = tt
-put-quiet limit left waits n (datagram ∷ more) all =
-    by (nat_le (waits + length datagram) left && nat_le (waits + length datagram) limit)
-    (put-quiet limit left (waits + length datagram) n more all.1) (put-quiet limit left waits n more all.1)
+-- of those some are put
+put-quiet : (at : Face) (n : ℕ) (puts : List Bool) (out : List Routed) → NoneReports n (datagrams_at at out) → NoneReports n (put_at at puts out)
+unfolding put_at
+put-quiet at n [] out all = tt
+put-quiet at n (is_put ∷ puts) [] all = tt
+put-quiet at n (is_put ∷ puts) (r ∷ out) all = by is_put r.face at all (λ rest. put-quiet at n puts out rest)
   where
-    by : (t : Bool) → NoneReports n (put_in limit left (waits + length datagram) more) → NoneReports n (put_in limit left waits more)
-        → NoneReports n (if t then datagram ∷ put_in limit left (waits + length datagram) more else put_in limit left waits more)
-    by true goes drops = (all.0, goes)
-    by false goes drops = drops
+    by : (is_put : Bool) (face at : Face) → NoneReports n (if_same face at (r.datagram ∷ []) [] ++ datagrams_at at out)
+        → (NoneReports n (datagrams_at at out) → NoneReports n (put_at at puts out))
+        → NoneReports n ((if is_put then if_same face at (r.datagram ∷ []) [] else []) ++ put_at at puts out)
+    by true Old Old all rest = (all.0, rest all.1)
+    by true Old New all rest = rest all
+    by true New Old all rest = rest all
+    by true New New all rest = (all.0, rest all.1)
+    by false Old Old all rest = rest all.1
+    by false Old New all rest = rest all
+    by false New Old all rest = rest all
+    by false New New all rest = rest all.1
 
-over-quiet : (b : Beginning) (at : Face) (limit n : ℕ) (events : List EventIn) → n ≤ LAST → is_closed n (at_face b.marks at) ≡ true → AreSmallIn events
-    → NoneReports n (put_over b.setup limit at (gate_after b []) events)
+over-quiet : (b : Beginning) (at : Face) (n : ℕ) (events : List EventIn) → n ≤ LAST → is_closed n (at_face b.marks at) ≡ true → AreSmallIn events
+    → NoneReports n (put_over b.setup at (gate_after b []) events)
 unfolding put_over peer_gate_after
-over-quiet b at limit n [] most marked all = tt
-over-quiet b at limit n (event ∷ earlier) most marked all =
+over-quiet b at n [] most marked all = tt
+over-quiet b at n (event ∷ earlier) most marked all =
     let step = step_with b event earlier in
     let segments = said b.setup at event.0 event.1.0 (with_outboxes event.1.1 (gate_after b earlier)) in
-    all-append (λ (datagram : List ℕ). reports_on datagram ≡ Some n → ⊥) (put_over b.setup limit at (gate_after b []) earlier) _
-    (over-quiet b at limit n earlier most marked all.1)
-    (put-quiet limit _ (at_face event.1.1 at) n (datagrams_at at (map routed_of step.effects.out))
+    all-append (λ (datagram : List ℕ). reports_on datagram ≡ Some n → ⊥) (put_over b.setup at (gate_after b []) earlier) _
+    (over-quiet b at n earlier most marked all.1)
+    (put-quiet at n step.effects.puts (map routed_of step.effects.out)
     (out-quiet at n segments step.effects.out
     (said-quiet b at n event.0 event.1.0 event.1.1 (gate_after b earlier) (events_at b at earlier) most marked (are-of-their-faces b at earlier) all.0 (small-events b at earlier all.1))
     (event-does b at n event earlier).out))
@@ -202,10 +212,10 @@ pub marked-stay-closed : GoesOnceInOrder → MarkedStayClosed
 unfolding peer_gate_after
 marked-stay-closed law r at n legal marked =
     let b = beginning_of r in
-    let limit = (config_of r at).outbox in
     let most = small-marked r at n legal marked in
-    let all = all-append (λ (datagram : List ℕ). reports_on datagram ≡ Some n → ⊥) (put_first at r) (put_over (setup_of r) limit at (first_gate r) (events_of r))
-    (put-quiet limit _ 0 n (cancels_at at r) (cancels-quiet (at_face (setup_of r).keys at) n (at_face (marked_before r) at)))
-    (over-quiet b at limit n (events_of r) (omega (arith, most)) marked (small-halves r.board Old r.comes (begins_at r) [] tt)) in
+    let all = all-append (λ (datagram : List ℕ). reports_on datagram ≡ Some n → ⊥) (put_first at r) (put_over (setup_of r) at (first_gate r) (events_of r))
+    (put-quiet at n (starts_with r).puts (starts_with r).out
+    (subst (NoneReports n) (sym (cancels-are r at)) (cancels-quiet (at_face (setup_of r).keys at) n (at_face (marked_before r) at))))
+    (over-quiet b at n (events_of r) (omega (arith, most)) marked (small-halves r.board Old r.comes (begins_at r) [] tt)) in
     let both = none-first n (tried_at at (acts_of r)) (waiting_at at (stands_at r)) (subst (NoneReports n) (sym (law r at)) all) in
     record { reports = both.0; waiting = both.1 }

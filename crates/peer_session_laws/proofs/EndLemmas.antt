@@ -92,7 +92,7 @@ new-tick s n m g is =
 new-waits : (s : PeerSetup) (m : PeerMoments) (g : PeerGate) → (ticks_face s m Old g).gate.faces.1.sessions ≡ g.faces.1.sessions
 unfolding and_then
 new-waits s m g =
-    let told = (does_at Old g (ticks s.keys.0 g.faces.0.sessions (m.at Old))).gate in
+    let told = (does_at s Old g (ticks s.keys.0 g.faces.0.sessions (m.at Old))).gate in
     (old-passes s m s.keys.1 (m.at New) (m.at Old) (length told.faces.0.gathering.waiting) told).same
 
 heard-event : (s : PeerSetup) (at : Face) (n : ℕ) (event : PeerEvent) (m : PeerMoments) (g : PeerGate) → Heard s at n event m g

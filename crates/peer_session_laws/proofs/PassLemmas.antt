@@ -127,10 +127,10 @@ pub record GoesFrom (s : PeerSetup) (m : PeerMoments) (at : Face) (Given : Type 
 
 -- once a face's sessions did a step
 goes-arrives : (s : PeerSetup) (m : PeerMoments) (at : Face) (Given : Type 0) (face : Face) (step : SessionsStep) (g : PeerGate)
-    → GoesFrom s m at Given (at_face (does_at face g step).gate.faces at).sessions (if_same face at step.effects.out []) (arrives_with s face m g step)
+    → GoesFrom s m at Given (at_face (does_at s face g step).gate.faces at).sessions (if_same face at step.effects.out []) (arrives_with s face m g step)
 unfolding and_then
 goes-arrives s m at Given face step g =
-    let first = does_at face g step in
+    let first = does_at s face g step in
     let last = due_if (has_ended (at_face g.faces face).sessions step) s m face in
     let second = in_turn (passes s face m) step.effects.ups first.gate in
     let all = goes-both s m at Given first.gate second last (goes-turn s m at Given (passes s face m) (goes-passes s m at Given face) step.effects.ups first.gate)
@@ -143,7 +143,7 @@ goes-arrives s m at Given face step g =
     }
 
 did : (s : PeerSetup) (m : PeerMoments) (at face : Face) (read : Result SegmentValue (ℕ × SegmentCause)) (g : PeerGate)
-    → (at_face (does_at face g (hears_at s face g read (m.at face))).gate.faces at).sessions ≡ heard s at (a_datagram face read) m g
+    → (at_face (does_at s face g (hears_at s face g read (m.at face))).gate.faces at).sessions ≡ heard s at (a_datagram face read) m g
 did s m Old Old read g = refl
 did s m Old New read g = refl
 did s m New Old read g = refl
@@ -178,9 +178,9 @@ out-ticks at old new xs ys first more =
 goes-ticks : (s : PeerSetup) (m : PeerMoments) (at : Face) (Given : Type 0) (g : PeerGate) → GoesFrom s m at Given (heard s at a_tick m g) (said s at a_tick m g) (ticks_peer s m g)
 unfolding ticks_peer and_then
 goes-ticks s m Old Given g =
-    let told = (does_at Old g (ticks s.keys.0 g.faces.0.sessions (m.at Old))).gate in
+    let told = (does_at s Old g (ticks s.keys.0 g.faces.0.sessions (m.at Old))).gate in
     let one = due s m Old told in
-    let later = (does_at New one.gate (ticks s.keys.1 one.gate.faces.1.sessions (m.at New))).gate in
+    let later = (does_at s New one.gate (ticks s.keys.1 one.gate.faces.1.sessions (m.at New))).gate in
     let two = due s m New later in
     let first = goes-all s m Old Given Old (m.at Old) told in
     let more = goes-all s m Old Given New (m.at New) later in
@@ -192,9 +192,9 @@ goes-ticks s m Old Given g =
           one.effects.out two.effects.out first.out more.out;
     }
 goes-ticks s m New Given g =
-    let told = (does_at Old g (ticks s.keys.0 g.faces.0.sessions (m.at Old))).gate in
+    let told = (does_at s Old g (ticks s.keys.0 g.faces.0.sessions (m.at Old))).gate in
     let one = due s m Old told in
-    let later = (does_at New one.gate (ticks s.keys.1 one.gate.faces.1.sessions (m.at New))).gate in
+    let later = (does_at s New one.gate (ticks s.keys.1 one.gate.faces.1.sessions (m.at New))).gate in
     let two = due s m New later in
     let first = goes-all s m New Given Old (m.at Old) told in
     let more = goes-all s m New Given New (m.at New) later in

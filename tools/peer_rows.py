@@ -297,6 +297,46 @@ def room_of_a_row():
         P.format(1, ""), "passed face=old first=2 index=1 pieces=1 session=8", "storage face=old index=2 session=8"]
 
 
+def put_at_new(played):
+    """Whether each datagram is put that is made at the new face from here on."""
+    face, puts = played.gateway.faces[NEW], []
+    put = face.put
+    face.put = lambda datagram: puts.append(put(datagram))
+    return puts
+
+
+def row_at_a_small_outbox():
+    """Six bundles of 2,000,000 octets pass to a closed link whose outbox takes 65,507 octets, whether the last two come
+    in one block or not."""
+    found = []
+    for blocks in ([[5], [6], [7], [8], [9], [10]], [[5], [6], [7], [8], [9, 10]]):
+        played = Played({"new.memory": SMALL, "gateway.cut": 4_000_000, "new.contact": contact_at(1 << 30),
+                         "new.outbox": 65_507})
+        puts, lines = put_at_new(played), []
+        for session, numbers in enumerate(blocks, 7):
+            block = b"".join(with_payload(2_000_000, number) for number in numbers)
+            lines += [text for text in played.arrive(OLD, block_of(session, OLD, block)) if text[0] != ">"]
+        found.append([[text.split()[0] for text in lines], puts.count(True), puts.count(False),
+                      played.gateway.faces[NEW].octets])
+    return found, [[["passed"] * 6, 65, 11_659, 65_489]] * 2
+
+
+def block_beside_resends():
+    """960 sessions send again in the tick in which a block of 3,599,942 octets begins: 214 of them, and then there is
+    room for all of its 440 datagrams."""
+    played = Played({"new.memory": SMALL, "gateway.cut": 4_000_000, "new.sessions": 1024, "new.segment": 8192,
+                     "new.aggregate": BLOCK_MAX, "new.aggregate_ms": 1})
+    for session in range(7, 967):
+        played.arrive(OLD, block_of(session, OLD, with_payload(8_100)))
+        played.lines(["wait 1", "tick"])
+    played.event("wait 20000")
+    played.arrive(OLD, block_of(967, OLD, with_payload(3_599_900)))
+    puts = put_at_new(played)
+    began = played.lines(["wait 1", "tick"], "began")
+    return [began, puts.count(True), puts.count(False), puts[-440:].count(True)], [
+        ["began bundles=1 face=new octets=3599942 session=961"], 654, 746, 440]
+
+
 def numbers_left():
     """One number is left: with 41 octets wanted the first bundle has it."""
     played = Played({"new.first_session": (1 << 32) - 1, "new.aggregate": 41})
@@ -464,10 +504,10 @@ def told_in_order():
     return found, ["evicted face=old session=8999", "forgotten face=old runs=2047", "evicted face=old session=9001"]
 
 
-CHECKS = (addresses, engine_numbers, one_too_many, half_of_the_memory, room_of_a_closed_face, room_of_a_row, numbers_left,
-          numbers_at_random, remembered_for_a_time, forgotten_early, touched_without_place, used_on_without_answer,
-          refusals, several_reports, refused_pieces, recorded, recorded_with_an_age, kept_pieces, kept_without_room,
-          marked, told_in_order)
+CHECKS = (addresses, engine_numbers, one_too_many, half_of_the_memory, room_of_a_closed_face, room_of_a_row,
+          row_at_a_small_outbox, block_beside_resends, numbers_left, numbers_at_random, remembered_for_a_time,
+          forgotten_early, touched_without_place, used_on_without_answer, refusals, several_reports, refused_pieces,
+          recorded, recorded_with_an_age, kept_pieces, kept_without_room, marked, told_in_order)
 
 
 def rows():

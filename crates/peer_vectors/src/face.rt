@@ -57,6 +57,7 @@ pub(crate) fn face(alloc: Global, set: Set) -> Result<PeerSessions, Fail>
             memory: set.memory,
             wanted: 0,
             segment: set.segment as u64,
+            outbox: 536_870_912,
         },
         wait_ms: 1_000,
         remember: set.remember,

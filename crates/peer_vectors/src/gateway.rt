@@ -30,6 +30,7 @@ fn keys(own: u64, peer: u64, wanted: u64, policy: Policy) -> Keys
             memory: 33_554_432,
             wanted,
             segment: policy.segment as u64,
+            outbox: 65_507,
         },
         wait_ms: 1_000,
         remember: 4_096,
@@ -98,9 +99,13 @@ fn word_of(remark: &Remark) -> &'static str {
 
 /// Appends a line for each datagram that goes, with its face, and one for each thing that is told.
 fn write_answer(alloc: Global, text: &mut String, answer: &PeerAnswer) -> Result<(), AllocError> {
-    for routed in answer.out() {
-        let digits = hex::encode(alloc, routed.datagram.as_slice())?;
-        text.push_str(if routed.face == Face::Old { "o " } else { "n " })?;
+    for outgoing in answer.out() {
+        let digits = hex::encode(alloc, outgoing.datagram.as_slice())?;
+        text.push_str(if outgoing.face == Face::Old {
+            "o "
+        } else {
+            "n "
+        })?;
         text.push_str(digits.as_str())?;
         text.push_str("\n")?;
     }

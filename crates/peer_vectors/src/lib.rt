@@ -15,6 +15,8 @@ mod gateway;
 #[cfg(test)]
 mod memory;
 #[cfg(test)]
+mod outboxes;
+#[cfg(test)]
 mod rows;
 #[cfg(test)]
 mod sessions;

@@ -26,6 +26,7 @@ const ROOM: FaceRoom = FaceRoom {
         memory: 268_435_456,
         wanted: 0,
         segment: 1024,
+        outbox: 536_870_912,
     },
     load: Load {
         next_session: 1,
@@ -277,6 +278,7 @@ const FILLED: FaceRoom = FaceRoom {
         memory: 33_554_432,
         wanted: 0,
         segment: 1024,
+        outbox: 536_870_912,
     },
     load: Load {
         next_session: 1,

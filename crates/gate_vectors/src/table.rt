@@ -53,6 +53,40 @@ sent new 0903010002
 "#,
         ends: &[448, 660],
     },
+    // The same with the settings of `serve`, which sends the same over these readings and datagrams.
+    Run {
+        file: r#"[gateway]
+endpoint = "ipn:9.0"
+age = "keep"
+[old]
+bind = "a"
+peer = "b"
+first_session = 1
+[new]
+bind = "c"
+peer = "d"
+first_session = 1
+"#,
+        readings: &[1010000, 1010000, 1010000, 1010000],
+        gives: [
+            &[
+                "0301010001001702000681100d02010101000000008768053c00010803616263",
+                "-",
+                "-",
+            ],
+            &["-", "0803010002022900010029", "-"],
+        ],
+        failing: [&[], &[]],
+        showing: &[],
+        made: r#"sent old 0801010002021700010017
+sent new 0303010001002902009f8907000182028202018202820101820100821a000f42450019ea5b425a46850101000043616263ff
+{"at":"2000-01-01T00:16:50.000Z","event":"start","first_session":[1,1],"marks":0,"pending":0}
+{"at":"2000-01-01T00:16:50.000Z","event":"passed","face":"old","first":1,"pieces":1,"session":1,"subject":{"creation":[1000,5],"destination":"ipn:2.1","fragment":null,"payload":3,"source":"ipn:1.1","version":6}}
+sent new 0903010002
+{"at":"2000-01-01T00:16:50.000Z","event":"sent","face":"new","session":1,"subject":{"creation":[1000005,0],"destination":"ipn:2.1","fragment":null,"payload":3,"source":"ipn:1.1","version":7}}
+"#,
+        ends: &[448, 660],
+    },
     // A poll fails.
     Run {
         file: r#"[gateway]

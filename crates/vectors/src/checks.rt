@@ -1,7 +1,7 @@
 //! Check values from outside: the catalogues' text of nine digits, the texts of RFC 3720, appendix
 //! B.4, for CRC-32C, and the primary block of a bundle.
 
-use crate::rows::octets;
+use crate::lines::octets;
 use crc_fields::{Register16, Register32, crc16, crc16_zeroed, crc32c, crc32c_zeroed};
 use std::test::Fail;
 

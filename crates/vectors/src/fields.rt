@@ -1,6 +1,6 @@
 //! The basic kinds of fields, and waybills whose octets were put together by hand.
 
-use crate::rows::octets;
+use crate::lines::octets;
 use std::alloc::Global;
 use std::test::Fail;
 use waybill::{Cause, Fail as Refusal, Item, Part, decode, decode_whole};

@@ -1,6 +1,6 @@
 //! The examples of RFC 8949, appendix A, that lie in the subset, and every first octet.
 
-use crate::rows::octets;
+use crate::lines::octets;
 use cbor_lite::{
     CborFault, read_array, read_bool, read_break, read_bytes, read_head, read_head_of, read_text,
     read_uint, write_array, write_bool, write_bytes, write_head, write_text, write_uint,

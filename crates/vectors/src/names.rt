@@ -1,7 +1,7 @@
 //! Endpoints and their texts.
 
-use endpoint::{Endpoint, EndpointFault, Listing, Octets, ipn_named, is_ssp, named};
-use std::alloc::Global;
+use endpoint::{Endpoint, EndpointFault, Listing, Octets, Refs, ipn_named, is_ssp, named};
+use std::alloc::{AllocError, Global};
 use std::test::Fail;
 
 /// Texts that are read, and whether they name one endpoint.
@@ -99,25 +99,47 @@ fn parts_name_what_the_text_names(rt: HostRuntime) -> Result<(), Fail> {
     Ok(())
 }
 
+/// Whether octets are the same, copied, taken out and put in again.
+fn octets_stay(alloc: Global, text: &[u8]) -> Result<bool, AllocError> {
+    let octets = Octets::from_slice(alloc, text)?.copy(alloc)?;
+    Ok(Octets::from_vec(octets.into_vec()).as_slice() == text)
+}
+
+/// Appends the endpoint of a text.
+fn list(alloc: Global, listing: &mut Listing, text: &str) -> Result<(), Fail> {
+    let endpoint = Endpoint::from_text(alloc, text.as_bytes())?;
+    Ok(listing.push(endpoint.lent())?)
+}
+
+/// The endpoints of texts, in a list that was copied.
+fn copied(alloc: Global, texts: &[&str]) -> Result<Refs, Fail> {
+    let mut listing = Listing::new(alloc);
+    for text in texts {
+        list(alloc, &mut listing, text)?;
+    }
+    Ok(listing.into_refs(alloc)?.copy(alloc)?)
+}
+
+/// Whether an endpoint stands at a place of a list.
+fn stands(alloc: Global, refs: &Refs, at: usize, text: &str) -> Result<bool, AllocError> {
+    let name = refs.get(at).owned(alloc)?;
+    Ok(name.to_text(alloc)?.as_slice() == text.as_bytes())
+}
+
+/// Whether a list has these endpoints and no other.
+fn has(alloc: Global, refs: &Refs, texts: &[&str]) -> Result<bool, AllocError> {
+    for (at, text) in texts.iter().enumerate() {
+        if !stands(alloc, refs, at, text)? {
+            return Ok(false);
+        }
+    }
+    Ok(refs.len() == texts.len() && refs.get(refs.len()).owned(alloc)? == Endpoint::Null)
+}
+
 #[test]
 fn lists_are_made_and_copied(rt: HostRuntime) -> Result<(), Fail> {
-    let alloc = rt.alloc();
-    let octets = Octets::from_slice(alloc, b"abc")?.copy(alloc)?;
-    assert!(rt; Octets::from_vec(octets.into_vec()).as_slice() == b"abc".as_slice());
+    assert!(rt; octets_stay(rt.alloc(), b"abc")?);
     let names = ["dtn://b/y", "dtn:none", "ipn:1.2", "dtn://b/y/z"];
-    let mut listing = Listing::new(alloc);
-    for text in names {
-        listing.push(Endpoint::from_text(alloc, text.as_bytes())?.lent())?;
-    }
-    let refs = listing.into_refs(alloc)?.copy(alloc)?;
-    assert_eq!(rt; refs.len(), names.len());
-    for (at, text) in names.iter().enumerate() {
-        let name = refs.get(at).owned(alloc)?;
-        assert!(rt;
-            name.to_text(alloc)?.as_slice() == text.as_bytes(),
-            "{text}"
-        );
-    }
-    assert!(rt; refs.get(4).owned(alloc)? == Endpoint::Null);
+    assert!(rt; has(rt.alloc(), &copied(rt.alloc(), &names)?, &names)?);
     Ok(())
 }

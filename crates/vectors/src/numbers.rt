@@ -1,6 +1,6 @@
 //! Numbers of RFC 5050 and their spellings.
 
-use crate::rows::octets;
+use crate::lines::octets;
 use sdnv::{SdnvFault, len, read, write};
 use std::alloc::Global;
 use std::test::Fail;

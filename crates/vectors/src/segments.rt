@@ -1,10 +1,11 @@
 //! Segments written out by hand, with what they say or why they are refused.
 
-use crate::rows::octets;
+use crate::lines::{octets, write_numbers, write_words};
 use endpoint::Octets;
 use ltp_segment::{
-    BLOCK_MAX, Claim, Content, Note, Outs, PieceKind, Policy, PolicyFault, Segment, SegmentCause,
-    SegmentFault, decode, write_ack, write_cancel, write_cancel_ack, write_piece, write_report,
+    BLOCK_MAX, Claim, Claims, Content, Note, Outs, PieceKind, Policy, PolicyFault, Segment,
+    SegmentCause, SegmentFault, decode, write_ack, write_cancel, write_cancel_ack, write_piece,
+    write_report,
 };
 use std::alloc::{AllocError, Global};
 use std::fmt::Write;
@@ -88,20 +89,29 @@ const EACH_TYPE: &[(&str, &[usize], &[usize], &str)] = &[
     ),
 ];
 
-/// Appends the fields of a piece, its octets in hex.
-fn write_fields(
-    alloc: Global,
-    text: &mut String,
-    numbers: (u64, u64, u64, u64),
-    kind: PieceKind,
-    body: &[u8],
-) -> Result<(), AllocError> {
-    let (service, offset, checkpoint, report) = numbers;
-    let digits = hex::encode(alloc, body)?;
-    write!(
-        text,
-        "{kind:?} {service} {offset} {checkpoint} {report} {digits}"
-    )
+/// Appends the kind of a piece.
+fn write_kind(text: &mut String, kind: PieceKind) -> Result<(), AllocError> {
+    write!(text, " {kind:?}")
+}
+
+/// Appends octets in hex, with a blank before them.
+fn write_octets(alloc: Global, text: &mut String, octets: &[u8]) -> Result<(), AllocError> {
+    let digits = hex::encode(alloc, octets)?;
+    write_words(text, &[" ", digits.as_str()])
+}
+
+/// Appends the claims of a report.
+fn write_claims(text: &mut String, claims: Claims<'_>) -> Result<(), AllocError> {
+    for Claim { offset, length } in claims {
+        write!(text, " {offset}+{length}")?;
+    }
+    Ok(())
+}
+
+/// Appends a word, and a number after it.
+fn write_word(text: &mut String, word: &str, number: u64) -> Result<(), AllocError> {
+    text.push_str(word)?;
+    write_numbers(text, &[number])
 }
 
 /// Appends what a segment says.
@@ -114,13 +124,11 @@ fn write_content(alloc: Global, text: &mut String, content: Content<'_>) -> Resu
             checkpoint,
             report,
             body,
-        } => write_fields(
-            alloc,
-            text,
-            (service, offset, checkpoint, report),
-            kind,
-            body,
-        ),
+        } => {
+            write_kind(text, kind)?;
+            write_numbers(text, &[service, offset, checkpoint, report])?;
+            write_octets(alloc, text, body)
+        }
         Content::Report {
             serial,
             checkpoint,
@@ -128,17 +136,17 @@ fn write_content(alloc: Global, text: &mut String, content: Content<'_>) -> Resu
             lower,
             claims,
         } => {
-            write!(text, "report {serial} {checkpoint} {upper} {lower}")?;
-            for Claim { offset, length } in claims {
-                write!(text, " {offset}+{length}")?;
-            }
-            Ok(())
+            text.push_str(" report")?;
+            write_numbers(text, &[serial, checkpoint, upper, lower])?;
+            write_claims(text, claims)
         }
-        Content::ReportAck { serial } => write!(text, "report ack {serial}"),
-        Content::SenderCancel { reason } => write!(text, "sender cancel {reason}"),
-        Content::SenderCancelAck => write!(text, "sender cancel ack"),
-        Content::ReceiverCancel { reason } => write!(text, "receiver cancel {reason}"),
-        Content::ReceiverCancelAck => write!(text, "receiver cancel ack"),
+        Content::ReportAck { serial } => write_word(text, " report ack", serial),
+        Content::SenderCancel { reason } => write_word(text, " sender cancel", u64::from(reason)),
+        Content::SenderCancelAck => text.push_str(" sender cancel ack"),
+        Content::ReceiverCancel { reason } => {
+            write_word(text, " receiver cancel", u64::from(reason))
+        }
+        Content::ReceiverCancelAck => text.push_str(" receiver cancel ack"),
     }
 }
 
@@ -154,7 +162,7 @@ fn told(alloc: Global, datagram: &[u8]) -> Result<String, AllocError> {
                 content,
             },
         ) => {
-            write!(text, "{originator} {session} ")?;
+            write!(text, "{originator} {session}")?;
             write_content(alloc, &mut text, content)?;
         }
     }

@@ -1,5 +1,5 @@
 use Rattle.std.proofs.Common.{◌≡◌, false}
-use Rattle.ltp_vectors.proofs.bounds.note_of_65th.Given as goal
+use Rattle.vectors.proofs.bounds.note_of_65th.Given as goal
 
 abbrev pub invariant-loop-session : goal.invariant-loop-session
 invariant-loop-session l = l.engine.spent ≡ false

@@ -1,6 +1,6 @@
 use Rattle.std.proofs.Common.{drop}
 use Rattle.ltp_segment.specs.Legal.{AreClaims}
-use Rattle.ltp_vectors.proofs.reports.are_claims.Given as goal
+use Rattle.vectors.proofs.reports.are_claims.Given as goal
 
 -- the claims from here on can follow: then all can stand
 abbrev pub invariant-loop-claim : goal.invariant-loop-claim

@@ -1,5 +1,5 @@
 use Rattle.std.proofs.Common.{◌≡◌, false}
-use Rattle.ltp_vectors.proofs.receiving.takes.Given as goal
+use Rattle.vectors.proofs.receiving.play.Given as goal
 
 abbrev pub invariant-loop-row : goal.invariant-loop-row
 invariant-loop-row l = l.receiver.spent ≡ false

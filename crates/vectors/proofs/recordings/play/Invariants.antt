@@ -1,5 +1,5 @@
 use Rattle.std.proofs.Common.{◌≡◌, false}
-use Rattle.ltp_vectors.proofs.recordings.play.Given as goal
+use Rattle.vectors.proofs.recordings.play.Given as goal
 
 abbrev pub invariant-loop-row : goal.invariant-loop-row
 invariant-loop-row l = l.recorder.spent ≡ false

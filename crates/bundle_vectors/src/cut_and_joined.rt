@@ -1,11 +1,8 @@
 //! Bundles that are cut, and joined again.
 
-ghost use Rattle.std.specs.Prelude.{◌<◌, IfOk};
-ghost use Rattle.bundle6.specs.Legal.{IsLegal};
-ghost use Rattle.bundle7.specs.Legal.{IsLegal7};
+ghost use Rattle.std.specs.Prelude.{◌≡◌, ◌<◌, false, OnOk};
 
-use bundle6::{Bundle6, decode6};
-use bundle7::{Bundle7, decode7};
+use crate::rows::{are_lines, seven, six};
 use fragment_lines::{BundleJoiner, Telling, TurnedDown, cut6, cut7};
 use std::alloc::Global;
 use std::test::Fail;
@@ -34,32 +31,6 @@ const SIX_WHOLE: &str = "0681140d02010101000000008768053c00010803616263";
 /// As the first, and custody is asked for.
 const SIX_KEPT: &str = "0681180d02010101000000008768053c00010803616263";
 
-/// The octets that are written in hex.
-fn octets(alloc: Global, text: &str) -> Result<Vec<u8>, Fail> {
-    match hex::decode(alloc, text.as_bytes()) {
-        Ok(octets) => Ok(octets),
-        Err(_) => Err(Fail::new("a row isn't hex")),
-    }
-}
-
-fn six(alloc: Global, text: &str) -> Result<Bundle6, Fail>
-    ensures { IfOk result IsLegal }
-{
-    match decode6(alloc, &octets(alloc, text)?) {
-        Ok((bundle, _)) => Ok(bundle),
-        Err(_) => Err(Fail::new("a row is no bundle of version 6")),
-    }
-}
-
-fn seven(alloc: Global, text: &str) -> Result<Bundle7, Fail>
-    ensures { IfOk result IsLegal7 }
-{
-    match decode7(alloc, &octets(alloc, text)?) {
-        Ok((bundle, _)) => Ok(bundle),
-        Err(_) => Err(Fail::new("a row is no bundle of version 7")),
-    }
-}
-
 /// The lines of a bundle's pieces, or the word of what turns it down.
 fn cut_of(alloc: Global, text: &str, size: u64) -> Result<String, Fail>
     requires { 0 < size }
@@ -74,39 +45,43 @@ fn cut_of(alloc: Global, text: &str, size: u64) -> Result<String, Fail>
     Ok(lines)
 }
 
+/// Appends all that is still to be told.
+fn tell_all(text: &mut String, telling: &mut Telling) -> Result<(), Fail> {
+    'parts: for _ in 0..8 {
+        if telling.is_over() {
+            return Ok(());
+        }
+        telling.tell(text)?;
+    }
+    Err(Fail::new("there are too many parts"))
+}
+
 /// Appends all that is still to be told, or the word of what turns a bundle down.
 fn tell(text: &mut String, said: Result<Telling, TurnedDown>) -> Result<(), Fail> {
     match said {
-        Ok(mut telling) => {
-            'parts: for _ in 0..8 {
-                if telling.is_over() {
-                    return Ok(());
-                }
-                telling.tell(text)?;
-            }
-            Err(Fail::new("there are too many parts"))
-        }
+        Ok(mut telling) => tell_all(text, &mut telling),
         Err(cause) => Ok(text.push_str(cause.word())?),
     }
 }
 
+/// Whether a bundle is cut into these pieces.
+fn is_cut(alloc: Global, text: &str, size: u64, pieces: &[&str]) -> Result<bool, Fail>
+    requires { 0 < size }
+{
+    Ok(are_lines(cut_of(alloc, text, size)?.as_str(), pieces))
+}
+
 #[test]
 fn bundles_are_cut(rt: HostRuntime) -> Result<(), Fail> {
-    for (text, lines) in [
-        (SIX, [SIX_FRONT, SIX_END]),
-        (SEVEN, [SEVEN_FRONT, SEVEN_END]),
-    ] {
-        let wanted = format!(in rt.alloc(); "{}\n{}\n", lines[0], lines[1])?;
-        assert_eq!(rt; cut_of(rt.alloc(), text, 2)?, wanted, "{text}");
-    }
+    assert!(rt; is_cut(rt.alloc(), SIX, 2, &[SIX_FRONT, SIX_END])?);
+    assert!(rt; is_cut(rt.alloc(), SEVEN, 2, &[SEVEN_FRONT, SEVEN_END])?);
     Ok(())
 }
 
 #[test]
 fn what_is_short_enough_stays_whole(rt: HostRuntime) -> Result<(), Fail> {
     for text in [SIX, SIX_WHOLE, SEVEN] {
-        let wanted = format!(in rt.alloc(); "{text}\n")?;
-        assert_eq!(rt; cut_of(rt.alloc(), text, 3)?, wanted, "{text}");
+        assert!(rt; is_cut(rt.alloc(), text, 3, &[text])?, "{text}");
     }
     Ok(())
 }
@@ -118,17 +93,25 @@ fn bundles_are_turned_down(rt: HostRuntime) -> Result<(), Fail> {
     Ok(())
 }
 
+/// Appends the lines of a bundle that comes.
+fn join(alloc: Global, joiner: &mut BundleJoiner, said: &mut String, text: &str) -> Result<(), Fail>
+    requires { joiner.old.spent ≡ false }
+    ensures { OnOk result (joiner.new.spent ≡ false) }
+{
+    let due = if text.starts_with("06") {
+        joiner.join6(said, six(alloc, text)?)?
+    } else {
+        joiner.join7(said, seven(alloc, text)?)?
+    };
+    tell(said, due)
+}
+
 /// The lines of bundles that come one after another.
 fn join_of(alloc: Global, texts: &[&str]) -> Result<String, Fail> {
     let mut joiner = BundleJoiner::new(alloc);
     let mut said = String::new(alloc);
     'coming: for text in texts {
-        let due = if text.starts_with("06") {
-            joiner.join6(&mut said, six(alloc, text)?)?
-        } else {
-            joiner.join7(&mut said, seven(alloc, text)?)?
-        };
-        tell(&mut said, due)?;
+        join(alloc, &mut joiner, &mut said, text)?;
     }
     Ok(said)
 }
@@ -142,20 +125,33 @@ const JOINED: &[([&str; 2], &str, &str)] = &[
     ([SEVEN_FRONT, SIX_END], "Waiting\nWhole ", SIX),
 ];
 
+/// Whether these words are said of bundles that come, and then the whole.
+fn is_joined(alloc: Global, texts: &[&str], words: &str, whole: &str) -> Result<bool, Fail> {
+    let said = join_of(alloc, texts)?;
+    match said.as_str().strip_prefix(words) {
+        Some(rest) => Ok(are_lines(rest, &[whole])),
+        None => Ok(false),
+    }
+}
+
 #[test]
 fn pieces_are_joined(rt: HostRuntime) -> Result<(), Fail> {
     for (texts, words, whole) in JOINED {
-        let wanted = format!(in rt.alloc(); "{words}{whole}\n")?;
-        assert_eq!(rt; join_of(rt.alloc(), texts)?, wanted, "{whole}");
+        assert!(rt; is_joined(rt.alloc(), texts, words, whole)?, "{whole}");
     }
     Ok(())
 }
 
+/// Whether exactly this is said of bundles that come.
+fn is_said(alloc: Global, texts: &[&str], wanted: &str) -> Result<bool, Fail> {
+    Ok(join_of(alloc, texts)?.as_str() == wanted)
+}
+
 #[test]
 fn other_answers_of_the_joiner(rt: HostRuntime) -> Result<(), Fail> {
-    assert!(rt; join_of(rt.alloc(), &[SIX_END, SIX_END])?.as_str() == "Waiting\nRepeat\n");
-    assert!(rt; join_of(rt.alloc(), &[SIX, SIX_END])?.as_str() == "NotFragment\nWaiting\n");
-    assert!(rt; join_of(rt.alloc(), &[SIX_KEPT])?.as_str() == "CustodyAsked");
+    assert!(rt; is_said(rt.alloc(), &[SIX_END, SIX_END], "Waiting\nRepeat\n")?);
+    assert!(rt; is_said(rt.alloc(), &[SIX, SIX_END], "NotFragment\nWaiting\n")?);
+    assert!(rt; is_said(rt.alloc(), &[SIX_KEPT], "CustodyAsked")?);
     Ok(())
 }
 

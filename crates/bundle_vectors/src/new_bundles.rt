@@ -1,9 +1,9 @@
 //! Bundles of version 7, the place and cause of each refusal, endpoints and bodies.
 
-use crate::rows::octets;
+use crate::rows::{is, octets};
 use bundle7::{
-    Blocks7, EidFault, Fail7, Hop, age_of, decode7, encode7, hop_of, judge7, previous_of, read_eid,
-    write_eid,
+    Blocks7, Bundle7, EidFault, Fail7, Hop, age_of, decode7, encode7, hop_of, judge7, previous_of,
+    read_eid, write_eid,
 };
 use endpoint::Endpoint;
 use std::alloc::Global;
@@ -18,17 +18,22 @@ const PLAIN: &str =
 const RICH: &str =
     "9f8b071a000400010282016f2f2f6e6f64652f67726f75702f7e788202821b0000000100000000008201656e6f6e6532821b80000000000000001a000111701a05265c00051903e844d83a1a49860a0210024582181e181d44fb77970e860619012c0001458202820101428f748507040100451a000100008618c805000240449689a2668601010101581e000102030405060708090a0b0c0d0e0f101112131415161718191a1b1c1d42da12ff";
 
+/// Whether a bundle is written so.
+fn is_encoded(alloc: Global, bundle: &Bundle7, wanted: &str) -> Result<bool, Fail> {
+    let again = encode7(alloc, bundle)?;
+    is(alloc, &again, wanted)
+}
+
 /// Whether octets with more after them are read and judged to their end, and written in the same
 /// octets.
 fn is_written_again(alloc: Global, text: &str) -> Result<bool, Fail> {
-    let bytes = octets(alloc, text)?;
     let mut stream = octets(alloc, text)?;
+    let size = stream.len();
     stream.push(0x9f)?;
     match decode7(alloc, &stream) {
         Ok((bundle, used)) => {
-            let again = encode7(alloc, &bundle)?;
-            let judged = judge7(&stream) == Ok(bytes.len());
-            Ok(judged && used == bytes.len() && again.as_slice() == bytes.as_slice())
+            let ended = used == size && judge7(&stream) == Ok(size);
+            Ok(ended && is_encoded(alloc, &bundle, text)?)
         }
         Err(_) => Ok(false),
     }
@@ -164,17 +169,27 @@ const EIDS: &[(&str, &str)] = &[
     ("8202821bffffffffffffffff17", "ipn:18446744073709551615.23"),
 ];
 
-/// Whether an endpoint is read with more after it, written again, and read as previous node.
+/// Whether an endpoint is read of the front of octets, up to this place.
+fn is_front(alloc: Global, bytes: &[u8], endpoint: &Endpoint, end: usize) -> Result<bool, Fail> {
+    let (read, size) = read_eid(alloc, bytes)?;
+    Ok(size == end && read == *endpoint)
+}
+
+/// Whether an endpoint is written as these octets, and read with more after it.
+fn is_spelled(alloc: Global, bytes: &[u8], endpoint: &Endpoint) -> Result<bool, Fail> {
+    let mut out = Vec::new(alloc);
+    write_eid(endpoint, &mut out)?;
+    let written = out.as_slice() == bytes;
+    out.push(0xff)?;
+    Ok(written && is_front(alloc, &out, endpoint, bytes.len())?)
+}
+
+/// Whether an endpoint is written and read so, and read as previous node.
 fn is_eid(alloc: Global, text: &str, name: &str) -> Result<bool, Fail> {
     let bytes = octets(alloc, text)?;
     let endpoint = Endpoint::from_text(alloc, name.as_bytes())?;
-    let mut out = Vec::new(alloc);
-    write_eid(&endpoint, &mut out)?;
-    let written = out.as_slice() == bytes.as_slice();
-    out.push(0xff)?;
-    let (read, size) = read_eid(alloc, &out)?;
-    let previous = previous_of(alloc, &bytes)?;
-    Ok(written && size == bytes.len() && read == endpoint && previous == endpoint)
+    let previous = previous_of(alloc, &bytes)? == endpoint;
+    Ok(previous && is_spelled(alloc, &bytes, &endpoint)?)
 }
 
 #[test]
@@ -248,13 +263,25 @@ const AGES: &[(&str, Option<u64>)] = &[
     ("", None),
 ];
 
+/// Whether a body is a hop count, and which.
+fn is_hop(alloc: Global, text: &str, hop: Option<Hop>) -> Result<bool, Fail> {
+    let body = octets(alloc, text)?;
+    Ok(hop_of(&body) == hop)
+}
+
+/// Whether a body is an age, and which.
+fn is_age(alloc: Global, text: &str, age: Option<u64>) -> Result<bool, Fail> {
+    let body = octets(alloc, text)?;
+    Ok(age_of(&body) == age)
+}
+
 #[test]
 fn bodies_are_read_exactly(rt: HostRuntime) -> Result<(), Fail> {
     for &(text, hop) in HOPS {
-        assert!(rt; hop_of(&octets(rt.alloc(), text)?) == hop, "{text}");
+        assert!(rt; is_hop(rt.alloc(), text, hop)?, "{text}");
     }
     for &(text, age) in AGES {
-        assert!(rt; age_of(&octets(rt.alloc(), text)?) == age, "{text}");
+        assert!(rt; is_age(rt.alloc(), text, age)?, "{text}");
     }
     Ok(())
 }

@@ -1,7 +1,9 @@
 //! Bundles of version 6: octets that are read and written again, and refusals.
 
-use crate::rows::octets;
-use bundle6::{Blocks6, Fail6, decode6, encode6, judge6};
+ghost use Rattle.bundle6.specs.Legal.{IsLegal};
+
+use crate::rows::{is, octets};
+use bundle6::{Blocks6, Bundle6, Fail6, decode6, encode6, judge6};
 use std::alloc::Global;
 use std::test::Fail;
 
@@ -37,6 +39,14 @@ const WRITTEN: &[(&str, &str)] = &[
     ),
 ];
 
+/// Whether a bundle is written so.
+fn is_encoded(alloc: Global, bundle: &Bundle6, wanted: &str) -> Result<bool, Fail>
+    requires { IsLegal bundle.now }
+{
+    let again = encode6(alloc, bundle)?;
+    is(alloc, &again, wanted)
+}
+
 /// Whether octets with more after them are read and judged to their end, and written so.
 fn is_written(alloc: Global, text: &str, wanted: &str) -> Result<bool, Fail> {
     let mut stream = octets(alloc, text)?;
@@ -44,9 +54,8 @@ fn is_written(alloc: Global, text: &str, wanted: &str) -> Result<bool, Fail> {
     stream.push(0x06)?;
     match decode6(alloc, &stream) {
         Ok((bundle, used)) => {
-            let again = encode6(alloc, &bundle)?;
-            let judged = judge6(&stream) == Ok(size);
-            Ok(judged && used == size && again.as_slice() == octets(alloc, wanted)?.as_slice())
+            let ended = used == size && judge6(&stream) == Ok(size);
+            Ok(ended && is_encoded(alloc, &bundle, wanted)?)
         }
         Err(_) => Ok(false),
     }

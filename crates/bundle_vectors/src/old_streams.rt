@@ -43,6 +43,16 @@ const STREAMS: &[(&str, &str)] = &[
     ),
 ];
 
+/// Appends the place where a bundle ends.
+fn write_end(text: &mut String, at: usize) -> Result<(), AllocError> {
+    write!(text, "{at}\n")
+}
+
+/// Appends the place and the cause of a refusal.
+fn write_refusal(text: &mut String, at: usize, word: &str) -> Result<(), AllocError> {
+    write!(text, "{at} {word}\n")
+}
+
 /// Whether the end of a stream is answered so, and again after that.
 fn ends(reader: &mut Reader6, text: &mut String) -> Result<bool, AllocError>
     requires { reader.old.spent ≡ false }
@@ -50,11 +60,11 @@ fn ends(reader: &mut Reader6, text: &mut String) -> Result<bool, AllocError>
     let first = reader.finish();
     match first {
         Ok(()) => {
-            write!(text, "end\n")?;
+            text.push_str("end\n")?;
             Ok(true)
         }
         Err(Fail6::Refused { at, cause }) => {
-            write!(text, "{at} {}\n", cause.word())?;
+            write_refusal(text, at, cause.word())?;
             Ok(reader.finish() == first)
         }
         Err(Fail6::Memory) => Ok(false),
@@ -78,15 +88,15 @@ fn take(
         Ok(fed) => {
             let next = at + fed.used;
             if fed.bundle.is_some() {
-                write!(text, "{next}\n")?;
+                write_end(text, next)?;
             }
             Ok(Some(next))
         }
         Err(Fail6::Memory) => Err(AllocError),
         Err(Fail6::Refused { at, cause }) => {
-            write!(text, "{at} {}\n", cause.word())?;
+            write_refusal(text, at, cause.word())?;
             if reader.finish() != Err(Fail6::Refused { at, cause }) {
-                write!(text, "another answer\n")?;
+                text.push_str("another answer\n")?;
             }
             Ok(None)
         }

@@ -1,12 +1,14 @@
 //! Bundles among other implementations: blocks of several bundles, block types that are refused, ages, and
 //! pieces that are gathered. What is decided about them is in `peer_vectors`.
 
-ghost use Rattle.std.specs.Prelude.{◌≤◌};
+ghost use Rattle.std.specs.Prelude.{◌≤◌, IfOk};
 ghost use Rattle.piece_gathering.specs.declared.piece.TheConstants.{BLOCK_MAX};
+ghost use Rattle.translate.specs.Sound.{IsSound};
 
-use crate::rows::octets;
+use crate::rows::{is, octets};
 use block_types::BlockTypes;
 use bundle_age::raised;
+use bundle_meaning::Full;
 use bundle_rows::{End, count};
 use bundle6::decode6;
 use bundle7::{decode7, encode7};
@@ -117,43 +119,55 @@ const OLDER: &str = "0681100d02010101000000008768053c00c1000b4236374707020000191
 const OLDEST: &str =
     "9f8907000182028202018202820101820100821a000f42450019ea5b425a46850702000043191f40850101000043616263ff";
 
-/// The version 7 bundle of a version 6 one after a stay.
-fn six_after(alloc: Global, text: &str, stay: u64) -> Result<Octets, Fail> {
+/// The record of a version 6 bundle.
+fn six(alloc: Global, text: &str) -> Result<Full, Fail>
+    ensures { IfOk result IsSound }
+{
     let Ok((bundle, _)) = decode6(alloc, &octets(alloc, text)?) else {
         return Err(Fail::new("a row is no version 6 bundle"));
     };
-    let Ok(full) = from6(alloc, &bundle) else {
-        return Err(Fail::new("a row isn't read"));
-    };
-    let full = raised(alloc, full, stay)?;
-    let Ok(view) = view7(alloc, &full) else {
-        return Err(Fail::new("a row has no view"));
-    };
-    Ok(encode7(alloc, &view)?)
+    match from6(alloc, &bundle) {
+        Ok(full) => Ok(full),
+        Err(_) => Err(Fail::new("a row isn't read")),
+    }
 }
 
-/// The version 7 bundle after a stay.
-fn seven_after(alloc: Global, text: &str, stay: u64) -> Result<Octets, Fail> {
+/// The record of a version 7 bundle.
+fn seven(alloc: Global, text: &str) -> Result<Full, Fail>
+    ensures { IfOk result IsSound }
+{
     let Ok((bundle, _)) = decode7(alloc, &octets(alloc, text)?) else {
         return Err(Fail::new("a row is no version 7 bundle"));
     };
-    let Ok(full) = from7(alloc, &bundle) else {
-        return Err(Fail::new("a row isn't read"));
-    };
+    match from7(alloc, &bundle) {
+        Ok(full) => Ok(full),
+        Err(_) => Err(Fail::new("a row isn't read")),
+    }
+}
+
+/// Whether a record is this bundle of version 7.
+fn is_seven(alloc: Global, full: &Full, text: &str) -> Result<bool, Fail>
+    requires { IsSound full.now }
+{
+    match view7(alloc, full) {
+        Ok(view) => is(alloc, &encode7(alloc, &view)?, text),
+        Err(_) => Err(Fail::new("a row has no view")),
+    }
+}
+
+/// Whether a record is this bundle of version 7 after a stay.
+fn is_after(alloc: Global, full: Full, stay: u64, text: &str) -> Result<bool, Fail>
+    requires { IsSound full }
+{
     let full = raised(alloc, full, stay)?;
-    let Ok(view) = view7(alloc, &full) else {
-        return Err(Fail::new("a row has no view"));
-    };
-    Ok(encode7(alloc, &view)?)
+    is_seven(alloc, &full, text)
 }
 
 #[test]
 fn ages_of_bundles_that_wait(rt: HostRuntime) -> Result<(), Fail> {
     let alloc = rt.alloc();
-    let later = seven_after(alloc, YOUNG, 1000)?;
-    assert_eq!(rt; later.as_slice(), octets(alloc, OLDER7)?.as_slice());
-    let last = six_after(alloc, OLDER, 2000)?;
-    assert_eq!(rt; last.as_slice(), octets(alloc, OLDEST)?.as_slice());
+    assert!(rt; is_after(alloc, seven(alloc, YOUNG)?, 1000, OLDER7)?);
+    assert!(rt; is_after(alloc, six(alloc, OLDER)?, 2000, OLDEST)?);
     Ok(())
 }
 
@@ -170,29 +184,50 @@ fn piece(alloc: Global, added: u64) -> Piece
     }
 }
 
+/// Whether a gathering of these bounds has so many pieces ready at each moment, where one is added at each
+/// of the others.
+fn gathers(
+    alloc: Global,
+    gathering: &mut Gathering,
+    added: &[u64],
+    ready: &[(u64, usize)],
+) -> Result<bool, Fail> {
+    for &moment in added {
+        gathering.add(piece(alloc, moment))?;
+    }
+    for &(moment, count) in ready {
+        if gathering.ready(moment) != count {
+            return Ok(false);
+        }
+    }
+    Ok(true)
+}
+
+/// Whether so many pieces are taken at a moment, and none is left.
+fn takes(
+    alloc: Global,
+    gathering: &mut Gathering,
+    moment: u64,
+    count: usize,
+) -> Result<bool, Fail> {
+    let taken = gathering.take(alloc, moment)?;
+    Ok(taken.len() == count && gathering.len() == 0)
+}
+
 #[test]
 fn pieces_are_gathered(rt: HostRuntime) -> Result<(), Fail> {
-    let alloc = rt.alloc();
-    let mut gathering = Gathering::new(alloc, 60, 1000);
-    gathering.add(piece(alloc, 0))?;
-    assert_eq!(rt; gathering.ready(5), 0);
-    gathering.add(piece(alloc, 5))?;
-    assert_eq!(rt; gathering.ready(5), 2);
-    assert_eq!(rt; gathering.take(alloc, 5)?.len(), 2);
-    assert_eq!(rt; gathering.len(), 0);
+    let mut gathering = Gathering::new(rt.alloc(), 60, 1000);
+    assert!(rt; gathers(rt.alloc(), &mut gathering, &[0], &[(5, 0)])?);
+    assert!(rt; gathers(rt.alloc(), &mut gathering, &[5], &[(5, 2)])?);
+    assert!(rt; takes(rt.alloc(), &mut gathering, 5, 2)?);
     Ok(())
 }
 
 #[test]
 fn a_piece_waits_so_long(rt: HostRuntime) -> Result<(), Fail> {
-    let alloc = rt.alloc();
-    let mut gathering = Gathering::new(alloc, 60, 1000);
-    gathering.add(piece(alloc, 0))?;
-    assert_eq!(rt; gathering.ready(999), 0);
-    assert_eq!(rt; gathering.ready(1000), 1);
-    let mut alone = Gathering::new(alloc, 0, 1000);
-    alone.add(piece(alloc, 0))?;
-    alone.add(piece(alloc, 0))?;
-    assert_eq!(rt; alone.ready(0), 1);
+    let mut gathering = Gathering::new(rt.alloc(), 60, 1000);
+    assert!(rt; gathers(rt.alloc(), &mut gathering, &[0], &[(999, 0), (1000, 1)])?);
+    let mut alone = Gathering::new(rt.alloc(), 0, 1000);
+    assert!(rt; gathers(rt.alloc(), &mut alone, &[0, 0], &[(0, 1)])?);
     Ok(())
 }

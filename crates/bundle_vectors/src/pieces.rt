@@ -29,24 +29,23 @@ const END: [u8; 8] = [0x4A, 0x71, 0x44, 0x45, 0x11, 0xED, 0xC3, 0xFF];
 fn a_bundle_comes_in_two_pieces(rt: HostRuntime) -> Result<(), Fail> {
     let mut judge = Judge6::new(rt.alloc());
     let front = judge.feed(&FRONT);
-    assert_eq!(rt;
-        front,
-        Ok(Judged6 {
-            used: 10,
-            whole: None
-        })
+    assert!(rt;
+        front
+            == Ok(Judged6 {
+                used: 10,
+                whole: None
+            })
     );
     if front.is_ok() {
         let rest = judge.feed(&REST);
-        assert_eq!(rt;
-            rest,
-            Ok(Judged6 {
+        assert!(rt;
+            rest == Ok(Judged6 {
                 used: 13,
                 whole: Some(23)
             })
         );
         if rest.is_ok() {
-            assert_eq!(rt; judge.finish(), Ok(()));
+            assert!(rt; judge.finish() == Ok(()));
         }
     }
     Ok(())
@@ -56,33 +55,32 @@ fn a_bundle_comes_in_two_pieces(rt: HostRuntime) -> Result<(), Fail> {
 fn a_bundle_with_checks_comes_in_three_pieces(rt: HostRuntime) -> Result<(), Fail> {
     let mut judge = Judge7::new(rt.alloc());
     let start = judge.feed(&START);
-    assert_eq!(rt;
-        start,
-        Ok(Judged7 {
-            used: 20,
-            whole: None
-        })
+    assert!(rt;
+        start
+            == Ok(Judged7 {
+                used: 20,
+                whole: None
+            })
     );
     if start.is_ok() {
         let middle = judge.feed(&MIDDLE);
-        assert_eq!(rt;
-            middle,
-            Ok(Judged7 {
-                used: 24,
-                whole: None
-            })
+        assert!(rt;
+            middle
+                == Ok(Judged7 {
+                    used: 24,
+                    whole: None
+                })
         );
         if middle.is_ok() {
             let end = judge.feed(&END);
-            assert_eq!(rt;
-                end,
-                Ok(Judged7 {
+            assert!(rt;
+                end == Ok(Judged7 {
                     used: 8,
                     whole: Some(52)
                 })
             );
             if end.is_ok() {
-                assert_eq!(rt; judge.finish(), Ok(()));
+                assert!(rt; judge.finish() == Ok(()));
             }
         }
     }

@@ -1,10 +1,12 @@
 //! What bundles mean: timestamps in both versions, and the bodies of the gateway's private blocks.
 
-use crate::rows::octets;
+ghost use Rattle.bundle_meaning.specs.Blocks.{IsBlock6, IsBlock7};
+
+use crate::rows::{is, octets};
 use bundle_meaning::{
-    BlockFault, Ext, Extra7, Exts, Id6, Id7, ResidueOld, SequenceTooLarge, TimeTooLarge, id_to_new,
-    id_to_old, read_residue_new, read_residue_old, read_wrap_new, read_wrap_old, write_wrap_new,
-    write_wrap_old,
+    Block6Like, Block7Like, BlockFault, Ext, Extra7, Exts, Id6, Id7, ResidueOld, SequenceTooLarge,
+    TimeTooLarge, id_to_new, id_to_old, read_residue_new, read_residue_old, read_wrap_new,
+    read_wrap_old, write_wrap_new, write_wrap_old,
 };
 use endpoint::Endpoint;
 use std::alloc::Global;
@@ -170,20 +172,30 @@ const OLD_WRAPS: &[OldWrap] = &[
     ("42363747814803820002", (200, 3, 256, 2), ""),
 ];
 
+/// Whether a block has these numbers and this body.
+fn is_block7(alloc: Global, block: &Block7Like, row: OldWrap) -> Result<bool, Fail> {
+    let (_, numbers, body) = row;
+    let read = (block.kind, block.number, block.flags, block.crc) == numbers;
+    Ok(read && is(alloc, &block.body, body)?)
+}
+
+/// Whether a block's wrap has these octets.
+fn has_old_wrap(alloc: Global, block: &Block7Like, wrap: &[u8]) -> Result<bool, Fail>
+    requires { IsBlock7 block.now }
+{
+    Ok(write_wrap_old(alloc, block)?.as_slice() == wrap)
+}
+
 /// Whether a wrap is read as its block, and the block's wrap has its octets.
 fn is_old_wrap(alloc: Global, row: OldWrap) -> Result<bool, Fail> {
-    let (text, numbers, body) = row;
-    let wrap = octets(alloc, text)?;
+    let wrap = octets(alloc, row.0)?;
     let Ok(block) = read_wrap_old(alloc, &wrap) else {
         return Ok(false);
     };
     if block.kind == 192 || block.kind == 193 {
         return Ok(false);
     }
-    let read = (block.kind, block.number, block.flags, block.crc) == numbers;
-    let whole = block.body.as_slice() == octets(alloc, body)?.as_slice();
-    let written = write_wrap_old(alloc, &block)?;
-    Ok(read && whole && written.as_slice() == wrap.as_slice())
+    Ok(is_block7(alloc, &block, row)? && has_old_wrap(alloc, &block, &wrap)?)
 }
 
 #[test]
@@ -206,20 +218,30 @@ const NEW_WRAPS: &[NewWrap] = &[
     ),
 ];
 
+/// Whether a block has these numbers, as many references, and this body.
+fn is_block6(alloc: Global, block: &Block6Like, row: NewWrap) -> Result<bool, Fail> {
+    let (_, numbers, body) = row;
+    let read = (block.kind, block.flags, block.refs.len()) == numbers;
+    Ok(read && is(alloc, &block.body, body)?)
+}
+
+/// Whether a block's wrap has these octets.
+fn has_new_wrap(alloc: Global, block: &Block6Like, wrap: &[u8]) -> Result<bool, Fail>
+    requires { IsBlock6 block.now }
+{
+    Ok(write_wrap_new(alloc, block)?.as_slice() == wrap)
+}
+
 /// Whether a wrap is read as its block, and the block's wrap has its octets.
 fn is_new_wrap(alloc: Global, row: NewWrap) -> Result<bool, Fail> {
-    let (text, numbers, body) = row;
-    let wrap = octets(alloc, text)?;
+    let wrap = octets(alloc, row.0)?;
     let Ok(block) = read_wrap_new(alloc, &wrap) else {
         return Ok(false);
     };
     if block.kind == 192 || block.kind == 193 {
         return Ok(false);
     }
-    let read = (block.kind, block.flags, block.refs.len()) == numbers;
-    let whole = block.body.as_slice() == octets(alloc, body)?.as_slice();
-    let written = write_wrap_new(alloc, &block)?;
-    Ok(read && whole && written.as_slice() == wrap.as_slice())
+    Ok(is_block6(alloc, &block, row)? && has_new_wrap(alloc, &block, &wrap)?)
 }
 
 #[test]
@@ -264,21 +286,35 @@ fn other_octets_are_no_wrap(rt: HostRuntime) -> Result<(), Fail> {
     Ok(())
 }
 
-/// Whether extension blocks are as many, copied, taken out and put in again.
-fn blocks_stay(alloc: Global) -> Result<bool, Fail> {
-    let mut exts = Exts::new(alloc);
-    if let Ok(block) = read_wrap_old(alloc, &octets(alloc, "423637470a020000820101")?) {
-        exts.push(Ext::Seven(block))?;
+/// Appends the block that a wrap in version 6 holds.
+fn push7(alloc: Global, exts: &mut Exts, text: &str) -> Result<(), Fail> {
+    let wrap = octets(alloc, text)?;
+    match read_wrap_old(alloc, &wrap) {
+        Ok(block) => Ok(exts.push(Ext::Seven(block))?),
+        Err(_) => Err(Fail::new("a row is no wrap")),
     }
-    if let Ok(block) = read_wrap_new(alloc, &octets(alloc, "4236374781480100aa")?) {
-        exts.push(Ext::Six(block))?;
+}
+
+/// Appends the block that a wrap in version 7 holds.
+fn push6(alloc: Global, exts: &mut Exts, text: &str) -> Result<(), Fail> {
+    let wrap = octets(alloc, text)?;
+    match read_wrap_new(alloc, &wrap) {
+        Ok(block) => Ok(exts.push(Ext::Six(block))?),
+        Err(_) => Err(Fail::new("a row is no wrap")),
     }
+}
+
+/// Whether extension blocks are two, copied, taken out and put in again.
+fn two_stay(alloc: Global, exts: &Exts) -> Result<bool, Fail> {
     let again = Exts::from_vec(exts.copy(alloc)?.into_vec());
     Ok(exts.len() == 2 && again.as_slice().len() == 2)
 }
 
 #[test]
 fn extension_blocks_are_a_list(rt: HostRuntime) -> Result<(), Fail> {
-    assert!(rt; blocks_stay(rt.alloc())?);
+    let mut exts = Exts::new(rt.alloc());
+    push7(rt.alloc(), &mut exts, "423637470a020000820101")?;
+    push6(rt.alloc(), &mut exts, "4236374781480100aa")?;
+    assert!(rt; two_stay(rt.alloc(), &exts)?);
     Ok(())
 }

@@ -1,10 +1,14 @@
 //! Status reports of both versions: bodies, refusals, and how they pair off.
 
-use crate::rows::octets;
-use endpoint::Octets;
+ghost use Rattle.std.specs.Prelude.{IfOk};
+ghost use Rattle.bundle_meaning.specs.Reports.{IsReport};
+ghost use Rattle.status_reports.specs.Legal.{IsReport6, IsReport7};
+
+use crate::rows::{is, octets};
+use bundle_meaning::Report;
 use status_reports::{
-    AdminFault, PairFault, lend6, lend7, read6, read7, shared_from6, shared_from7,
-    shared_with_rests, view6, view7, write6, write7,
+    AdminFault, PairFault, Report6, Report7, lend6, lend7, read6, read7, shared_from6,
+    shared_from7, shared_with_rests, view6, view7, write6, write7,
 };
 use std::alloc::Global;
 use std::test::Fail;
@@ -142,32 +146,60 @@ const PAIRS: &[Row] = &[
     ),
 ];
 
+/// The report of version 6 that a body says.
+fn six(alloc: Global, text: &str) -> Result<Report6, Fail>
+    ensures { IfOk result IsReport6 }
+{
+    let body = octets(alloc, text)?;
+    Ok(read6(alloc, &body)?)
+}
+
+/// The report of version 7 that a body says.
+fn seven(alloc: Global, text: &str) -> Result<Report7, Fail>
+    ensures { IfOk result IsReport7 }
+{
+    let body = octets(alloc, text)?;
+    Ok(read7(alloc, &body)?)
+}
+
+/// Whether version 6 says this in that body, with these statuses that have no time.
+fn says6(alloc: Global, shared: &Report, no_time: u8, text: &str) -> Result<bool, Fail>
+    requires { IsReport shared.now }
+{
+    let report = view6(alloc, shared)?;
+    let written = write6(alloc, &report)?;
+    Ok(report.takes(no_time) && is(alloc, &written, text)?)
+}
+
+/// Whether version 7 says this in that body.
+fn says7(alloc: Global, shared: &Report, text: &str) -> Result<bool, Fail>
+    requires { IsReport shared.now }
+{
+    let report = view7(alloc, shared)?;
+    let written = write7(alloc, &report)?;
+    is(alloc, &written, text)
+}
+
 /// Whether the body of version 6 becomes that of version 7, with these parts below one millisecond.
 fn is_there(alloc: Global, row: &Row) -> Result<bool, Fail> {
     let (old, no_time, rests, new) = *row;
-    let body = octets(alloc, old)?;
-    let old = read6(alloc, &body)?;
+    let old = six(alloc, old)?;
     if !old.takes(no_time) {
         return Ok(false);
     }
     let shared = shared_from6(alloc, &old, no_time)?;
-    let report = view7(alloc, &shared)?;
-    let written = write7(alloc, &report)?;
-    Ok(shared.rests == rests && written.as_slice() == octets(alloc, new)?.as_slice())
+    Ok(shared.rests == rests && says7(alloc, &shared, new)?)
 }
 
 /// Whether the body of version 7 becomes that of version 6, where these parts are kept.
 fn is_back(alloc: Global, row: &Row) -> Result<bool, Fail> {
     let (old, no_time, rests, new) = *row;
-    let body = octets(alloc, new)?;
-    let new = read7(alloc, &body)?;
+    let new = seven(alloc, new)?;
     if !new.takes(&rests) {
         return Ok(false);
     }
     let shared = shared_with_rests(alloc, &new, rests)?;
-    let report = view6(alloc, &shared)?;
-    let written = write6(alloc, &report)?;
-    Ok(report.takes(no_time) && written.as_slice() == octets(alloc, old)?.as_slice())
+    says6(alloc, &shared, no_time, old)
 }
 
 #[test]
@@ -179,20 +211,34 @@ fn reports_pair_off(rt: HostRuntime) -> Result<(), Fail> {
     Ok(())
 }
 
+/// Whether each front of a body of version 6 is refused.
+fn cuts6_are_refused(alloc: Global, text: &str) -> Result<bool, Fail> {
+    let body = octets(alloc, text)?;
+    for cut in 0..body.len() {
+        if lend6(&body[..cut]).err() != Some(AdminFault::BadAdmin) {
+            return Ok(false);
+        }
+    }
+    Ok(true)
+}
+
+/// Whether each front of a body of version 7 is refused.
+fn cuts7_are_refused(alloc: Global, text: &str) -> Result<bool, Fail> {
+    let body = octets(alloc, text)?;
+    for cut in 0..body.len() {
+        if lend7(&body[..cut]).err() != Some(AdminFault::BadAdmin) {
+            return Ok(false);
+        }
+    }
+    Ok(true)
+}
+
 /// Each body is cut at each length.
 #[test]
 fn a_report_that_ends_early_is_refused(rt: HostRuntime) -> Result<(), Fail> {
     for row in PAIRS {
-        let old = octets(rt.alloc(), row.0)?;
-        for cut in 0..old.len() {
-            let fault = lend6(&old[..cut]).err();
-            assert!(rt; fault == Some(AdminFault::BadAdmin), "{} {cut}", row.0);
-        }
-        let new = octets(rt.alloc(), row.3)?;
-        for cut in 0..new.len() {
-            let fault = lend7(&new[..cut]).err();
-            assert!(rt; fault == Some(AdminFault::BadAdmin), "{} {cut}", row.3);
-        }
+        assert!(rt; cuts6_are_refused(rt.alloc(), row.0)?, "{}", row.0);
+        assert!(rt; cuts7_are_refused(rt.alloc(), row.3)?, "{}", row.3);
     }
     Ok(())
 }
@@ -337,17 +383,25 @@ const REFUSED7: &[(&str, AdminFault)] = &[
     ),
 ];
 
+/// Whether a body of version 6 is refused for this, lent and owned.
+fn is_refused6(alloc: Global, text: &str, fault: AdminFault) -> Result<bool, Fail> {
+    let body = octets(alloc, text)?;
+    Ok(lend6(&body).err() == Some(fault) && read6(alloc, &body).err() == Some(fault))
+}
+
+/// Whether a body of version 7 is refused for this, lent and owned.
+fn is_refused7(alloc: Global, text: &str, fault: AdminFault) -> Result<bool, Fail> {
+    let body = octets(alloc, text)?;
+    Ok(lend7(&body).err() == Some(fault) && read7(alloc, &body).err() == Some(fault))
+}
+
 #[test]
 fn other_bodies_are_refused_by_name(rt: HostRuntime) -> Result<(), Fail> {
     for &(text, fault) in REFUSED6 {
-        let body = octets(rt.alloc(), text)?;
-        assert!(rt; lend6(&body).err() == Some(fault), "{text}");
-        assert!(rt; read6(rt.alloc(), &body).err() == Some(fault), "{text}");
+        assert!(rt; is_refused6(rt.alloc(), text, fault)?, "{text}");
     }
     for &(text, fault) in REFUSED7 {
-        let body = octets(rt.alloc(), text)?;
-        assert!(rt; lend7(&body).err() == Some(fault), "{text}");
-        assert!(rt; read7(rt.alloc(), &body).err() == Some(fault), "{text}");
+        assert!(rt; is_refused7(rt.alloc(), text, fault)?, "{text}");
     }
     Ok(())
 }
@@ -365,85 +419,135 @@ const ALONE7: &[&str] = &[
     "8201848481f581f581f581f500820282010182001bffffffffffffffff",
 ];
 
+/// Whether a report of version 6 has no counterpart.
+fn is_alone6(alloc: Global, text: &str) -> Result<bool, Fail> {
+    let report = six(alloc, text)?;
+    if !report.takes(0) {
+        return Ok(!report.has_counterpart());
+    }
+    let refused = shared_from6(alloc, &report, 0).err();
+    Ok(!report.has_counterpart() && refused == Some(PairFault::NoCounterpart))
+}
+
+/// Whether a report of version 7 has no counterpart.
+fn is_alone7(alloc: Global, text: &str) -> Result<bool, Fail> {
+    let report = seven(alloc, text)?;
+    let refused = shared_from7(alloc, &report).err();
+    Ok(!report.has_counterpart() && refused == Some(PairFault::NoCounterpart))
+}
+
 #[test]
 fn a_report_without_counterpart_is_refused(rt: HostRuntime) -> Result<(), Fail> {
     for &text in ALONE6 {
-        let body = octets(rt.alloc(), text)?;
-        let report = read6(rt.alloc(), &body)?;
-        assert!(rt; !report.has_counterpart(), "{text}");
-        if report.takes(0) {
-            let shared = shared_from6(rt.alloc(), &report, 0);
-            assert!(rt; shared.err() == Some(PairFault::NoCounterpart), "{text}");
-        }
+        assert!(rt; is_alone6(rt.alloc(), text)?, "{text}");
     }
     for &text in ALONE7 {
-        let body = octets(rt.alloc(), text)?;
-        let report = read7(rt.alloc(), &body)?;
-        assert!(rt; !report.has_counterpart(), "{text}");
-        let shared = shared_from7(rt.alloc(), &report);
-        assert!(rt; shared.err() == Some(PairFault::NoCounterpart), "{text}");
+        assert!(rt; is_alone7(rt.alloc(), text)?, "{text}");
     }
     Ok(())
 }
 
-/// Masks and parts of times that no report has: a status that isn't set, custody, a time, a part
-/// without a time, and a whole millisecond.
+/// Masks, and whether a report has them that was received with a time and delivered without: of others a
+/// status isn't set, is custody, or has a time.
+const MASKS: [(u8, bool); 9] = [
+    (0, true),
+    (8, true),
+    (1, false),
+    (2, false),
+    (4, false),
+    (9, false),
+    (12, false),
+    (16, false),
+    (32, false),
+];
+
+/// Parts of times, and whether the same report has them: of others one is a whole millisecond, or has no
+/// time.
+const PARTS: [([u32; 4], bool); 4] = [
+    ([999_999, 0, 0, 0], true),
+    ([1_000_000, 0, 0, 0], false),
+    ([0, 1, 0, 0], false),
+    ([0, 0, 1, 0], false),
+];
+
+/// Whether a report takes the masks that it has, and no others.
+fn takes_masks(report: &Report6) -> bool {
+    for (mask, takes) in MASKS {
+        if report.takes(mask) != takes {
+            return false;
+        }
+    }
+    true
+}
+
+/// Whether a report takes the parts that it has, and no others.
+fn takes_parts(report: &Report7) -> bool {
+    for (parts, takes) in PARTS {
+        if report.takes(&parts) != takes {
+            return false;
+        }
+    }
+    true
+}
+
 #[test]
 fn details_stand_only_where_they_can(rt: HostRuntime) -> Result<(), Fail> {
-    let body = octets(rt.alloc(), "10090087680500008768050769706e3a312e31")?;
-    let old = read6(rt.alloc(), &body)?;
-    for no_time in [0, 8] {
-        assert!(rt; old.takes(no_time), "{no_time}");
-    }
-    for no_time in [1, 2, 4, 9, 12, 16, 32] {
-        assert!(rt; !old.takes(no_time), "{no_time}");
-    }
-    let body = octets(
-        rt.alloc(),
-        "8201848482f51a000f424081f481f581f4008202820101821a000f424500",
-    )?;
-    let new = read7(rt.alloc(), &body)?;
-    assert!(rt; new.takes(&[999_999, 0, 0, 0]));
-    assert!(rt; !new.takes(&[1_000_000, 0, 0, 0]));
-    assert!(rt; !new.takes(&[0, 1, 0, 0]));
-    assert!(rt; !new.takes(&[0, 0, 1, 0]));
+    let old = six(rt.alloc(), "10090087680500008768050769706e3a312e31")?;
+    assert!(rt; takes_masks(&old));
+    let text = "8201848482f51a000f424081f481f581f4008202820101821a000f424500";
+    let new = seven(rt.alloc(), text)?;
+    assert!(rt; takes_parts(&new));
     Ok(())
 }
 
 /// A body with as many letters between two parts.
-fn with_letters(alloc: Global, front: &str, count: usize, back: &str) -> Result<Octets, Fail> {
+fn with_letters(alloc: Global, front: &str, count: usize, back: &str) -> Result<Vec<u8>, Fail> {
     let mut body = octets(alloc, front)?;
     for _ in 0..count {
         body.push(b'a')?;
     }
     body.extend_from_slice(&octets(alloc, back)?)?;
-    Ok(Octets::from_vec(body))
+    Ok(body)
+}
+
+/// Whether a body of version 6 is read, and written again so.
+fn is_written6(alloc: Global, body: &[u8]) -> Result<bool, Fail> {
+    let report = read6(alloc, body)?;
+    Ok(write6(alloc, &report)?.as_slice() == body)
+}
+
+/// Whether a body of version 7 is read, and written again so.
+fn is_written7(alloc: Global, body: &[u8]) -> Result<bool, Fail> {
+    let report = read7(alloc, body)?;
+    Ok(write7(alloc, &report)?.as_slice() == body)
+}
+
+/// Whether a source of version 6 has at most 1,023 octets.
+fn sources6_end(alloc: Global) -> Result<bool, Fail> {
+    let last = with_letters(alloc, "100000876805880364746e3a", 1023, "")?;
+    let longer = with_letters(alloc, "100000876805880464746e3a", 1024, "")?;
+    let refused = lend6(&longer).err() == Some(AdminFault::BadAdmin);
+    Ok(is_written6(alloc, &last)? && refused)
+}
+
+/// The fronts of bodies of version 7 whose sources have 1,023 octets and one more, and what follows these.
+const FRONT: &str = "8201848481f481f481f481f40082017903ff";
+
+const LONGER_FRONT: &str = "8201848481f481f481f481f4008201790400";
+
+const BACK: &str = "821a000f424500";
+
+/// Whether a source of version 7 has at most 1,023 octets.
+fn sources7_end(alloc: Global) -> Result<bool, Fail> {
+    let last = with_letters(alloc, FRONT, 1023, BACK)?;
+    let longer = with_letters(alloc, LONGER_FRONT, 1024, BACK)?;
+    let refused = lend7(&longer).err() == Some(AdminFault::BadAdmin);
+    Ok(is_written7(alloc, &last)? && refused)
 }
 
 #[test]
 fn a_source_has_at_most_1023_octets(rt: HostRuntime) -> Result<(), Fail> {
-    let alloc = rt.alloc();
-    let old = with_letters(alloc, "100000876805880364746e3a", 1023, "")?;
-    let report = read6(alloc, old.as_slice())?;
-    let written = write6(alloc, &report)?;
-    assert!(rt; written.as_slice() == old.as_slice());
-    let new = with_letters(
-        alloc,
-        "8201848481f481f481f481f40082017903ff",
-        1023,
-        "821a000f424500",
-    )?;
-    let report = read7(alloc, new.as_slice())?;
-    let written = write7(alloc, &report)?;
-    assert!(rt; written.as_slice() == new.as_slice());
-    let old = with_letters(alloc, "100000876805880464746e3a", 1024, "")?;
-    assert!(rt; lend6(old.as_slice()).err() == Some(AdminFault::BadAdmin));
-    let new = with_letters(
-        alloc,
-        "8201848481f481f481f481f4008201790400",
-        1024,
-        "821a000f424500",
-    )?;
-    assert!(rt; lend7(new.as_slice()).err() == Some(AdminFault::BadAdmin));
+    assert!(rt; sources6_end(rt.alloc())?);
+    assert!(rt; sources7_end(rt.alloc())?);
     Ok(())
 }

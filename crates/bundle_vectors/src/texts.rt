@@ -1,13 +1,8 @@
 //! Each call once. The octets and the texts are from a script over the standards' tables and its own
 //! language's JSON.
 
-ghost use Rattle.std.specs.Prelude.{IfOk};
-ghost use Rattle.bundle6.specs.Legal.{IsLegal};
-ghost use Rattle.bundle7.specs.Legal.{IsLegal7};
-
+use crate::rows::{octets, seven, six};
 use bundle_json::{Telling6, write6, write7};
-use bundle6::{Bundle6, decode6};
-use bundle7::{Bundle7, decode7};
 use std::alloc::Global;
 use std::test::Fail;
 
@@ -43,60 +38,47 @@ const SEVEN_TEXT: &str = "\
     etime\":59995,\"report_to\":\"dtn:none\",\"source\":\"ipn:1.18446744073709551615\",\"versi\
     on\":7}";
 
-/// The octets that are written in hex.
-fn octets(alloc: Global, text: &str) -> Result<Vec<u8>, Fail> {
-    match hex::decode(alloc, text.as_bytes()) {
-        Ok(octets) => Ok(octets),
-        Err(_) => Err(Fail::new("a row isn't hex")),
-    }
+/// Appends the text of the bundle of version 6.
+fn write_six(alloc: Global, text: &mut String) -> Result<(), Fail> {
+    let bundle = six(alloc, SIX)?;
+    Ok(write6(text, &bundle)?)
 }
 
-fn six(alloc: Global, text: &str) -> Result<Bundle6, Fail>
-    ensures { IfOk result IsLegal }
-{
-    match decode6(alloc, &octets(alloc, text)?) {
-        Ok((bundle, _)) => Ok(bundle),
-        Err(_) => Err(Fail::new("a row is no bundle of version 6")),
-    }
-}
-
-fn seven(alloc: Global, text: &str) -> Result<Bundle7, Fail>
-    ensures { IfOk result IsLegal7 }
-{
-    match decode7(alloc, &octets(alloc, text)?) {
-        Ok((bundle, _)) => Ok(bundle),
-        Err(_) => Err(Fail::new("a row is no bundle of version 7")),
-    }
+/// Appends the text of the bundle of version 7.
+fn write_seven(alloc: Global, text: &mut String) -> Result<(), Fail> {
+    let bundle = seven(alloc, SEVEN)?;
+    Ok(write7(text, &bundle)?)
 }
 
 #[test]
 fn bundles_have_their_texts(rt: HostRuntime) -> Result<(), Fail> {
-    let alloc = rt.alloc();
-    let mut text = String::from_str(alloc, "before ")?;
-    write6(&mut text, &six(alloc, SIX)?)?;
-    assert_eq!(rt;
-        text.as_str(),
-        format!(in alloc; "before {SIX_TEXT}")?.as_str()
-    );
+    let mut text = String::from_str(rt.alloc(), "before ")?;
+    write_six(rt.alloc(), &mut text)?;
+    assert!(rt; text.as_str().strip_prefix("before ") == Some(SIX_TEXT));
     text.clear();
-    write7(&mut text, &seven(alloc, SEVEN)?)?;
-    assert_eq!(rt; text.as_str(), SEVEN_TEXT);
+    write_seven(rt.alloc(), &mut text)?;
+    assert!(rt; text.as_str() == SEVEN_TEXT);
+    Ok(())
+}
+
+/// Appends the text of a bundle out of its octets, where it has fewer than a hundred parts.
+fn tell(octets: &[u8], text: &mut String) -> Result<(), Fail> {
+    let mut telling = Telling6::new(octets);
+    for _ in 0..100 {
+        if telling.is_over() {
+            break;
+        }
+        telling.tell(octets, text)?;
+    }
     Ok(())
 }
 
 /// The same text as of the values, out of the octets.
 #[test]
 fn a_telling_is_the_text(rt: HostRuntime) -> Result<(), Fail> {
-    let alloc = rt.alloc();
-    let octets = octets(alloc, SIX)?;
-    let mut text = String::new(alloc);
-    let mut telling = Telling6::new(&octets);
-    for _ in 0..100 {
-        if telling.is_over() {
-            break;
-        }
-        telling.tell(&octets, &mut text)?;
-    }
-    assert_eq!(rt; text.as_str(), SIX_TEXT);
+    let octets = octets(rt.alloc(), SIX)?;
+    let mut text = String::new(rt.alloc());
+    tell(&octets, &mut text)?;
+    assert!(rt; text.as_str() == SIX_TEXT);
     Ok(())
 }

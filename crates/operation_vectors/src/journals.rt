@@ -1,15 +1,10 @@
 //! Journals: what a file is read as, or where and why it is damaged, and a file that is made anew. The
 //! octets are those of an independent model, and its own check of CRC-32C.
 
-use gate_cases::Face;
-use journal_file::{JournalFault, Kept, read_kept, write_file};
+use crate::journal_texts::{BEGUN, is_damaged, said, says, told};
+use journal_file::{read_kept, write_file};
 use std::alloc::Global;
 use std::test::Fail;
-
-/// Both numbers are reserved, and a bundle of version 7 is begun at the new face.
-const ONE_BEGUN: &str =
-    "66696d6a726e6c31010500a00198234a74010501a0013d62d80a01010101299f890700018202\
-8202018202820101820100821a000f42450019ea5b425a46850101000043616263ff56f4406a00";
 
 /// Files that say what is kept, and what that is: the pending blocks, the marks, the numbers that are
 /// reserved and the greatest id.
@@ -141,50 +136,10 @@ const CHANGED: &[(usize, u8, usize, &str)] = &[
     (76, 0x01, 77, "Truncated"),
 ];
 
-/// What reading a file gives, as a text.
-fn shown(alloc: Global, file: &[u8]) -> Result<String, Fail> {
-    match read_kept(alloc, file) {
-        Ok(kept) => shown_kept(alloc, &kept),
-        Err(JournalFault::Damaged { at, cause }) => {
-            let word = cause.word();
-            Ok(format!(in alloc; "{at} {word}")?)
-        }
-        Err(JournalFault::Memory) => Err("no memory".into()),
-    }
-}
-
-/// What is kept, as a text.
-fn shown_kept(alloc: Global, kept: &Kept) -> Result<String, Fail> {
-    let mut text = String::new(alloc);
-    for begun in kept.pending.as_slice() {
-        let (id, face, size) = (begun.id, named(begun.face), begun.block.len());
-        write!(text, "begun {id} {face} {size} ")?;
-        if let Some(came) = begun.came {
-            write!(text, "came {came} ")?;
-        }
-    }
-    for mark in kept.marks.as_slice() {
-        let (face, session, when) = (named(mark.face), mark.session, mark.when);
-        write!(text, "mark {face} {session} {when} ")?;
-    }
-    let (old, new, greatest) = (kept.old_reserved, kept.new_reserved, kept.greatest);
-    write!(text, "reserved {old} {new} greatest {greatest}")?;
-    Ok(text)
-}
-
-fn named(face: Face) -> &'static str {
-    match face {
-        Face::Old => "old",
-        Face::New => "new",
-    }
-}
-
 #[test]
 fn a_file_says_what_is_kept(rt: HostRuntime) -> Result<(), Fail> {
     for (text, wanted) in KEPT {
-        let file = hex::decode(rt.alloc(), text)?;
-        let got = shown(rt.alloc(), file.as_slice())?;
-        assert_eq!(rt; got.as_str(), *wanted, "{text}");
+        assert!(rt; says(rt.alloc(), text, wanted)?, "{text}");
     }
     Ok(())
 }
@@ -192,9 +147,7 @@ fn a_file_says_what_is_kept(rt: HostRuntime) -> Result<(), Fail> {
 #[test]
 fn a_file_says_when_a_block_came(rt: HostRuntime) -> Result<(), Fail> {
     for (text, wanted) in DATED {
-        let file = hex::decode(rt.alloc(), text)?;
-        let got = shown(rt.alloc(), file.as_slice())?;
-        assert_eq!(rt; got.as_str(), *wanted, "{text}");
+        assert!(rt; says(rt.alloc(), text, wanted)?, "{text}");
     }
     Ok(())
 }
@@ -202,10 +155,7 @@ fn a_file_says_when_a_block_came(rt: HostRuntime) -> Result<(), Fail> {
 #[test]
 fn a_damaged_file_is_refused(rt: HostRuntime) -> Result<(), Fail> {
     for (text, at, cause) in DAMAGED {
-        let file = hex::decode(rt.alloc(), text)?;
-        let got = shown(rt.alloc(), file.as_slice())?;
-        let wanted = format!(in rt.alloc(); "{at} {cause}")?;
-        assert_eq!(rt; got.as_str(), wanted.as_str(), "{text}");
+        assert!(rt; is_damaged(rt.alloc(), text, *at, cause)?, "{text}");
     }
     Ok(())
 }
@@ -213,10 +163,7 @@ fn a_damaged_file_is_refused(rt: HostRuntime) -> Result<(), Fail> {
 #[test]
 fn a_damaged_moment_is_refused(rt: HostRuntime) -> Result<(), Fail> {
     for (text, at, cause) in DATED_DAMAGED {
-        let file = hex::decode(rt.alloc(), text)?;
-        let got = shown(rt.alloc(), file.as_slice())?;
-        let wanted = format!(in rt.alloc(); "{at} {cause}")?;
-        assert_eq!(rt; got.as_str(), wanted.as_str(), "{text}");
+        assert!(rt; is_damaged(rt.alloc(), text, *at, cause)?, "{text}");
     }
     Ok(())
 }
@@ -224,49 +171,57 @@ fn a_damaged_moment_is_refused(rt: HostRuntime) -> Result<(), Fail> {
 #[test]
 fn a_misplaced_record_is_refused(rt: HostRuntime) -> Result<(), Fail> {
     for (text, at, cause) in MISPLACED {
-        let file = hex::decode(rt.alloc(), text)?;
-        let got = shown(rt.alloc(), file.as_slice())?;
-        let wanted = format!(in rt.alloc(); "{at} {cause}")?;
-        assert_eq!(rt; got.as_str(), wanted.as_str(), "{text}");
+        assert!(rt; is_damaged(rt.alloc(), text, *at, cause)?, "{text}");
     }
     Ok(())
+}
+
+/// Whether the file with one block is damaged at a place, where an octet is changed to another.
+fn is_found(alloc: Global, row: (usize, u8, usize, &str)) -> Result<bool, Fail> {
+    let (place, octet, at, cause) = row;
+    let mut file = hex::decode(alloc, BEGUN)?;
+    if let Some(changed) = file.get_mut(place) {
+        *changed = octet;
+    }
+    let wanted = told(alloc, at, cause)?;
+    Ok(said(alloc, &file)?.as_str() == wanted.as_str())
 }
 
 #[test]
 fn a_changed_octet_is_found(rt: HostRuntime) -> Result<(), Fail> {
-    for (place, octet, at, cause) in CHANGED {
-        let mut file = hex::decode(rt.alloc(), ONE_BEGUN)?;
-        if let Some(changed) = file.get_mut(*place) {
-            *changed = *octet;
-        }
-        let got = shown(rt.alloc(), file.as_slice())?;
-        let wanted = format!(in rt.alloc(); "{at} {cause}")?;
-        assert_eq!(rt; got.as_str(), wanted.as_str(), "{place}");
+    for &row in CHANGED {
+        assert!(rt; is_found(rt.alloc(), row)?, "{}", row.0);
     }
     Ok(())
 }
 
+/// Whether a file is made anew as it is of what it says is kept.
+fn is_made_again(alloc: Global, file: &[u8]) -> Result<bool, Fail> {
+    let Ok(kept) = read_kept(alloc, file) else {
+        return Ok(false);
+    };
+    let mut made = Vec::new(alloc);
+    write_file(alloc, &kept, &mut made)?;
+    Ok(made.as_slice() == file)
+}
+
 #[test]
 fn a_file_is_made_anew(rt: HostRuntime) -> Result<(), Fail> {
-    let file = hex::decode(rt.alloc(), ONE_BEGUN)?;
-    let kept = read_kept(rt.alloc(), file.as_slice())
-        .ok()
-        .ok_or("not read")?;
-    let mut made = Vec::new(rt.alloc());
-    write_file(rt.alloc(), &kept, &mut made)?;
-    assert_eq!(rt; made.as_slice(), file.as_slice());
+    let file = hex::decode(rt.alloc(), BEGUN)?;
+    assert!(rt; is_made_again(rt.alloc(), &file)?);
     Ok(())
+}
+
+/// What a file says with octets after its closed gate.
+fn said_before(alloc: Global, text: &str, after: &str) -> Result<String, Fail> {
+    let mut file = hex::decode(alloc, text)?;
+    file.extend_from_slice(&hex::decode(alloc, after)?)?;
+    said(alloc, &file)
 }
 
 #[test]
 fn what_follows_a_closed_gate_is_not_read(rt: HostRuntime) -> Result<(), Fail> {
-    let mut file = hex::decode(rt.alloc(), ONE_BEGUN)?;
-    let done = hex::decode(rt.alloc(), "020101cec2ea03")?;
-    file.extend_from_slice(done.as_slice())?;
-    let got = shown(rt.alloc(), file.as_slice())?;
-    assert_eq!(rt;
-        got.as_str(),
-        "begun 1 new 41 reserved 4097 4097 greatest 1"
-    );
+    let got = said_before(rt.alloc(), BEGUN, "020101cec2ea03")?;
+    assert!(rt; got.as_str() == "begun 1 new 41 reserved 4097 4097 greatest 1");
     Ok(())
 }

@@ -182,24 +182,39 @@ fn is_number(text: &str) -> bool {
             .all(|octet| octet == b'.' || octet.is_ascii_digit())
 }
 
-/// The family after a line; or none where the line breaks a rule.
-fn after<'a>(family: Family<'a>, line: &'a str) -> Option<Family<'a>> {
-    if let Some(rest) = line.strip_prefix("# HELP ") {
-        let (name, help) = rest.split_once(' ')?;
-        let named = is_name(name) && !help.is_empty();
-        return named.then_some(Family { name, kind: "" });
-    }
-    if let Some(rest) = line.strip_prefix("# TYPE ") {
-        let (name, kind) = rest.split_once(' ')?;
-        let counts = name.ends_with("_total");
-        let typed = kind == "counter" && counts || kind == "gauge" && !counts;
-        let first = name == family.name && family.kind.is_empty();
-        return (typed && first).then_some(Family { name, kind });
-    }
+/// The family that a line of help begins.
+fn helped(rest: &str) -> Option<Family<'_>> {
+    let (name, help) = rest.split_once(' ')?;
+    let named = is_name(name) && !help.is_empty();
+    named.then_some(Family { name, kind: "" })
+}
+
+/// The family after the line of its type.
+fn typed<'a>(family: Family<'a>, rest: &'a str) -> Option<Family<'a>> {
+    let (name, kind) = rest.split_once(' ')?;
+    let counts = name.ends_with("_total");
+    let typed = kind == "counter" && counts || kind == "gauge" && !counts;
+    let first = name == family.name && family.kind.is_empty();
+    (typed && first).then_some(Family { name, kind })
+}
+
+/// The family after a sample.
+fn sampled<'a>(family: Family<'a>, line: &str) -> Option<Family<'a>> {
     let (sample, number) = line.split_once(' ')?;
     let labels = sample.strip_prefix(family.name)?;
     let labelled = labels.is_empty() || labels.starts_with("{") && labels.ends_with("}");
     (labelled && is_number(number) && !family.kind.is_empty()).then_some(family)
+}
+
+/// The family after a line; or none where the line breaks a rule.
+fn after<'a>(family: Family<'a>, line: &'a str) -> Option<Family<'a>> {
+    if let Some(rest) = line.strip_prefix("# HELP ") {
+        return helped(rest);
+    }
+    if let Some(rest) = line.strip_prefix("# TYPE ") {
+        return typed(family, rest);
+    }
+    sampled(family, line)
 }
 
 /// The name and labels of a sample, which no other has.
@@ -215,6 +230,18 @@ fn begun(line: &str) -> Option<&str> {
     Some(line.strip_prefix("# HELP ")?.split_once(' ')?.0)
 }
 
+/// Whether a name that a line has, where it has one, isn't among these. It is from then on.
+fn is_new<'a>(names: &mut Vec<&'a str>, name: Option<&'a str>) -> Result<bool, Fail> {
+    let Some(name) = name else {
+        return Ok(true);
+    };
+    if names.contains(&name) {
+        return Ok(false);
+    }
+    names.push(name)?;
+    Ok(true)
+}
+
 /// Whether a text keeps the rules.
 fn keeps_rules(alloc: Global, text: &str) -> Result<bool, Fail> {
     let mut family = Family { name: "", kind: "" };
@@ -225,17 +252,8 @@ fn keeps_rules(alloc: Global, text: &str) -> Result<bool, Fail> {
             Some(next) => family = next,
             None => return Ok(false),
         }
-        if let Some(name) = begun(line) {
-            if names.contains(&name) {
-                return Ok(false);
-            }
-            names.push(name)?;
-        }
-        if let Some(sample) = sample(line) {
-            if samples.contains(&sample) {
-                return Ok(false);
-            }
-            samples.push(sample)?;
+        if !is_new(&mut names, begun(line))? || !is_new(&mut samples, sample(line))? {
+            return Ok(false);
         }
     }
     Ok(text.ends_with("\n"))

@@ -49,7 +49,7 @@ const SPELLED: [(u64, &str); 11] = [
 fn a_date_time_has_its_moment(rt: HostRuntime) -> Result<(), Fail> {
     for (text, wanted) in READ {
         let when = text.parse::<Datetime>().ok().ok_or("no date-time")?;
-        assert_eq!(rt; moment_of(&when), wanted, "{text}");
+        assert!(rt; moment_of(&when) == wanted, "{text}");
     }
     Ok(())
 }
@@ -57,7 +57,7 @@ fn a_date_time_has_its_moment(rt: HostRuntime) -> Result<(), Fail> {
 #[test]
 fn a_moment_has_its_text(rt: HostRuntime) -> Result<(), Fail> {
     for (moment, wanted) in SPELLED {
-        assert_eq!(rt; spell(moment).as_slice(), wanted.as_bytes(), "{moment}");
+        assert!(rt; spell(moment).as_slice() == wanted.as_bytes(), "{moment}");
     }
     Ok(())
 }

@@ -181,18 +181,22 @@ const OF_TWO_BLOCKS: &[(usize, usize)] = &[
     (1, 429),
 ];
 
+/// Puts so many datagrams of each of these sizes.
+fn put_all(alloc: Global, outbox: &mut Outbox, sizes: &[(usize, usize)]) -> Result<(), Fail> {
+    for (count, size) in sizes {
+        for _ in 0..*count {
+            outbox.put(datagram(alloc, *size)?)?;
+        }
+    }
+    Ok(())
+}
+
 #[test]
 fn what_passes_the_limit_is_dropped(rt: HostRuntime) -> Result<(), Fail> {
     let schedule = schedule(rt.alloc(), WINDOWS, None)?;
     let mut outbox = Outbox::new(rt.alloc(), schedule, 65_507);
-    for (count, size) in OF_TWO_BLOCKS {
-        for _ in 0..*count {
-            outbox.put(datagram(rt.alloc(), *size)?)?;
-        }
-    }
-    assert_eq!(rt; outbox.len(), 64, "datagrams that wait");
-    assert_eq!(rt; outbox.octets(), 65_184, "octets that wait");
-    assert_eq!(rt; outbox.dropped(), 6, "datagrams that were dropped");
+    put_all(rt.alloc(), &mut outbox, OF_TWO_BLOCKS)?;
+    assert!(rt; outbox.len() == 64 && outbox.octets() == 65_184 && outbox.dropped() == 6);
     Ok(())
 }
 
@@ -204,13 +208,11 @@ fn a_long_queue_costs_each_datagram_the_same(rt: HostRuntime) -> Result<(), Fail
         wall: 0,
         monotonic: 0,
     });
-    for _ in 0..100_000 {
-        outbox.put(datagram(rt.alloc(), 1)?)?;
-    }
+    put_all(rt.alloc(), &mut outbox, &[(100_000, 1)])?;
     for _ in 0..1_000_000 {
-        outbox.put(datagram(rt.alloc(), 1)?)?;
+        put_all(rt.alloc(), &mut outbox, &[(1, 1)])?;
         assert!(rt; outbox.next().is_some());
     }
-    assert_eq!(rt; outbox.len(), 100_000, "datagrams that wait");
+    assert!(rt; outbox.len() == 100_000);
     Ok(())
 }

@@ -1,7 +1,7 @@
 //! The bundle that a line of the log is about, by the octets of its block. The wanted texts are those of
 //! whole runs of an independent model.
 
-use crate::lines::{line, subject};
+use crate::lines::{has, line, subject};
 use gate_cases::Face;
 use gate_log::{BundleEvent, Event, subject_of};
 use std::alloc::Global;
@@ -48,6 +48,10 @@ ff",
     ("9f8907", "null"),
 ];
 
+/// What the line of a block that was sent has before its bundle.
+const FRONT: &str = "{\"at\":\"2000-01-01T00:00:00.000Z\",\"event\":\"sent\",\
+\"face\":\"old\",\"session\":5,\"subject\":";
+
 #[test]
 fn the_front_of_a_block_is_the_subject(rt: HostRuntime) -> Result<(), Fail> {
     for (block, shown) in SUBJECTS {
@@ -57,11 +61,10 @@ fn the_front_of_a_block_is_the_subject(rt: HostRuntime) -> Result<(), Fail> {
             subject: subject(rt.alloc(), block)?,
             what: BundleEvent::Sent { bundles: None },
         };
-        let got = line(rt.alloc(), 0, &event)?;
-        let front =
-            "{\"at\":\"2000-01-01T00:00:00.000Z\",\"event\":\"sent\",\"face\":\"old\",\"session\":5";
-        let wanted = format!(in rt.alloc(); "{front},\"subject\":{shown}}}\n")?;
-        assert_eq!(rt; got.as_str(), wanted.as_str());
+        assert!(rt;
+            has(rt.alloc(), 0, event, &[FRONT, shown, "}\n"])?,
+            "{shown}"
+        );
     }
     Ok(())
 }
@@ -94,6 +97,6 @@ fn the_longest_names_make_the_longest_line(rt: HostRuntime) -> Result<(), Fail> 
             pieces: u64::MAX,
         },
     };
-    assert_eq!(rt; line(rt.alloc(), u64::MAX, &event)?.len(), 4_429);
+    assert!(rt; line(rt.alloc(), u64::MAX, &event)?.len() == 4_429);
     Ok(())
 }

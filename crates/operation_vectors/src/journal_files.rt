@@ -1,7 +1,7 @@
 //! Files as a journal makes them, octet by octet, and the calls on its store.
 
-use crate::texts::{
-    BEGUN, BLOCK, CLEAR, DATED, DATED_DONE, DONE, MARKED, RESERVED, SENT, begun, dated, said,
+use crate::journal_texts::{
+    BEGUN, BLOCK, CLEAR, DATED, DATED_DONE, DONE, MARKED, RESERVED, SENT, begun, said, told,
 };
 use gate_cases::Face;
 use gate_journal::{Journal, RecoverFault, recover};
@@ -36,7 +36,10 @@ fn octets_of(alloc: Global, record: &Record) -> Result<String, Fail> {
 #[test]
 fn a_record_is_written_so(rt: HostRuntime) -> Result<(), Fail> {
     for (record, wanted) in RECORDS {
-        assert_eq!(rt; octets_of(rt.alloc(), record)?.as_str(), *wanted);
+        assert!(rt;
+            octets_of(rt.alloc(), record)?.as_str() == *wanted,
+            "{wanted}"
+        );
     }
     Ok(())
 }
@@ -204,11 +207,28 @@ fn committed_wrong(
     otherwise(alloc, journal, after, calls)
 }
 
+/// The moment at which a block came.
+const CAME: Option<u64> = Some(1_010_000);
+
+/// Whether the gate moves so, and the journal stands so, where a block is begun, and ends then where there are
+/// two records.
+fn is_committed(
+    alloc: Global,
+    came: Option<u64>,
+    count: usize,
+    after: Stands,
+) -> Result<bool, Fail> {
+    let block = hex::decode(alloc, BLOCK)?;
+    let records = [begun(came, &block), SENT];
+    let Some(records) = records.get(..count) else {
+        return Ok(false);
+    };
+    Ok(wrong_commit(alloc, AT_RESERVED, records, after)?.is_none())
+}
+
 #[test]
 fn a_block_goes_behind_the_gate(rt: HostRuntime) -> Result<(), Fail> {
-    let block = hex::decode(rt.alloc(), BLOCK)?;
-    let wrong = wrong_commit(rt.alloc(), AT_RESERVED, &[begun(&block)], AT_BEGUN)?;
-    assert!(rt; wrong.is_none(), "{wrong:?}");
+    assert!(rt; is_committed(rt.alloc(), None, 1, AT_BEGUN)?);
     Ok(())
 }
 
@@ -222,14 +242,10 @@ fn an_end_goes_behind_the_gate(rt: HostRuntime) -> Result<(), Fail> {
 /// So does a block with a moment, and its end.
 #[test]
 fn a_dated_block_goes_behind_the_gate(rt: HostRuntime) -> Result<(), Fail> {
-    let block = hex::decode(rt.alloc(), BLOCK)?;
-    let wrong = wrong_commit(rt.alloc(), AT_RESERVED, &[dated(&block)], AT_DATED)?;
-    assert!(rt; wrong.is_none(), "{wrong:?}");
+    assert!(rt; is_committed(rt.alloc(), CAME, 1, AT_DATED)?);
     let wrong = wrong_commit(rt.alloc(), AT_DATED, &[SENT], AT_DATED_DONE)?;
     assert!(rt; wrong.is_none(), "{wrong:?}");
-    let records = [dated(&block), SENT];
-    let wrong = wrong_commit(rt.alloc(), AT_RESERVED, &records, AT_DATED_DONE)?;
-    assert!(rt; wrong.is_none(), "{wrong:?}");
+    assert!(rt; is_committed(rt.alloc(), CAME, 2, AT_DATED_DONE)?);
     Ok(())
 }
 
@@ -243,24 +259,24 @@ fn no_records_make_no_call(rt: HostRuntime) -> Result<(), Fail> {
 /// Several records are committed at once as they are one after another.
 #[test]
 fn records_go_at_once(rt: HostRuntime) -> Result<(), Fail> {
-    let block = hex::decode(rt.alloc(), BLOCK)?;
-    let wrong = wrong_commit(rt.alloc(), AT_RESERVED, &[begun(&block), SENT], AT_DONE)?;
-    assert!(rt; wrong.is_none(), "{wrong:?}");
+    assert!(rt; is_committed(rt.alloc(), None, 2, AT_DONE)?);
     Ok(())
+}
+
+/// Whether a file says this, and the same with octets after its closed gate.
+fn says_alike(alloc: Global, text: &str, after: &[u8], wanted: &str) -> Result<bool, Fail> {
+    let mut file = hex::decode(alloc, text)?;
+    let before = said(alloc, &file)?.as_str() == wanted;
+    file.extend_from_slice(after)?;
+    Ok(before && said(alloc, &file)?.as_str() == wanted)
 }
 
 /// What stands behind a closed gate counts for nothing, a whole record too.
 #[test]
 fn what_stands_behind_is_no_record(rt: HostRuntime) -> Result<(), Fail> {
-    let mut file = hex::decode(rt.alloc(), BEGUN)?;
-    let wanted = said(rt.alloc(), &file)?;
-    assert_eq!(rt;
-        wanted.as_str(),
-        "begun 1 new 41 reserved 4097 4097 greatest 1"
-    );
     let done = hex::decode(rt.alloc(), "020101cec2ea03")?;
-    file.extend_from_slice(&done)?;
-    assert_eq!(rt; said(rt.alloc(), &file)?.as_str(), wanted.as_str());
+    let wanted = "begun 1 new 41 reserved 4097 4097 greatest 1";
+    assert!(rt; says_alike(rt.alloc(), BEGUN, &done, wanted)?);
     Ok(())
 }
 
@@ -269,25 +285,31 @@ fn refused(alloc: Global, file: &[u8]) -> Result<String, Fail> {
     let mut store = MemStore::new(alloc, file, None)?;
     match recover(alloc, &mut store) {
         Err(RecoverFault::Damaged { at, cause }) if store.octets() == file => {
-            let word = cause.word();
-            Ok(format!(in alloc; "{at} {word}")?)
+            told(alloc, at, cause.word())
         }
         _ => Err("it isn't refused, or doesn't stay".into()),
     }
 }
 
+/// Whether a file is refused so, and stays, with the octet at a place changed to another.
+fn is_refused(
+    alloc: Global,
+    text: &str,
+    place: usize,
+    octet: u8,
+    wanted: &str,
+) -> Result<bool, Fail> {
+    let mut file = hex::decode(alloc, text)?;
+    if let Some(changed) = file.get_mut(place) {
+        *changed = octet;
+    }
+    Ok(refused(alloc, &file)?.as_str() == wanted)
+}
+
 #[test]
 fn a_damaged_file_stays(rt: HostRuntime) -> Result<(), Fail> {
-    let mut changed = hex::decode(rt.alloc(), BEGUN)?;
-    if let Some(octet) = changed.get_mut(40) {
-        *octet = 0;
-    }
-    assert_eq!(rt; refused(rt.alloc(), &changed)?.as_str(), "72 Crc");
-    let mut changed = hex::decode(rt.alloc(), DATED)?;
-    if let Some(octet) = changed.get_mut(30) {
-        *octet = 0x80;
-    }
-    assert_eq!(rt; refused(rt.alloc(), &changed)?.as_str(), "30 Number");
-    assert_eq!(rt; refused(rt.alloc(), b"hello")?.as_str(), "0 Start");
+    assert!(rt; is_refused(rt.alloc(), BEGUN, 40, 0, "72 Crc")?);
+    assert!(rt; is_refused(rt.alloc(), DATED, 30, 0x80, "30 Number")?);
+    assert!(rt; refused(rt.alloc(), b"hello")?.as_str() == "0 Start");
     Ok(())
 }

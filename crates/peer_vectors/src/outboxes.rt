@@ -15,15 +15,17 @@ use peer_sessions::Keys;
 use std::alloc::{AllocError, Global};
 use std::test::Fail;
 
-/// How many octets are wanted in a block, how many are in a segment, and how many an outbox takes.
+/// How many octets of memory a face has, how many are wanted in a block, how many are in a segment, and how many an
+/// outbox takes.
 #[derive(Clone, Copy)]
 struct Set {
+    memory: u64,
     wanted: u64,
     segment: u32,
     outbox: u64,
 }
 
-/// The keys of a face of 32 MiB, at which a piece waits for one millisecond.
+/// The keys of a face at which a piece waits for one millisecond.
 fn keys(own: u64, peer: u64, set: Set, policy: Policy) -> Keys
     requires { own ≢ peer }
     ensures { AreFaceKeys result }
@@ -35,7 +37,7 @@ fn keys(own: u64, peer: u64, set: Set, policy: Policy) -> Keys
         policy,
         bounds: Bounds {
             sessions: 1_024,
-            memory: 33_554_432,
+            memory: set.memory,
             wanted: set.wanted,
             segment: policy.segment as u64,
             outbox: set.outbox,
@@ -163,14 +165,14 @@ const NONE: Count = Count {
     octets: 0,
 };
 
-/// Blocks of these bundles of 2,000,000 octets come, each in a session of its own.
+/// Blocks of these bundles of 250,000 octets come, each in a session of its own.
 fn comes(alloc: Global, gateway: &mut PeerGateway, blocks: &[&[u8]]) -> Result<Count, Fail>
     requires { gateway.old.spent ≡ false }
 {
     let mut count = NONE;
     let mut session = 7u64;
     for sequences in blocks {
-        let block = bundles(alloc, sequences, 20_000)?;
+        let block = bundles(alloc, sequences, 2_500)?;
         let datagram = block_of(alloc, session, &block)?;
         let answer = gateway.arrive(Face::Old, &datagram, at(0), (0, count.octets))?;
         count = counted(count, &answer);
@@ -182,6 +184,7 @@ fn comes(alloc: Global, gateway: &mut PeerGateway, blocks: &[&[u8]]) -> Result<C
 /// What becomes of them at a gateway's beginning.
 fn of_blocks(alloc: Global, blocks: &[&[u8]]) -> Result<Count, Fail> {
     let config = config(Set {
+        memory: 4_194_304,
         wanted: 0,
         segment: 1_024,
         outbox: 65_507,
@@ -196,9 +199,9 @@ fn a_row_passes_as_its_bundles_do(rt: HostRuntime) -> Result<(), Fail> {
     let wanted = Count {
         passed: 6,
         others: 0,
-        put: 65,
-        dropped: 11_659,
-        octets: 65_489,
+        put: 64,
+        dropped: 1_406,
+        octets: 65_323,
     };
     let alone: &[&[u8]] = &[&[5], &[6], &[7], &[8], &[9], &[10]];
     let row: &[&[u8]] = &[&[5], &[6], &[7], &[8], &[9, 10]];
@@ -244,6 +247,7 @@ fn resends(alloc: Global, gateway: &mut PeerGateway) -> Result<PeerAnswer, Fail>
 /// What was made in the last tick at a gateway's beginning: in all, and the 440 datagrams of the block.
 fn beside_resends(alloc: Global) -> Result<(Count, u64), Fail> {
     let config = config(Set {
+        memory: 33_554_432,
         wanted: 4_194_304,
         segment: 8_192,
         outbox: 536_870_912,

@@ -56,7 +56,9 @@ def numbers(part):
 
 
 def gives(found):
-    return {name: [None if text == "-" else text for text in texts(found[name])] for name in NAMES.values()}
+    """What the polls give; the model knows nothing of datagrams from elsewhere, each a `+` before what a poll gives."""
+    given = {name: [text.lstrip("+") for text in texts(found[name])] for name in NAMES.values()}
+    return {name: [None if text == "-" else text for text in each] for name, each in given.items()}
 
 
 # ---- runs without a journal ----

@@ -15,8 +15,6 @@ mod gateway;
 #[cfg(test)]
 mod memory;
 #[cfg(test)]
-mod outboxes;
-#[cfg(test)]
 mod rows;
 #[cfg(test)]
 mod sessions;

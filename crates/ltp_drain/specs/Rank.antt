@@ -29,7 +29,7 @@ unfoldable pub weights : List ContentValue → ℕ
 weights [] = 0
 weights (c ∷ cs) = weight c + weights cs
 
--- a red piece that has a place
+-- a red piece that covers octet i
 abbrev pub has_cell : ℕ → ContentValue → Bool
 has_cell i (a_piece q) = is_red q.kind && nat_le q.offset i && nat_lt i (q.offset + length q.body)
 has_cell i content = false
@@ -39,7 +39,7 @@ abbrev pub is_checkpoint_of : ℕ → ContentValue → Bool
 is_checkpoint_of c (a_piece q) = is_checkpoint q.kind && (q.checkpoint == c)
 is_checkpoint_of c content = false
 
--- a piece with the place comes before the checkpoint with this serial, or is it
+-- octet i comes before the checkpoint with serial c, or with it
 unfoldable pub ahead : ℕ → ℕ → List ContentValue → Bool
 ahead c i [] = false
 ahead c i (e ∷ es) = has_cell i e || (not (is_checkpoint_of c e) && ahead c i es)
@@ -68,8 +68,10 @@ IsAskedOn c new_s new_r =
     × (q.checkpoint ≡ c))
     ⊎ ((x : ReportValue) × IsIn (a_report x) new_r × (x.checkpoint ≡ c))
 
--- a rank is no more than n, by three numbers: what its report's timer, its checkpoint's timer and
--- a round of its sender take
+-- A session takes at most n events more: the weights of what is on its way, and three numbers. A
+-- report that is pending takes 3, unless it or its acknowledgement is on its way. A checkpoint that
+-- is waited for takes 4, unless it or a report on it is on its way. A round of the sender takes its
+-- segments and 2 more, unless no more rounds follow.
 pub record RankAtMost (z red : ℕ) (v : View) (new_s new_r : List ContentValue)
     (n : ℕ) : Type 0 where
   pub report : ℕ

@@ -1,4 +1,4 @@
--- All that every run keeps of a session.
+-- What holds of a session after every run.
 
 use Rattle.std.specs.Prelude.{ℕ, List}
 use Rattle.ltp_laws.specs.Acknowledgements.{AckFacts, CloseFacts}
@@ -14,7 +14,8 @@ use Rattle.ltp_laws.specs.Serials.{SerialFacts}
 use Rattle.ltp_laws.specs.Spelling.{HeldFacts, SpellingFacts}
 use Rattle.ltp_laws.specs.View.{View}
 
--- the facts of a session with this block and this red length
+-- The facts of a session with this block and this red length. Each is a record of a page of its
+-- own, whose head says what it is about.
 pub record SessionFacts (block : List ℕ) (red : ℕ) (v : View) : Type 0 where
   pub basic : BlockFacts block red v
   pub kinds : KindFacts block red v

@@ -1,5 +1,5 @@
--- The octets of a red part that came, place by place (RFC 5326, section 6.9): its cells, its length,
--- and which pieces can be of it.
+-- The octets of a red part that came, place by place (RFC 5326, section 6.9): its cells, its
+-- length, and which pieces can be of it.
 
 use Rattle.std.specs.Prelude.{ℕ, Bool, false, not, ◌==◌, ◌&&◌, ◌||◌, nat_lt, List, length, map}
 use Rattle.std.specs.Prelude.{Option, None, Some, is_some, if◌then◌else◌}
@@ -11,7 +11,7 @@ unfoldable pub use Rattle.cells.specs.Cells.{filled, all_octets}
 abbrev pub filled_places : List (Option ℕ) → List Bool
 filled_places cells = map is_some cells
 
--- the length of the red part, once a piece came that stops there and may end it
+-- the length of the red part, once a piece came that ends it: where that stops
 abbrev pub length_after : Option ℕ → Bool → ℕ → Option ℕ
 length_after (Some end) ends stop = Some end
 length_after None ends stop = if ends then Some stop else None
@@ -33,8 +33,8 @@ abbrev pub is_another : Option ℕ → ℕ → Bool
 is_another None place = false
 is_another (Some end) place = not (end == place)
 
--- a red piece that can't be one of this red part: it stops past its length, or the red part ends
--- with it elsewhere than before, or below an octet that came
+-- A red piece that can't be one of this red part: it stops past the known length. Or it ends the
+-- red part, and stops elsewhere than an earlier one that did, or below an octet that came.
 abbrev pub is_misplaced : ℕ → Option ℕ → Bool → ℕ → Bool
 is_misplaced reach length ends stop =
     is_past length stop || (ends && (is_another length stop || nat_lt stop reach))

@@ -18,13 +18,14 @@ claim_of run = record { offset = run.from; length = run.to - run.from }
 unfoldable pub claims_below : ℕ → List (Option ℕ) → List Claim
 claims_below upper cells = map claim_of (runs_of (take upper (filled_places cells)))
 
--- the upper bound of a report that makes no more than so many claims: where there are more, it is
--- the end of the last one made. Own rule: one report answers one checkpoint.
+-- The upper bound of a report that makes at most `most` claims: where there are more, it is the end
+-- of the last one made. Own rule: one report answers one checkpoint, where section 6.11 would send
+-- more.
 abbrev pub upper_of : ℕ → ℕ → List Claim → ℕ
 upper_of most upper claims =
     if nat_lt most (length claims) then end_from 0 (take most claims) else upper
 
--- a report on the octets from 0 to the upper bound, with so many claims at most
+-- a report on the octets from 0 (own rule) to the upper bound, with at most `most` claims
 abbrev pub report_within : ℕ → ℕ → ℕ → ℕ → List Claim → ReportValue
 report_within most serial checkpoint upper claims = record {
   serial = serial;
@@ -39,7 +40,7 @@ unfoldable pub report_on : ℕ → ℕ → ℕ → List (Option ℕ) → ReportV
 report_on serial checkpoint upper cells =
     report_within 1024 serial checkpoint upper (claims_below upper cells)
 
--- the claims are one, of the whole red part
+-- the claims are one, of the whole red part; while its length is unknown they aren't
 abbrev pub is_whole_claim : Option ℕ → List Claim → Bool
 is_whole_claim None claims = false
 is_whole_claim (Some end) [] = false
@@ -54,7 +55,8 @@ with_range k from to [] = []
 with_range k from to (claimed ∷ places) =
     (claimed || is_in from to k) ∷ with_range (k + 1) from to places
 
--- the places, with those of some claims claimed too; the claims count from the lower bound
+-- The places, with those of some claims claimed too. The claims count from the lower bound, and
+-- what lies past the list is ignored.
 unfoldable pub with_claims : ℕ → List Claim → List Bool → List Bool
 with_claims lower [] places = places
 with_claims lower (claim ∷ claims) places =

@@ -19,14 +19,14 @@ pub record Pending : Type 0 where
   pub report : ReportValue
   pub timer : Timer
 
--- an open session has at most one pending report; a cancelling one waits for the acknowledgement
--- of its cancel, which has a reason
+-- An open session has at most one pending report (own rule). A cancelling one has sent a cancel for
+-- this reason, and waits for its acknowledgement.
 pub data ReceivingPhase : Type 0 where
   receiver_open : Option Pending → ReceivingPhase
   receiver_cancelling : ℕ → Timer → ReceivingPhase
 
--- the red octets that came; the length of the red part, once an end of it came; the lowest offset
--- of green data; whether the red part was handed up; and the serial of the next report
+-- the red octets that came; the length of the red part, once a piece came that ends it; the lowest
+-- offset of green data; whether the red part was handed up; and the serial of the next report
 pub record Receiving : Type 0 where
   pub cells : List (Option ℕ)
   pub length : Option ℕ
@@ -63,7 +63,7 @@ receiver_deadline r = option_map (λ timer. timer.deadline) (receiving_timer r.p
 abbrev pub piece_stop : PieceValue → ℕ
 piece_stop piece = stop_of piece.offset piece.body
 
--- the session is given up, and its cancel is sent
+-- the session is cancelled; `up` is the red part, where it is whole by now and goes up with that
 abbrev pub rejects : PolicyValue → Receiving → ℕ → ℕ → Option (List ℕ) → StepValue Receiving
 rejects policy r reason now up = record {
   next = keeps (record r { phase = receiver_cancelling reason (first_timer policy now) });
@@ -73,21 +73,23 @@ rejects policy r reason now up = record {
   note = Some (note_failed reason);
 }
 
--- ---- a piece comes to an open session: six rules, in this order
+-- ---- A piece comes to an open session. Rules 1 and 2, in this order, say which pieces are
+-- refused. Else a green piece follows rule 3, and a red one rules 4, 5 and 6.
 
--- 1. a red piece that can't be one of this red part
+-- 1. A red piece that can't be one of this red part is noted, and no more (own rule).
 abbrev pub is_outside : Receiving → PieceValue → Bool
 is_outside r piece = is_red piece.kind
     && is_misplaced (reach_of r.cells) r.length (ends_red_part piece.kind) (piece_stop piece)
 
--- 2. a red piece that stops past the lowest green offset, or a green one that begins below the end of
--- the red octets that came or below the known length (section 6.21)
+-- 2. A miscoloured piece is dropped, and the session cancelled (section 6.21): a red one that stops
+-- past the lowest green offset, or a green one that begins below the end of the red octets that
+-- came or below the known length.
 abbrev pub is_miscoloured : Receiving → PieceValue → Bool
 is_miscoloured r piece =
     if is_red piece.kind then is_past r.green (piece_stop piece)
     else (nat_lt piece.offset (reach_of r.cells) || is_below r.length piece.offset)
 
--- 3. green data is handed up at once (section 6.10)
+-- 3. Green data is handed up at once (section 6.10), and its offset kept where it is the lowest.
 abbrev pub lowest : Option ℕ → ℕ → Option ℕ
 lowest None offset = Some offset
 lowest (Some low) offset = Some (min low offset)
@@ -112,15 +114,16 @@ abbrev pub takes_green : Receiving → PieceValue → StepValue Receiving
 takes_green r piece =
     hands_up_green (keeps (record r { green = lowest r.green piece.offset })) piece
 
--- 4. red data fills the empty places alone
+-- 4. Red data fills empty places only: an octet that came stays. A piece that ends the red part
+-- says how long that is.
 abbrev pub with_red : Receiving → PieceValue → Receiving
 with_red r piece = record r {
   cells = filled r.cells piece.offset piece.body;
   length = length_after r.length (ends_red_part piece.kind) (piece_stop piece);
 }
 
--- 5. a checkpoint makes a report up to the length of the red part, else to the checkpoint's stop
--- (section 6.11)
+-- 5. Each checkpoint, one that comes again too, makes a new report (section 6.11): from 0 to the
+-- length of the red part, or to the checkpoint's stop while that is unknown (own rule).
 abbrev pub bound_of : Option ℕ → ℕ → ℕ
 bound_of None stop = stop
 bound_of (Some end) stop = end
@@ -129,15 +132,16 @@ unfoldable pub report_of : Receiving → PieceValue → ReportValue
 report_of r piece =
     report_on r.serial piece.checkpoint (bound_of r.length (piece_stop piece)) r.cells
 
--- 6. the red part is handed up once, as soon as its length is known and all of it came
--- (section 6.9)
+-- 6. The red part is handed up once, as soon as its length is known and all of it came (section
+-- 6.9), whichever red piece completes it.
 abbrev pub red_part : Receiving → Option (List ℕ)
 red_part r = if r.handed_up then None else whole_part r.cells r.length
 
 abbrev pub with_handed_up : Receiving → Receiving
 with_handed_up r = record r { handed_up = r.handed_up || is_some (red_part r) }
 
--- rules 5 and 6: the report is sent and is pending, in place of an earlier one
+-- rules 5 and 6: the report has the next serial and is sent; it is pending, in place of an earlier
+-- one
 abbrev pub reports : PolicyValue → Receiving → ReportValue → ℕ → StepValue Receiving
 reports policy r report now = record {
   next = keeps (record (with_handed_up r) {
@@ -150,6 +154,7 @@ reports policy r report now = record {
   note = None;
 }
 
+-- where no serial is left the session is cancelled, and a whole red part still goes up
 abbrev pub takes_checkpoint : PolicyValue → Receiving → PieceValue → ℕ → StepValue Receiving
 takes_checkpoint policy r piece now =
     if is_past_serials r.serial
@@ -177,13 +182,13 @@ piece_step policy r piece now =
 
 -- ---- a report is acknowledged (sections 6.14 and 6.20)
 
--- the pending report is pending no more; where it claimed the whole red part the session is over
+-- the pending report is pending no more; where it claimed the whole red part the session is closed
 abbrev pub settles : Receiving → ReportValue → StepValue Receiving
 settles r report =
     if is_whole_claim r.length report.claims then sending ends []
     else sending (keeps (record r { phase = receiver_open None })) []
 
--- the acknowledgement touches the session, also where it names no pending report
+-- an acknowledgement that names no pending report touches the session, and no more
 abbrev pub acknowledged_in : Receiving → ReceivingPhase → ℕ → StepValue Receiving
 acknowledged_in r (receiver_open None) serial = sending (keeps r) []
 acknowledged_in r (receiver_open (Some pending)) serial =
@@ -195,8 +200,8 @@ acknowledged r serial = acknowledged_in r r.phase serial
 
 -- ---- a timer is due (sections 6.8 and 6.16)
 
--- a report is sent again; once it was sent too often the session is over where the red part was
--- handed up, and given up otherwise
+-- A report is sent again. Where it was sent as often as it may be, the session is closed if the red
+-- part was handed up (own rule), and else cancelled.
 abbrev pub report_due : PolicyValue → Receiving → Pending → ℕ → StepValue Receiving
 report_due policy r pending now =
     if may_repeat policy pending.timer
@@ -210,6 +215,7 @@ report_due policy r pending now =
     (a_report pending.report ∷ [])
     else if r.handed_up then sending ends [] else rejects policy r sent_too_often now None
 
+-- a cancel is sent again; where it was sent as often as it may be, the session is closed
 abbrev pub cancel_due : PolicyValue → Receiving → ℕ → Timer → ℕ → StepValue Receiving
 cancel_due policy r reason timer now =
     if may_repeat policy timer
@@ -219,6 +225,7 @@ cancel_due policy r reason timer now =
     (a_receiver_cancel reason ∷ [])
     else sending ends []
 
+-- a timer that isn't due does nothing
 abbrev pub receiver_due : PolicyValue → Receiving → ReceivingPhase → ℕ → StepValue Receiving
 receiver_due policy r (receiver_open None) now = sending stays []
 receiver_due policy r (receiver_open (Some pending)) now =
@@ -231,15 +238,17 @@ receiver_tick policy r now = receiver_due policy r r.phase now
 
 -- ---- what comes, for a session that is kept or not
 
--- what its engine knows besides: the session's number, the greatest length of a block, whether the
--- number is closed, and whether the record of closed numbers has no room for a new session
+-- What its engine knows besides, which decides whether a piece may open the session: the session's
+-- number, the greatest length of a block, whether the number is closed, and whether the record of
+-- closed numbers has no room for a new session.
 pub record Place : Type 0 where
   pub session : ℕ
   pub most : ℕ
   pub closed : Bool
   pub full : Bool
 
--- a piece of a session that isn't kept: green data is handed up, and red data opens the session
+-- A piece of a session that isn't kept: green data is handed up, and nothing is remembered of it.
+-- Red data opens the session, unless its number is closed or the record of closed numbers is full.
 abbrev pub first_piece : PolicyValue → Place → PieceValue → ℕ → StepValue Receiving
 first_piece policy place piece now =
     if not (is_red piece.kind) then hands_up_green stays piece
@@ -247,12 +256,16 @@ first_piece policy place piece now =
     else if place.full then noting stays [] note_history_full
     else piece_step policy (fresh place.session) piece now
 
+-- a piece for a cancelling session is noted, and no more
 abbrev pub piece_for :
     PolicyValue → Place → Option Receiving → PieceValue → ℕ → StepValue Receiving
 piece_for policy place None piece now = first_piece policy place piece now
 piece_for policy place (Some r) piece now =
     if is_cancelling r.phase then noting stays [] note_closed else piece_step policy r piece now
 
+-- First of all: a piece for another client service is answered by a cancel, and nothing is kept of
+-- it (own rule); one that is empty, or stops past the greatest block, is noted, and no more (own
+-- rule).
 abbrev pub on_piece :
     PolicyValue → Place → Option Receiving → PieceValue → ℕ → StepValue Receiving
 on_piece policy place kept piece now =
@@ -265,12 +278,14 @@ abbrev pub on_report_ack : Option Receiving → ℕ → StepValue Receiving
 on_report_ack None serial = sending stays []
 on_report_ack (Some r) serial = acknowledged r serial
 
--- the sender's cancel is acknowledged, and ends the session where it is kept (section 6.17)
+-- the sender's cancel is acknowledged, and closes the session where it is kept (section 6.17)
 abbrev pub on_sender_cancel : Option Receiving → ℕ → StepValue Receiving
 on_sender_cancel None reason = sending stays (a_sender_cancel_ack ∷ [])
 on_sender_cancel (Some r) reason =
     noting ends (a_sender_cancel_ack ∷ []) (note_cancelled reason)
 
+-- the acknowledgement of a cancel closes a cancelling session, and does nothing to an open one
+-- (section 6.18)
 abbrev pub on_receiver_cancel_ack : Option Receiving → StepValue Receiving
 on_receiver_cancel_ack None = sending stays []
 on_receiver_cancel_ack (Some r) =

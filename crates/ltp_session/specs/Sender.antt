@@ -12,13 +12,14 @@ use Rattle.ltp_session.specs.Timer.{first_timer, next_timer, is_due, may_repeat,
 use Rattle.ltp_session.specs.Claims.{with_claims}
 use Rattle.ltp_session.specs.Step.{Change, stays, keeps, ends, StepValue, sending, noting, note_sent, note_failed, note_cancelled, note_bad_bounds, sent_too_often, by_system}
 
--- an open session waits for a report on its current checkpoint; a cancelling one for the
--- acknowledgement of its cancel, which has a reason
+-- An open session waits for a report on its current checkpoint. A cancelling one has sent a cancel
+-- for this reason, and waits for its acknowledgement.
 pub data SendingPhase : Type 0 where
   sender_open : PieceValue → Timer → SendingPhase
   sender_cancelling : ℕ → Timer → SendingPhase
 
--- the block, the length of its red part, and which octets of that were claimed
+-- the block, the length of its red part, which is at most the block's, and which octets of the red
+-- part were claimed
 pub record Sending : Type 0 where
   pub block : List ℕ
   pub red : ℕ
@@ -33,9 +34,9 @@ sending_timer (sender_cancelling reason timer) = timer
 abbrev pub sender_deadline : Sending → Option ℕ
 sender_deadline s = Some (sending_timer s.phase).deadline
 
--- ---- segments: where each begins in the block, and its octets
+-- ---- segments of a block before they are pieces: where each begins in the block, and its octets
 
--- segments of so many octets, the last one shorter or equal; no more than n of them
+-- at most n segments of `size` octets, the first from `at` on; the last may be shorter
 unfoldable pub segments_from : ℕ → ℕ → ℕ → List ℕ → List (ℕ × List ℕ)
 segments_from size zero at octets = []
 segments_from size (suc n) at [] = []
@@ -72,13 +73,14 @@ piece_at kind checkpoint report segment = record {
   body = segment.1;
 }
 
--- the kind of a checkpoint that stops at a place of a block of so many octets
+-- A checkpoint that stops where the red part ends is the end of the red part, and of the block too
+-- if that has no green part.
 abbrev pub checkpoint_kind : ℕ → ℕ → ℕ → PieceKind
 checkpoint_kind size red stop =
     if stop == red then (if red == size then kinds.RedEndBlock else kinds.RedEnd)
     else kinds.RedCheckpoint
 
--- a segment as a checkpoint with a serial, which answers a report
+-- a segment as a checkpoint with its serial, and that of the report which it answers, or 0
 abbrev pub checkpoint_at : ℕ → ℕ → ℕ → ℕ → ℕ × List ℕ → PieceValue
 checkpoint_at size red serial report segment =
     piece_at (checkpoint_kind size red (segment.0 + length segment.1)) serial report segment
@@ -99,7 +101,7 @@ green_pieces (segment ∷ next ∷ segments) =
 
 -- ---- a block is sent (sections 6.1 and 6.2)
 
--- a session whose first checkpoint is this segment; without one none is kept
+-- a session is kept, and its first checkpoint is this segment; without a red segment none is kept
 abbrev pub opened :
     PolicyValue → List ℕ → ℕ → ℕ → (ℕ × List ℕ → PieceValue) → Option (ℕ × List ℕ)
     → Change Sending
@@ -148,13 +150,14 @@ unclaimed claimed (segment ∷ segments) =
 abbrev pub is_all_claimed : List Bool → Bool
 is_all_claimed claimed = list_all (λ b. b) claimed
 
--- the session is given up: its cancel is sent after what goes before
+-- the session is cancelled: after the contents `before` its cancel is sent (section 6.15)
 abbrev pub gives_up : PolicyValue → Sending → ℕ → ℕ → List ContentValue → StepValue Sending
 gives_up policy s reason now before =
     noting (keeps (record s { phase = sender_cancelling reason (first_timer policy now) }))
     (before ++ a_sender_cancel reason ∷ []) (note_failed reason)
 
--- segments are sent after what goes before, and the last of them is the new checkpoint
+-- after the contents `before` these segments are sent, and the last of them is the new checkpoint;
+-- without segments only `before` is sent
 abbrev pub sends_again :
     PolicyValue → Sending → ℕ → List (ℕ × List ℕ) → (ℕ × List ℕ → PieceValue)
     → Option (ℕ × List ℕ) → List ContentValue → StepValue Sending
@@ -164,7 +167,9 @@ sends_again policy s now segments checkpoint (Some segment) before =
     (keeps (record s { phase = sender_open (checkpoint segment) (first_timer policy now) }))
     (before ++ red_pieces checkpoint segments)
 
--- each red segment that isn't wholly claimed is sent again; the serial is the current checkpoint's
+-- Each red segment that isn't wholly claimed is sent again, also one outside the report's scope
+-- (own rule). The last is a checkpoint with the serial after `serial`, which is the current
+-- checkpoint's. Where no serial is left, the session is cancelled.
 abbrev pub next_round :
     PolicyValue → Sending → ℕ → ℕ → ℕ → List ContentValue → StepValue Sending
 next_round policy s serial report now before =
@@ -176,8 +181,9 @@ next_round policy s serial report now before =
     checkpoint_at (length s.block) s.red (serial + 1) report in
     sends_again policy s now segments checkpoint (last_segment segments) before)
 
--- the claims are added by now: where they cover the whole red part the session is over; else a report
--- that names the current checkpoint begins another round
+-- The report's claims are added by now. Where all of the red part is claimed, the block was sent,
+-- and the session is closed. Else a report that names the current checkpoint begins another round,
+-- and any other is acknowledged and no more (own rule).
 abbrev pub goes_on :
     PolicyValue → Sending → PieceValue → ReportValue → ℕ → List ContentValue
     → StepValue Sending
@@ -191,7 +197,8 @@ abbrev pub with_report : Sending → ReportValue → Sending
 with_report s report =
     record s { claimed = with_claims report.lower report.claims s.claimed }
 
--- a report within the bounds is acknowledged; a cancelling session does nothing else
+-- a report is acknowledged; an open session takes its claims, and a cancelling one does nothing
+-- else
 abbrev pub takes_report :
     PolicyValue → Sending → SendingPhase → ReportValue → ℕ → List ContentValue
     → StepValue Sending
@@ -199,6 +206,7 @@ takes_report policy s (sender_open checkpoint timer) report now acks =
     goes_on policy (with_report s report) checkpoint report now acks
 takes_report policy s (sender_cancelling reason timer) report now acks = sending stays acks
 
+-- a report on octets past the red part is noted, and not acknowledged (own rule)
 unfoldable pub report_step : PolicyValue → Sending → ReportValue → ℕ → StepValue Sending
 report_step policy s report now =
     if nat_lt s.red report.upper then noting stays [] note_bad_bounds
@@ -206,6 +214,8 @@ report_step policy s report now =
 
 -- ---- a timer is due (sections 6.7 and 6.16)
 
+-- The checkpoint, or the cancel, is sent again. Where it was sent as often as it may be, an open
+-- session is cancelled, and a cancelling one closed.
 abbrev pub sender_due : PolicyValue → Sending → SendingPhase → ℕ → StepValue Sending
 sender_due policy s (sender_open checkpoint timer) now =
     if may_repeat policy timer
@@ -222,6 +232,7 @@ sender_due policy s (sender_cancelling reason timer) now =
     (a_sender_cancel reason ∷ [])
     else sending ends []
 
+-- a timer that isn't due does nothing
 unfoldable pub sender_tick : PolicyValue → Sending → ℕ → StepValue Sending
 sender_tick policy s now =
     if is_due (sending_timer s.phase) now then sender_due policy s s.phase now
@@ -229,19 +240,19 @@ sender_tick policy s now =
 
 -- ---- cancels (sections 6.17, 6.18 and 6.20)
 
--- the acknowledgement of a cancel ends the session that sent it
+-- the acknowledgement of a cancel closes a cancelling session, and does nothing to an open one
 abbrev pub ends_cancelling : SendingPhase → StepValue Sending
 ends_cancelling (sender_open checkpoint timer) = sending stays []
 ends_cancelling (sender_cancelling reason timer) = sending ends []
 
--- ---- what comes, for a session that is kept or over
+-- ---- what comes, for a session that is kept or not
 
--- a report for a session that is over is acknowledged, whatever its bounds
+-- a report for a session that isn't kept is acknowledged, whatever its bounds
 abbrev pub on_report : PolicyValue → Option Sending → ReportValue → ℕ → StepValue Sending
 on_report policy None report now = sending stays (a_report_ack report.serial ∷ [])
 on_report policy (Some s) report now = report_step policy s report now
 
--- the receiver's cancel is acknowledged, and ends the session
+-- the receiver's cancel is acknowledged, and closes the session where it is kept
 abbrev pub on_receiver_cancel : Option Sending → ℕ → StepValue Sending
 on_receiver_cancel None reason = sending stays (a_receiver_cancel_ack ∷ [])
 on_receiver_cancel (Some s) reason =

@@ -1,20 +1,26 @@
--- What one session does in answer to an event. It names neither its originator nor its number;
--- who keeps the session knows them.
+-- What one session does in answer to an event: its step. A step names neither the session's
+-- originator nor its number; who keeps the session knows them.
+--
+-- A piece is a data segment. A session is cancelled (RFC 5326, section 6.19) or closed (6.20).
 
 use Rattle.std.specs.Prelude.{◌≢◌, ℕ, Bool, List, [], Option, None, Some}
 use Rattle.ltp_segment.specs.Values.{ContentValue}
 
--- what is to be noted: the block was sent and its red part, if it has one, claimed whole; the session was given
--- up, for a reason; a block for a client service that isn't there came; the other end gave the
--- session up, for a reason; a piece or a report doesn't fit the block; a piece for a session that
--- is over came; there is no room in the record of earlier sessions
+-- what is to be noted
 pub data NoteValue : Type 0 where
+  -- the block was sent, and its red part, if it has one, claimed whole
   note_sent : NoteValue
+  -- this end cancelled the session, for this reason
   note_failed : ℕ → NoteValue
+  -- a piece came for this client service, which isn't here
   note_refused : ℕ → NoteValue
+  -- the other end cancelled the session, for this reason
   note_cancelled : ℕ → NoteValue
+  -- a piece or a report came that doesn't fit the block
   note_bad_bounds : NoteValue
+  -- a piece came for a session that is cancelled or closed
   note_closed : NoteValue
+  -- a piece came for a new session, and the record of closed ones has no room
   note_history_full : NoteValue
 
 -- a green piece, handed up as it came: where it begins, whether the block ends with it, its octets
@@ -23,7 +29,8 @@ pub record GreenValue : Type 0 where
   pub last : Bool
   pub body : List ℕ
 
--- what becomes of a session: nothing; it is kept, in this state; or it is over
+-- What becomes of a session: it stays as it was, kept or not; it is kept, in this state; or it is
+-- closed. To be kept is to be touched, also in the same state.
 pub data Change (S : Type 0) : Type 0 where
   stays : Change S
   keeps : S → Change S
@@ -57,7 +64,8 @@ noting next out note =
 abbrev pub Sends : {S : Type 0} → StepValue S → Type 0
 Sends step = step.out ≢ []
 
--- ---- the reasons of a cancel (RFC 5326, section 3.2.4)
+-- ---- the reasons of the cancels that we send (RFC 5326, section 3.2.4): UNREACH, RLEXC,
+-- MISCOLORED and SYS_CNCLD
 
 abbrev pub unreachable : ℕ
 unreachable = 1

@@ -5,7 +5,8 @@ use Rattle.std.specs.Prelude.{ℕ, ◌+◌, ◌%◌, ◌^◌, ◌<◌, Bool, ◌
 use Rattle.ltp_segment.specs.Policy.{PolicyValue, wait_after}
 use Rattle.ltp_session.specs.declared.timer.Timer.{Timer}
 
--- a segment was sent for the first time at this moment
+-- A segment was sent for the first time at this moment. The timer starts with the step that sends
+-- it, and runs by how often it was sent (own rule).
 abbrev pub first_timer : PolicyValue → ℕ → Timer
 first_timer policy now = record { times = 1; deadline = now + wait_after policy 1 }
 
@@ -18,7 +19,7 @@ next_timer policy timer now =
 abbrev pub is_due : Timer → ℕ → Bool
 is_due timer now = nat_le timer.deadline now
 
--- it may be sent once more
+-- it may be sent once more: it is sent `limit` times at most, the first one counted
 abbrev pub may_repeat : PolicyValue → Timer → Bool
 may_repeat policy timer = nat_lt timer.times policy.limit
 
@@ -29,11 +30,11 @@ may_repeat policy timer = nat_lt timer.times policy.limit
 abbrev pub first_serial : ℕ → ℕ
 first_serial session = 1 + session % 16383
 
--- Such a number isn't 0, which is that of no checkpoint (RFC 5326, section 3.2.1), and two octets of
--- an SDNV have room for it.
+-- Such a number isn't 0, which no checkpoint and no report may have (RFC 5326, sections 3.2.1 and
+-- 3.2.2), and two octets of an SDNV have room for it.
 abbrev pub FirstSerialsAreShort : Type 0
 FirstSerialsAreShort = (session : ℕ) → (0 < first_serial session) × (first_serial session < 2 ^ 14)
 
--- we send no segment with this serial or a larger one. Own rule
+-- Serials rise by one, and we send no segment with this one. Own rule.
 abbrev pub is_past_serials : ℕ → Bool
 is_past_serials serial = serial == 2 ^ 32

@@ -71,6 +71,11 @@ sent-short to records room fits short all =
     by true = refl
     by false = refl
 
+-- where one has too many blocks
+sent-unfit : (to : Face) (records : List Full) (room : Room) → list_all (fits_at to) records ≡ false
+    → sent_records to records room ≡ record { case = Untranslated TooManyBlocks; pieces = [] }
+sent-unfit to records room unfit = ap (λ (f : Bool). sent_by to records f (is_short room (map (octets_at to) records))) unfit
+
 -- where there are too few sessions
 pub sent-few : (to : Face) (records : List Full) (room : Room) (fits : Bool) → has_sessions room (length records) ≡ false
     → list_all (fits_at to) records ≡ fits
@@ -99,12 +104,16 @@ sent-refused to arrival now cut room cause is =
 
 -- ---- what code answered
 
-pub few-sent : (to : Face) (passed : Full) (size : ℕ) (room : Room) (sent : Sent)
-    → has_sessions room (length (pieces_on passed size)) ≡ false
-    → sent ≡ record { case = if fits_at to passed then Storage else Untranslated TooManyBlocks; pieces = [] }
+pub few-sent : (to : Face) (passed : Full) (size : ℕ) (room : Room) (sent : Sent) → fits_at to passed ≡ true
+    → has_sessions room (length (pieces_on passed size)) ≡ false → sent ≡ record { case = Storage; pieces = [] }
     → sent ≡ sent_records to (pieces_on passed size) room
-few-sent to passed size room sent few is =
-    is ∙ sym (sent-few to (pieces_on passed size) room (fits_at to passed) few (fits-pieces to passed size))
+few-sent to passed size room sent fit few is =
+    is ∙ sym (sent-few to (pieces_on passed size) room true few (fits-pieces to passed size ∙ fit))
+
+pub unfit-sent : (to : Face) (passed : Full) (size : ℕ) (room : Room) (sent : Sent) → fits_at to passed ≡ false
+    → sent ≡ record { case = Untranslated TooManyBlocks; pieces = [] } → sent ≡ sent_records to (pieces_on passed size) room
+unfit-sent to passed size room sent unfit is =
+    is ∙ sym (sent-unfit to (pieces_on passed size) room (fits-pieces to passed size ∙ unfit))
 
 pub long-sent : (to : Face) (records : List Full) (room : Room) (sent : Sent) (fit : Bool) → list_any (over_at to) records ≡ true
     → fit ≡ list_all (fits_at to) records

@@ -1,5 +1,6 @@
 -- What only ties code to the definitions: the case of a record that was read, and what goes on.
-use Rattle.std.specs.Prelude.{◌≡◌, ℕ, ◌+◌, Bool, not, ◌||◌, nat_lt, List, ◌∷◌, map, Option, Some, None, Result, Ok, Err}
+use Rattle.std.specs.Prelude.{◌≡◌, ℕ, ◌+◌, Bool, true, not, ◌||◌, nat_lt, List, [], ◌∷◌, map, length, Option, Some, None, Result, Ok, Err}
+use Rattle.std.specs.List.{list_all}
 use Rattle.bundle_meaning.specs.declared.full.Full.{Full}
 use Rattle.translate.specs.declared.refused.Refused.{Refused}
 use Rattle.translate.specs.Refusals.{first_that_holds}
@@ -9,7 +10,7 @@ use Rattle.gate_cases.specs.declared.case.GateCase.TheVariants.{Expired, HopLimi
 use Rattle.gate_cases.specs.declared.case.Room.{Room}
 use Rattle.gate_cases.specs.declared.face.Face.{Face}
 use Rattle.gate_cases.specs.declared.sending.Sent.{Sent}
-use Rattle.gate_cases.specs.Faces.{octets_at}
+use Rattle.gate_cases.specs.Faces.{octets_at, fits_at}
 use Rattle.gate_cases.specs.Blocks.{Arrival}
 use Rattle.gate_cases.specs.Passage.{has_no_hop_left}
 use Rattle.gate_cases.specs.Cases.{lacks, stops, or_passed, pieces_if, records_of}
@@ -25,6 +26,15 @@ sent_in to records case = record { case = case; pieces = pieces_if case (map (oc
 -- records that made their hop
 abbrev pub sent_records : Face → List Full → Room → Sent
 sent_records to records room = sent_in to records (or_passed (first_that_holds (lacks to records room)))
+
+-- for these records there is room but for their octets: each fits its blocks, and has a session
+pub record HaveSessions (to : Face) (records : List Full) (room : Room) : Type 0 where
+  pub fit : list_all (fits_at to) records ≡ true
+  pub sessions : has_sessions room (length records) ≡ true
+
+-- what ends the way of a record, whatever there is at the other face
+abbrev pub ends : Full → ℕ → List (GateCase × Bool)
+ends full now = (Expired, nat_lt full.shared.expiry now) ∷ (HopLimit, has_no_hop_left full.exts) ∷ []
 
 -- a record that was read
 abbrev pub sent_full : Face → Full → ℕ → ℕ → Room → Sent

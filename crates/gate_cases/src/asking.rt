@@ -1,13 +1,13 @@
 //! Which status report a bundle asks for.
 
-ghost use Rattle.std.specs.Prelude.{◌≡◌, ◌<◌, ◌^◌, ◌&&◌, not, length, IfOk};
+ghost use Rattle.std.specs.Prelude.{◌≡◌, ◌<◌, ◌^◌, ◌&&◌, true, not, length, IfOk, OnErr};
 ghost use Rattle.bundle6.specs.Bits.{has_bit};
 ghost use Rattle.bundle6.specs.Legal.{IsLegal};
 ghost use Rattle.bundle7.specs.Legal.{IsLegal7};
 ghost use Rattle.translate.specs.Reading6.{payload_in};
 ghost use Rattle.translate.specs.View7.{is_null};
 ghost use Rattle.gate_cases.specs.Blocks.{part_of, subject6, subject7};
-ghost use Rattle.gate_cases.specs.Reports.{is_passed, is_deleted, is_any, statuses_of, asked};
+ghost use Rattle.gate_cases.specs.Reports.{is_passed, is_deleted, is_any, statuses_of, is_asked, asked};
 ghost use Rattle.gate_cases.specs.Promises.{AreAskable};
 
 use crate::case::GateCase;
@@ -32,7 +32,7 @@ const DELETION: u32 = 18;
 /// The type of the payload block.
 const PAYLOAD: u8 = 1;
 
-/// The report that a version 6 bundle asks for in a case.
+/// The report that a version 6 bundle asks for in a case. Memory is wanted only where it asks for one.
 pub fn asked6(
     alloc: Global,
     bundle: &Bundle6,
@@ -40,6 +40,7 @@ pub fn asked6(
 ) -> Result<Option<AskedReport>, AllocError>
     requires { IsLegal bundle.now }
     ensures exact { IfOk result (λ report. report ≡ asked (subject6 bundle.now) case) }
+    ensures memory { OnErr result (is_asked (subject6 bundle.now) case ≡ true) }
     ensures askable { IfOk result AreAskable }
 {
     let primary = &bundle.primary;
@@ -60,7 +61,7 @@ pub fn asked6(
     }))
 }
 
-/// The report that a version 7 bundle asks for in a case.
+/// The report that a version 7 bundle asks for in a case. Memory is wanted only where it asks for one.
 pub fn asked7(
     alloc: Global,
     bundle: &Bundle7,
@@ -68,6 +69,7 @@ pub fn asked7(
 ) -> Result<Option<AskedReport>, AllocError>
     requires { IsLegal7 bundle.now }
     ensures exact { IfOk result (λ report. report ≡ asked (subject7 bundle.now) case) }
+    ensures memory { OnErr result (is_asked (subject7 bundle.now) case ≡ true) }
     ensures askable { IfOk result AreAskable }
 {
     let primary = &bundle.primary;

@@ -1,15 +1,16 @@
 //! The pieces of a record that goes on, and the room for them.
 
-ghost use Rattle.std.specs.Prelude.{◌≡◌, ◌+◌, ◌<◌, ◌^◌, ◌||◌, not, nat_lt, true, length, map, Some, None, if◌then◌else◌, IfOk, ◌==◌, [], ◌∷◌};
+ghost use Rattle.std.specs.Prelude.{◌≡◌, ◌+◌, ◌<◌, ◌^◌, ◌||◌, not, nat_lt, true, length, map, Some, None, if◌then◌else◌, IfOk, OnErr, ◌==◌, [], ◌∷◌};
 ghost use Rattle.std.specs.List.{All, list_all, list_any};
 ghost use Rattle.bundle_meaning.specs.Valid.{IsValid};
 ghost use Rattle.translate.specs.Legal.{IsSized6};
+ghost use Rattle.translate.specs.Refusals.{first_that_holds};
 ghost use Rattle.translate.specs.Sound.{IsSound};
 ghost use Rattle.fragments.specs.Cutting.{octets_of, is_longer, must_not};
 ghost use Rattle.gate_cases.specs.declared.case.TheConstants.{BLOCK_MAX, SENDING_MAX, NUMBERS};
 ghost use Rattle.gate_cases.specs.Faces.{octets_at, fits_at};
 ghost use Rattle.gate_cases.specs.Passage.{pieces_on};
-ghost use Rattle.gate_cases.specs.Sending.{has_sessions, sent_full, sent_records};
+ghost use Rattle.gate_cases.specs.Sending.{has_sessions, HaveSessions, ends, sent_full, sent_records};
 
 use crate::case::{BLOCK_MAX, GateCase, NUMBERS, Room, SENDING_MAX};
 use crate::face::Face;
@@ -31,7 +32,8 @@ pub(crate) struct Sent {
     pub(crate) pieces: Pieces,
 }
 
-/// What is decided about a record on its way to a face, at this moment.
+/// What is decided about a record on its way to a face, at this moment. That its lifetime or its hops are
+/// over takes no memory.
 pub(crate) fn send(
     alloc: Global,
     to: Face,
@@ -42,7 +44,8 @@ pub(crate) fn send(
 ) -> Result<Sent, AllocError>
     requires some { 0 < size }
     requires sound { IsSound full }
-    ensures { IfOk result (λ sent. sent ≡ sent_full to full now size room) }
+    ensures exact { IfOk result (λ sent. sent ≡ sent_full to full now size room) }
+    ensures memory { OnErr result (first_that_holds (ends full now) ≡ None) }
 {
     if expiry_ms(&full) < u128::from(now) {
         return Ok(stopped(alloc, GateCase::Expired));
@@ -63,8 +66,8 @@ pub(crate) fn stopped(alloc: Global, case: GateCase) -> Sent
     }
 }
 
-/// The same of a record that made its hop. Where there are too few sessions for its pieces, they aren't
-/// made: there may be millions.
+/// The same of a record that made its hop. Where it has too many blocks, or there are too few sessions for
+/// its pieces, they aren't made: there may be millions.
 fn send_passed(
     alloc: Global,
     to: Face,
@@ -74,12 +77,16 @@ fn send_passed(
 ) -> Result<Sent, AllocError>
     requires some { 0 < size }
     requires sound { IsSound passed }
-    ensures { IfOk result (λ sent. sent ≡ sent_records to (pieces_on passed size) room) }
+    ensures exact { IfOk result (λ sent. sent ≡ sent_records to (pieces_on passed size) room) }
+    ensures memory { OnErr result (HaveSessions to (pieces_on passed size) room) }
 {
+    if !fits(to, &passed) {
+        return Ok(stopped(alloc, TOO_MANY));
+    }
     if has_sessions(room, piece_count(&passed, size)) {
         send_pieces(alloc, to, piece_records(alloc, passed, size)?)
     } else {
-        Ok(unsent(alloc, fits(to, &passed)))
+        Ok(stopped(alloc, GateCase::Storage))
     }
 }
 

@@ -7,7 +7,7 @@ use Rattle.gate_cases.proofs.judging.sent6.Goals as goal
 pub returns-in-Ok : goal.returns-in-Ok
 returns-in-Ok c =
     read-ok New (arrival6 c.args.bundle.now) c.in-Ok.full c.args.now c.args.size c.args.room c.send.result
-    (rw c.in-Ok.is at c.in_ok-full.ensures.exact) c.send.ensures
+    (rw c.in-Ok.is at c.in_ok-full.ensures.exact) c.send.ensures.exact
 
 pub returns-in-Err : goal.returns-in-Err
 returns-in-Err c =

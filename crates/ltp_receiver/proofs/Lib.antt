@@ -1,4 +1,5 @@
 pub mod ReportLemmas
 pub mod KeptLemmas
+pub mod QuietLemmas
 -- the receiver's law
 pub mod LawLemmas

@@ -5,7 +5,7 @@ use Rattle.ltp_segment.specs.Policy.{PolicyValue}
 use Rattle.ltp_segment.specs.Values.{PieceValue}
 use Rattle.ltp_session.specs.declared.name.SessionName.{SessionName}
 use Rattle.ltp_session.specs.Step.{StepValue, stays, sending}
-use Rattle.ltp_session.specs.Receiver.{Receiving, fresh, is_cancelling, is_outside, piece_step}
+use Rattle.ltp_session.specs.Receiver.{Receiving, fresh, is_cancelling, piece_step}
 use Rattle.ltp_session.specs.Receiver.{receiver_deadline}
 use Rattle.ltp_session.specs.Views.{SessionValue}
 
@@ -27,11 +27,6 @@ IsOpen (Some r) = is_cancelling r.phase ≡ false
 abbrev pub on_open_piece : PolicyValue → Option Receiving → PieceValue → ℕ → StepValue Receiving
 on_open_piece policy None piece now = sending stays []
 on_open_piece policy (Some r) piece now = piece_step policy r piece now
-
--- a piece can't be one of the session's red part
-abbrev pub is_kept_outside : Option Receiving → PieceValue → Bool
-is_kept_outside None piece = false
-is_kept_outside (Some r) piece = is_outside r piece
 
 abbrev pub is_kept_cancelling : Option Receiving → Bool
 is_kept_cancelling None = false

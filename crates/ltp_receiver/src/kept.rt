@@ -1,12 +1,14 @@
 //! What is kept of a session that isn't over, and its steps.
 
 ghost use Rattle.std.specs.Prelude.{◌≡◌, ℕ, ◌+◌, ◌^◌, ◌<◌, ◌≤◌, false, None, Some, length};
-ghost use Rattle.std.specs.Prelude.{IfOk, OnErr, IsSomeAnd};
+ghost use Rattle.std.specs.Prelude.{IfOk, OnErr, IsSomeAnd, is_some, true, ◌||◌};
 ghost use Rattle.std.specs.Option.{option_map};
 ghost use Rattle.ltp_segment.specs.declared.session.TheConstants.{BLOCK_MAX};
 ghost use Rattle.ltp_segment.specs.Views.{piece_value};
 ghost use Rattle.ltp_segment.specs.PolicyViews.{policy_value};
-ghost use Rattle.ltp_session.specs.Cells.{stop_of};
+ghost use Rattle.ltp_segment.specs.Kinds.{is_checkpoint};
+ghost use Rattle.ltp_session.specs.Cells.{stop_of, whole_part};
+ghost use Rattle.cells.specs.Cells.{filled};
 ghost use Rattle.ltp_session.specs.Step.{after};
 ghost use Rattle.ltp_session.specs.Receiver.{fresh, receiver_deadline, rejects, is_outside};
 ghost use Rattle.ltp_session.specs.Receiver.{is_miscoloured, takes_green, with_red, report_of};
@@ -101,6 +103,7 @@ fn handing_up(out: Outs, up: Option<Octets>) -> Step
 impl Kept {
     ghost use Rattle.ltp_receiver.specs.Kept.{receiving_of, Did, reported, is_claimed};
     ghost use Rattle.ltp_receiver.specs.Kept.{with_timer, exhausted};
+    ghost use Rattle.ltp_receiver.specs.Quiet.{IsQuietStep};
 
     /// A session of which nothing came yet. It takes no memory.
     pub fn fresh(alloc: Global, session: u64) -> Kept
@@ -199,8 +202,10 @@ impl Kept {
     fn with_red(self, piece: &PieceView<'_>) -> Result<Kept, AllocError>
         requires some { 0 < length piece.now.body.now }
         requires fits { stop_of piece.now.offset piece.now.body.now ≤ BLOCK_MAX }
-        ensures { IfOk result (λ kept. receiving_of kept
+        ensures red { IfOk result (λ kept. receiving_of kept
             ≡ with_red (receiving_of self) (piece_value piece.now)) }
+        ensures wanted { OnErr result
+            (filled self.cells piece.now.offset piece.now.body.now ≡ self.cells → ⊥) }
     {
         let Kept {
             cells,
@@ -211,7 +216,7 @@ impl Kept {
             phase,
         } = self;
         let stop = piece.offset + piece.body.len() as u64;
-        let cells = cells.with(piece.offset, piece.body)?;
+        let cells = with_octets(cells, piece)?;
         Ok(Kept {
             cells,
             length: length_after(length, piece.kind.ends_red_part(), stop),
@@ -222,11 +227,20 @@ impl Kept {
         })
     }
 
+    /// Whether the length of the red part is known, and each octet of it came.
+    fn is_whole(&self) -> bool
+        ensures { result ≡ is_some (whole_part self.now.cells self.now.length) }
+    {
+        let reach = self.cells.reach();
+        self.length == Some(reach) && self.cells.places().is_whole(reach)
+    }
+
     /// The red part, where it is whole and wasn't handed up.
     fn red_part(&self, alloc: Global) -> Result<Option<Octets>, AllocError>
-        ensures { IfOk result (λ part. part ≡ red_part (receiving_of self.now)) }
+        ensures part { IfOk result (λ part. part ≡ red_part (receiving_of self.now)) }
+        ensures wanted { OnErr result (is_some (red_part (receiving_of self.now)) ≡ true) }
     {
-        if self.handed_up {
+        if self.handed_up || !self.is_whole() {
             return Ok(None);
         }
         let part = self.cells.whole_part(alloc, self.length)?;
@@ -294,9 +308,11 @@ impl Kept {
         requires some { 0 < length piece.now.body.now }
         requires fits { stop_of piece.now.offset piece.now.body.now ≤ BLOCK_MAX }
         requires moment { now < 2 ^ 62 }
-        ensures { IfOk result (Did terms.name (receiving_of self)
+        ensures did { IfOk result (Did terms.name (receiving_of self)
             (takes_red (policy_value terms.policy) (receiving_of self)
             (piece_value piece.now) now)) }
+        ensures wanted { OnErr result
+            ((is_checkpoint piece.now.kind || is_some (red_part (receiving_of self))) ≡ true) }
     {
         let up = self.red_part(terms.alloc)?;
         let kept = self.with_handed_up(&up);
@@ -309,13 +325,15 @@ impl Kept {
         kept.report(terms, piece, now, up)
     }
 
-    /// A piece came. Memory is wanted only where it can be one of the red part, or is green.
+    /// A piece came. Memory is wanted only where something is sent or handed up, or a place gets
+    /// its octet.
     pub fn piece(self, terms: Terms, piece: &PieceView<'_>, now: u64) -> Answer
         requires some { 0 < length piece.now.body.now }
         requires fits { stop_of piece.now.offset piece.now.body.now ≤ BLOCK_MAX }
         requires moment { now < 2 ^ 62 }
-        ensures wanted { OnErr result
-            (is_outside (receiving_of self) (piece_value piece.now) ≡ false) }
+        ensures wanted { OnErr result (IsQuietStep (Some (receiving_of self))
+            (piece_step (policy_value terms.policy) (receiving_of self)
+            (piece_value piece.now) now) → ⊥) }
         ensures did { IfOk result (Did terms.name (receiving_of self)
             (piece_step (policy_value terms.policy) (receiving_of self)
             (piece_value piece.now) now)) }
@@ -431,4 +449,21 @@ impl Kept {
         let next = timer.next(&terms.policy, now);
         Ok((Some(self.with_timer(next)), sending(out)))
     }
+}
+
+/// The cells, with a piece's octets where none is yet. Memory is wanted only where there is such a
+/// place.
+fn with_octets(cells: Cells, piece: &PieceView<'_>) -> Result<Cells, AllocError>
+    requires some { 0 < length piece.now.body.now }
+    requires fits { stop_of piece.now.offset piece.now.body.now ≤ BLOCK_MAX }
+    ensures now { IfOk result (λ now. now
+        ≡ filled cells piece.now.offset piece.now.body.now) }
+    ensures wanted { OnErr result
+        (filled cells piece.now.offset piece.now.body.now ≡ cells → ⊥) }
+{
+    let stop = piece.offset + piece.body.len() as u64;
+    if cells.places().covers(piece.offset, stop) {
+        return Ok(cells);
+    }
+    cells.with(piece.offset, piece.body)
 }

@@ -11,7 +11,8 @@ ghost use Rattle.ltp_session.specs.Cells.{stop_of};
 ghost use Rattle.ltp_session.specs.Receiver.{on_report_ack, on_receiver_cancel_ack};
 ghost use Rattle.ltp_session.specs.Receiver.{on_receiver_tick};
 ghost use Rattle.ltp_session.specs.Views.{answer_of, changed};
-ghost use Rattle.ltp_receiver.specs.Receiver.{new_session, IsOpen, on_open_piece, is_kept_outside};
+ghost use Rattle.ltp_receiver.specs.Quiet.{IsQuietStep};
+ghost use Rattle.ltp_receiver.specs.Receiver.{new_session, IsOpen, on_open_piece};
 ghost use Rattle.ltp_receiver.specs.Receiver.{is_kept_cancelling, is_kept_handed_up, deadline_of};
 ghost use Rattle.ltp_receiver.specs.Receiver.{cells_of};
 
@@ -81,7 +82,8 @@ impl Receiver {
     /// Green data is handed up at once (RFC 5326, section 6.10). Red data fills the places that
     /// have no octet yet, and a checkpoint is answered by one report (section 6.11). The red part
     /// is handed up once, as soon as its length is known and all of it came (section 6.9). A red
-    /// piece that doesn't fit what came before is only noted, and takes no memory.
+    /// piece that doesn't fit what came before is only noted. That takes no memory, and neither
+    /// does a red piece that is no checkpoint and brings no octet to an empty place.
     pub fn piece(&mut self, piece: &PieceView<'_>, now: u64) -> Result<Step, AllocError>
         requires whole { self.old.spent ≡ false }
         requires open { IsOpen self.old.kept }
@@ -93,8 +95,9 @@ impl Receiver {
         ensures answer { IfOk result (λ step. step ≡ answer_of self.old.name
             (on_open_piece self.old.policy self.old.kept (piece_value piece.now) now)) }
         ensures err { OnErr result (self.new.spent ≡ true) }
-        ensures wanted { OnErr result
-            (is_kept_outside self.old.kept (piece_value piece.now) ≡ false) }
+        // Memory is wanted only where something is sent or handed up, or a place gets its octet.
+        ensures wanted { OnErr result (IsQuietStep self.old.kept
+            (on_open_piece self.old.policy self.old.kept (piece_value piece.now) now) → ⊥) }
     {
         self.spent = true;
         let (kept, step) = match self.kept.take() {

@@ -272,7 +272,7 @@ fn notes_at(alloc: Global, face: Face, notes: Notes) -> Result<GateNotes, AllocE
     ensures { IfOk result (λ all. all ≡ map (engine_note_at face) notes) }
 {
     let mut items = Vec::new(alloc);
-    'each: for note in notes.into_vec() {
+    'each: for note in notes.into_vec()? {
         let note = GateNote::Engine { note };
         items.push(FaceNote { face, note })?;
     }

@@ -155,7 +155,7 @@ own-whole p next n now content senders senders' inbound told whole does = by_ans
         };
       }
 
-own-reply : (p : Party) (next n now : ℕ) (content : ContentValue) (senders : List (ℕ × SessionValue Sending)) (inbound : Inbound) (answer : Option (StepValue Sending)) (e : Engine)
+pub own-reply : (p : Party) (next n now : ℕ) (content : ContentValue) (senders : List (ℕ × SessionValue Sending)) (inbound : Inbound) (answer : Option (StepValue Sending)) (e : Engine)
     → nat_le p.first n ≡ true → nat_lt n next ≡ true → sender_answers p.policy (find n (table_of senders)) content now ≡ answer
     → Shows (made_of false p next senders inbound) e
     → own_step p e n content now ≡ replied_or_stranger e (record { originator = p.own; number = n }) (sender_replies e n answer)
@@ -291,7 +291,7 @@ ups-same : (n : ℕ) (up : Option (List ℕ))
 ups-same n None = refl
 ups-same n (Some body) = refl
 
-peer-reply : (p : Party) (next n now : ℕ) (content : ContentValue) (senders : List (ℕ × SessionValue Sending)) (old : Inbound) (answer : Option (StepValue Receiving)) (e : Engine)
+pub peer-reply : (p : Party) (next n now : ℕ) (content : ContentValue) (senders : List (ℕ × SessionValue Sending)) (old : Inbound) (answer : Option (StepValue Receiving)) (e : Engine)
     → p.most ≡ BLOCK_MAX → receiver_answers p.policy (place_in (inbound_of old) BLOCK_MAX p.history n) (find n (inbound_of old).receivers) content now ≡ answer
     → Shows (made_of false p next senders old) e
     → peer_step p e n content now ≡ replied_or_stranger e (record { originator = p.peer; number = n }) (receiver_replies p e n answer)

@@ -27,7 +27,7 @@ use Rattle.ltp_segment.specs.Kinds.{is_red, is_checkpoint, ends_red_part}
 use Rattle.ltp_receiver.specs.Receiver.{on_open_piece, is_kept_cancelling, new_session, IsOpen}
 use Rattle.ltp_engine.specs.Notes.{is_taken}
 use Rattle.std.specs.Option.{option_map}
-use Rattle.std.proofs.Common.{length, slice_get, remove, suc, ◌+◌, nat_eq, nat_le, nat_lt, ◌&&◌, ◌||◌}
+use Rattle.std.proofs.Common.{length, slice_get, remove, suc, nat_eq, nat_le, nat_lt, ◌&&◌, ◌||◌}
 use Rattle.std.proofs.lemmas.Bool.Decides.{nat_tests}
 use Rattle.ltp_engine.specs.Closed.{also_closed}
 use Rattle.ltp_engine.specs.Tables.{table_of, by_number, live, live_entry, live_all, AreLive}

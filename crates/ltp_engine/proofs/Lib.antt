@@ -11,6 +11,7 @@ pub mod KeepLemmas
 pub mod ShowLemmas
 mod EngineLemmas
 pub mod HearLemmas
+mod WantLemmas
 pub mod LegalLemmas
 mod BeginLemmas
 mod QuietLemmas

@@ -1,11 +1,13 @@
 -- what public clauses cite
 pub mod Closed
+pub mod NoteLists
 pub mod Effects
 pub mod Refused
 pub mod Values
 pub mod Sessions
 pub mod Shows
 pub mod Bounds
+pub mod Quiet
 pub mod Steps
 pub mod Elsewhere
 -- what an engine hands up, whoever is at the other end
@@ -15,5 +17,6 @@ pub mod Ticks
 pub mod Notes
 pub mod Tables
 pub mod Inbound
+pub mod Wants
 pub mod Sides
 pub mod Ties

@@ -1,6 +1,6 @@
 //! What an engine does in answer to an event.
 
-ghost use Rattle.std.specs.Prelude.{◌≡◌, ◌++◌, IfOk, OnOk, OnErr};
+ghost use Rattle.std.specs.Prelude.{◌≡◌, ◌++◌, ◌∷◌, [], ◌||◌, true, is_some, IfOk, OnErr};
 ghost use Rattle.std.specs.Option.{option_map};
 ghost use Rattle.ltp_segment.specs.declared.session.Note.TheVariants as notes;
 ghost use Rattle.ltp_session.specs.Engine.{list_of};
@@ -9,6 +9,7 @@ use endpoint::Octets;
 use ltp_segment::{Green, Note, Outs, Step};
 use std::alloc::{AllocError, Global};
 use std::marker::Model;
+use std::slice;
 
 /// A red part that is handed up.
 #[derive(Debug, Drop)]
@@ -97,53 +98,90 @@ impl Greens {
     }
 }
 
-/// Notes, in their order.
+/// How notes are kept.
+#[derive(Debug, Drop)]
+enum NoteList {
+    /// A single one, and where memory for more comes from.
+    One(Note, Global),
+    /// Any number of them.
+    Several(Vec<Note>),
+}
+
+/// Notes, in their order. A single one takes no memory.
 #[derive(Debug, Drop)]
 pub struct Notes {
-    items: Vec<Note>,
+    list: NoteList,
 }
 
 impl Model for Notes {
     ghost use Rattle.std.specs.Prelude.{List};
     ghost use Rattle.ltp_segment.specs.declared.session.Note.{Note};
+    ghost use Rattle.ltp_engine.specs.NoteLists.{notes_in};
 
     ghost Value = { List Note };
 
-    ghost view = { λ notes. notes.items.items };
+    ghost view = { λ notes. notes_in notes.list };
 }
 
 impl Notes {
+    /// A single note. It takes no memory.
+    pub fn one(alloc: Global, note: Note) -> Notes
+        ensures { result ≡ note ∷ [] }
+    {
+        Notes {
+            list: NoteList::One(note, alloc),
+        }
+    }
+
     /// These notes, moved and not copied.
     pub fn from_vec(items: Vec<Note>) -> Notes
         ensures { result ≡ items.items }
     {
-        Notes { items }
+        Notes {
+            list: NoteList::Several(items),
+        }
     }
 
-    /// The notes, moved and not copied.
-    pub fn into_vec(self) -> Vec<Note>
-        ensures { result.items ≡ self }
+    /// The notes as a vector. A single one is put into memory; others are moved and not copied.
+    pub fn into_vec(self) -> Result<Vec<Note>, AllocError>
+        ensures { IfOk result (λ notes. notes.items ≡ self) }
     {
-        let Notes { items } = self;
-        items
+        let Notes { list } = self;
+        match list {
+            NoteList::One(note, alloc) => {
+                let mut items = Vec::new(alloc);
+                items.push(note)?;
+                Ok(items)
+            }
+            NoteList::Several(items) => Ok(items),
+        }
     }
 
     /// The notes, lent.
     pub fn as_slice(&self) -> &[Note]
         ensures { result.now ≡ self.now }
     {
-        self.items.as_slice()
+        match &self.list {
+            NoteList::One(note, _) => slice::from_ref(note),
+            NoteList::Several(items) => items.as_slice(),
+        }
     }
 
-    /// Adds a note at the end, where there is one. Where memory runs out the list stays as it was.
-    pub(crate) fn add(&mut self, note: Option<Note>) -> Result<(), AllocError>
-        ensures ok { OnOk result (self.new ≡ self.old ++ list_of note) }
-        ensures err { OnErr result (self.new ≡ self.old) }
+    /// These notes, and one after them, where there is one. Memory is wanted only where there is
+    /// another before it.
+    pub(crate) fn with(self, alloc: Global, note: Option<Note>) -> Result<Notes, AllocError>
+        ensures notes { IfOk result (λ all. all ≡ self ++ list_of note) }
+        ensures wanted { OnErr result (self ≡ [] → ⊥) }
     {
-        if let Some(note) = note {
-            self.items.push(note)?;
+        let Some(note) = note else {
+            return Ok(self);
+        };
+        if self.as_slice().is_empty() {
+            return Ok(Notes::one(alloc, note));
         }
-        Ok(())
+        let mut items = self.into_vec()?;
+        items.push(note)?;
+        Ok(Notes::from_vec(items))
     }
 }
 
@@ -175,23 +213,27 @@ impl Effects {
         }
     }
 
-    /// Nothing is done but a note.
-    pub(crate) fn noted(alloc: Global, note: Note) -> Result<Effects, AllocError>
-        ensures { IfOk result (λ effects. effects ≡ only_noted note) }
+    /// Nothing is done but a note. It takes no memory.
+    pub(crate) fn noted(alloc: Global, note: Note) -> Effects
+        ensures { result ≡ only_noted note }
     {
-        let mut effects = Effects::none(alloc);
-        effects.notes.add(Some(note))?;
-        Ok(effects)
+        Effects {
+            notes: Notes::one(alloc, note),
+            ..Effects::none(alloc)
+        }
     }
 
-    /// The effects of a step of a session, before which another was evicted.
+    /// The effects of a step of a session, before which another was evicted. Memory is wanted only
+    /// where one was, or where something is handed up.
     pub(crate) fn of(
         alloc: Global,
         session: u64,
         evicted: Option<u64>,
         step: Step,
     ) -> Result<Effects, AllocError>
-        ensures { IfOk result (λ effects. effects ≡ effects_in session evicted step) }
+        ensures effects { IfOk result (λ effects. effects ≡ effects_in session evicted step) }
+        ensures wanted { OnErr result
+            ((is_some evicted || (is_some step.up || is_some step.green)) ≡ true) }
     {
         let Step {
             out,
@@ -199,38 +241,34 @@ impl Effects {
             green,
             note,
         } = step;
-        let mut notes = Notes::from_vec(Vec::new(alloc));
-        notes.add(evicted_note(evicted))?;
-        notes.add(note)?;
         Ok(Effects {
             out,
             ups: handed_up(alloc, session, up)?,
             greens: green_of(alloc, green)?,
-            notes,
+            notes: both_notes(alloc, evicted, note)?,
         })
     }
 
     /// Adds what a session sends and notes when time passes.
-    pub(crate) fn add(self, step: Step) -> Result<Effects, AllocError>
+    pub(crate) fn add(self, alloc: Global, step: Step) -> Result<Effects, AllocError>
         ensures { IfOk result (λ effects. effects ≡ with_sent self step.out step.note) }
     {
         let Effects {
             out,
             ups,
             greens,
-            mut notes,
+            notes,
         } = self;
         let Step {
             out: sent,
             note,
             ..
         } = step;
-        notes.add(note)?;
         Ok(Effects {
             out: joined(out, sent)?,
             ups,
             greens,
-            notes,
+            notes: notes.with(alloc, note)?,
         })
     }
 }
@@ -245,10 +283,22 @@ fn evicted_note(evicted: Option<u64>) -> Option<Note>
     }
 }
 
+/// The note of an eviction, and another after it. Memory is wanted only where one was evicted.
+fn both_notes(alloc: Global, evicted: Option<u64>, note: Option<Note>) -> Result<Notes, AllocError>
+    ensures notes { IfOk result (λ all. all
+        ≡ list_of (option_map notes.Evicted evicted) ++ list_of note) }
+    ensures wanted { OnErr result (is_some evicted ≡ true) }
+{
+    let none = Notes::from_vec(Vec::new(alloc));
+    let first = none.with(alloc, evicted_note(evicted))?;
+    first.with(alloc, note)
+}
+
 /// The red part, where it is handed up.
 fn handed_up(alloc: Global, session: u64, up: Option<Octets>) -> Result<Ups, AllocError>
-    ensures { IfOk result (λ ups. ups
+    ensures ups { IfOk result (λ ups. ups
         ≡ list_of (option_map (λ body. record { session = session; body = body }) up)) }
+    ensures wanted { OnErr result (is_some up ≡ true) }
 {
     let mut items = Vec::new(alloc);
     if let Some(body) = up {
@@ -259,7 +309,8 @@ fn handed_up(alloc: Global, session: u64, up: Option<Octets>) -> Result<Ups, All
 
 /// The piece of the green part, where one is handed up.
 fn green_of(alloc: Global, green: Option<Green>) -> Result<Greens, AllocError>
-    ensures { IfOk result (λ greens. greens ≡ list_of green) }
+    ensures greens { IfOk result (λ greens. greens ≡ list_of green) }
+    ensures wanted { OnErr result (is_some green ≡ true) }
 {
     let mut items = Vec::new(alloc);
     if let Some(green) = green {

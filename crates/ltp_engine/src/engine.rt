@@ -12,6 +12,7 @@ ghost use Rattle.ltp_engine.specs.Elsewhere.{released, reopened, closed_numbers}
 ghost use Rattle.ltp_engine.specs.Sessions.{is_open, is_handed_up, is_receiving, IsTouchOrder, cells_in};
 ghost use Rattle.ltp_engine.specs.Shows.{Shows, AreDistinct};
 ghost use Rattle.ltp_engine.specs.Bounds.{IsBounded};
+ghost use Rattle.ltp_engine.specs.Quiet.{IsNeverQuiet};
 ghost use Rattle.ltp_engine.specs.Steps.{begun_by, wide_party, new_engine};
 ghost use Rattle.ltp_engine.specs.Steps.{deadline_of, is_due_at, Steps, Submits};
 
@@ -235,6 +236,10 @@ impl Engine {
         ensures done { IfOk result (Steps self.old self.new
             (λ e. datagram_step self.old.party e (segment_of datagram.now) now)) }
         ensures bounds { OnOk result (IsBounded self.new) }
+        // Whoever sends it, a datagram that is only noted wants no memory, and neither does a
+        // piece that brings nothing new and isn't answered.
+        ensures wanted { OnErr result (IsNeverQuiet self.old
+            (λ e. datagram_step self.old.party e (segment_of datagram.now) now)) }
         ensures err { OnErr result (self.new.spent ≡ true) }
     {
         self.spent = true;
@@ -252,6 +257,8 @@ impl Engine {
         ensures done { IfOk result (Steps self.old self.new
             (λ e. datagram_step self.old.party e (Ok (segment_value segment.entry)) now)) }
         ensures bounds { OnOk result (IsBounded self.new) }
+        ensures wanted { OnErr result (IsNeverQuiet self.old
+            (λ e. datagram_step self.old.party e (Ok (segment_value segment.entry)) now)) }
         ensures err { OnErr result (self.new.spent ≡ true) }
     {
         self.spent = true;

@@ -1,6 +1,6 @@
 //! A receiving session on the heap, so that a change of the order moves its address alone.
 
-ghost use Rattle.std.specs.Prelude.{◌≡◌, ◌<◌, ◌≤◌, ◌^◌, false, not, is_some, length, IfOk, OnOk};
+ghost use Rattle.std.specs.Prelude.{◌≡◌, ◌<◌, ◌≤◌, ◌^◌, false, not, is_some, length, IfOk, OnOk, OnErr};
 ghost use Rattle.std.specs.List.{count_by};
 ghost use Rattle.spans.specs.Places.{covered_count};
 ghost use Rattle.ltp_segment.specs.declared.session.TheConstants.{BLOCK_MAX};
@@ -9,6 +9,7 @@ ghost use Rattle.ltp_session.specs.Cells.{stop_of};
 ghost use Rattle.ltp_session.specs.Receiver.{on_report_ack, on_receiver_cancel_ack};
 ghost use Rattle.ltp_session.specs.Receiver.{on_receiver_tick};
 ghost use Rattle.ltp_session.specs.Views.{changed, answer_of};
+ghost use Rattle.ltp_receiver.specs.Quiet.{IsQuietStep};
 ghost use Rattle.ltp_receiver.specs.Receiver.{on_open_piece, is_kept_cancelling, deadline_of, IsOpen};
 ghost use Rattle.ltp_receiver.specs.Receiver.{is_kept_handed_up, cells_of};
 
@@ -54,6 +55,8 @@ impl Held {
             (on_open_piece self.old.policy self.old.kept (piece_value piece.now) now).next) }
         ensures answer { IfOk result (λ step. step ≡ answer_of self.old.name
             (on_open_piece self.old.policy self.old.kept (piece_value piece.now) now)) }
+        ensures wanted { OnErr result (IsQuietStep self.old.kept
+            (on_open_piece self.old.policy self.old.kept (piece_value piece.now) now) → ⊥) }
     {
         self.receiver.piece(piece, now)
     }

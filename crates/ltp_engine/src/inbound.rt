@@ -1,7 +1,7 @@
 //! The receiving side of an engine: its sessions, their order and the closed numbers.
 
 ghost use Rattle.std.specs.Prelude.{◌≡◌, ℕ, ◌<◌, ◌≤◌, ◌^◌, ◌∷◌, [], None, Some, false, length};
-ghost use Rattle.std.specs.Prelude.{IfOk, OnOk};
+ghost use Rattle.std.specs.Prelude.{IfOk, OnOk, OnErr};
 ghost use Rattle.std.specs.Prelude.{◌+◌, ◌++◌, nat_eq, nat_le, true, if◌then◌else◌};
 ghost use Rattle.std.specs.List.{AllByRecursion};
 ghost use Rattle.std.specs.Map.{keys_of, remove_entry};
@@ -28,7 +28,9 @@ ghost use Rattle.ltp_engine.specs.Notes.{is_taken};
 ghost use Rattle.ltp_engine.specs.Sessions.{is_handed_up, is_receiving, IsTouchOrder, cells_in};
 ghost use Rattle.ltp_engine.specs.Tables.{table_of, AreLive, by_number, is_ended};
 ghost use Rattle.ltp_engine.specs.Closed.{all_closed};
+ghost use Rattle.ltp_receiver.specs.Quiet.{IsQuietStep};
 ghost use Rattle.ltp_engine.specs.Inbound.{moved, Turns};
+ghost use Rattle.ltp_engine.specs.Wants.{WantsNext};
 ghost use Rattle.ltp_engine.specs.Ticks.{receiver_ticked, with_ticks};
 
 use crate::closed::Closed;
@@ -95,6 +97,7 @@ impl Inbound {
         ensures receivers { OnOk result (self.new.receivers.entries
             ≡ moved n over touches self.old.receivers.entries) }
         ensures closed { OnOk result (self.new.closed ≡ closed_if n over self.old.closed) }
+        ensures wanted { OnErr result (over ≡ true) }
     {
         if over {
             self.receivers.shift_remove(&n);
@@ -111,9 +114,11 @@ impl Inbound {
         requires live { AreLive terms.originator (policy_value terms.policy)
             self.old.receivers.entries }
         requires runs { self.old.closed.runs < 2 ^ 32 }
-        ensures { IfOk result (Receives terms.originator (policy_value terms.policy) n
+        ensures does { IfOk result (Receives terms.originator (policy_value terms.policy) n
             (on_report_ack (find n (inbound_of self.old).receivers) serial)
             self.old self.new) }
+        ensures wanted { OnErr result (IsQuietStep (find n (inbound_of self.old).receivers)
+            (on_report_ack (find n (inbound_of self.old).receivers) serial) → ⊥) }
     {
         let answer = sending(Outs::new(terms.alloc));
         let Some(receiver) = self.receivers.get_mut(&n) else {
@@ -130,9 +135,11 @@ impl Inbound {
         requires live { AreLive terms.originator (policy_value terms.policy)
             self.old.receivers.entries }
         requires runs { self.old.closed.runs < 2 ^ 32 }
-        ensures { IfOk result (Receives terms.originator (policy_value terms.policy) n
+        ensures does { IfOk result (Receives terms.originator (policy_value terms.policy) n
             (on_receiver_cancel_ack (find n (inbound_of self.old).receivers))
             self.old self.new) }
+        ensures wanted { OnErr result (IsQuietStep (find n (inbound_of self.old).receivers)
+            (on_receiver_cancel_ack (find n (inbound_of self.old).receivers)) → ⊥) }
     {
         let answer = sending(Outs::new(terms.alloc));
         let Some(receiver) = self.receivers.get_mut(&n) else {
@@ -149,9 +156,11 @@ impl Inbound {
         requires live { AreLive terms.originator (policy_value terms.policy)
             self.old.receivers.entries }
         requires runs { self.old.closed.runs < 2 ^ 32 }
-        ensures { IfOk result (Receives terms.originator (policy_value terms.policy) n
+        ensures does { IfOk result (Receives terms.originator (policy_value terms.policy) n
             (on_sender_cancel (find n (inbound_of self.old).receivers) reason)
             self.old self.new) }
+        ensures wanted { OnErr result (IsQuietStep (find n (inbound_of self.old).receivers)
+            (on_sender_cancel (find n (inbound_of self.old).receivers) reason) → ⊥) }
     {
         let mut out = Outs::new(terms.alloc);
         out.push(write_cancel_ack(terms.alloc, terms.originator, n, true)?)?;
@@ -312,9 +321,11 @@ impl Inbound {
         requires moment { now < 2 ^ 62 }
         requires red { is_red piece.now.kind ≡ true }
         requires absent { find n (inbound_of self.old).receivers ≡ None }
-        ensures { IfOk result (Takes terms.originator (policy_value terms.policy) terms.sessions n
+        ensures takes { IfOk result (Takes terms.originator (policy_value terms.policy) terms.sessions n
             (piece_step (policy_value terms.policy) (fresh n) (piece_value piece.now) now)
             self.old self.new) }
+        ensures wanted { OnErr result (IsQuietStep None
+            (piece_step (policy_value terms.policy) (fresh n) (piece_value piece.now) now) → ⊥) }
     {
         let Terms {
             alloc,
@@ -344,10 +355,14 @@ impl Inbound {
         requires fits { stop_of piece.now.offset piece.now.body.now ≤ BLOCK_MAX }
         requires moment { now < 2 ^ 62 }
         requires absent { find n (inbound_of self.old).receivers ≡ None }
-        ensures { IfOk result (Takes terms.originator (policy_value terms.policy) terms.sessions n
+        ensures takes { IfOk result (Takes terms.originator (policy_value terms.policy) terms.sessions n
             (first_piece (policy_value terms.policy)
             (place_in (inbound_of self.old) BLOCK_MAX terms.history n)
             (piece_value piece.now) now) self.old self.new) }
+        ensures wanted { OnErr result (IsQuietStep None
+            (first_piece (policy_value terms.policy)
+            (place_in (inbound_of self.old) BLOCK_MAX terms.history n)
+            (piece_value piece.now) now) → ⊥) }
     {
         let alloc = terms.alloc;
         if !piece.kind.is_red() {
@@ -379,8 +394,10 @@ impl Inbound {
         requires some { 0 < length piece.now.body.now }
         requires fits { stop_of piece.now.offset piece.now.body.now ≤ BLOCK_MAX }
         requires moment { now < 2 ^ 62 }
-        ensures { IfOk result (TakesNext terms.originator (policy_value terms.policy) n
+        ensures takes { IfOk result (TakesNext terms.originator (policy_value terms.policy) n
             (piece_value piece.now) now self.old self.new) }
+        ensures wanted { OnErr result (WantsNext (policy_value terms.policy)
+            (piece_value piece.now) now (find n (inbound_of self.old).receivers)) }
     {
         let Some(receiver) = self.receivers.get_mut(&n) else {
             return Ok(None);
@@ -409,11 +426,15 @@ impl Inbound {
         requires runs { self.old.closed.runs < 2 ^ 32 }
         requires range { stop_of piece.now.offset piece.now.body.now < 2 ^ 64 }
         requires moment { now < 2 ^ 62 }
-        ensures { IfOk result (Takes terms.originator (policy_value terms.policy) terms.sessions n
+        ensures takes { IfOk result (Takes terms.originator (policy_value terms.policy) terms.sessions n
             (on_piece (policy_value terms.policy)
             (place_in (inbound_of self.old) BLOCK_MAX terms.history n)
             (find n (inbound_of self.old).receivers) (piece_value piece.now) now)
             self.old self.new) }
+        ensures wanted { OnErr result (IsQuietStep (find n (inbound_of self.old).receivers)
+            (on_piece (policy_value terms.policy)
+            (place_in (inbound_of self.old) BLOCK_MAX terms.history n)
+            (find n (inbound_of self.old).receivers) (piece_value piece.now) now) → ⊥) }
     {
         let alloc = terms.alloc;
         if piece.service != SERVICE {
@@ -461,7 +482,7 @@ impl Inbound {
         let mut ended = Vec::new(terms.alloc);
         'sessions: for n in self.numbers(terms)? {
             let (step, over) = tick_one(&mut self.receivers, terms, n, now)?;
-            told = told.add(step)?;
+            told = told.add(terms.alloc, step)?;
             add_ended(&mut ended, n, over)?;
         }
         self.close_all(ended)?;

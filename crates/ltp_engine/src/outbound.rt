@@ -1,12 +1,13 @@
 //! The sessions that an engine began, by their numbers.
 
-ghost use Rattle.std.specs.Prelude.{◌≡◌, ◌<◌, ◌^◌, ◌∷◌, [], None, false, IfOk, OnOk};
+ghost use Rattle.std.specs.Prelude.{◌≡◌, ◌<◌, ◌^◌, ◌∷◌, [], None, false, IfOk, OnOk, OnErr};
 ghost use Rattle.ltp_segment.specs.Legal.{IsReport};
 ghost use Rattle.ltp_segment.specs.PolicyViews.{policy_value};
 ghost use Rattle.ltp_segment.specs.Values.{a_report_ack, a_receiver_cancel_ack};
 ghost use Rattle.ltp_segment.specs.Views.{report_value};
 ghost use Rattle.std.specs.BTreeMap.{keys, IsOrdered};
 ghost use Rattle.std.specs.Ordering.{nat_cmp};
+ghost use Rattle.ltp_session.specs.Step.{Sends};
 ghost use Rattle.ltp_session.specs.Table.{find, ticked};
 ghost use Rattle.ltp_session.specs.Engine.{tick_segments, tick_remarks, least_deadline};
 ghost use Rattle.ltp_session.specs.Sender.{on_report, on_receiver_cancel, on_sender_cancel_ack};
@@ -103,9 +104,11 @@ pub(crate) fn report(
     requires live { AreLive terms.originator (policy_value terms.policy) senders.old.entries }
     requires legal { IsReport (report_value report) }
     requires moment { now < 2 ^ 62 }
-    ensures { IfOk result (Does terms.originator (policy_value terms.policy) n
+    ensures does { IfOk result (Does terms.originator (policy_value terms.policy) n
         (on_report (policy_value terms.policy) (find n (table_of senders.old.entries))
         (report_value report.entry) now) senders.old.entries senders.new.entries) }
+    ensures wanted { OnErr result (Sends (on_report (policy_value terms.policy)
+        (find n (table_of senders.old.entries)) (report_value report.entry) now)) }
 {
     let Some(sender) = senders.get_mut(&n) else {
         return acknowledged(terms, n, report.serial);
@@ -124,9 +127,11 @@ pub(crate) fn cancelled(
     reason: u8,
 ) -> Result<Step, AllocError>
     requires live { AreLive terms.originator (policy_value terms.policy) senders.old.entries }
-    ensures { IfOk result (Does terms.originator (policy_value terms.policy) n
+    ensures does { IfOk result (Does terms.originator (policy_value terms.policy) n
         (on_receiver_cancel (find n (table_of senders.old.entries)) reason)
         senders.old.entries senders.new.entries) }
+    ensures wanted { OnErr result
+        (Sends (on_receiver_cancel (find n (table_of senders.old.entries)) reason)) }
 {
     let Some(sender) = senders.get_mut(&n) else {
         return cancel_acknowledged(terms, n);
@@ -205,7 +210,7 @@ pub(crate) fn tick(
     let mut told = effects;
     'sessions: for n in numbers(terms, senders)? {
         let step = tick_one(senders, terms, n, now)?;
-        told = told.add(step)?;
+        told = told.add(terms.alloc, step)?;
     }
     Ok(told)
 }

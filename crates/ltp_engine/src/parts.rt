@@ -1,7 +1,8 @@
 //! What an engine keeps: both sides, and what never changes.
 
 ghost use Rattle.std.specs.Prelude.{◌≡◌, ℕ, ◌<◌, ◌≤◌, ◌^◌, false, length, Ok, IfOk, OnOk};
-ghost use Rattle.std.specs.Prelude.{◌==◌, None, Some, OnErr, if◌then◌else◌};
+ghost use Rattle.std.specs.Prelude.{◌==◌, ◌||◌, true, None, Some, is_some, OnErr, IsSomeAnd};
+ghost use Rattle.std.specs.Prelude.{if◌then◌else◌};
 ghost use Rattle.ltp_segment.specs.PolicyViews.{policy_value};
 ghost use Rattle.ltp_segment.specs.declared.session.Note.TheVariants as notes;
 ghost use Rattle.ltp_segment.specs.declared.session.TheConstants.{BLOCK_MAX};
@@ -17,6 +18,7 @@ ghost use Rattle.ltp_session.specs.Engine.{datagram_step, tick_step, longest_unt
 ghost use Rattle.ltp_engine.specs.Closed.{is_among};
 ghost use Rattle.ltp_engine.specs.Steps.{begun_by, wide_party, deadline_of, is_due_at, Steps};
 ghost use Rattle.ltp_engine.specs.Effects.{nothing_done};
+ghost use Rattle.ltp_engine.specs.Quiet.{IsNeverQuiet};
 
 use crate::closed::Closed;
 use crate::deadlines::earlier;
@@ -262,16 +264,15 @@ impl Parts {
         ensures whole { OnOk result (IsWhole self.new) }
         ensures done { IfOk result (Steps (value_of false self.old) (value_of false self.new)
             (λ e. datagram_step (party_of self.old) e (segment_of datagram.now) now)) }
+        ensures wanted { OnErr result (IsNeverQuiet (value_of false self.old)
+            (λ e. datagram_step (party_of self.old) e (segment_of datagram.now) now)) }
     {
         match decode(datagram) {
             Ok(segment) => {
                 let effects = self.hear(segment, now)?;
                 Ok(effects)
             }
-            Err(fault) => {
-                let effects = Effects::noted(self.alloc, bad_segment(fault))?;
-                Ok(effects)
-            }
+            Err(fault) => Ok(Effects::noted(self.alloc, bad_segment(fault))),
         }
     }
 
@@ -283,11 +284,12 @@ impl Parts {
         ensures whole { OnOk result (IsWhole self.new) }
         ensures done { IfOk result (Steps (value_of false self.old) (value_of false self.new)
             (λ e. own_step (party_of self.old) e n (content_value content.entry) now)) }
+        ensures wanted { OnErr result (IsNeverQuiet (value_of false self.old)
+            (λ e. own_step (party_of self.old) e n (content_value content.entry) now)) }
     {
         let alloc = self.alloc;
         if n < self.first || n >= self.next {
-            let effects = Effects::noted(alloc, Note::Stranger)?;
-            return Ok(effects);
+            return Ok(Effects::noted(alloc, Note::Stranger));
         }
         let terms = Terms {
             alloc,
@@ -308,6 +310,8 @@ impl Parts {
         requires moment { now < 2 ^ 62 }
         ensures whole { OnOk result (IsWhole self.new) }
         ensures done { IfOk result (Steps (value_of false self.old) (value_of false self.new)
+            (λ e. peer_step (party_of self.old) e n (content_value content.entry) now)) }
+        ensures wanted { OnErr result (IsNeverQuiet (value_of false self.old)
             (λ e. peer_step (party_of self.old) e n (content_value content.entry) now)) }
     {
         let alloc = self.alloc;
@@ -331,6 +335,8 @@ impl Parts {
         ensures whole { OnOk result (IsWhole self.new) }
         ensures done { IfOk result (Steps (value_of false self.old) (value_of false self.new)
             (λ e. datagram_step (party_of self.old) e (Ok (segment_value segment.entry)) now)) }
+        ensures wanted { OnErr result (IsNeverQuiet (value_of false self.old)
+            (λ e. datagram_step (party_of self.old) e (Ok (segment_value segment.entry)) now)) }
     {
         let Segment {
             originator,
@@ -345,8 +351,7 @@ impl Parts {
             let effects = self.hear_peer(session, content, now)?;
             return Ok(effects);
         }
-        let effects = Effects::noted(self.alloc, Note::Stranger)?;
-        Ok(effects)
+        Ok(Effects::noted(self.alloc, Note::Stranger))
     }
 
     /// What all sessions that it began have in common.
@@ -390,21 +395,25 @@ impl Parts {
 
 /// The effects of a step of a sending session; where there is none, a stranger is noted.
 fn sent(alloc: Global, n: u64, told: Option<Step>) -> Result<Effects, AllocError>
-    ensures { IfOk result (λ effects. effects ≡ sent_of n told) }
+    ensures effects { IfOk result (λ effects. effects ≡ sent_of n told) }
+    ensures wanted { OnErr result (IsSomeAnd told (λ step.
+        (is_some step.up || is_some step.green) ≡ true)) }
 {
     match told {
         Some(step) => Effects::of(alloc, n, None, step),
-        None => Effects::noted(alloc, Note::Stranger),
+        None => Ok(Effects::noted(alloc, Note::Stranger)),
     }
 }
 
 /// The effects of a step of a receiving session; where there is none, a stranger is noted.
 fn handed(alloc: Global, n: u64, told: Option<(Option<u64>, Step)>) -> Result<Effects, AllocError>
-    ensures { IfOk result (λ effects. effects ≡ handed_of n told) }
+    ensures effects { IfOk result (λ effects. effects ≡ handed_of n told) }
+    ensures wanted { OnErr result (IsSomeAnd told (λ t.
+        (is_some t.0 || (is_some t.1.up || is_some t.1.green)) ≡ true)) }
 {
     match told {
         Some((gone, step)) => Effects::of(alloc, n, gone, step),
-        None => Effects::noted(alloc, Note::Stranger),
+        None => Ok(Effects::noted(alloc, Note::Stranger)),
     }
 }
 

@@ -1,6 +1,6 @@
 //! Both sides of an engine: the sessions that it began, and those that its peer began.
 
-ghost use Rattle.std.specs.Prelude.{◌<◌, ◌^◌, None, Some, IfOk};
+ghost use Rattle.std.specs.Prelude.{◌<◌, ◌^◌, None, Some, IfOk, OnErr};
 ghost use Rattle.ltp_segment.specs.declared.session.TheConstants.{BLOCK_MAX};
 ghost use Rattle.ltp_segment.specs.PolicyViews.{policy_value};
 ghost use Rattle.ltp_segment.specs.Views.{content_value};
@@ -10,6 +10,7 @@ ghost use Rattle.ltp_session.specs.Receiver.{receiver_answers};
 ghost use Rattle.ltp_engine.specs.Tables.{table_of, AreLive};
 ghost use Rattle.ltp_engine.specs.Sides.{SenderDoes, ReceiverDoes, IsFit};
 ghost use Rattle.ltp_engine.specs.Inbound.{inbound_of, place_in};
+ghost use Rattle.ltp_engine.specs.Wants.{WantsSent, WantsReceived};
 
 use crate::inbound::Inbound;
 use crate::outbound::{Senders, cancel_came, cancelled, report};
@@ -28,9 +29,11 @@ pub(crate) fn to_sender(
     requires live { AreLive terms.originator (policy_value terms.policy) senders.old.entries }
     requires legal { IsFit (content_value content) }
     requires moment { now < 2 ^ 62 }
-    ensures { IfOk result (SenderDoes terms.originator (policy_value terms.policy) n
+    ensures does { IfOk result (SenderDoes terms.originator (policy_value terms.policy) n
         (sender_answers (policy_value terms.policy) (find n (table_of senders.old.entries))
         (content_value content.entry) now) senders.old.entries senders.new.entries) }
+    ensures wanted { OnErr result (WantsSent (sender_answers (policy_value terms.policy)
+        (find n (table_of senders.old.entries)) (content_value content.entry) now)) }
 {
     match content {
         Content::Report {
@@ -72,11 +75,15 @@ pub(crate) fn to_receiver(
     requires runs { inbound.old.closed.runs < 2 ^ 32 }
     requires legal { IsFit (content_value content) }
     requires moment { now < 2 ^ 62 }
-    ensures { IfOk result (ReceiverDoes terms.originator (policy_value terms.policy)
+    ensures does { IfOk result (ReceiverDoes terms.originator (policy_value terms.policy)
         terms.sessions n (receiver_answers (policy_value terms.policy)
         (place_in (inbound_of inbound.old) BLOCK_MAX terms.history n)
         (find n (inbound_of inbound.old).receivers) (content_value content.entry) now)
         inbound.old inbound.new) }
+    ensures wanted { OnErr result (WantsReceived (find n (inbound_of inbound.old).receivers)
+        (receiver_answers (policy_value terms.policy)
+        (place_in (inbound_of inbound.old) BLOCK_MAX terms.history n)
+        (find n (inbound_of inbound.old).receivers) (content_value content.entry) now)) }
 {
     match content {
         Content::Piece {

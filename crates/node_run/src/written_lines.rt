@@ -108,7 +108,7 @@ fn write_green(alloc: Global, text: &mut String, green: Green) -> Result<(), All
 fn write_notes(alloc: Global, text: &mut String, notes: Notes) -> Result<(), AllocError>
     ensures { OnOk result (string_bytes text.new ≡ string_bytes text.old ++ flat_map (note_line None) notes) }
 {
-    'each: for note in notes.into_vec() {
+    'each: for note in notes.into_vec()? {
         write_note(alloc, text, note)?;
     }
     Ok(())

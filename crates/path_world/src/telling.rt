@@ -112,7 +112,7 @@ fn notes_at(alloc: Global, place: Place, notes: Notes) -> Result<PlaceNotes, All
     ensures { IfOk result (λ all. all ≡ map (note_from place) notes) }
 {
     let mut items = Vec::new(alloc);
-    'each: for note in notes.into_vec() {
+    'each: for note in notes.into_vec()? {
         let note = GateNote::Engine { note };
         items.push(NoteAt { place, note })?;
     }

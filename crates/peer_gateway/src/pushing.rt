@@ -65,7 +65,7 @@ pub(crate) fn push_notes(
     ensures { OnOk result (map told_seen told.new.items
         ≡ map told_seen told.old.items ++ map (told_at face) (map told_engine notes)) }
 {
-    'each: for note in notes.into_vec() {
+    'each: for note in notes.into_vec()? {
         let remark = Remark::Engine { note };
         told.push(RemarkAt { face, remark })?;
     }

@@ -33,7 +33,7 @@ pub(crate) fn then_evicted(effects: Effects, numbers: &[u64]) -> Result<Effects,
         greens,
         notes,
     } = effects;
-    let mut told = notes.into_vec();
+    let mut told = notes.into_vec()?;
     add_evicted(&mut told, numbers)?;
     Ok(Effects {
         out,

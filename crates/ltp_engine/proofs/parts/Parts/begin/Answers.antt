@@ -13,4 +13,4 @@ returns-clause-done c = begun-steps (party_of c.args.self.now) c.args.self.now.n
     c.in_ok-begun.begun.out c.sent_note.result c.in_ok-effects.effects
     (begun-kept (party_of c.args.self.now) c.args.self.now.next c.args.block.now c.args.red c.args.now c.args.self.now.senders.entries c.keep.new.senders.entries c.in_ok-begun.begun.sender
     c.requires.whole.own c.in_ok-begun.ensures.sender c.in_ok-keep.ensures)
-    c.in_ok-begun.ensures.out c.sent_note.ensures c.in_ok-effects.ensures
+    c.in_ok-begun.ensures.out c.sent_note.ensures c.in_ok-effects.ensures.effects

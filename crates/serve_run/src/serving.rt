@@ -22,7 +22,8 @@ use std::alloc::{AllocError, Global};
 /// The most octets of payload that a piece has which the gateway sends.
 const CUT: u64 = 65_536;
 
-/// A gateway that is driven in turns. After want of memory each step is answered by that again.
+/// A gateway that is driven in turns. It is spent while a step is made, until what the step does stands
+/// in lines too; after want of memory it stays so, and each step is answered by that again.
 #[derive(Debug, Drop)]
 pub struct GateTurns {
     alloc: Global,
@@ -66,6 +67,8 @@ impl TurnStep for GateTurns {
 
     ghost Shows = { λ t. ShowsServing t.spent t.gate };
 
+    ghost spent = { λ t. t.spent };
+
     ghost rules = { serving_rules };
 
     fn tick(&mut self, now: u64) -> Result<Effects, AllocError> {
@@ -74,8 +77,9 @@ impl TurnStep for GateTurns {
         }
         self.spent = true;
         let effects = self.gate.tick(now)?;
+        let effects = told(self.alloc, effects)?;
         self.spent = false;
-        told(self.alloc, effects)
+        Ok(effects)
     }
 
     fn arrive(&mut self, face: Face, datagram: &[u8], now: u64) -> Result<Effects, AllocError> {
@@ -84,8 +88,9 @@ impl TurnStep for GateTurns {
         }
         self.spent = true;
         let effects = self.gate.arrive(face, datagram, now)?;
+        let effects = told(self.alloc, effects)?;
         self.spent = false;
-        told(self.alloc, effects)
+        Ok(effects)
     }
 }
 

@@ -1,5 +1,5 @@
 //! What is driven in turns.
-ghost use Rattle.std.specs.Prelude.{◌≡◌, ◌<◌, ◌^◌, IfOk};
+ghost use Rattle.std.specs.Prelude.{◌≡◌, ◌<◌, ◌^◌, Bool, true, is_err, IfOk, OnErr};
 ghost use Rattle.serve_run.specs.Turns.{TurnRules};
 ghost use Rattle.serve_run.specs.Tells.{StepsTo};
 ghost use Rattle.serve_run.specs.Effects.{effects_in};
@@ -26,6 +26,9 @@ pub trait TurnStep {
     // The state that the kept values stand for.
     ghost Shows: { Self → State → Type 0 };
 
+    // Whether memory ran out in a call.
+    ghost spent: { Self → Bool };
+
     // What a moment brings about, and a datagram.
     ghost rules: { TurnRules State };
 
@@ -33,11 +36,17 @@ pub trait TurnStep {
     fn tick(&mut self, now: u64) -> Result<Effects, AllocError>
         requires { now < 2 ^ 62 }
         ensures step { (state : State) → Shows self.old state → IfOk result (λ effects.
-            StepsTo (Shows self.new) (rules.tick now state) (effects_in effects)) };
+            StepsTo (Shows self.new) (rules.tick now state) (effects_in effects)) }
+        // After want of memory it is spent, and a spent one answers by that again.
+        ensures err { OnErr result (spent self.new ≡ true) }
+        ensures again { spent self.old ≡ true → is_err result ≡ true };
 
     /// A datagram comes at a face.
     fn arrive(&mut self, face: Face, datagram: &[u8], now: u64) -> Result<Effects, AllocError>
         requires { now < 2 ^ 62 }
         ensures step { (state : State) → Shows self.old state → IfOk result (λ effects.
-            StepsTo (Shows self.new) (rules.arrive face datagram.now now state) (effects_in effects)) };
+            StepsTo (Shows self.new) (rules.arrive face datagram.now now state) (effects_in effects)) }
+        // After want of memory it is spent, and a spent one answers by that again.
+        ensures err { OnErr result (spent self.new ≡ true) }
+        ensures again { spent self.old ≡ true → is_err result ≡ true };
 }

@@ -1,7 +1,8 @@
 -- What `serve` sends, over an outside of which no call fails: by the gate, half after half.
 
-use Rattle.std.proofs.Common.{◌≡◌, ℕ, List, [], ◌∷◌, ◌++◌, map, Option, refl, ap, ◌∙◌, sym, subst}
+use Rattle.std.proofs.Common.{◌≡◌, ℕ, List, [], ◌∷◌, ◌++◌, map, Option, refl, ap, append_assoc, ◌∙◌, sym, subst}
 use Rattle.std.proofs.lemmas.List.{append-nil}
+use Rattle.std.proofs.lemmas.Grind.{flat_map-append}
 use Rattle.ltp_segment.specs.Reading.{segment_of}
 use Rattle.gate_cases.specs.declared.face.Face.{Face}
 use Rattle.gate_cases.specs.declared.face.Face.TheVariants as faces
@@ -10,13 +11,13 @@ use Rattle.gateway_core.specs.declared.effects.Routed.{Routed}
 use Rattle.gateway_core.specs.Effects.{routed_of}
 use Rattle.gateway_core.specs.Gate.{Gate, GateSetup, GateStep, arrives_at, if_same, stays_so, ticks_gate}
 use Rattle.outbox.specs.Outbox.{first_of}
-use Rattle.serve_run.specs.Outside.{ClockAhead, Outside, gave, past_reading}
+use Rattle.serve_run.specs.Outside.{ClockAhead, Outside, empty, gave, past_reading}
 use Rattle.serve_run.specs.Serve.{Serving, serves, serving_rules}
 use Rattle.serve_run.specs.Turns as turns
-use Rattle.serve_run.specs.Turns.{Acted, Made, StepEffects, answers, does, give, nothing, only_sent, polls, put_before, says, sends, sends_all, with_more, ◌>>=◌, ◌>>◌, lines}
+use Rattle.serve_run.specs.Turns.{Acted, Call, Made, StepEffects, answers, clock_read, datagram_on, datagram_sent, does, give, lines_written, link_polled, polls, put_before, says, sends, sends_all, sent_on, ◌>>=◌, ◌>>◌}
 use Rattle.peer_half.specs.Half.{Came}
 use Rattle.peer_half.specs.Laws.{datagrams_at}
-use Rattle.peer_serve_laws.specs.Serves.{AreTurns, clock_over, made_at, polls_give, turns_in, wall_in}
+use Rattle.peer_serve_laws.specs.Serves.{AreTurns, clock_over, polls_give, turns_in, wall_in}
 
 -- of what is sent, the datagrams of a face, one by one
 abbrev pub routed_to : Face → List Routed → List (List ℕ)
@@ -69,10 +70,23 @@ with_poll faces.New x old new clock = quiet old (x ∷ new) clock
 record IsServed (a : Acted Serving) (setup : GateSetup) (gate : Gate) (o : Outside) (sent : Face → List (List ℕ)) : Type 0 where
   value_is : a.value ≡ record { setup = setup; gate = gate }
   outside_is : a.outside ≡ o
-  made_is : (at : Face) → made_at at a.made ≡ sent at
+  made_is : (at : Face) → sent_on at a.made ≡ sent at
+
+abbrev sent_call : Routed → Call
+sent_call routed = datagram_sent routed.face routed.datagram
 
 abbrev all_sent : List Routed → Made
-all_sent out = record { said = []; old = routed_to faces.Old out; new = routed_to faces.New out }
+all_sent out = map sent_call out
+
+sent-routed : (at : Face) (out : List Routed) → sent_on at (all_sent out) ≡ routed_to at out
+sent-routed at [] = refl
+sent-routed at (routed ∷ more) = by routed.face at (sent-routed at more) where
+  by : (f g : Face) → sent_on at (all_sent more) ≡ routed_to at more
+      → if_same f g (routed.datagram ∷ []) [] ++ sent_on at (all_sent more) ≡ if_same f g (routed.datagram ∷ routed_to at more) (routed_to at more)
+  by faces.Old faces.Old rest = ap (λ ds. routed.datagram ∷ ds) rest
+  by faces.Old faces.New rest = rest
+  by faces.New faces.Old rest = rest
+  by faces.New faces.New rest = ap (λ ds. routed.datagram ∷ ds) rest
 
 abbrev sent_all : List Routed → Outside → Acted (Unit {0})
 sent_all out o = record { value = tt; outside = o; made = all_sent out }
@@ -83,14 +97,10 @@ one-made : (face : Face) (d : List ℕ) (later : List Routed) (old new : List (O
     ≡ record {
       value = tt;
       outside = quiet old new clock;
-      made = record {
-        said = [];
-        old = if_same face faces.Old (d ∷ routed_to faces.Old later) (routed_to faces.Old later);
-        new = if_same face faces.New (d ∷ routed_to faces.New later) (routed_to faces.New later);
-      };
+      made = datagram_sent face d ∷ all_sent later;
     }
-one-made faces.Old d later old new clock rest = ap (put_before (only_sent faces.Old d)) rest
-one-made faces.New d later old new clock rest = ap (put_before (only_sent faces.New d)) rest
+one-made faces.Old d later old new clock rest = ap (put_before (datagram_sent faces.Old d ∷ [])) rest
+one-made faces.New d later old new clock rest = ap (put_before (datagram_sent faces.New d ∷ [])) rest
 
 sends-made : (out : List Routed) (old new : List (Option (List ℕ))) (clock : ClockAhead)
     → sends_all out (quiet old new clock) ≡ sent_all out (quiet old new clock)
@@ -101,7 +111,7 @@ sends-made (first ∷ later) old new clock =
 
 does-made : (effects : StepEffects) (old new : List (Option (List ℕ))) (clock : ClockAhead)
     → does effects (quiet old new clock)
-    ≡ record { value = tt; outside = quiet old new clock; made = with_more (all_sent effects.out) (turns.only_said (lines effects.text)) }
+    ≡ record { value = tt; outside = quiet old new clock; made = all_sent effects.out ++ lines_written effects.text ∷ [] }
 unfolding does
 does-made effects old new clock = ap (λ (a : Acted (Unit {0})). put_before a.made (says effects.text a.outside)) (sends-made effects.out old new clock)
 
@@ -112,11 +122,14 @@ served-then effects act old new clock setup gate o sent rest =
     subst (λ (a : Acted (Unit {0})). IsServed (put_before a.made (act a.outside)) setup gate o (λ at. routed_to at effects.out ++ sent at))
     (sym (does-made effects old new clock)) (record { value_is = rest.value_is; outside_is = rest.outside_is; made_is = made })
   where
-    made : (at : Face)
-        → made_at at (with_more (with_more (all_sent effects.out) (turns.only_said (lines effects.text))) (act (quiet old new clock)).made)
-        ≡ routed_to at effects.out ++ sent at
-    made faces.Old = ap (λ ds. ds ++ (act (quiet old new clock)).made.old) (append-nil (routed_to faces.Old effects.out)) ∙ ap (λ ds. routed_to faces.Old effects.out ++ ds) (rest.made_is faces.Old)
-    made faces.New = ap (λ ds. ds ++ (act (quiet old new clock)).made.new) (append-nil (routed_to faces.New effects.out)) ∙ ap (λ ds. routed_to faces.New effects.out ++ ds) (rest.made_is faces.New)
+    more : Made
+    more = (act (quiet old new clock)).made
+
+    made : (at : Face) → sent_on at ((all_sent effects.out ++ lines_written effects.text ∷ []) ++ more) ≡ routed_to at effects.out ++ sent at
+    made at =
+        ap (sent_on at) (append_assoc (all_sent effects.out) (lines_written effects.text ∷ []) more)
+        ∙ flat_map-append (datagram_on at) (all_sent effects.out) (lines_written effects.text ∷ more)
+        ∙ ap (λ ds. ds ++ sent_on at more) (sent-routed at effects.out) ∙ ap (λ ds. routed_to at effects.out ++ ds) (rest.made_is at)
 
 served-same : (a : Acted Serving) (setup : GateSetup) (gate : Gate) (o : Outside) (sent also : Face → List (List ℕ)) → ((at : Face) → sent at ≡ also at)
     → IsServed a setup gate o sent → IsServed a setup gate o also
@@ -126,22 +139,21 @@ served-same a setup gate o sent also same served = record {
   made_is = λ at. served.made_is at ∙ same at;
 }
 
--- nothing was made before an act
-served-before : (a : Acted Serving) (setup : GateSetup) (gate : Gate) (o : Outside) (sent : Face → List (List ℕ)) → IsServed a setup gate o sent
-    → IsServed (put_before nothing a) setup gate o sent
-served-before a setup gate o sent served = record { value_is = served.value_is; outside_is = served.outside_is; made_is = made } where
-  made : (at : Face) → made_at at (with_more nothing a.made) ≡ sent at
-  made faces.Old = served.made_is faces.Old
-  made faces.New = served.made_is faces.New
+-- nothing was sent before an act
+served-before : (call : Call) → ((at : Face) → datagram_on at call ≡ [])
+    → (a : Acted Serving) (setup : GateSetup) (gate : Gate) (o : Outside) (sent : Face → List (List ℕ)) → IsServed a setup gate o sent
+    → IsServed (put_before (call ∷ []) a) setup gate o sent
+served-before call silent a setup gate o sent served = record {
+  value_is = served.value_is;
+  outside_is = served.outside_is;
+  made_is = λ at. ap (λ ds. ds ++ sent_on at a.made) (silent at) ∙ served.made_is at;
+}
 
 none-sent : (at : Face) → [] ≡ routed_to at (map routed_of [])
 none-sent at = refl
 
 served-given : (serving : Serving) (o : Outside) → IsServed (give serving o) serving.setup serving.gate o (λ at. [])
-served-given serving o = record { value_is = refl; outside_is = refl; made_is = none } where
-  none : (at : Face) → made_at at nothing ≡ []
-  none faces.Old = refl
-  none faces.New = refl
+served-given serving o = record { value_is = refl; outside_is = refl; made_is = λ at. refl }
 
 -- what a poll gives is answered
 abbrev poll_served : Face → ℕ → Serving → turns.Act Serving
@@ -167,19 +179,19 @@ served-poll : (face : Face) (now : ℕ) (ds : List (List ℕ)) (serving : Servin
     → IsServed (poll_served face now serving (with_poll face (first_of ds) old new clock)) serving.setup (arrived serving.setup face now ds serving.gate).gate
     (quiet old new clock) (λ at. step_sent at (arrived serving.setup face now ds serving.gate))
 served-poll faces.Old now [] serving old new clock =
-    served-before (give serving (quiet old new clock)) serving.setup serving.gate (quiet old new clock) (λ at. routed_to at (map routed_of []))
+    served-before (link_polled faces.Old empty) (λ at. refl) (give serving (quiet old new clock)) serving.setup serving.gate (quiet old new clock) (λ at. routed_to at (map routed_of []))
     (served-same (give serving (quiet old new clock)) serving.setup serving.gate (quiet old new clock) (λ at. []) (λ at. routed_to at (map routed_of [])) none-sent
     (served-given serving (quiet old new clock)))
 served-poll faces.Old now (d ∷ ds) serving old new clock =
-    served-before (answers serving_rules faces.Old now (gave d) serving (quiet old new clock)) serving.setup (arrived serving.setup faces.Old now (d ∷ ds) serving.gate).gate
+    served-before (link_polled faces.Old (gave d)) (λ at. refl) (answers serving_rules faces.Old now (gave d) serving (quiet old new clock)) serving.setup (arrived serving.setup faces.Old now (d ∷ ds) serving.gate).gate
     (quiet old new clock) (λ at. step_sent at (arrived serving.setup faces.Old now (d ∷ ds) serving.gate))
     (served-arrival faces.Old now d serving old new clock)
 served-poll faces.New now [] serving old new clock =
-    served-before (give serving (quiet old new clock)) serving.setup serving.gate (quiet old new clock) (λ at. routed_to at (map routed_of []))
+    served-before (link_polled faces.New empty) (λ at. refl) (give serving (quiet old new clock)) serving.setup serving.gate (quiet old new clock) (λ at. routed_to at (map routed_of []))
     (served-same (give serving (quiet old new clock)) serving.setup serving.gate (quiet old new clock) (λ at. []) (λ at. routed_to at (map routed_of [])) none-sent
     (served-given serving (quiet old new clock)))
 served-poll faces.New now (d ∷ ds) serving old new clock =
-    served-before (answers serving_rules faces.New now (gave d) serving (quiet old new clock)) serving.setup (arrived serving.setup faces.New now (d ∷ ds) serving.gate).gate
+    served-before (link_polled faces.New (gave d)) (λ at. refl) (answers serving_rules faces.New now (gave d) serving (quiet old new clock)) serving.setup (arrived serving.setup faces.New now (d ∷ ds) serving.gate).gate
     (quiet old new clock) (λ at. step_sent at (arrived serving.setup faces.New now (d ∷ ds) serving.gate))
     (served-arrival faces.New now d serving old new clock)
 
@@ -203,10 +215,10 @@ served-half : (face : Face) (ds : List (List ℕ)) (serving : Serving) (old new 
     (quiet old new (past_reading clock)) (λ at. plain_in at serving.setup face clock.shows ds serving.gate)
 unfolding turns.half
 served-half faces.Old ds serving old new clock =
-    served-before _ serving.setup (gate_past serving.setup faces.Old clock.shows ds serving.gate) (quiet old new (past_reading clock))
+    served-before (clock_read clock.shows) (λ at. refl) _ serving.setup (gate_past serving.setup faces.Old clock.shows ds serving.gate) (quiet old new (past_reading clock))
     (λ at. plain_in at serving.setup faces.Old clock.shows ds serving.gate) (served-told faces.Old clock.shows ds serving old new (past_reading clock))
 served-half faces.New ds serving old new clock =
-    served-before _ serving.setup (gate_past serving.setup faces.New clock.shows ds serving.gate) (quiet old new (past_reading clock))
+    served-before (clock_read clock.shows) (λ at. refl) _ serving.setup (gate_past serving.setup faces.New clock.shows ds serving.gate) (quiet old new (past_reading clock))
     (λ at. plain_in at serving.setup faces.New clock.shows ds serving.gate) (served-told faces.New clock.shows ds serving old new (past_reading clock))
 
 -- one act, and then another that depends on its value
@@ -226,9 +238,10 @@ served-and first next o between last setup g h sent more one two = record {
   joined : (xs ys vs ws : List (List ℕ)) → xs ≡ vs → ys ≡ ws → xs ++ ys ≡ vs ++ ws
   joined xs ys vs ws x y = ap (λ zs. zs ++ ys) x ∙ ap (λ zs. vs ++ zs) y
 
-  made : (at : Face) → made_at at (with_more (first o).made (next (first o).value (first o).outside).made) ≡ sent at ++ more at
-  made faces.Old = joined (first o).made.old (next (first o).value (first o).outside).made.old (sent faces.Old) (more faces.Old) (one.made_is faces.Old) (then_is.made_is faces.Old)
-  made faces.New = joined (first o).made.new (next (first o).value (first o).outside).made.new (sent faces.New) (more faces.New) (one.made_is faces.New) (then_is.made_is faces.New)
+  made : (at : Face) → sent_on at ((first o).made ++ (next (first o).value (first o).outside).made) ≡ sent at ++ more at
+  made at =
+      flat_map-append (datagram_on at) (first o).made (next (first o).value (first o).outside).made
+      ∙ joined (sent_on at (first o).made) (sent_on at (next (first o).value (first o).outside).made) (sent at) (more at) (one.made_is at) (then_is.made_is at)
 
 -- the clock shows the readings
 abbrev pub Shows : ClockAhead → List Came → Type 0
@@ -263,12 +276,11 @@ served-turn first second serving old new clock one two =
 -- and so many turns
 abbrev pub Sends : List Came → Serving → ClockAhead → Type 0
 Sends comes serving clock = (at : Face)
-    → made_at at (turns.turns serving_rules (turns_in comes) serving (quiet (polls_give faces.Old faces.Old comes) (polls_give faces.New faces.Old comes) clock)).made
+    → sent_on at (turns.turns serving_rules (turns_in comes) serving (quiet (polls_give faces.Old faces.Old comes) (polls_give faces.New faces.Old comes) clock)).made
     ≡ plain_over at serving.setup faces.Old comes serving.gate
 
-made-then : (at : Face) (first more : Made) → made_at at (with_more first more) ≡ made_at at first ++ made_at at more
-made-then faces.Old first more = refl
-made-then faces.New first more = refl
+made-then : (at : Face) (first more : Made) → sent_on at (first ++ more) ≡ sent_on at first ++ sent_on at more
+made-then at first more = flat_map-append (datagram_on at) first more
 
 append-two : (xs ys zs : List (List ℕ)) → (xs ++ ys) ++ zs ≡ xs ++ (ys ++ zs)
 append-two [] ys zs = refl
@@ -276,10 +288,7 @@ append-two (x ∷ xs) ys zs = let rest = append-two xs ys zs in ap (λ ws. x ∷
 
 pub sends-turns : (comes : List Came) → AreTurns comes → (serving : Serving) (clock : ClockAhead) → Shows clock comes → Sends comes serving clock
 unfolding turns.turns
-sends-turns [] whole serving clock shows at = by_face at where
-  by_face : (at : Face) → made_at at nothing ≡ []
-  by_face faces.Old = refl
-  by_face faces.New = refl
+sends-turns [] whole serving clock shows at = refl
 sends-turns (first ∷ []) whole serving clock shows at = absurd whole
 sends-turns (first ∷ second ∷ more) whole serving clock shows at =
     let between : Gate = gate_past serving.setup faces.Old (wall_in first) first.datagrams serving.gate in
@@ -291,9 +300,9 @@ sends-turns (first ∷ second ∷ more) whole serving clock shows at =
     let o : Outside = quiet (first_of first.datagrams ∷ old) (first_of second.datagrams ∷ new) clock in
     made-then at (turns.turn serving_rules serving o).made
     (turns.turns serving_rules (turns_in more) (turns.turn serving_rules serving o).value (turns.turn serving_rules serving o).outside).made
-    ∙ (ap (λ (v : Serving). made_at at (turns.turn serving_rules serving o).made ++ made_at at (turns.turns serving_rules (turns_in more) v (turns.turn serving_rules serving o).outside).made) turn.value_is
-    ∙ (ap (λ (p : Outside). made_at at (turns.turn serving_rules serving o).made ++ made_at at (turns.turns serving_rules (turns_in more) after p).made) turn.outside_is
-    ∙ (ap (λ ds. made_at at (turns.turn serving_rules serving o).made ++ ds) rest
+    ∙ (ap (λ (v : Serving). sent_on at (turns.turn serving_rules serving o).made ++ sent_on at (turns.turns serving_rules (turns_in more) v (turns.turn serving_rules serving o).outside).made) turn.value_is
+    ∙ (ap (λ (p : Outside). sent_on at (turns.turn serving_rules serving o).made ++ sent_on at (turns.turns serving_rules (turns_in more) after p).made) turn.outside_is
+    ∙ (ap (λ ds. sent_on at (turns.turn serving_rules serving o).made ++ ds) rest
     ∙ (ap (λ ds. ds ++ plain_over at serving.setup faces.Old more after.gate) (turn.made_is at)
     ∙ append-two (plain_in at serving.setup faces.Old (wall_in first) first.datagrams serving.gate) (plain_in at serving.setup faces.New (wall_in second) second.datagrams between)
     (plain_over at serving.setup faces.Old more after.gate)))))

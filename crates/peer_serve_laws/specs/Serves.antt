@@ -11,7 +11,7 @@ use Rattle.outbox.specs.declared.reading.Reading.{Reading}
 use Rattle.outbox.specs.Outbox.{first_of}
 use Rattle.serve_run.specs.Outside.{ClockAhead, LinkAhead, Outside}
 use Rattle.serve_run.specs.Serve.{serve_turns, setup_named}
-use Rattle.serve_run.specs.Turns.{Made}
+use Rattle.serve_run.specs.Turns.{sent_on}
 use Rattle.peer_cases.specs.Laws.{IsPlain}
 use Rattle.peer_gateway.specs.Keys.{PeerSetup}
 use Rattle.peer_gateway.specs.Gate.{PeerGate}
@@ -129,14 +129,9 @@ AreTurns [] = Unit {0}
 AreTurns (old ∷ []) = ⊥
 AreTurns (old ∷ new ∷ more) = AreTurns more
 
--- what `serve` sent at a face
-abbrev pub made_at : Face → Made → List (List ℕ)
-made_at Old made = made.old
-made_at New made = made.new
-
 -- what goes out in such a run of whole turns is what `serve` sends, at each face, in order
 abbrev pub ServesAlike : Type 0
 ServesAlike =
     (r : Run) → IsAsServe r → AreTurns r.comes → (at : Face)
     → tried_at at (acts_of r)
-    ≡ made_at at (serve_turns ((r.file).gateway).endpoint (turns_in r.comes) (outside_over r)).made
+    ≡ sent_on at (serve_turns ((r.file).gateway).endpoint (turns_in r.comes) (outside_over r)).made

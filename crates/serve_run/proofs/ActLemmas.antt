@@ -1,12 +1,12 @@
 -- Acts, one after the other, and code that does them.
-use Rattle.std.proofs.Common.{◌≡◌, ℕ, zero, suc, ◌+◌, ◌-◌, ◌≤◌, Bool, List, [], ◌∷◌, ◌++◌, map, drop, take, length, get_or, false, ◌<◌, Option, None, Some, Result, Ok, Err, OnOk, OnErr, IsErrAnd, subst, true, refl, sym, ◌∙◌, ap, append_assoc, arith}
+use Rattle.std.proofs.Common.{◌≡◌, ℕ, zero, suc, ◌+◌, ◌-◌, ◌≤◌, Bool, List, [], ◌∷◌, ◌++◌, map, drop, take, length, get_or, false, ◌<◌, Option, None, Some, Result, Ok, Err, IsErrAnd, subst, true, refl, sym, ◌∙◌, ap, append_assoc, arith}
 use Rattle.std.proofs.lemmas.List.{append-nil, at_drop_more}
-use Rattle.std.specs.List.{flat_map}
+use Rattle.std.proofs.lemmas.Grind.{flat_map-append}
 use Rattle.edge_traits.specs.Content.{Gains, GainsFront}
 use Rattle.edge_traits.specs.Datagrams.{PollsAtMost}
 use Rattle.edge_traits.specs.Faults.{one_more, NoneFailed}
 use Rattle.edge_traits.specs.Outcome.{SinkTells}
-use Rattle.edge_traits.proofs.ContentLemmas.{Gains-none, Gains-more, GainsFront-none}
+use Rattle.edge_traits.proofs.ContentLemmas.{Gains-none, Gains-more}
 use Rattle.edge_traits.proofs.FaultsLemmas.{NoneFailed-same, NoneFailed-more, LastFailed-after}
 use Rattle.gate_cases.specs.declared.face.Face.{Face}
 use Rattle.gate_cases.specs.declared.face.Face.TheVariants.{Old, New}
@@ -15,27 +15,44 @@ use Rattle.serve_run.specs.declared.stop.Stop.TheVariants.{Fault, NoMemory}
 use Rattle.edge_traits.specs.declared.status.Status.TheVariants.{Done}
 use Rattle.serve_run.specs.Outside.{LinkAhead, ClockAhead, Outside, Polled, failed, empty, gave}
 use Rattle.gateway_core.specs.declared.effects.Routed.{Routed}
-use Rattle.serve_run.specs.Turns.{Said, lines, link_failed, says, does, StepEffects, only_said, only_sent, notes_failed, polls, answers, TurnRules, half, turn, turns, reads_clock, sends, sends_all, Made, nothing, with_more, Acted, Act, give, put_before, ◌>>=◌}
-use Rattle.serve_run.specs.Tells.{LinkTells, OutsideTells, LinkAgrees, ClockAgrees, RanTurns, status_of, Agrees, said_text, text_of, noted, is_about, counted, LinkWent, LinksWent, Does, Leads, IsFrontOf, Breaks, Passed, Stopped, StopsWriting, Goes, WroteText, PolledAs, StepsTo, polled_in, Sent, Unsent, made_by_send, link_line}
+use Rattle.serve_run.specs.Turns.{Call, clock_read, link_polled, datagram_sent, datagram_lost, lines_written, Made, datagram_on, IsNoSend, IsWhole, MayWrite, EndsWriting, says, does, StepEffects, polls, answers, TurnRules, half, turn, turns, reads_clock, sends, sends_all, Acted, Act, give, put_before, ◌>>=◌}
+use Rattle.serve_run.specs.Tells.{LinkTells, OutsideTells, LinkAgrees, ClockAgrees, RanTurns, status_of, Agrees, call_text, text_of, noted, failed_on, counted, LinkWent, LinksWent, Does, Leads, IsFrontOf, Breaks, Passed, Stopped, StopsAfter, StopsWithin, StopsWriting, Goes, WroteText, PolledAs, StepsTo, polled_in, Sent, made_by_send, link_line}
 
 -- ---- what was made
 
-with_more-nothing : (made : Made) → with_more made nothing ≡ made
-with_more-nothing made = rw (append-nil made.said, append-nil made.old, append-nil made.new) refl
+pub text-more : (a b : Made) → text_of (a ++ b) ≡ text_of a ++ text_of b
+text-more a b = flat_map-append call_text a b
 
-pub with_more-assoc : (a b c : Made) → with_more (with_more a b) c ≡ with_more a (with_more b c)
-with_more-assoc a b c = rw (append_assoc a.said b.said c.said, append_assoc a.old b.old c.old, append_assoc a.new b.new c.new) refl
-
-text-append : (xs ys : List Said) → flat_map said_text (xs ++ ys) ≡ flat_map said_text xs ++ flat_map said_text ys
-text-append [] ys = refl
-text-append (x ∷ xs) ys = ap (λ v. said_text x ++ v) (text-append xs ys) ∙ sym (append_assoc (said_text x) (flat_map said_text xs) (flat_map said_text ys))
-
-pub text-more : (a b : Made) → text_of (with_more a b) ≡ text_of a ++ text_of b
-text-more a b = text-append a.said b.said
-
-noted-append : (face : Face) (xs ys : List Said) → noted face (xs ++ ys) ≡ noted face xs + noted face ys
+noted-append : (face : Face) (xs ys : Made) → noted face (xs ++ ys) ≡ noted face xs + noted face ys
 noted-append face [] ys = omega arith
-noted-append face (x ∷ xs) ys = ap (λ v. is_about face x + v) (noted-append face xs ys) ∙ omega arith
+noted-append face (x ∷ xs) ys = ap (λ v. failed_on face x + v) (noted-append face xs ys) ∙ omega arith
+
+-- ---- whole steps
+
+whole-more : (a b : Made) → IsWhole a → IsWhole b → IsWhole (a ++ b)
+whole-more [] b first second = second
+whole-more (call ∷ []) [] first second = first
+whole-more (call ∷ []) (next ∷ later) first second = second
+whole-more (call ∷ next ∷ later) b first second = whole-more (next ∷ later) b first second
+
+-- a last call more
+whole-last : (a : Made) (call : Call) → IsNoSend call → IsWhole (a ++ call ∷ [])
+whole-last [] call is = is
+whole-last (first ∷ []) call is = is
+whole-last (first ∷ next ∷ later) call is = whole-last (next ∷ later) call is
+
+writing-more : (a b : Made) → EndsWriting b → EndsWriting (a ++ b)
+writing-more [] b ends = ends
+writing-more (call ∷ []) [] ends = absurd ends
+writing-more (call ∷ []) (next ∷ later) ends = ends
+writing-more (call ∷ next ∷ later) b ends = writing-more (next ∷ later) b ends
+
+writing-last : (a : Made) (call : Call) → MayWrite call → EndsWriting (a ++ call ∷ [])
+writing-last a call is = writing-more a (call ∷ []) is
+
+after-more : (stop : Stop) (a b : Made) → IsWhole a → StopsAfter stop b → StopsAfter stop (a ++ b)
+after-more Fault a b first second = writing-more a b second
+after-more NoMemory a b first second = whole-more a b first second
 
 counted-more : (n m f : ℕ) → counted (counted f n) m ≡ counted f (n + m)
 counted-more zero m f =
@@ -45,8 +62,8 @@ counted-more (suc n) m f =
     let one : suc n + m ≡ suc (n + m) = omega arith in
     counted-more n m (one_more f) ∙ ap (counted f) (sym one)
 
-put-twice : {X : Type 0} (a b : Made) (acted : Acted X) → put_before a (put_before b acted) ≡ put_before (with_more a b) acted
-put-twice a b acted = rw (with_more-assoc a b acted.made) refl
+put-twice : {X : Type 0} (a b : Made) (acted : Acted X) → put_before a (put_before b acted) ≡ put_before (a ++ b) acted
+put-twice a b acted = rw (append_assoc a b acted.made) refl
 
 -- ---- links
 
@@ -56,26 +73,26 @@ LinkWent-more s t n m a b c first second = record {
   count = second.count ∙ ap (λ f. counted f m) first.count ∙ counted-more n m a.faults;
 }
 
-LinksWent-none : (t : OutsideTells) → LinksWent nothing t t
+LinksWent-none : (t : OutsideTells) → LinksWent [] t t
 LinksWent-none t = record {
   old = record { gone = Gains-none t.old.gone; count = refl };
   new = record { gone = Gains-none t.new.gone; count = refl };
 }
 
-LinksWent-more : (first second : Made) (a b c : OutsideTells) → LinksWent first a b → LinksWent second b c → LinksWent (with_more first second) a c
+LinksWent-more : (first second : Made) (a b c : OutsideTells) → LinksWent first a b → LinksWent second b c → LinksWent (first ++ second) a c
 LinksWent-more first second a b c one two = record {
-  old = rw (noted-append Old first.said second.said) (LinkWent-more _ _ _ _ _ b.old _ one.old two.old);
-  new = rw (noted-append New first.said second.said) (LinkWent-more _ _ _ _ _ b.new _ one.new two.new);
+  old = rw (noted-append Old first second, flat_map-append (datagram_on Old) first second) (LinkWent-more _ _ _ _ _ b.old _ one.old two.old);
+  new = rw (noted-append New first second, flat_map-append (datagram_on New) first second) (LinkWent-more _ _ _ _ _ b.new _ one.new two.new);
 }
 
 -- ---- acts
 
 module _ {X : Type 0} where
-  pub Leads-start : (act : Act X) (t : OutsideTells) → Leads act nothing act t t
+  pub Leads-start : (act : Act X) (t : OutsideTells) → Leads act [] act t t
   Leads-start act t = record { back = λ later agrees. (later, agrees, refl); links = LinksWent-none t }
 
   pub Leads-more : {Y : Type 0} (act : Act X) (one : Act Y) (next : Y → Act X) (y : Y) (first second : Made) (a b c : OutsideTells)
-      → Leads act first (one >>= next) a b → Does one y second b c → Leads act (with_more first second) (next y) a c
+      → Leads act first (one >>= next) a b → Does one y second b c → Leads act (first ++ second) (next y) a c
   Leads-more act one next y first second a b c leads does = record {
     back = λ later agrees.
         let (middle, middle_is, done) = does.back later agrees in
@@ -92,7 +109,7 @@ module _ {X : Type 0} where
   Leads-end act x made a b leads = record {
     back = λ later agrees.
         let (start, start_is, led) = leads.back later agrees in
-        (start, start_is, led ∙ ap (λ m. record { value = x; outside = later; made = m }) (with_more-nothing made));
+        (start, start_is, led ∙ ap (λ m. record { value = x; outside = later; made = m }) (append-nil made));
     links = leads.links;
   }
 
@@ -105,19 +122,19 @@ module _ {X : Type 0} where
   }
 
   pub Breaks-more : {Y : Type 0} (act : Act X) (one : Act Y) (next : Y → Act X) (first second : Made) (a b c : OutsideTells)
-      → Leads act first (one >>= next) a b → Breaks one second b c → Breaks act (with_more first second) a c
+      → Leads act first (one >>= next) a b → Breaks one second b c → Breaks act (first ++ second) a c
   Breaks-more act one next first second a b c leads breaks = record {
     back = λ later agrees.
         let (middle, middle_is, (more, parts)) = breaks.back later agrees in
         let (start, start_is, led) = leads.back middle middle_is in
         let rest = (next (one middle).value (one middle).outside).made in
-        let whole : (act start).made ≡ with_more first (with_more (one middle).made rest) = ap (λ acted. acted.made) led in (
+        let whole : (act start).made ≡ first ++ ((one middle).made ++ rest) = ap (λ acted. acted.made) led in (
           start,
           start_is,
           (
-            with_more more rest,
-            whole ∙ ap (λ m. with_more first (with_more m rest)) parts ∙ ap (with_more first) (with_more-assoc second more rest)
-                ∙ sym (with_more-assoc first second (with_more more rest)),
+            more ++ rest,
+            whole ∙ ap (λ m. first ++ (m ++ rest)) parts ∙ ap (λ m. first ++ m) (append_assoc second more rest)
+                ∙ sym (append_assoc first second (more ++ rest)),
           ),
         );
     links = LinksWent-more first second a b c leads.links breaks.links;
@@ -141,17 +158,19 @@ front-more (Some held) (Some mid) (Some now) text new first (front, rest, parts,
   gains ∙ ap (λ v. v ++ front) first ∙ append_assoc held text front,
 )
 
-pub unwritten : (text : List ℕ) (sink : SinkTells) → GainsFront sink.held sink.held text × NoneFailed sink.calls sink.calls
-unwritten text sink = (GainsFront-none sink.held text, NoneFailed-same sink.calls)
-
 -- ---- code that does an act so far
 
 -- it did a front of the act, and wrote all that this says; the rest is this act
 pub record Going {X : Type 0} (act rest : Act X) (a b : OutsideTells) (sink sink_now : SinkTells) : Type 0 where
   pub made : Made
   pub leads : Leads act made rest a b
+  pub whole : IsWhole made
   pub wrote : Gains sink.held sink_now.held (text_of made)
   pub writes : NoneFailed sink.calls sink_now.calls
+
+wrote-until : (stop : Stop) (a b c : Option (List ℕ)) (text new : List ℕ) → Gains a b text → StopsWithin stop b c new → StopsWithin stop a c (text ++ new)
+wrote-until Fault a b c text new first second = front-more a b c text new first second
+wrote-until NoMemory a b c text new first second = Gains-more a b c text new first second
 
 stopped-writing : (stop : Stop) (sink sink_mid sink_now : SinkTells) → NoneFailed sink.calls sink_mid.calls
     → StopsWriting stop sink_mid.calls sink_now.calls → StopsWriting stop sink.calls sink_now.calls
@@ -161,19 +180,22 @@ stopped-writing NoMemory sink sink_mid sink_now first second = NoneFailed-more s
 module _ {X : Type 0} where
   pub Going-start : (act : Act X) (t : OutsideTells) (sink : SinkTells) → Going act act t t sink sink
   Going-start act t sink = record {
-    made = nothing;
+    made = [];
     leads = Leads-start act t;
+    whole = tt;
     wrote = Gains-none sink.held;
     writes = NoneFailed-same sink.calls;
   }
 
-  -- what says nothing
-  pub Going-silent : {Y : Type 0} (act : Act X) (one : Act Y) (next : Y → Act X) (y : Y) (a b c : OutsideTells) (sink sink_now : SinkTells)
-      → Going act (one >>= next) a b sink sink_now → Does one y nothing b c → Going act (next y) a c sink sink_now
-  Going-silent act one next y a b c sink sink_now going does = record {
-    made = with_more going.made nothing;
-    leads = Leads-more act one next y going.made nothing a b c going.leads does;
-    wrote = rw (append-nil going.made.said) going.wrote;
+  -- a call with which nothing is written
+  pub Going-silent : {Y : Type 0} (act : Act X) (one : Act Y) (next : Y → Act X) (y : Y) (call : Call) (a b c : OutsideTells) (sink sink_now : SinkTells)
+      → IsNoSend call → call_text call ≡ []
+      → Going act (one >>= next) a b sink sink_now → Does one y (call ∷ []) b c → Going act (next y) a c sink sink_now
+  Going-silent act one next y call a b c sink sink_now is silent going does = record {
+    made = going.made ++ call ∷ [];
+    leads = Leads-more act one next y going.made (call ∷ []) a b c going.leads does;
+    whole = whole-last going.made call is;
+    wrote = rw (text-more going.made (call ∷ []), silent, append-nil (text_of going.made)) going.wrote;
     writes = going.writes;
   }
 
@@ -184,8 +206,9 @@ module _ {X : Type 0} where
     passed.value,
     passed.shows,
     record {
-      made = with_more going.made passed.made;
+      made = going.made ++ passed.made;
       leads = Leads-more act one next passed.value going.made passed.made a b c going.leads passed.does;
+      whole = whole-more going.made passed.made going.whole passed.whole;
       wrote = rw (text-more going.made passed.made)
           (Gains-more sink.held sink_mid.held sink_now.held (text_of going.made) (text_of passed.made) going.wrote passed.wrote);
       writes = NoneFailed-more sink.calls sink_mid.calls sink_now.calls going.writes passed.writes;
@@ -195,10 +218,11 @@ module _ {X : Type 0} where
   pub Going-stopped : {Y : Type 0} (stop : Stop) (act : Act X) (one : Act Y) (next : Y → Act X) (a b c : OutsideTells) (sink sink_mid sink_now : SinkTells)
       → Going act (one >>= next) a b sink sink_mid → Stopped one stop b c sink_mid sink_now → Stopped act stop a c sink sink_now
   Going-stopped stop act one next a b c sink sink_mid sink_now going stopped = record {
-    made = with_more going.made stopped.made;
+    made = going.made ++ stopped.made;
     breaks = Breaks-more act one next going.made stopped.made a b c going.leads stopped.breaks;
+    after = after-more stop going.made stopped.made going.whole stopped.after;
     wrote = rw (text-more going.made stopped.made)
-        (front-more sink.held sink_mid.held sink_now.held (text_of going.made) (text_of stopped.made) going.wrote stopped.wrote);
+        (wrote-until stop sink.held sink_mid.held sink_now.held (text_of going.made) (text_of stopped.made) going.wrote stopped.wrote);
     writes = stopped-writing stop sink sink_mid sink_now going.writes stopped.writes;
   }
 
@@ -209,6 +233,7 @@ module _ {X : Type 0} where
     shows = shows;
     made = going.made;
     does = Leads-end act x going.made a b going.leads;
+    whole = going.whole;
     wrote = going.wrote;
     writes = going.writes;
   }
@@ -219,47 +244,31 @@ pub Breaks-does : {X : Type 0} (act : Act X) (x : X) (made : Made) (a b : Outsid
 Breaks-does act x made a b does = record {
   back = λ later agrees.
       let (start, start_is, done) = does.back later agrees in
-      (start, start_is, (nothing, ap (λ acted. acted.made) done ∙ sym (with_more-nothing made)));
+      (start, start_is, ([], ap (λ acted. acted.made) done ∙ sym (append-nil made)));
   links = does.links;
 }
-
-text-of-sent : (face : Face) (datagram : List ℕ) → text_of (only_sent face datagram) ≡ []
-text-of-sent Old datagram = refl
-text-of-sent New datagram = refl
 
 module _ {E : Type 0} (routed : Routed) (text : List ℕ) (a b : OutsideTells) (result : Result (Unit {0}) E)
     (does : Does (sends routed) tt (made_by_send routed result) a b) where
   pub sent-ok : (x : Unit {0}) → result ≡ Ok x → Sent (sends routed) tt text text a b
   sent-ok x is = record {
-    made = only_sent routed.face routed.datagram;
+    made = datagram_sent routed.face routed.datagram ∷ [];
     does = rw is at does;
-    noted_is = rw (text-of-sent routed.face routed.datagram) (sym (append-nil text));
+    noted_is = sym (append-nil text);
   }
 
-  pub sent-noted : {F : Type 0} (e : E) → result ≡ Err e → (written : Result (Unit {0}) F) (text_now : List ℕ)
-      → OnOk written (text_now ≡ text ++ link_line routed.face true) → OnOk written (Sent (sends routed) tt text text_now a b)
-  sent-noted e is (Ok x) text_now added = record {
-    made = only_said (link_failed routed.face true);
+  pub sent-noted : (e : E) → result ≡ Err e → (text_now : List ℕ) → text_now ≡ text ++ link_line routed.face true
+      → Sent (sends routed) tt text text_now a b
+  sent-noted e is text_now added = record {
+    made = datagram_lost routed.face routed.datagram ∷ [];
     does = rw is at does;
     noted_is = rw (append-nil (link_line routed.face true)) added;
-  }
-  sent-noted e is (Err f) text_now added = tt
-
-  pub sent-unnoted : {F : Type 0} (written : Result (Unit {0}) F) → OnErr written (Unsent (sends routed) a b)
-  sent-unnoted (Ok x) = tt
-  sent-unnoted (Err f) = record {
-    made = made_by_send routed result;
-    breaks = Breaks-does (sends routed) tt (made_by_send routed result) a b does;
   }
 
 -- ---- sending several
 
 pub left-is : {X : Type 0} (xs : List X) (i : ℕ) (x : X) → i < length xs → x ≡ get_or xs i x → drop i xs ≡ x ∷ drop (i + 1) xs
 left-is xs i x inside is = at_drop_more (λ v. v) xs i x inside ∙ ap (λ v. v ∷ drop (i + 1) xs) (sym is)
-
-pub on-err : {T E : Type 0} (r : Result T E) (P : Type 0) → P → OnErr r P
-on-err (Ok x) P p = tt
-on-err (Err e) P p = p
 
 -- some were sent of several, and the rest is left
 pub record Sending (out rest : List Routed) (text text_now : List ℕ) (a b : OutsideTells) : Type 0 where
@@ -269,7 +278,7 @@ pub record Sending (out rest : List Routed) (text text_now : List ℕ) (a b : Ou
 
 pub sending-start : (out : List Routed) (text : List ℕ) (a : OutsideTells) → Sending out out text text a a
 sending-start out text a = record {
-  made = nothing;
+  made = [];
   leads = Leads-start (sends_all out) a;
   noted_is = sym (append-nil text);
 }
@@ -282,16 +291,10 @@ module _ (out : List Routed) (k : ℕ) (text text_mid text_now : List ℕ) (a b 
 
   pub sending-more : Sent (sends first) tt text_mid text_now b c → Sending out (drop (k + 1) out) text text_now a c
   sending-more sent = record {
-    made = with_more sending.made sent.made;
+    made = sending.made ++ sent.made;
     leads = Leads-more (sends_all out) (sends first) (λ x. sends_all (drop (k + 1) out)) tt sending.made sent.made a b c leads_on sent.does;
     noted_is = sent.noted_is ∙ ap (λ v. v ++ text_of sent.made) sending.noted_is ∙ append_assoc text (text_of sending.made) (text_of sent.made)
         ∙ ap (λ v. text ++ v) (sym (text-more sending.made sent.made));
-  }
-
-  pub sending-stopped : Unsent (sends first) b c → Unsent (sends_all out) a c
-  sending-stopped unsent = record {
-    made = with_more sending.made unsent.made;
-    breaks = Breaks-more (sends_all out) (sends first) (λ x. sends_all (drop (k + 1) out)) sending.made unsent.made a b c leads_on unsent.breaks;
   }
 
 pub sending-end : (out : List Routed) (text text_now : List ℕ) (a b : OutsideTells) → Sending out [] text text_now a b → Sent (sends_all out) tt text text_now a b
@@ -305,7 +308,7 @@ sending-end out text text_now a b sending = record {
 -- ---- what a step does
 
 pub Does-then : {X Y : Type 0} (one : Act Y) (next : Y → Act X) (y : Y) (x : X) (first second : Made) (a b c : OutsideTells)
-    → Does one y first a b → Does (next y) x second b c → Does (one >>= next) x (with_more first second) a c
+    → Does one y first a b → Does (next y) x second b c → Does (one >>= next) x (first ++ second) a c
 Does-then one next y x first second a b c does then = record {
   back = λ later agrees.
       let (middle, middle_is, after) = then.back later agrees in
@@ -314,7 +317,7 @@ Does-then one next y x first second a b c does then = record {
   links = LinksWent-more first second a b c does.links then.links;
 }
 
-Does-says : (text : List ℕ) (a : OutsideTells) → Does (says text) tt (only_said (lines text)) a a
+Does-says : (text : List ℕ) (a : OutsideTells) → Does (says text) tt (lines_written text ∷ []) a a
 Does-says text a = record {
   back = λ later agrees. (later, agrees, refl);
   links = record {
@@ -324,89 +327,91 @@ Does-says text a = record {
 }
 
 module _ (effects : StepEffects) (a b : OutsideTells) (sink sink_now : SinkTells) where
-  does-all : (made : Made) → Does (sends_all effects.out) tt made a b → Does (does effects) tt (with_more made (only_said (lines effects.text))) a b
+  does-all : (made : Made) → Does (sends_all effects.out) tt made a b → Does (does effects) tt (made ++ lines_written effects.text ∷ []) a b
   unfolding does
   does-all made sent =
-      Does-then (sends_all effects.out) (λ x. says effects.text) tt tt made (only_said (lines effects.text)) a b b sent (Does-says effects.text b)
+      Does-then (sends_all effects.out) (λ x. says effects.text) tt tt made (lines_written effects.text ∷ []) a b b sent (Does-says effects.text b)
 
-  said-all : (made : Made) → text_of (with_more made (only_said (lines effects.text))) ≡ text_of made ++ effects.text
-  said-all made = text-more made (only_said (lines effects.text)) ∙ ap (λ v. text_of made ++ v) (append-nil effects.text)
+  said-all : (made : Made) → text_of (made ++ lines_written effects.text ∷ []) ≡ text_of made ++ effects.text
+  said-all made = text-more made (lines_written effects.text ∷ []) ∙ ap (λ v. text_of made ++ v) (append-nil effects.text)
 
-  pub performed : {T : Type 0} (notes : List ℕ) (result : Result T Stop) → Sent (sends_all effects.out) tt [] notes a b
-      → WroteText (notes ++ effects.text) sink sink_now result → Goes (λ t x. Unit {0}) (does effects) a b sink sink_now result
-  performed notes (Ok t) sent wrote = record {
-    value = tt;
-    shows = tt;
-    made = with_more sent.made (only_said (lines effects.text));
-    does = does-all sent.made sent.does;
-    wrote = rw (said-all sent.made, ← sent.noted_is) wrote.0;
-    writes = wrote.1;
-  }
-  performed notes (Err stop) sent wrote = record {
-    made = with_more sent.made (only_said (lines effects.text));
-    breaks = Breaks-does (does effects) tt _ a b (does-all sent.made sent.does);
-    wrote = rw (said-all sent.made, ← sent.noted_is) wrote.0;
-    writes = wrote.1;
-  }
+  module _ {T E : Type 0} (notes : List ℕ) (written : Result T E) (sent : Sent (sends_all effects.out) tt [] notes a b)
+      (wrote : WroteText (notes ++ effects.text) sink sink_now written) where
+    pub performed : (t : T) → written ≡ Ok t → Passed (λ x. Unit {0}) (does effects) a b sink sink_now
+    performed t is =
+        let done = rw is at wrote in
+        record {
+          value = tt;
+          shows = tt;
+          made = sent.made ++ lines_written effects.text ∷ [];
+          does = does-all sent.made sent.does;
+          whole = whole-last sent.made (lines_written effects.text) tt;
+          wrote = rw (said-all sent.made, ← sent.noted_is) done.0;
+          writes = done.1;
+        }
 
-pub unperformed : (effects : StepEffects) (a b : OutsideTells) (sink : SinkTells) → Unsent (sends_all effects.out) a b
-    → Stopped (does effects) NoMemory a b sink sink
-unfolding does
-unperformed effects a b sink unsent = record {
-  made = unsent.made;
-  breaks = Breaks-more (does effects) (sends_all effects.out) (λ x. says effects.text) nothing unsent.made a a b
-      (Leads-start (does effects) a) unsent.breaks;
-  wrote = GainsFront-none sink.held (text_of unsent.made);
-  writes = NoneFailed-same sink.calls;
-}
+    pub performed-stopped : (e : E) → written ≡ Err e → Stopped (does effects) Fault a b sink sink_now
+    performed-stopped e is =
+        let done = rw is at wrote in
+        record {
+          made = sent.made ++ lines_written effects.text ∷ [];
+          breaks = Breaks-does (does effects) tt _ a b (does-all sent.made sent.does);
+          after = writing-last sent.made (lines_written effects.text) tt;
+          wrote = rw (said-all sent.made, ← sent.noted_is) done.0;
+          writes = done.1;
+        }
 
 -- ---- polls
 
 pub polled-ok : {E : Type 0} (face : Face) (buffer : List ℕ) (a b : OutsideTells) (sink : SinkTells) (result : Result (Option ℕ) E) (came : Option ℕ)
     → result ≡ Ok came → PollsAtMost result buffer
-    → Does (polls face) (polled_in buffer result) (notes_failed face (polled_in buffer result)) a b
+    → Does (polls face) (polled_in buffer result) (link_polled face (polled_in buffer result) ∷ []) a b
     → Passed (PolledAs buffer came) (polls face) a b sink sink
 polled-ok face buffer a b sink result None is bound does = record {
   value = empty;
   shows = tt;
-  made = nothing;
+  made = link_polled face empty ∷ [];
   does = rw is at does;
+  whole = tt;
   wrote = Gains-none sink.held;
   writes = NoneFailed-same sink.calls;
 }
 polled-ok face buffer a b sink result (Some n) is bound does = record {
   value = gave (take n buffer);
   shows = (rw is at bound, refl);
-  made = nothing;
+  made = link_polled face (gave (take n buffer)) ∷ [];
   does = rw is at does;
+  whole = tt;
   wrote = Gains-none sink.held;
   writes = NoneFailed-same sink.calls;
 }
 
 pub polled-failed : {E : Type 0} (face : Face) (buffer : List ℕ) (a b : OutsideTells) (sink sink_now : SinkTells) (result : Result (Option ℕ) E) (e : E)
-    → result ≡ Err e → Does (polls face) (polled_in buffer result) (notes_failed face (polled_in buffer result)) a b
-    → {T : Type 0} (written : Result T Stop) (x : T) → written ≡ Ok x → WroteText (link_line face false) sink sink_now written
+    → result ≡ Err e → Does (polls face) (polled_in buffer result) (link_polled face (polled_in buffer result) ∷ []) a b
+    → {T F : Type 0} (written : Result T F) (x : T) → written ≡ Ok x → WroteText (link_line face false) sink sink_now written
     → Passed (PolledAs buffer None) (polls face) a b sink sink_now
 polled-failed face buffer a b sink sink_now result e is does written x ok wrote =
     let done = rw ok at wrote in
     record {
       value = failed;
       shows = tt;
-      made = only_said (link_failed face false);
+      made = link_polled face failed ∷ [];
       does = rw is at does;
+      whole = tt;
       wrote = rw (append-nil (link_line face false)) done.0;
       writes = done.1;
     }
 
 pub polled-stopped : {E : Type 0} (face : Face) (buffer : List ℕ) (a b : OutsideTells) (sink sink_now : SinkTells) (result : Result (Option ℕ) E) (e : E)
-    → result ≡ Err e → Does (polls face) (polled_in buffer result) (notes_failed face (polled_in buffer result)) a b
-    → {T : Type 0} (written : Result T Stop) (stop : Stop) → written ≡ Err stop → WroteText (link_line face false) sink sink_now written
-    → Stopped (polls face) stop a b sink sink_now
-polled-stopped face buffer a b sink sink_now result e is does written stop err wrote =
+    → result ≡ Err e → Does (polls face) (polled_in buffer result) (link_polled face (polled_in buffer result) ∷ []) a b
+    → {T F : Type 0} (written : Result T F) (f : F) → written ≡ Err f → WroteText (link_line face false) sink sink_now written
+    → Stopped (polls face) Fault a b sink sink_now
+polled-stopped face buffer a b sink sink_now result e is does written f err wrote =
     let done = rw err at wrote in
     record {
-      made = only_said (link_failed face false);
-      breaks = Breaks-does (polls face) failed (only_said (link_failed face false)) a b (rw is at does);
+      made = link_polled face failed ∷ [];
+      breaks = Breaks-does (polls face) failed (link_polled face failed ∷ []) a b (rw is at does);
+      after = tt;
       wrote = rw (append-nil (link_line face false)) done.0;
       writes = done.1;
     }
@@ -416,9 +421,10 @@ polled-stopped face buffer a b sink sink_now result e is does written stop err w
 -- a step for which there was no memory: nothing is made
 pub stopped-at-once : {X : Type 0} (act : Act X) (a : OutsideTells) (sink : SinkTells) → Stopped act NoMemory a a sink sink
 stopped-at-once act a sink = record {
-  made = nothing;
+  made = [];
   breaks = record { back = λ later agrees. (later, agrees, ((act later).made, refl)); links = LinksWent-none a };
-  wrote = GainsFront-none sink.held [];
+  after = tt;
+  wrote = Gains-none sink.held;
   writes = NoneFailed-same sink.calls;
 }
 
@@ -430,27 +436,30 @@ goes-shown act a b sink sink_now (Ok t) goes P p = record {
   shows = p;
   made = goes.made;
   does = goes.does;
+  whole = goes.whole;
   wrote = goes.wrote;
   writes = goes.writes;
 }
 goes-shown act a b sink sink_now (Err stop) goes P p = record {
   made = goes.made;
   breaks = goes.breaks;
+  after = goes.after;
   wrote = goes.wrote;
   writes = goes.writes;
 }
 
 -- ---- what came is taken
 
-Does-give : {X : Type 0} (x : X) (a : OutsideTells) → Does (give x) x nothing a a
+Does-give : {X : Type 0} (x : X) (a : OutsideTells) → Does (give x) x [] a a
 Does-give x a = record { back = λ later agrees. (later, agrees, refl); links = LinksWent-none a }
 
 passed-give : {X : Type 0} (Shows : X → Type 0) (x : X) (a : OutsideTells) (sink : SinkTells) → Shows x → Passed Shows (give x) a a sink sink
 passed-give Shows x a sink shows = record {
   value = x;
   shows = shows;
-  made = nothing;
+  made = [];
   does = Does-give x a;
+  whole = tt;
   wrote = Gains-none sink.held;
   writes = NoneFailed-same sink.calls;
 }
@@ -463,14 +472,16 @@ then-give Shows act x a b sink sink_now (Ok t) goes shows = record {
   value = x;
   shows = shows;
   made = goes.made;
-  does = subst (λ m. Does (act >>= (λ y. give x)) x m a b) (with_more-nothing goes.made)
-      (Does-then act (λ y. give x) goes.value x goes.made nothing a b b goes.does (Does-give x b));
+  does = subst (λ m. Does (act >>= (λ y. give x)) x m a b) (append-nil goes.made)
+      (Does-then act (λ y. give x) goes.value x goes.made [] a b b goes.does (Does-give x b));
+  whole = goes.whole;
   wrote = goes.wrote;
   writes = goes.writes;
 }
 then-give Shows act x a b sink sink_now (Err stop) goes shows = record {
   made = goes.made;
-  breaks = Breaks-more (act >>= (λ y. give x)) act (λ y. give x) nothing goes.made a a b (Leads-start (act >>= (λ y. give x)) a) goes.breaks;
+  breaks = Breaks-more (act >>= (λ y. give x)) act (λ y. give x) [] goes.made a a b (Leads-start (act >>= (λ y. give x)) a) goes.breaks;
+  after = goes.after;
   wrote = goes.wrote;
   writes = goes.writes;
 }
@@ -512,7 +523,7 @@ pub goes-last : {T X : Type 0} (Shows : X → Type 0) (act rest : Act X) (a b c 
 goes-last Shows act rest a b c sink sink_mid sink_now (Ok t) going goes = record {
   value = goes.value;
   shows = goes.shows;
-  made = with_more going.made goes.made;
+  made = going.made ++ goes.made;
   does = record {
     back = λ later agrees.
         let (middle, middle_is, done) = goes.does.back later agrees in
@@ -520,21 +531,23 @@ goes-last Shows act rest a b c sink sink_mid sink_now (Ok t) going goes = record
         (start, start_is, led ∙ ap (put_before going.made) done);
     links = LinksWent-more going.made goes.made a b c going.leads.links goes.does.links;
   };
+  whole = whole-more going.made goes.made going.whole goes.whole;
   wrote = rw (text-more going.made goes.made)
       (Gains-more sink.held sink_mid.held sink_now.held (text_of going.made) (text_of goes.made) going.wrote goes.wrote);
   writes = NoneFailed-more sink.calls sink_mid.calls sink_now.calls going.writes goes.writes;
 }
 goes-last Shows act rest a b c sink sink_mid sink_now (Err stop) going goes = record {
-  made = with_more going.made goes.made;
+  made = going.made ++ goes.made;
   breaks = record {
     back = λ later agrees.
         let (middle, middle_is, (more, parts)) = goes.breaks.back later agrees in
         let (start, start_is, led) = going.leads.back middle middle_is in
-        (start, start_is, (more, ap (λ acted. acted.made) led ∙ ap (with_more going.made) parts ∙ sym (with_more-assoc going.made goes.made more)));
+        (start, start_is, (more, ap (λ acted. acted.made) led ∙ ap (λ m. going.made ++ m) parts ∙ sym (append_assoc going.made goes.made more)));
     links = LinksWent-more going.made goes.made a b c going.leads.links goes.breaks.links;
   };
+  after = after-more stop going.made goes.made going.whole goes.after;
   wrote = rw (text-more going.made goes.made)
-      (front-more sink.held sink_mid.held sink_now.held (text_of going.made) (text_of goes.made) going.wrote goes.wrote);
+      (wrote-until stop sink.held sink_mid.held sink_now.held (text_of going.made) (text_of goes.made) going.wrote goes.wrote);
   writes = stopped-writing stop sink sink_mid sink_now going.writes goes.writes;
 }
 
@@ -545,12 +558,12 @@ module _ {S : Type 0} (rules : TurnRules S) (face : Face) (state : S) (now : ℕ
   pub after-pass : Act S
   after-pass = polls face >>= after-poll
 
-  pub half-read : (a b : OutsideTells) (sink : SinkTells) → Does reads_clock now nothing a b
+  pub half-read : (a b : OutsideTells) (sink : SinkTells) → Does reads_clock now (clock_read now ∷ []) a b
       → Going (half rules face state) (does (rules.tick now state).effects >>= (λ x. after-pass)) a b sink sink
   unfolding half after-pass after-poll
   half-read a b sink read =
       Going-silent (half rules face state) reads_clock (λ n. does (rules.tick n state).effects >>= (λ x. polls face >>= (λ came. answers rules face n came (rules.tick n state).state)))
-      now a a b sink sink (Going-start (half rules face state) a sink) read
+      now (clock_read now) a a b sink sink tt refl (Going-start (half rules face state) a sink) read
 
   module _ (a b c : OutsideTells) (sink sink_mid sink_now : SinkTells) where
     pub polled-half : (Shows : Polled → Type 0) → Going (half rules face state) after-pass a b sink sink_mid
@@ -633,7 +646,7 @@ ran-stopped run stop a b sink sink_now stopped =
       outside = first;
       told = told;
       made = stopped.made;
-      went = front;
+      went = (front, stopped.after);
       links = stopped.breaks.links;
       wrote = stopped.wrote;
       writes = stopped.writes;
@@ -642,7 +655,7 @@ ran-stopped run stop a b sink sink_now stopped =
       outside = first;
       told = told;
       made = stopped.made;
-      went = front;
+      went = (front, stopped.after);
       links = stopped.breaks.links;
       wrote = stopped.wrote;
       writes = stopped.writes;

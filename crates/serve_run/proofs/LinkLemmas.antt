@@ -7,7 +7,7 @@ use Rattle.edge_traits.proofs.ContentLemmas.{Gains-none}
 use Rattle.gate_cases.specs.declared.face.Face.{Face}
 use Rattle.gate_cases.specs.declared.face.Face.TheVariants.{Old, New}
 use Rattle.serve_run.specs.Outside.{LinkAhead, ClockAhead, given, after_given, polled, past_poll, past_send, past_reading, gave}
-use Rattle.serve_run.specs.Turns.{polls, sends, reads_clock, notes_failed, nothing}
+use Rattle.serve_run.specs.Turns.{polls, sends, reads_clock, clock_read, link_polled}
 use Rattle.serve_run.specs.Tells.{LinkTells, LinkAgrees, ClockAgrees, LinkWent, LinksWent, Does, polled_in, made_by_send}
 
 -- ---- which calls fail
@@ -75,7 +75,7 @@ kept before now same = rw same (Gains-none before)
 
 went-old : {E : Type 0} (before now other : LinkTells) (readings : Option (List ℕ)) (r : Result (Option ℕ) E) (buf : List ℕ)
     → now.gone ≡ before.gone → now.faults ≡ count_after before.faults r
-    → LinksWent (notes_failed Old (polled_in buf r)) (record { old = before; new = other; readings = readings }) (record { old = now; new = other; readings = readings })
+    → LinksWent (link_polled Old (polled_in buf r) ∷ []) (record { old = before; new = other; readings = readings }) (record { old = now; new = other; readings = readings })
 went-old before now other readings (Ok None) buf same count = record { old = record { gone = kept before.gone now.gone same; count = count }; new = stays other }
 went-old before now other readings (Ok (Some n)) buf same count = record { old = record { gone = kept before.gone now.gone same; count = count }; new = stays other }
 went-old before now other readings (Err e) buf same count = record { old = record { gone = kept before.gone now.gone same; count = count }; new = stays other }
@@ -83,7 +83,7 @@ went-old before now other readings (Err e) buf same count = record { old = recor
 pub polls-old : {E : Type 0} (before now other : LinkTells) (readings : Option (List ℕ)) (result : Result (Option ℕ) E) (buf : List ℕ)
     → Polls before.coming now.coming result buf → now.gone ≡ before.gone
     → now.faults ≡ count_after before.faults result → FailsAsTold before.failing now.failing result
-    → Does (polls Old) (polled_in buf result) (notes_failed Old (polled_in buf result))
+    → Does (polls Old) (polled_in buf result) (link_polled Old (polled_in buf result) ∷ [])
     (record { old = before; new = other; readings = readings }) (record { old = now; new = other; readings = readings })
 polls-old before now other readings result buf told same count fails = record {
   back = λ later agrees.
@@ -97,7 +97,7 @@ polls-old before now other readings result buf told same count fails = record {
 
 went-new : {E : Type 0} (before now other : LinkTells) (readings : Option (List ℕ)) (r : Result (Option ℕ) E) (buf : List ℕ)
     → now.gone ≡ before.gone → now.faults ≡ count_after before.faults r
-    → LinksWent (notes_failed New (polled_in buf r)) (record { new = before; old = other; readings = readings }) (record { new = now; old = other; readings = readings })
+    → LinksWent (link_polled New (polled_in buf r) ∷ []) (record { new = before; old = other; readings = readings }) (record { new = now; old = other; readings = readings })
 went-new before now other readings (Ok None) buf same count = record { new = record { gone = kept before.gone now.gone same; count = count }; old = stays other }
 went-new before now other readings (Ok (Some n)) buf same count = record { new = record { gone = kept before.gone now.gone same; count = count }; old = stays other }
 went-new before now other readings (Err e) buf same count = record { new = record { gone = kept before.gone now.gone same; count = count }; old = stays other }
@@ -105,7 +105,7 @@ went-new before now other readings (Err e) buf same count = record { new = recor
 pub polls-new : {E : Type 0} (before now other : LinkTells) (readings : Option (List ℕ)) (result : Result (Option ℕ) E) (buf : List ℕ)
     → Polls before.coming now.coming result buf → now.gone ≡ before.gone
     → now.faults ≡ count_after before.faults result → FailsAsTold before.failing now.failing result
-    → Does (polls New) (polled_in buf result) (notes_failed New (polled_in buf result))
+    → Does (polls New) (polled_in buf result) (link_polled New (polled_in buf result) ∷ [])
     (record { old = other; new = before; readings = readings }) (record { old = other; new = now; readings = readings })
 polls-new before now other readings result buf told same count fails = record {
   back = λ later agrees.
@@ -223,7 +223,7 @@ reading-back (Some (first ∷ second ∷ readings)) (Some (next ∷ more)) momen
     )
 
 pub reads : (old new : LinkTells) (before now : Option (List ℕ)) (moment : ℕ) → Reads before now moment
-    → Does reads_clock moment nothing
+    → Does reads_clock moment (clock_read moment ∷ [])
     (record { old = old; new = new; readings = before }) (record { old = old; new = new; readings = now })
 reads old new before now moment told = record {
   back = λ later agrees.

@@ -1,8 +1,6 @@
 -- A run over links and a clock that tell all of how they go on.
-use Rattle.std.proofs.Common.{◌≡◌, refl, sym, ◌∙◌, ap}
-use Rattle.serve_run.specs.Outside.{Outside}
+use Rattle.std.proofs.Common.{◌≡◌, refl, ◌∙◌, ap}
 use Rattle.serve_run.specs.Serve.{serve_turns}
-use Rattle.serve_run.specs.Turns.{Made}
 use Rattle.serve_run.specs.Told.{IsExactWhereTold, link_of, outside_of}
 
 pub told-exact : IsExactWhereTold

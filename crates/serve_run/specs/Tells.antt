@@ -1,5 +1,5 @@
 -- What links and a clock tell, and how a run went over them, whatever they tell.
-use Rattle.std.specs.Prelude.{◌≤◌, length, take, Result, Ok, Err, ◌≡◌, ℕ, zero, suc, ◌+◌, Bool, true, false, codes, List, [], ◌∷◌, ◌++◌, map, Option, None, Some, IfSome}
+use Rattle.std.specs.Prelude.{◌≤◌, length, take, Result, Ok, Err, is_err, ◌≡◌, ℕ, zero, suc, ◌+◌, Bool, true, false, codes, List, [], ◌∷◌, ◌++◌, map, Option, None, Some, IfSome}
 use Rattle.std.specs.List.{flat_map}
 use Rattle.edge_traits.specs.Content.{Gains, GainsFront}
 use Rattle.edge_traits.specs.Faults.{one_more, Calls, NoneFailed, LastFailed}
@@ -12,9 +12,10 @@ use Rattle.replay_script.specs.Words.{spaced}
 use Rattle.replay_script.specs.Lines.{side_word, call_word}
 use Rattle.serve_run.specs.Outside.{LinkAhead, ClockAhead, Outside, Polled, failed, empty, gave}
 use Rattle.gateway_core.specs.declared.effects.Routed.{Routed}
+use Rattle.gateway_core.specs.Gate.{if_same}
 use Rattle.serve_run.specs.declared.stop.Stop.{Stop}
 use Rattle.serve_run.specs.declared.stop.Stop.TheVariants.{Fault, NoMemory}
-use Rattle.serve_run.specs.Turns.{Said, lines, link_failed, Made, with_more, only_said, only_sent, Act, Acted, put_before, Stepped, StepEffects}
+use Rattle.serve_run.specs.Turns.{Call, clock_read, link_polled, datagram_sent, datagram_lost, lines_written, Made, sent_on, IsWhole, EndsWriting, Act, Acted, put_before, tried, Stepped, StepEffects}
 
 -- ---- what is told
 
@@ -72,21 +73,33 @@ unfoldable pub link_line : Face → Bool → List ℕ
 link_line face send =
     spaced (codes "note" ∷ side_word (is_old face) ∷ call_word send ∷ []) ++ codes "\n"
 
-abbrev pub said_text : Said → List ℕ
-said_text (lines text) = text
-said_text (link_failed face send) = link_line face send
+-- the text that is written with a call: that it failed, or the lines of a step
+abbrev pub call_text : Call → List ℕ
+call_text (clock_read now) = []
+call_text (link_polled face failed) = link_line face false
+call_text (link_polled face empty) = []
+call_text (link_polled face (gave datagram)) = []
+call_text (datagram_sent face datagram) = []
+call_text (datagram_lost face datagram) = link_line face true
+call_text (lines_written text) = text
 
--- how many failed calls of a face's link are noted
-abbrev pub is_about : Face → Said → ℕ
-is_about face (lines text) = 0
-is_about Old (link_failed Old send) = 1
-is_about Old (link_failed New send) = 0
-is_about New (link_failed Old send) = 0
-is_about New (link_failed New send) = 1
+-- the text of calls
+abbrev pub text_of : Made → List ℕ
+text_of made = flat_map call_text made
 
-abbrev pub noted : Face → List Said → ℕ
+-- how many calls of a face's link failed
+abbrev pub failed_on : Face → Call → ℕ
+failed_on face (clock_read now) = 0
+failed_on face (link_polled at failed) = if_same at face 1 0
+failed_on face (link_polled at empty) = 0
+failed_on face (link_polled at (gave datagram)) = 0
+failed_on face (datagram_sent at datagram) = 0
+failed_on face (datagram_lost at datagram) = if_same at face 1 0
+failed_on face (lines_written text) = 0
+
+abbrev pub noted : Face → Made → ℕ
 noted face [] = 0
-noted face (said ∷ later) = is_about face said + noted face later
+noted face (call ∷ later) = failed_on face call + noted face later
 
 -- a count after so many faults more
 abbrev pub counted : ℕ → ℕ → ℕ
@@ -100,8 +113,8 @@ pub record LinkWent (sent : List (List ℕ)) (n : ℕ) (before now : LinkTells) 
 
 -- this was made over two links
 pub record LinksWent (made : Made) (before now : OutsideTells) : Type 0 where
-  pub old : LinkWent made.old (noted Old made.said) before.old now.old
-  pub new : LinkWent made.new (noted New made.said) before.new now.new
+  pub old : LinkWent (sent_on Old made) (noted Old made) before.old now.old
+  pub new : LinkWent (sent_on New made) (noted New made) before.new now.new
 
 -- ---- how an act went
 
@@ -120,7 +133,7 @@ pub record Leads {X : Type 0} (act : Act X) (made : Made) (rest : Act X) (before
 
 -- what was made is a front of the whole
 abbrev pub IsFrontOf : Made → Made → Type 0
-IsFrontOf made whole = (rest : Made) × (whole ≡ with_more made rest)
+IsFrontOf made whole = (rest : Made) × (whole ≡ made ++ rest)
 
 -- the same of an act that was broken off: what was made is a front of what it would make
 pub record Breaks {X : Type 0} (act : Act X) (made : Made) (before now : OutsideTells) : Type 0 where
@@ -130,29 +143,38 @@ pub record Breaks {X : Type 0} (act : Act X) (made : Made) (before now : Outside
 
 -- ---- how code went that does an act and writes what it says
 
--- the text of what is said
-abbrev pub text_of : Made → List ℕ
-text_of made = flat_map said_text made.said
-
 -- it did the act, and wrote all that this says
 pub record Passed {X : Type 0} (Shows : X → Type 0) (act : Act X) (before now : OutsideTells) (sink sink_now : SinkTells) : Type 0 where
   pub value : X
   pub shows : Shows value
   pub made : Made
   pub does : Does act value made before now
+  pub whole : IsWhole made
   pub wrote : Gains sink.held sink_now.held (text_of made)
   pub writes : NoneFailed sink.calls sink_now.calls
+
+-- the last call of code that stopped: a write failed with it; where memory ran out, it was done, and so
+-- no step was broken off
+abbrev pub StopsAfter : Stop → Made → Type 0
+StopsAfter Fault made = EndsWriting made
+StopsAfter NoMemory made = IsWhole made
+
+-- what it wrote: a front of the text, or all of it
+abbrev pub StopsWithin : Stop → Option (List ℕ) → Option (List ℕ) → List ℕ → Type 0
+StopsWithin Fault before now text = GainsFront before now text
+StopsWithin NoMemory before now text = Gains before now text
 
 -- the writes of code that stopped
 abbrev pub StopsWriting : Stop → Calls → Calls → Type 0
 StopsWriting Fault before now = LastFailed before now
 StopsWriting NoMemory before now = NoneFailed before now
 
--- it stopped, and wrote a front of what was said until then
+-- it stopped
 pub record Stopped {X : Type 0} (act : Act X) (stop : Stop) (before now : OutsideTells) (sink sink_now : SinkTells) : Type 0 where
   pub made : Made
   pub breaks : Breaks act made before now
-  pub wrote : GainsFront sink.held sink_now.held (text_of made)
+  pub after : StopsAfter stop made
+  pub wrote : StopsWithin stop sink.held sink_now.held (text_of made)
   pub writes : StopsWriting stop sink.calls sink_now.calls
 
 -- it did the act, with a value that the answer stands for, or stopped
@@ -162,11 +184,13 @@ Goes Shows act before now sink sink_now (Err stop) = Stopped act stop before now
 
 -- ---- a whole run
 
--- what was made is all that the run makes, and links and clock go on as they tell now; or it is a front
+-- What was made is all that the run makes, and links and clock go on as they tell now. Or it is a front:
+-- with its last call a write failed; or memory ran out, and then no step was broken off, so that it is
+-- what whole steps make.
 abbrev pub WentOn : {X : Type 0} → Acted X → Made → OutsideTells → Status → Type 0
 WentOn run made now Done = (made ≡ run.made) × Agrees now run.outside
-WentOn run made now WriteFault = IsFrontOf made run.made
-WentOn run made now Memory = IsFrontOf made run.made
+WentOn run made now WriteFault = IsFrontOf made run.made × EndsWriting made
+WentOn run made now Memory = IsFrontOf made run.made × IsWhole made
 WentOn run made now Refused = ⊥
 WentOn run made now Usage = ⊥
 WentOn run made now ReadFault = ⊥
@@ -176,7 +200,7 @@ WentOn run made now Limit = ⊥
 abbrev pub WroteMade : Made → Option (List ℕ) → Option (List ℕ) → Status → Type 0
 WroteMade made before now Done = Gains before now (text_of made)
 WroteMade made before now WriteFault = GainsFront before now (text_of made)
-WroteMade made before now Memory = GainsFront before now (text_of made)
+WroteMade made before now Memory = Gains before now (text_of made)
 WroteMade made before now Refused = ⊥
 WroteMade made before now Usage = ⊥
 WroteMade made before now ReadFault = ⊥
@@ -184,7 +208,7 @@ WroteMade made before now Limit = ⊥
 
 -- How a run ended that links and a clock are driven by: as they go on, which is as they told before
 -- it, this was made of it; exactly these datagrams went, each count rose by exactly the calls that are
--- noted, and exactly that was written, or a front of it where the run ended early.
+-- noted, and exactly that was written, or a front of it where a write failed.
 pub record RanTurns {X : Type 0} (run : Act X) (status : Status) (before now : OutsideTells) (sink sink_now : SinkTells) : Type 0 where
   pub outside : Outside
   pub told : Agrees before outside
@@ -213,24 +237,18 @@ polled_in buffer (Err e) = failed
 
 -- a send that was made or failed
 abbrev pub made_by_send : {E : Type 0} → Routed → Result (Unit {0}) E → Made
-made_by_send routed (Ok x) = only_sent routed.face routed.datagram
-made_by_send routed (Err e) = only_said (link_failed routed.face true)
+made_by_send routed result = tried routed.face (is_err result) routed.datagram ∷ []
 
--- a text was written by code that passed or stopped
-abbrev pub WroteText : {T : Type 0} → List ℕ → SinkTells → SinkTells → Result T Stop → Type 0
+-- a text was written, or a front of it where a write failed
+abbrev pub WroteText : {T E : Type 0} → List ℕ → SinkTells → SinkTells → Result T E → Type 0
 WroteText text sink now (Ok t) = Gains sink.held now.held text × NoneFailed sink.calls now.calls
-WroteText text sink now (Err stop) = GainsFront sink.held now.held text × StopsWriting stop sink.calls now.calls
+WroteText text sink now (Err e) = GainsFront sink.held now.held text × LastFailed sink.calls now.calls
 
--- datagrams were sent, and what is said of those that failed was added to a text; where there was no
--- memory for that, no more of them are sent
+-- datagrams were sent, and lines about those that were lost were added to a text
 pub record Sent {X : Type 0} (act : Act X) (value : X) (text text_now : List ℕ) (before now : OutsideTells) : Type 0 where
   pub made : Made
   pub does : Does act value made before now
   pub noted_is : text_now ≡ text ++ text_of made
-
-pub record Unsent {X : Type 0} (act : Act X) (before now : OutsideTells) : Type 0 where
-  pub made : Made
-  pub breaks : Breaks act made before now
 
 -- a step of what is driven
 pub record StepsTo {S : Type 0} (Shows : S → Type 0) (stepped : Stepped S) (effects : StepEffects) : Type 0 where

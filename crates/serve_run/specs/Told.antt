@@ -1,13 +1,14 @@
 -- A run over links and a clock that tell all of how they go on.
-use Rattle.std.specs.Prelude.{◌≡◌, ℕ, List, ◌∷◌, map, Bool, Option, Some}
+use Rattle.std.specs.Prelude.{◌≡◌, ℕ, List, ◌∷◌, map, Bool, Some}
 use Rattle.endpoint.specs.declared.name.Endpoint.{Endpoint}
 use Rattle.edge_traits.specs.Content.{Gains}
 use Rattle.edge_traits.specs.Outcome.{SinkTells}
 use Rattle.edge_traits.specs.declared.status.Status.TheVariants.{Done}
+use Rattle.gate_cases.specs.declared.face.Face.TheVariants.{Old, New}
 use Rattle.serve_run.specs.Outside.{LinkAhead, Outside}
 use Rattle.serve_run.specs.Serve.{serve_turns}
-use Rattle.serve_run.specs.Turns.{Made}
-use Rattle.serve_run.specs.Tells.{LinkTells, OutsideTells, RanTurns, text_of}
+use Rattle.serve_run.specs.Turns.{Made, sent_on}
+use Rattle.serve_run.specs.Tells.{OutsideTells, RanTurns, text_of}
 
 -- a link that gives these datagrams and fails so, and two with a clock that shows these readings
 abbrev pub link_of : List (List ℕ) → List Bool → LinkAhead
@@ -19,8 +20,8 @@ outside_of old new shows later = record { old = old; new = new; clock = record {
 -- exactly this was written and sent
 pub record WentExactly (made : Made) (before now : OutsideTells) (sink sink_now : SinkTells) : Type 0 where
   pub wrote : Gains sink.held sink_now.held (text_of made)
-  pub old : Gains before.old.gone now.old.gone made.old
-  pub new : Gains before.new.gone now.new.gone made.new
+  pub old : Gains before.old.gone now.old.gone (sent_on Old made)
+  pub new : Gains before.new.gone now.new.gone (sent_on New made)
 
 -- where all is told, a run of `serve` that is done went exactly as these have it
 abbrev pub IsExactWhereTold : Type 0

@@ -1,41 +1,71 @@
 -- A run in turns: each has a half for the old link and one for the new.
-use Rattle.std.specs.Prelude.{ℕ, zero, suc, Bool, true, false, List, [], ◌∷◌, ◌++◌, if◌then◌else◌}
+use Rattle.std.specs.Prelude.{ℕ, zero, suc, Bool, true, false, List, [], ◌∷◌, ◌++◌}
+use Rattle.std.specs.List.{flat_map}
 use Rattle.edge_traits.specs.Faults.{fails_next}
 use Rattle.gate_cases.specs.declared.face.Face.{Face}
 use Rattle.gate_cases.specs.declared.face.Face.TheVariants.{Old, New}
 use Rattle.gateway_core.specs.declared.effects.Routed.{Routed}
+use Rattle.gateway_core.specs.Gate.{if_same}
 use Rattle.serve_run.specs.Outside.{Polled, failed, empty, gave, polled, past_poll, past_send, past_reading, Outside, link_at, with_link}
 
 -- ---- what a run makes
 
--- the lines that one step writes, or the one that says of a face's link that a call failed: a send,
--- or else a poll
-pub data Said : Type 0 where
-  lines : List ℕ → Said
-  link_failed : Face → Bool → Said
+-- what is called outside, and what that comes to: the clock is read, and shows this; a face's link is
+-- polled, and a line says so where that failed; a datagram of a step is sent on the link of its face,
+-- or lost, since its sending failed, which a line before the step's own says; and the lines of a step
+-- are written
+pub data Call : Type 0 where
+  clock_read : ℕ → Call
+  link_polled : Face → Polled → Call
+  datagram_sent : Face → List ℕ → Call
+  datagram_lost : Face → List ℕ → Call
+  lines_written : List ℕ → Call
 
--- what is written, and the datagrams that were sent on each link
-pub record Made : Type 0 where
-  pub said : List Said
-  pub old : List (List ℕ)
-  pub new : List (List ℕ)
+-- the calls, in the order made
+abbrev pub Made : Type 0
+Made = List Call
 
-abbrev pub nothing : Made
-nothing = record { said = []; old = []; new = [] }
+-- the datagrams that were sent on a face's link
+abbrev pub datagram_on : Face → Call → List (List ℕ)
+datagram_on face (clock_read now) = []
+datagram_on face (link_polled at polled) = []
+datagram_on face (datagram_sent at datagram) = if_same at face (datagram ∷ []) []
+datagram_on face (datagram_lost at datagram) = []
+datagram_on face (lines_written text) = []
 
-abbrev pub with_more : Made → Made → Made
-with_more first more = record {
-  said = first.said ++ more.said;
-  old = first.old ++ more.old;
-  new = first.new ++ more.new;
-}
+abbrev pub sent_on : Face → Made → List (List ℕ)
+sent_on face made = flat_map (datagram_on face) made
 
-abbrev pub only_said : Said → Made
-only_said said = record { said = said ∷ []; old = []; new = [] }
+-- ---- whole steps
 
-abbrev pub only_sent : Face → List ℕ → Made
-only_sent Old datagram = record { said = []; old = datagram ∷ []; new = [] }
-only_sent New datagram = record { said = []; old = []; new = datagram ∷ [] }
+-- it isn't the sending of a datagram, after which a step has its lines to write
+abbrev pub IsNoSend : Call → Type 0
+IsNoSend (clock_read now) = Unit {0}
+IsNoSend (link_polled face polled) = Unit {0}
+IsNoSend (datagram_sent face datagram) = ⊥
+IsNoSend (datagram_lost face datagram) = ⊥
+IsNoSend (lines_written text) = Unit {0}
+
+-- no step is broken off: the last call is no sending
+abbrev pub IsWhole : Made → Type 0
+IsWhole [] = Unit {0}
+IsWhole (call ∷ []) = IsNoSend call
+IsWhole (call ∷ next ∷ later) = IsWhole (next ∷ later)
+
+-- the last call is one with which a line may be written: a step's lines are, or a poll failed
+abbrev pub MayWrite : Call → Type 0
+MayWrite (clock_read now) = ⊥
+MayWrite (link_polled face failed) = Unit {0}
+MayWrite (link_polled face empty) = ⊥
+MayWrite (link_polled face (gave datagram)) = ⊥
+MayWrite (datagram_sent face datagram) = ⊥
+MayWrite (datagram_lost face datagram) = ⊥
+MayWrite (lines_written text) = Unit {0}
+
+abbrev pub EndsWriting : Made → Type 0
+EndsWriting [] = ⊥
+EndsWriting (call ∷ []) = MayWrite call
+EndsWriting (call ∷ next ∷ later) = EndsWriting (next ∷ later)
 
 -- ---- acts
 
@@ -51,11 +81,11 @@ Act X = Outside → Acted X
 
 -- nothing is done
 abbrev pub give : {X : Type 0} → X → Act X
-give x outside = record { value = x; outside = outside; made = nothing }
+give x outside = record { value = x; outside = outside; made = [] }
 
 -- what was made before an act
 abbrev pub put_before : {X : Type 0} → Made → Acted X → Acted X
-put_before made acted = record acted { made = with_more made acted.made }
+put_before made acted = record acted { made = made ++ acted.made }
 
 -- an act, and then another that may depend on its value
 infixl 10 ◌>>=◌
@@ -71,29 +101,27 @@ abbrev pub reads_clock : Act ℕ
 reads_clock o = record {
   value = o.clock.shows;
   outside = record o { clock = past_reading o.clock };
-  made = nothing;
+  made = clock_read o.clock.shows ∷ [];
 }
 
--- a face's link is polled; a poll that fails is noted
-abbrev pub notes_failed : Face → Polled → Made
-notes_failed face failed = only_said (link_failed face false)
-notes_failed face empty = nothing
-notes_failed face (gave datagram) = nothing
-
+-- a face's link is polled
 abbrev pub polls : Face → Act Polled
 polls face o = record {
   value = polled (link_at o face);
   outside = with_link o face (past_poll (link_at o face));
-  made = notes_failed face (polled (link_at o face));
+  made = link_polled face (polled (link_at o face)) ∷ [];
 }
 
--- a datagram is sent on the link of its face; a send that fails is noted, and the datagram is lost
+-- a datagram is sent on the link of its face, and lost where that fails
+abbrev pub tried : Face → (fails : Bool) → List ℕ → Call
+tried face true datagram = datagram_lost face datagram
+tried face false datagram = datagram_sent face datagram
+
 abbrev pub sends : Routed → Act (Unit {0})
 sends routed o = record {
   value = tt;
   outside = with_link o routed.face (past_send (link_at o routed.face));
-  made = if fails_next (link_at o routed.face).failing then only_said (link_failed routed.face true)
-      else only_sent routed.face routed.datagram;
+  made = tried routed.face (fails_next (link_at o routed.face).failing) routed.datagram ∷ [];
 }
 
 unfoldable pub sends_all : List Routed → Act (Unit {0})
@@ -104,7 +132,7 @@ sends_all (first ∷ later) = do
 
 -- lines are written
 abbrev pub says : List ℕ → Act (Unit {0})
-says text o = record { value = tt; outside = o; made = only_said (lines text) }
+says text o = record { value = tt; outside = o; made = lines_written text ∷ [] }
 
 -- ---- turns
 
@@ -123,8 +151,7 @@ pub record TurnRules (S : Type 0) : Type 0 where
   pub tick : ℕ → S → Stepped S
   pub arrive : Face → List ℕ → ℕ → S → Stepped S
 
--- a step's datagrams are sent in order, and then its lines are written: so the notes of failed sends
--- stand first
+-- a step's datagrams are sent in order, and then its lines are written
 unfoldable pub does : StepEffects → Act (Unit {0})
 does effects = do
   sends_all effects.out

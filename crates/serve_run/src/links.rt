@@ -1,7 +1,7 @@
 //! The two links, each with the face that it is of.
-ghost use Rattle.std.specs.Prelude.{◌≡◌, ◌≤◌, ◌++◌, List, ℕ, Option, length, OnOk, IfOk};
+ghost use Rattle.std.specs.Prelude.{◌≡◌, ◌≤◌, [], ◌∷◌, List, ℕ, Option, length};
 ghost use Rattle.edge_traits.specs.Datagrams.{PollsAtMost};
-ghost use Rattle.serve_run.specs.Turns.{polls, sends, notes_failed};
+ghost use Rattle.serve_run.specs.Turns.{polls, sends, link_polled};
 ghost use Rattle.serve_run.specs.Tells.{links_tell, Does, polled_in, made_by_send};
 
 use edge_traits::{Failed, LONGEST_DATAGRAM, Link};
@@ -18,7 +18,7 @@ pub fn poll_at<L: Link>(
     requires { LONGEST_DATAGRAM ≤ length buffer.old }
     ensures bound { PollsAtMost result buffer.new }
     ensures does { (readings : Option (List ℕ)) → Does (polls face) (polled_in buffer.new result)
-        (notes_failed face (polled_in buffer.new result))
+        (link_polled face (polled_in buffer.new result) ∷ [])
         (links_tell L.coming L.gone L.failing L.faults old.old new.old readings)
         (links_tell L.coming L.gone L.failing L.faults old.new new.new readings) }
 {

@@ -1,32 +1,22 @@
-//! What is said of a link whose call failed.
-ghost use Rattle.std.specs.Prelude.{◌≡◌, ◌++◌, OnOk};
-ghost use Rattle.std.specs.String.{string_bytes};
-ghost use Rattle.serve_run.specs.Tells.{link_line, is_old};
+//! What is said of a link whose call failed. The lines are constant, so that they want no memory.
+ghost use Rattle.std.specs.Prelude.{◌≡◌, length};
+ghost use Rattle.serve_run.specs.Tells.{link_line};
 
 use gate_cases::Face;
-use replay_script::{Line, push_line};
-use std::alloc::{AllocError, Global};
 
-/// Writes that a call on the face's link failed: a send, or else a poll.
-#[tactic(auto, unfolding(replay_script::specs::Lines::line_text, crate::specs::Tells::link_line))]
-pub fn write_link_failed(
-    alloc: Global,
-    text: &mut String,
-    face: Face,
-    send: bool,
-) -> Result<(), AllocError>
-    ensures { OnOk result (string_bytes text.new ≡ string_bytes text.old ++ link_line face send) }
-{
-    let line = Line::LinkNote {
-        old: is_old(face),
-        send,
-    };
-    push_line(alloc, &line, text)
-}
+/// How many octets such a line has.
+pub const NOTE_LENGTH: usize = 14;
 
-/// Whether it is the old face.
-fn is_old(face: Face) -> bool
-    ensures { result ≡ is_old face }
+/// The line that says of the face's link that a call failed: a send, or else a poll.
+#[tactic(auto, unfolding(crate::specs::Tells::link_line))]
+pub fn link_line(face: Face, send: bool) -> &'static str
+    ensures line { result.now ≡ link_line face send }
+    ensures long { length result.now ≡ 14 }
 {
-    matches!(face, Face::Old)
+    match (face, send) {
+        (Face::Old, true) => "note old Send\n",
+        (Face::Old, false) => "note old Poll\n",
+        (Face::New, true) => "note new Send\n",
+        (Face::New, false) => "note new Poll\n",
+    }
 }

@@ -61,9 +61,9 @@ impl<T: TurnStep + Drop> Driven<T> {
     {
         match poll_at(face, &mut self.buffer, old, new) {
             Ok(came) => Ok(came),
-            Err(Failed) => match write_poll_failed(self.alloc, sink, face) {
+            Err(Failed) => match write_poll_failed(sink, face) {
                 Ok(()) => Ok(None),
-                Err(stop) => Err(stop),
+                Err(Failed) => Err(Stop::Fault),
             },
         }
     }

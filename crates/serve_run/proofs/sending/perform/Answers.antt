@@ -1,15 +1,18 @@
-use Rattle.std.specs.String.{string_bytes}
 use Rattle.serve_run.specs.Effects.{effects_in}
-use Rattle.serve_run.proofs.ActLemmas.{performed, unperformed}
+use Rattle.serve_run.proofs.ActLemmas.{performed, performed-stopped, stopped-at-once}
 use Rattle.serve_run.proofs.sending.perform.Goals as goal
 
-pub returns-in-Ok : goal.returns-in-Ok
-returns-in-Ok g c =
-    let sent = rw (c.as_slice.ensures, c.new-notes.ensures.bytes) at c.in-Ok.ensures.ok in
-    let wrote = rw c.as_str.ensures.value at c.write_after.ensures in
-    λ readings. performed (effects_in c.args.effects) _ _ _ _ (string_bytes c.send_all.new.text) c.write_after.result (sent readings) wrote
+pub returns-in_default-clause-goes : goal.returns-in_default-clause-goes
+returns-in_default-clause-goes g c = λ readings. stopped-at-once _ _ _
 
-pub returns : goal.returns
-returns g c =
-    let unsent = rw c.as_slice.ensures at c.in-Err.ensures.err in
-    λ readings. unperformed (effects_in c.args.effects) _ _ _ (unsent readings)
+pub returns-in-Ok-write_after-clause-goes : goal.returns-in-Ok-write_after-clause-goes
+returns-in-Ok-write_after-clause-goes g c =
+    let sent = rw (c.as_slice-2.ensures, c.in-Ok.ensures.ok.0) at c.send_all.ensures.sent in
+    let wrote = rw c.as_str.ensures.value at c.write_after.ensures in
+    λ readings. performed (effects_in c.args.effects) _ _ _ _ _ c.write_after.result (sent readings) wrote c.in-Ok-write_after.field-0 c.in-Ok-write_after.is
+
+pub returns-clause-goes : goal.returns-clause-goes
+returns-clause-goes g c =
+    let sent = rw (c.as_slice-2.ensures, c.in-Ok.ensures.ok.0) at c.send_all.ensures.sent in
+    let wrote = rw c.as_str.ensures.value at c.write_after.ensures in
+    λ readings. performed-stopped (effects_in c.args.effects) _ _ _ _ _ c.write_after.result (sent readings) wrote c.in-Err.field-0 c.in-Err.is

@@ -19,4 +19,4 @@ returns-in-Ok-write_poll_failed-clause-goes g c = λ readings.
 pub returns-in-Err-write_poll_failed-clause-goes : goal.returns-in-Err-write_poll_failed-clause-goes
 returns-in-Err-write_poll_failed-clause-goes g c = λ readings.
     polled-stopped c.args.face _ _ _ _ _ c.poll_at.result c.in-Err.field-0 c.in-Err.is (c.poll_at.ensures.does readings)
-    c.write_poll_failed.result c.in-Err-write_poll_failed.stop c.in-Err-write_poll_failed.is c.write_poll_failed.ensures
+    c.write_poll_failed.result c.in-Err-write_poll_failed.field-0 c.in-Err-write_poll_failed.is c.write_poll_failed.ensures

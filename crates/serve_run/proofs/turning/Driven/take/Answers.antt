@@ -8,7 +8,7 @@ returns-in_default g c = λ state polled readings shows is.
 pub returns-in-Ok : goal.returns-in-Ok
 returns-in-Ok g c = λ state polled readings shows is.
     taken-some _ g.T.TurnStep.rules c.args.face c.args.now c.args.self.now.buffer.items state _ _ c.args.came c.in-Some.n c.in-Some.is polled is _ _
-    c.perform.result _ (rw c.deref.ensures.value at c.in-Ok.ensures.step state shows) (c.perform.ensures readings)
+    c.perform.result _ (rw c.deref.ensures.value at c.in-Ok.ensures.step state shows) (c.perform.ensures.goes readings)
 
 pub returns-in-Err : goal.returns-in-Err
 returns-in-Err g c = λ state polled readings shows is. stopped-at-once _ _ _

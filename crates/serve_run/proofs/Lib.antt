@@ -1,3 +1,4 @@
 pub mod LinkLemmas
 pub mod ActLemmas
 pub mod ToldLemmas
+pub mod EventLemmas

@@ -5,6 +5,7 @@ pub mod WrittenLines
 pub mod Serve
 pub mod Tells
 pub mod Told
+pub mod Events
 -- what only ties code to these
 pub mod Effects
 pub mod Shows

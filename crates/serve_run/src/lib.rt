@@ -3,10 +3,13 @@
 //! A turn has a half for the old link and one for the new. In a half the clock is read, time passes at
 //! the gate, the half's link is polled, and what comes arrives at the gate. What the gate does in each of
 //! these steps is done before the next: its datagrams are sent, and then its lines are written, in one
-//! piece. A poll or a send that fails is noted and ends nothing.
+//! piece. So the definition has it; of the code no clause orders calls on different objects. A poll or a
+//! send that fails is noted and ends nothing. All memory of a step is taken before it sends anything, so
+//! that a run which ends for want of memory ends between two steps.
 //!
 //! Turns know nothing of gateways: they drive a [`TurnStep`] (`specs/Turns.antt`). [`serve`] drives a
-//! gateway (`specs/Serve.antt`). Links and a clock go on in one way, of which they may tell something
+//! gateway (`specs/Serve.antt`), and what happens to it is what the calls of the run say
+//! (`specs/Events.antt`). Links and a clock go on in one way, of which they may tell something
 //! (`specs/Outside.antt`); what is said of a run holds as they tell, and where they tell nothing too
 //! (`specs/Tells.antt`).
 #![tactic(auto)]

@@ -4,11 +4,13 @@ ghost use Rattle.endpoint.specs.Endpoints.{IsEndpoint};
 ghost use Rattle.endpoint.specs.declared.name.Endpoint.TheVariants.{Null};
 ghost use Rattle.edge_traits.specs.Outcome.{sink_tells};
 ghost use Rattle.serve_run.specs.Effects.{effects_in};
+ghost use Rattle.serve_run.specs.Events.{Served};
 ghost use Rattle.serve_run.specs.Serve.{Serving, serving_rules, serving_from, setup_named, serve_turns};
 ghost use Rattle.serve_run.specs.Shows.{ShowsServing};
 ghost use Rattle.serve_run.specs.Tells.{links_tell, RanTurns, StepsTo};
 ghost use Rattle.serve_run.specs.WrittenLines.{step_text};
 
+use crate::laws::runs_keep_law;
 use crate::turn_step::{Effects, TurnStep};
 use crate::turning::drive_turns;
 use crate::written_lines::write_step;
@@ -109,11 +111,19 @@ pub fn serve<K: Sink, L: Link, C: Clock>(
 ) -> Status
     requires named { name ≢ Null }
     requires legal { IsEndpoint name }
-    ensures { RanTurns (serve_turns name count) result
+    // How the run went, over whatever links, clock and sink tell.
+    ensures ran { RanTurns (serve_turns name count) result
+        (links_tell L.coming L.gone L.failing L.faults old.old new.old (C.readings clock.old))
+        (links_tell L.coming L.gone L.failing L.faults old.new new.new (C.readings clock.new))
+        (sink_tells K.held K.faults K.failing sink.old) (sink_tells K.held K.faults K.failing sink.new) }
+
+    // It went as its events have it, and the receiver's law holds at each face.
+    ensures law { Served name count result
         (links_tell L.coming L.gone L.failing L.faults old.old new.old (C.readings clock.old))
         (links_tell L.coming L.gone L.failing L.faults old.new new.new (C.readings clock.new))
         (sink_tells K.held K.faults K.failing sink.old) (sink_tells K.held K.faults K.failing sink.new) }
 {
+    runs_keep_law();
     drive_turns(
         alloc,
         GateTurns::new(alloc, name),

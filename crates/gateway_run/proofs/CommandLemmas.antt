@@ -16,14 +16,13 @@ use Rattle.command_frame.proofs.DriveLemmas.{fault-front}
 use Rattle.bundle_runs.proofs.LawLemmas.{earliest_decides}
 use Rattle.node_run.specs.Node.{node_rules, begins, node_party}
 use Rattle.node_run.specs.Node as node
-use Rattle.node_run.proofs.RunLemmas.{answers_lines}
 use Rattle.record_run.specs.Record.{record_rules}
 use Rattle.record_run.specs.Record as recording
 use Rattle.record_run.specs.Exchange.{AreEngines, WritesExchange}
 use Rattle.record_run.proofs.ExchangeLemmas.{writes_exchange}
 use Rattle.audit_run.specs.Audited.{audit_rules}
 use Rattle.audit_run.specs.Audited as audit
-use Rattle.node_run.specs.RedParts.{AnswersLines}
+use Rattle.node_run.specs.RedParts.{AnswersLines, AnswersEvents}
 use Rattle.link_run.specs.Link.{link_rules, no_link}
 use Rattle.link_run.specs.Link as link
 use Rattle.link_run.specs.Law.{KeepsLinkLaw}
@@ -163,11 +162,11 @@ receive-keeps status left before now input =
     lawful (within most_input (receive.settles the_limits)) (receive-front the_limits most_input) input
     (KeepsReceiverLaw the_limits most_input input) received.status received.is received.law status left before now
 
-node-keeps : (own peer : ℕ) (status : Status) (left before now : Option (List ℕ)) (input : List ℕ)
+node-keeps : AnswersEvents → (own peer : ℕ) (status : Status) (left before now : Option (List ℕ)) (input : List ℕ)
     → Wrote (within most_input (node.settles own peer)) status input left before now
     → IsLawful (law_of (commands.Node own peer) input) status before now
-node-keeps own peer status left before now input =
-    let answered = answers_lines own peer most_input input in
+node-keeps answers own peer status left before now input =
+    let answered = answers own peer most_input input in
     lawful (within most_input (node.settles own peer)) (node-front own peer) input
     (AnswersLines (node_party own peer) most_input input) answered.ending answered.ends answered.law
     status left before now
@@ -195,28 +194,28 @@ link-keeps status left before now input =
     lawful (within most_input link.settles) link-front input (KeepsLinkLaw most_input input) played.ending played.ends played.law
     status left before now
 
-command-keeps : {S K L C : Type 0} → WorldsKeepHeadline → (command : Command) (status : Status) (before now : Edge S K L C)
+command-keeps : {S K L C : Type 0} → AnswersEvents → WorldsKeepHeadline → (command : Command) (status : Status) (before now : Edge S K L C)
     → RanBy (rules_of command) status before now → KeepsLaw (Some command) status before now
-command-keeps headline commands.Receive status before now ran =
+command-keeps answers headline commands.Receive status before now ran =
     on-told before.reads.left _ _ (receive-keeps status now.reads.left before.writes.held now.writes.held) ran.ran.wrote
-command-keeps headline commands.KeepReceiving status before now ran = nothing-told before.reads.left
-command-keeps headline (commands.Bundles command) status before now ran = nothing-told before.reads.left
-command-keeps headline (commands.Node own peer) status before now ran =
-    on-told before.reads.left _ _ (node-keeps own peer status now.reads.left before.writes.held now.writes.held) ran.ran.wrote
-command-keeps headline (commands.Record own peer) status before now ran =
+command-keeps answers headline commands.KeepReceiving status before now ran = nothing-told before.reads.left
+command-keeps answers headline (commands.Bundles command) status before now ran = nothing-told before.reads.left
+command-keeps answers headline (commands.Node own peer) status before now ran =
+    on-told before.reads.left _ _ (node-keeps answers own peer status now.reads.left before.writes.held now.writes.held) ran.ran.wrote
+command-keeps answers headline (commands.Record own peer) status before now ran =
     on-told before.reads.left _ _ (record-keeps own peer status now.reads.left before.writes.held now.writes.held) ran.ran.wrote
-command-keeps headline (commands.Audit own peer) status before now ran = nothing-told before.reads.left
-command-keeps headline commands.Link status before now ran =
+command-keeps answers headline (commands.Audit own peer) status before now ran = nothing-told before.reads.left
+command-keeps answers headline commands.Link status before now ran =
     on-told before.reads.left _ _ (link-keeps status now.reads.left before.writes.held now.writes.held) ran.ran.wrote
-command-keeps headline commands.World status before now ran =
+command-keeps answers headline commands.World status before now ran =
     on-told before.reads.left _ _ (world-keeps headline status now.reads.left before.writes.held now.writes.held) ran.ran.wrote
-command-keeps headline (commands.Make seed count) status before now ran = nothing-told before.reads.left
-command-keeps headline (commands.Serve gate count) status before now ran = nothing-told before.reads.left
+command-keeps answers headline (commands.Make seed count) status before now ran = nothing-told before.reads.left
+command-keeps answers headline (commands.Serve gate count) status before now ran = nothing-told before.reads.left
 
-pub named-keeps : {S K L C : Type 0} → WorldsKeepHeadline → (named : Option Command) (status : Status) (before now : Edge S K L C)
+pub named-keeps : {S K L C : Type 0} → AnswersEvents → WorldsKeepHeadline → (named : Option Command) (status : Status) (before now : Edge S K L C)
     → RanNamed named status before now → KeepsLaw named status before now
-named-keeps headline None status before now ran = tt
-named-keeps headline (Some command) status before now ran = command-keeps headline command status before now ran
+named-keeps answers headline None status before now ran = tt
+named-keeps answers headline (Some command) status before now ran = command-keeps answers headline command status before now ran
 
 -- ---- how a run ends where nothing failed
 

@@ -204,8 +204,8 @@ pub data Law : Type 1 where
   keeps : (List ℕ → Status → Type 0) → Law
 
 -- Of `receive` the receiver's law. Of `node` that the events which its first lines say are
--- answered; that their red parts keep the receiver's law is a law of `node_run`. Of `record` that
--- its lines are those of a recording in which no entry that went out breaks a rule. Of `link` that
+-- answered, and that its `up` lines are exactly the red parts which become whole with these events, no
+-- session's twice. Of `record` that its lines are those of a recording in which no entry that went out breaks a rule. Of `link` that
 -- its `up` lines are blocks that its lines send, whole and once, and that a drain from a link that is
 -- hopeful and has room completes the sessions in time, where neither the plan ends it nor an old
 -- datagram has somebody turned away. Of `world` that the events of its script are answered, and those of a drain; that its `up` lines are blocks that came whole, as

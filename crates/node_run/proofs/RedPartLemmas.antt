@@ -1,12 +1,15 @@
 -- What a node hands up is what its engine hands up.
 use Rattle.std.proofs.Common.{◌≡◌, ℕ, length, List, [], ◌∷◌, ◌++◌, Option, None, Some, refl, sym, ap, ◌∙◌}
-use Rattle.ltp_session.specs.Engine.{Party, Engine, SubmitFault, submits, submits_unless, submit_fault, submit_step, tick_step}
-use Rattle.ltp_engine.specs.RedParts.{engine_with, ups_with, engine_after, ups_of, unless_faulty}
+use Rattle.std.specs.List.{AllByRecursion}
+use Rattle.ltp_session.specs.Engine.{Party, Engine, SubmitFault, UpValue, submits, submits_unless, submit_fault, submit_step, tick_step}
+use Rattle.ltp_engine.specs.RedParts.{engine_with, ups_with, engine_after, ups_of, unless_faulty, EachOnce}
+use Rattle.ltp_laws.proofs.ListLemmas.{all-append}
 use Rattle.ltp_engine.specs.RedParts.{HandsUpRedParts as EngineHandsUp, HandsUpEachOnce as EngineHandsUpOnce}
 use Rattle.replay_script.specs.declared.event.NodeEvent.{NodeEvent}
 use Rattle.replay_script.specs.declared.event.NodeEvent.TheVariants as events
 use Rattle.node_run.specs.Node.{NodeState, moment_of, engine_does}
 use Rattle.node_run.specs.RedParts.{HandsUpRedParts, HandsUpEachOnce, after_event, node_after, ups_in, ups_at, all_ups, coming_of, clock_after, comings_of}
+use Rattle.node_run.proofs.OrderLemmas.{all-front, all-rest, once-moved}
 
 -- ---- one event
 
@@ -79,15 +82,36 @@ ups-after p event earlier =
 
 pub hands_up_red_parts : EngineHandsUp → HandsUpRedParts
 unfolding comings_of
-hands_up_red_parts law p n earlier event body =
+hands_up_red_parts law p earlier event n body =
     rw (sym (ups-after p event earlier)) (law p n (comings_of earlier) (coming_of (clock_after (event ∷ earlier)) event) body)
 
-ups-all : (p : Party) (events : List NodeEvent) → ups_of p (comings_of events) ≡ all_ups p events
-unfolding ups_of comings_of all_ups
+-- those that are handed up with some events, those of the newest first
+unfoldable newest_first : Party → List NodeEvent → List UpValue
+newest_first p [] = []
+newest_first p (event ∷ earlier) = ups_at (node_after p earlier) event ++ newest_first p earlier
+
+ups-all : (p : Party) (events : List NodeEvent) → ups_of p (comings_of events) ≡ newest_first p events
+unfolding ups_of comings_of newest_first
 ups-all p [] = refl
 ups-all p (event ∷ earlier) =
     ap (λ ups. ups ++ ups_of p (comings_of earlier)) (ups-after p event earlier)
     ∙ ap (λ ups. ups_at (node_after p earlier) event ++ ups) (ups-all p earlier)
 
+-- in either order they are the same
+all-ordered : (p : Party) (events : List NodeEvent) (P : UpValue → Type 0) → AllByRecursion P (newest_first p events) → AllByRecursion P (all_ups p events)
+unfolding newest_first all_ups
+all-ordered p [] P all = tt
+all-ordered p (event ∷ earlier) P all =
+    let new : List UpValue = ups_at (node_after p earlier) event in
+    all-append P (all_ups p earlier) new
+    (all-ordered p earlier P (all-rest P new (newest_first p earlier) all)) (all-front P new (newest_first p earlier) all)
+
+ordered-once : (p : Party) → ((events : List NodeEvent) → EachOnce (newest_first p events)) → (events : List NodeEvent) → EachOnce (all_ups p events)
+unfolding newest_first all_ups
+ordered-once p once [] = tt
+ordered-once p once (event ∷ earlier) =
+    once-moved (ups_at (node_after p earlier) event) (newest_first p earlier) (all_ups p earlier) (once (event ∷ earlier))
+    (ordered-once p once earlier) (all-ordered p earlier)
+
 pub each_once : EngineHandsUpOnce → HandsUpEachOnce
-each_once law p events = rw (sym (ups-all p events)) (law p (comings_of events))
+each_once law p events = ordered-once p (λ es. rw (sym (ups-all p es)) (law p (comings_of es))) events

@@ -10,13 +10,16 @@ use Rattle.command_frame.specs.Lines.{ends_run, turn_at, after_turn, lines_settl
 use Rattle.command_frame.specs.Within.{within, or_limit}
 use Rattle.command_frame.proofs.FrontLemmas.{from-end, from-limit}
 use Rattle.ltp_engine.specs.RedParts.{unless_faulty}
+use Rattle.ltp_engine.specs.RedParts.{HandsUpRedParts as EngineHandsUp, HandsUpEachOnce as EngineHandsUpOnce}
 use Rattle.ltp_session.specs.Engine.{Party, EngineStep, SubmitFault}
 use Rattle.replay_script.specs.declared.event.NodeEvent.{NodeEvent}
 use Rattle.replay_script.specs.declared.fault.LineFault.{LineFault}
 use Rattle.replay_script.specs.Events.{node_event_of}
 use Rattle.node_run.specs.WrittenLines.{refusal_line}
 use Rattle.node_run.specs.Node.{NodeState, node_rules, node_turn, happens, answers, is_late, at_moment, moment_of, begins, node_party, settles}
-use Rattle.node_run.specs.RedParts.{node_after, after_event, done_at, answer_text, text_after, PassesLimit, ClosesAs, IsAnswered}
+use Rattle.node_run.specs.RedParts.{node_after, after_event, done_at, answer_text, text_after, PassesLimit, ClosesAs, AnswersEvents}
+use Rattle.node_run.proofs.RedPartLemmas.{hands_up_red_parts, each_once}
+use Rattle.node_run.proofs.UpLineLemmas.{ups-are}
 
 -- what is settled after some lines, and the text before it, are the answers to events
 record Answers (longer : Bool) (p : Party) (before lines : List (List ℕ)) (so_far : List ℕ) (settled : Settled) : Type 0 where
@@ -194,11 +197,23 @@ answers_all own peer most input = by_test (nat_lt most (length input))
         rw (from-end node_rules 1 (begins (node_party own peer)) input)
         (from_start false (node_party own peer) (lines_of input) statuses.Done (λ n. (refl, refl, refl)))
 
-pub answers_lines : (own peer most : ℕ) (input : List ℕ) → IsAnswered own peer most input
-answers_lines own peer most input =
+-- whatever the input, where an engine hands up red parts as it should
+pub answers_lines : EngineHandsUp → EngineHandsUpOnce → AnswersEvents
+answers_lines hands_up once own peer most input =
+    let p : Party = node_party own peer in
     let all = answers_all own peer most input in
     record {
       ending = all.status;
       ends = all.ends;
-      law = record { events = all.events; closing = all.closing; said = all.said; written = all.written; closes = all.closes };
+      law = record {
+        events = all.events;
+        closing = all.closing;
+        said = all.said;
+        written = all.written;
+        closes = all.closes;
+        ups = ups-are (nat_lt most (length input)) p all.events _ all.closing all.status (1 + length all.events)
+            (drop (length all.events) (lines_within most input)) all.written all.closes;
+        once = each_once once p all.events;
+        whole = λ earlier later event is. hands_up_red_parts hands_up p earlier event;
+      };
     }

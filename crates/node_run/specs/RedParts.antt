@@ -11,13 +11,15 @@ use Rattle.ltp_segment.specs.Reading.{segment_of}
 use Rattle.ltp_session.specs.RedPart.{BecomesWhole}
 use Rattle.ltp_session.specs.Engine.{Party, EngineStep, SubmitFault, UpValue}
 use Rattle.ltp_laws.specs.View.{IsIn}
-use Rattle.ltp_engine.specs.Effects.{effects_of}
+use Rattle.ltp_engine.specs.Effects.{effects_of, up_of}
 use Rattle.ltp_engine.specs.RedParts.{Coming, a_block_comes, a_datagram_comes, a_moment_comes, unless_faulty, pieces_of, EachOnce}
 use Rattle.replay_script.specs.declared.event.NodeEvent.{NodeEvent}
 use Rattle.replay_script.specs.declared.event.NodeEvent.TheVariants as events
 use Rattle.replay_script.specs.declared.fault.LineFault.{LineFault}
 use Rattle.replay_script.specs.Events.{node_event_of}
-use Rattle.node_run.specs.WrittenLines.{effects_text, block_line, refusal_line}
+use Rattle.replay_script.specs.Words.{spaced}
+use Rattle.node_run.specs.WrittenLines.{effects_text, block_line, refusal_line, up_words}
+use Rattle.node_run.specs.TextLines.{up_lines}
 use Rattle.node_run.specs.Node.{NodeState, begins, is_late, moment_of, engine_does, at_moment, node_party, node_rules, settles}
 
 -- ---- after some events
@@ -36,6 +38,46 @@ after_event node event = record (at_moment node (moment_of node.now event)) {
 unfoldable pub node_after : Party → List NodeEvent → NodeState
 node_after p [] = begins p
 node_after p (event ∷ earlier) = after_event (node_after p earlier) event
+
+-- ---- red parts
+
+-- those that are handed up
+abbrev pub ups_in : Result EngineStep SubmitFault → List UpValue
+ups_in (Ok step) = step.effects.ups
+ups_in (Err fault) = []
+
+-- those that are handed up with an event
+abbrev pub ups_at : NodeState → NodeEvent → List UpValue
+ups_at node event = ups_in (done_at node event)
+
+-- all that are handed up with some events, of which the newest stands first: in their order, the oldest
+-- events' first
+unfoldable pub all_ups : Party → List NodeEvent → List UpValue
+all_ups p [] = []
+all_ups p (event ∷ earlier) = all_ups p earlier ++ ups_at (node_after p earlier) event
+
+-- what an event at a moment brings to the engine
+abbrev pub coming_of : ℕ → NodeEvent → Coming
+coming_of now (events.In datagram) = a_datagram_comes (segment_of datagram) now
+coming_of now (events.Send block) = a_block_comes block (length block) now
+coming_of now (events.Clock moment) = a_moment_comes now
+
+-- the clock after some events, and what they bring, the newest first
+unfoldable pub clock_after : List NodeEvent → ℕ
+clock_after [] = 0
+clock_after (event ∷ earlier) = moment_of (clock_after earlier) event
+
+unfoldable pub comings_of : List NodeEvent → List Coming
+comings_of [] = []
+comings_of (event ∷ earlier) = coming_of (clock_after (event ∷ earlier)) event ∷ comings_of earlier
+
+-- with an event after these exactly the red parts are handed up that it makes whole: place by place the
+-- first octet that came
+abbrev pub HandsUpWhole : Party → List NodeEvent → NodeEvent → Type 0
+HandsUpWhole p earlier event =
+    (n : ℕ) (body : List ℕ)
+    → IsIn (record { session = n; body = body }) (ups_at (node_after p earlier) event)
+    ↔ BecomesWhole (pieces_of p n (comings_of earlier)) (pieces_of p n (comings_of (event ∷ earlier))) body
 
 -- ---- what is written
 
@@ -82,8 +124,14 @@ ClosesAs longer statuses.ReadFault n left closing = ⊥
 ClosesAs longer statuses.WriteFault n left closing = ⊥
 ClosesAs longer statuses.Memory n left closing = ⊥
 
--- the text is what is written for the events that the first lines say, and after it what the end of the
--- run asks for; the lines are those of an input of which at most so many octets are looked at
+-- a line that says that a red part is handed up
+abbrev pub up_text : UpValue → List ℕ
+up_text up = spaced (up_words (up_of up))
+
+-- The text is what is written for the events that the first lines say, and after it what the end of the
+-- run asks for; the lines are those of an input of which at most so many octets are looked at. Its `up`
+-- lines are exactly the red parts that are handed up with these events, in their order: no session's
+-- twice, and each with the event that makes it whole, and with no other.
 pub record AnswersLines (p : Party) (most : ℕ) (input text : List ℕ) (ending : Status) : Type 0 where
   pub events : List NodeEvent
   pub closing : List ℕ
@@ -92,37 +140,11 @@ pub record AnswersLines (p : Party) (most : ℕ) (input text : List ℕ) (ending
   pub closes :
       ClosesAs (nat_lt most (length input)) ending (1 + length events)
       (drop (length events) (lines_within most input)) closing
-
--- ---- red parts
-
--- the red parts that are handed up
-abbrev pub ups_in : Result EngineStep SubmitFault → List UpValue
-ups_in (Ok step) = step.effects.ups
-ups_in (Err fault) = []
-
--- those that are handed up with an event
-abbrev pub ups_at : NodeState → NodeEvent → List UpValue
-ups_at node event = ups_in (done_at node event)
-
--- all that were handed up
-unfoldable pub all_ups : Party → List NodeEvent → List UpValue
-all_ups p [] = []
-all_ups p (event ∷ earlier) = ups_at (node_after p earlier) event ++ all_ups p earlier
-
--- what an event at a moment brings to the engine
-abbrev pub coming_of : ℕ → NodeEvent → Coming
-coming_of now (events.In datagram) = a_datagram_comes (segment_of datagram) now
-coming_of now (events.Send block) = a_block_comes block (length block) now
-coming_of now (events.Clock moment) = a_moment_comes now
-
--- the clock after some events, and what they bring, the newest first
-unfoldable pub clock_after : List NodeEvent → ℕ
-clock_after [] = 0
-clock_after (event ∷ earlier) = moment_of (clock_after earlier) event
-
-unfoldable pub comings_of : List NodeEvent → List Coming
-comings_of [] = []
-comings_of (event ∷ earlier) = coming_of (clock_after (event ∷ earlier)) event ∷ comings_of earlier
+  pub ups : up_lines text ≡ map up_text (all_ups p events)
+  pub once : EachOnce (all_ups p events)
+  pub whole :
+      (earlier later : List NodeEvent) (event : NodeEvent) → events ≡ later ++ event ∷ earlier
+      → HandsUpWhole p earlier event
 
 -- ---- the laws
 
@@ -138,13 +160,10 @@ abbrev pub AnswersEvents : Type 0
 AnswersEvents =
     (own peer most : ℕ) (input : List ℕ) → IsAnswered own peer most input
 
--- a session's red part is handed up with the event that makes it whole, and with no other: place by
--- place the first octet that came
+-- a session's red part is handed up with the event that makes it whole, and with no other
 abbrev pub HandsUpRedParts : Type 0
 HandsUpRedParts =
-    (p : Party) (n : ℕ) (earlier : List NodeEvent) (event : NodeEvent) (body : List ℕ)
-    → IsIn (record { session = n; body = body }) (ups_at (node_after p earlier) event)
-    ↔ BecomesWhole (pieces_of p n (comings_of earlier)) (pieces_of p n (comings_of (event ∷ earlier))) body
+    (p : Party) (earlier : List NodeEvent) (event : NodeEvent) → HandsUpWhole p earlier event
 
 -- no session's red part is handed up twice
 abbrev pub HandsUpEachOnce : Type 0

@@ -19,9 +19,12 @@ use Rattle.replay_script.specs.NoteLines.{line_of, note_line}
 abbrev pub out_line : List ℕ → List ℕ
 out_line datagram = line_of (codes "out" ∷ encode_lower datagram ∷ [])
 
--- a red part is handed up
+-- the words of a line about a red part that is handed up
+abbrev pub up_words : Up → List (List ℕ)
+up_words up = codes "up" ∷ decimal up.session ∷ encode_lower up.body ∷ []
+
 abbrev pub up_line : Up → List ℕ
-up_line up = line_of (codes "up" ∷ decimal up.session ∷ encode_lower up.body ∷ [])
+up_line up = line_of (up_words up)
 
 -- a piece of a green part is handed up: 1 where the block ends with it, else 0
 abbrev pub green_line : Green → List ℕ

@@ -8,6 +8,7 @@ use crate::commands::command::{command_named, run_command};
 use crate::commands::passed::{Ended, Passed, ended_with};
 use crate::commands::word::Word;
 use edge_traits::{Clock, Link, Sink, Source, Status};
+use node_run::laws::answers_events;
 use std::alloc::Global;
 use world_run::laws::worlds_keep_headline;
 
@@ -63,8 +64,8 @@ pub fn run_told<S: Source, K: Sink, L: Link, C: Clock>(
         (edge_of S.Source K.Sink L.Link C.Clock source.new sink.new old_link.new new_link.new clock.new) }
 
     // `receive` hands up exactly the red parts that become whole, and ends where a line is refused
-    // or a limit is passed. `node` answers the events that its lines say, whose red parts keep the
-    // same law (`node_run::laws`). `record` writes a recording in which no datagram that went out
+    // or a limit is passed. `node` answers the events that its lines say, and its `up` lines are
+    // exactly the red parts that become whole with these events. `record` writes a recording in which no datagram that went out
     // breaks a rule of an exchange (`record_run::laws`). `world` answers the events of its script,
     // and each of its `up` lines is a block that came whole, as it was sent, and once: at either
     // end a piece of what becomes of one bundle that the other end sent, or a report on one that it
@@ -78,6 +79,7 @@ pub fn run_told<S: Source, K: Sink, L: Link, C: Clock>(
     // the source tells its input, it is the one that this input passes.
     ensures named { NamesPassed (command_of words.now) (S.left source.old) result.status result.passed }
 {
+    answers_events();
     worlds_keep_headline();
     match command_named(words) {
         Some(command) => { run_command(alloc, &command, source, sink, old_link, new_link, clock) }

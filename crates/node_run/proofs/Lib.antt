@@ -3,4 +3,5 @@ mod RedPartLemmas
 pub mod PlainLemmas
 pub mod TextLineLemmas
 mod UpLineLemmas
+mod WantsLemmas
 pub mod RunLemmas

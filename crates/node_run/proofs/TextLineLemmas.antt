@@ -1,6 +1,8 @@
 -- The lines of a text that begin so, where it ends with a line feed.
-use Rattle.std.proofs.Common.{◌≡◌, ℕ, true, false, List, [], ◌∷◌, ◌++◌, codes, refl, sym, ap, ◌∙◌, append_assoc}
-use Rattle.std.proofs.lemmas.List.{append-nil}
+use Rattle.std.proofs.Common.{◌≡◌, ℕ, ◌<◌, true, false, List, [], ◌∷◌, ◌++◌, length, codes, Result, Ok, Err, OnErr, refl, sym, ap, ◌∙◌, append_assoc, arith}
+use Rattle.std.proofs.lemmas.List.{append-nil, length-append}
+use Rattle.std.proofs.lemmas.List.Concat.{flat_map-cons}
+use Rattle.std.specs.List.{flat_map}
 use Rattle.command_frame.specs.InputLines.{lines_of}
 use Rattle.command_frame.proofs.InputLinesLemmas.{lines-line}
 use Rattle.endpoint.specs.Endpoints.{begins}
@@ -41,3 +43,26 @@ module _ (front : List ℕ) (words : List (List ℕ)) (plain : PlainWords words)
   pub has-one : begins front (spaced words) ≡ true → Has front (line_of words) (spaced words ∷ [])
   unfolding lines_with
   has-one is = λ rest. ap (lines_with front) (line-lines words rest plain) ∙ rw is refl
+
+-- ---- there is something to write
+
+pub some-before : (xs ys : List ℕ) → 0 < length xs → 0 < length (xs ++ ys)
+some-before xs ys some = omega (arith, length-append xs ys, some)
+
+pub some-after : (xs ys : List ℕ) → 0 < length ys → 0 < length (xs ++ ys)
+some-after xs ys some = omega (arith, length-append xs ys, some)
+
+pub line-some : (words : List (List ℕ)) → 0 < length (line_of words)
+line-some words = some-after (spaced words) (codes "\n") (omega arith)
+
+-- where there is a thing for which a line is written
+pub lines-some : {X : Type 0} (line : X → List ℕ) → ((x : X) → 0 < length (line x)) → (xs : List X) → 0 < length xs
+    → 0 < length (flat_map line xs)
+lines-some line some [] none = absurd (omega arith)
+lines-some line some (x ∷ xs) more = rw (flat_map-cons line x xs) (some-before (line x) (flat_map line xs) (some x))
+
+-- a call that failed where there was such a thing
+pub wanted : {X T E : Type 0} (line : X → List ℕ) → ((x : X) → 0 < length (line x)) → (xs : List X) → 0 < length xs → (result : Result T E)
+    → OnErr result (0 < length (flat_map line xs))
+wanted line some xs more (Ok x) = tt
+wanted line some xs more (Err e) = lines-some line some xs more

@@ -1,14 +1,16 @@
 //! One end of a link, told by lines.
 
-ghost use Rattle.std.specs.Prelude.{◌≡◌, ◌≢◌, ◌<◌, ◌^◌, ℕ, false, max, length, List, [], Ok, Err, IfOk, OnOk, IfSome};
+ghost use Rattle.std.specs.Prelude.{◌≡◌, ◌≢◌, ◌<◌, ◌^◌, ◌⊎◌, ℕ, false, true, max, length, List, [], Ok, Err, IfOk, OnOk, OnErr, IfSome};
 ghost use Rattle.std.specs.String.{string_bytes};
 ghost use Rattle.command_frame.specs.Stops.{IsStop};
 ghost use Rattle.command_frame.specs.Lines.{TurnsAs, passes};
 ghost use Rattle.ltp_segment.specs.Reading.{segment_of};
 ghost use Rattle.ltp_session.specs.Engine.{datagram_step, submits, submit_step, tick_step};
+ghost use Rattle.ltp_engine.specs.Steps.{deadline_of, is_due_at};
 ghost use Rattle.replay_script.specs.declared.event.NodeEvent.TheVariants as events;
 ghost use Rattle.node_run.specs.Node.{NodeState, node_rules, node_party, begins, happens, answers, engine_does, at_moment, node_turn};
 ghost use Rattle.node_run.specs.Shows.{ShowsNode, Did, Submitted, ran_out};
+ghost use Rattle.node_run.specs.Wanted.{HasText, MayWant};
 
 use crate::written_lines::{write_block, write_effects, write_refusal};
 use command_frame::LineStep;
@@ -63,6 +65,8 @@ impl Node {
         ensures turn { (node : NodeState) → ShowsNode self.old.spent self.old.engine self.old.now node
             → IfOk result (TurnsAs (ShowsNode self.new.spent self.new.engine self.new.now) (happens node event)
             (string_bytes text.old) (string_bytes text.new)) }
+        ensures memory { (node : NodeState) → ShowsNode self.old.spent self.old.engine self.old.now node
+            → OnErr result (MayWant self.old.engine self.old.now event (happens node event)) }
     {
         match event {
             NodeEvent::In { datagram } => self.take(datagram.as_slice(), text),
@@ -109,6 +113,11 @@ impl Node {
             → IfOk result (TurnsAs (ShowsNode self.new.spent self.new.engine self.new.now)
             (answers (at_moment node (max node.now moment))
             (engine_does node.party node.engine (max node.now moment) (events.Clock moment))) (string_bytes text.old) (string_bytes text.new)) }
+        // Where no timer is due, and so nothing is to be written, no memory is wanted.
+        ensures memory { (node : NodeState) → ShowsNode self.old.spent self.old.engine self.old.now node
+            → OnErr result (HasText (answers (at_moment node (max node.now moment))
+            (engine_does node.party node.engine (max node.now moment) (events.Clock moment)))
+            ⊎ (is_due_at (max self.old.now moment) (deadline_of self.old.engine) ≡ true)) }
     {
         let effects = self.tick(moment)?;
         write_effects(self.alloc, text, effects)?;
@@ -148,9 +157,11 @@ impl Node {
     /// The clock shows this moment, or stays where it would go back, and the engine is told.
     fn tick(&mut self, moment: u64) -> Result<Effects, AllocError>
         requires { moment < 2 ^ 62 }
-        ensures { (node : NodeState) → ShowsNode self.old.spent self.old.engine self.old.now node
+        ensures done { (node : NodeState) → ShowsNode self.old.spent self.old.engine self.old.now node
             → IfOk result (Did (ShowsNode self.new.spent self.new.engine self.new.now) (at_moment node (max node.now moment))
             (tick_step node.party node.engine (max node.now moment))) }
+        ensures wanted { self.old.spent ≡ false
+            → OnErr result (is_due_at (max self.old.now moment) (deadline_of self.old.engine) ≡ true) }
     {
         if self.spent {
             return Err(AllocError);

@@ -1,6 +1,6 @@
 //! The lines that `node` writes.
 
-ghost use Rattle.std.specs.Prelude.{◌≡◌, ◌++◌, None, OnOk};
+ghost use Rattle.std.specs.Prelude.{◌≡◌, ◌<◌, ◌++◌, None, OnOk, OnErr, length};
 ghost use Rattle.std.specs.List.{flat_map};
 ghost use Rattle.std.specs.String.{string_bytes};
 ghost use Rattle.ltp_session.specs.Engine.{SubmitFault};
@@ -18,7 +18,9 @@ use std::alloc::{AllocError, Global};
 /// Writes what an engine did: what is sent, red parts, pieces of green parts, and notes.
 #[tactic(auto, unfolding(crate::specs::WrittenLines::effects_text))]
 pub fn write_effects(alloc: Global, text: &mut String, effects: Effects) -> Result<(), AllocError>
-    ensures { OnOk result (string_bytes text.new ≡ string_bytes text.old ++ effects_text effects) }
+    ensures written { OnOk result (string_bytes text.new ≡ string_bytes text.old ++ effects_text effects) }
+    // Memory is wanted only where there is something to write.
+    ensures memory { OnErr result (0 < length (effects_text effects)) }
 {
     let Effects {
         out,
@@ -34,7 +36,8 @@ pub fn write_effects(alloc: Global, text: &mut String, effects: Effects) -> Resu
 
 /// Writes the datagrams that are to be sent.
 fn write_outs(alloc: Global, text: &mut String, out: Outs) -> Result<(), AllocError>
-    ensures { OnOk result (string_bytes text.new ≡ string_bytes text.old ++ flat_map out_line out) }
+    ensures written { OnOk result (string_bytes text.new ≡ string_bytes text.old ++ flat_map out_line out) }
+    ensures memory { OnErr result (0 < length (flat_map out_line out)) }
 {
     'each: for datagram in out.into_vec() {
         write_out(alloc, text, datagram)?;
@@ -52,7 +55,8 @@ fn write_out(alloc: Global, text: &mut String, datagram: Octets) -> Result<(), A
 
 /// Writes the red parts that are handed up.
 fn write_ups(alloc: Global, text: &mut String, ups: Ups) -> Result<(), AllocError>
-    ensures { OnOk result (string_bytes text.new ≡ string_bytes text.old ++ flat_map up_line ups) }
+    ensures written { OnOk result (string_bytes text.new ≡ string_bytes text.old ++ flat_map up_line ups) }
+    ensures memory { OnErr result (0 < length (flat_map up_line ups)) }
 {
     'each: for up in ups.into_vec() {
         write_up(alloc, text, up)?;
@@ -76,7 +80,8 @@ fn write_up(alloc: Global, text: &mut String, up: Up) -> Result<(), AllocError>
 
 /// Writes the pieces of green parts that are handed up.
 fn write_greens(alloc: Global, text: &mut String, greens: Greens) -> Result<(), AllocError>
-    ensures { OnOk result (string_bytes text.new ≡ string_bytes text.old ++ flat_map green_line greens) }
+    ensures written { OnOk result (string_bytes text.new ≡ string_bytes text.old ++ flat_map green_line greens) }
+    ensures memory { OnErr result (0 < length (flat_map green_line greens)) }
 {
     'each: for green in greens.into_vec() {
         write_green(alloc, text, green)?;
@@ -106,7 +111,8 @@ fn write_green(alloc: Global, text: &mut String, green: Green) -> Result<(), All
 
 /// Writes notes.
 fn write_notes(alloc: Global, text: &mut String, notes: Notes) -> Result<(), AllocError>
-    ensures { OnOk result (string_bytes text.new ≡ string_bytes text.old ++ flat_map (note_line None) notes) }
+    ensures written { OnOk result (string_bytes text.new ≡ string_bytes text.old ++ flat_map (note_line None) notes) }
+    ensures memory { OnErr result (0 < length (flat_map (note_line None) notes)) }
 {
     'each: for note in notes.into_vec()? {
         write_note(alloc, text, note)?;

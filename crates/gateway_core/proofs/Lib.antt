@@ -3,3 +3,4 @@ mod GateLemmas
 mod DidLemmas
 mod SendLemmas
 mod LawLemmas
+mod WantLemmas

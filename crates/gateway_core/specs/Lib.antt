@@ -6,9 +6,11 @@ pub mod RedParts
 -- what public clauses cite besides
 pub mod Config
 pub mod Notes
+pub mod NoteLists
 pub mod Effects
 pub mod Values
 pub mod Shows
+pub mod Quiet
 pub mod Steps
 -- what ties the code to it
 pub mod Ties

@@ -1,16 +1,18 @@
 //! What the gateway does in answer to an event.
 
-ghost use Rattle.std.specs.Prelude.{◌≡◌, ◌++◌, map, take, IfOk};
+ghost use Rattle.std.specs.Prelude.{◌≡◌, ◌≤◌, ◌==◌, ◌&&◌, ◌∷◌, [], map, length, IfOk, OnErr};
 ghost use Rattle.gateway_core.specs.Gate.{engine_note_at};
 ghost use Rattle.gateway_core.specs.Effects.{datagram_at, told_at};
+ghost use Rattle.gateway_core.specs.Quiet.{IsQuietTold};
 
 use crate::note::GateNote;
 use endpoint::Octets;
 use gate_cases::Face;
 use ltp_engine::{Effects, Notes, Up, Ups};
-use ltp_segment::Outs;
+use ltp_segment::{Note, Outs};
 use std::alloc::{AllocError, Global};
 use std::marker::Model;
+use std::slice;
 
 /// A datagram that is to be sent.
 #[derive(Debug, Drop)]
@@ -119,42 +121,73 @@ pub struct FaceNote {
     pub note: GateNote,
 }
 
-/// Notes, in their order.
+/// How notes are kept.
+#[derive(Debug, Drop)]
+enum NoteList {
+    /// A single one, and where memory for more comes from.
+    One(FaceNote, Global),
+    /// Any number of them.
+    Several(Vec<FaceNote>),
+}
+
+/// Notes, in their order. A single one takes no memory.
 #[derive(Debug, Drop)]
 pub struct GateNotes {
-    items: Vec<FaceNote>,
+    list: NoteList,
 }
 
 impl Model for GateNotes {
     ghost use Rattle.std.specs.Prelude.{List};
     ghost use Rattle.gateway_core.specs.declared.effects.FaceNote.{FaceNote};
+    ghost use Rattle.gateway_core.specs.NoteLists.{notes_in};
 
     ghost Value = { List FaceNote };
 
-    ghost view = { λ notes. notes.items.items };
+    ghost view = { λ notes. notes_in notes.list };
 }
 
 impl GateNotes {
+    /// A single note. It takes no memory.
+    pub fn one(alloc: Global, note: FaceNote) -> GateNotes
+        ensures { result ≡ note ∷ [] }
+    {
+        GateNotes {
+            list: NoteList::One(note, alloc),
+        }
+    }
+
     /// These notes, moved and not copied.
     pub fn from_vec(items: Vec<FaceNote>) -> GateNotes
         ensures { result ≡ items.items }
     {
-        GateNotes { items }
+        GateNotes {
+            list: NoteList::Several(items),
+        }
     }
 
-    /// The notes, moved and not copied.
-    pub fn into_vec(self) -> Vec<FaceNote>
-        ensures { result.items ≡ self }
+    /// The notes as a vector. A single one is put into memory; others are moved and not copied.
+    pub fn into_vec(self) -> Result<Vec<FaceNote>, AllocError>
+        ensures { IfOk result (λ notes. notes.items ≡ self) }
     {
-        let GateNotes { items } = self;
-        items
+        let GateNotes { list } = self;
+        match list {
+            NoteList::One(note, alloc) => {
+                let mut items = Vec::new(alloc);
+                items.push(note)?;
+                Ok(items)
+            }
+            NoteList::Several(items) => Ok(items),
+        }
     }
 
     /// The notes, lent.
     pub fn as_slice(&self) -> &[FaceNote]
         ensures { result.now ≡ self.now }
     {
-        self.items.as_slice()
+        match &self.list {
+            NoteList::One(note, _) => slice::from_ref(note),
+            NoteList::Several(items) => items.as_slice(),
+        }
     }
 }
 
@@ -184,26 +217,22 @@ impl GateEffects {
         }
     }
 
-    /// Nothing is done but a note.
-    pub(crate) fn noted(
-        alloc: Global,
-        face: Face,
-        note: GateNote,
-    ) -> Result<GateEffects, AllocError>
-        ensures { IfOk result (λ effects. effects ≡ only_noted_at face note) }
+    /// Nothing is done but a note. It takes no memory.
+    pub(crate) fn noted(alloc: Global, face: Face, note: GateNote) -> GateEffects
+        ensures { result ≡ only_noted_at face note }
     {
-        let mut notes = Vec::new(alloc);
-        notes.push(FaceNote { face, note })?;
-        Ok(GateEffects {
+        GateEffects {
             out: RoutedList::from_vec(Vec::new(alloc)),
             ups: FaceUps::from_vec(Vec::new(alloc)),
-            notes: GateNotes::from_vec(notes),
-        })
+            notes: GateNotes::one(alloc, FaceNote { face, note }),
+        }
     }
 
-    /// What the engine of a face does is done there. Green data is dropped.
+    /// What the engine of a face does is done there. Green data is dropped. Memory is wanted only
+    /// where something is sent or handed up, or more than one thing is noted.
     pub(crate) fn at(alloc: Global, face: Face, told: Effects) -> Result<GateEffects, AllocError>
-        ensures { IfOk result (λ effects. effects ≡ routed_at face told) }
+        ensures routed { IfOk result (λ effects. effects ≡ routed_at face told) }
+        ensures wanted { OnErr result (IsQuietTold told → ⊥) }
     {
         let Effects {
             out,
@@ -218,17 +247,38 @@ impl GateEffects {
         })
     }
 
-    /// These effects, and others after them.
+    /// Whether nothing is done.
+    fn is_nothing(&self) -> bool
+        ensures { result ≡ (((length self.now.out == 0) && (length self.now.ups == 0))
+            && (length self.now.notes == 0)) }
+    {
+        self.out.as_slice().is_empty()
+            && self.ups.as_slice().is_empty()
+            && self.notes.as_slice().is_empty()
+    }
+
+    /// These effects, and others after them. Memory is wanted only where there are others.
     pub(crate) fn followed_by(self, more: GateEffects) -> Result<GateEffects, AllocError>
+        ensures joined { IfOk result (λ all. all ≡ joined_with self more) }
+        ensures wanted { OnErr result (more ≡ nothing_routed → ⊥) }
+    {
+        if more.is_nothing() {
+            return Ok(self);
+        }
+        self.joined_with(more)
+    }
+
+    /// These effects, and others after them.
+    fn joined_with(self, more: GateEffects) -> Result<GateEffects, AllocError>
         ensures { IfOk result (λ all. all ≡ joined_with self more) }
     {
         let GateEffects { out, ups, notes } = self;
         let mut out = out.into_vec();
         let mut ups = ups.into_vec();
-        let mut notes = notes.into_vec();
+        let mut notes = notes.into_vec()?;
         let mut more_out = more.out.into_vec();
         let mut more_ups = more.ups.into_vec();
-        let mut more_notes = more.notes.into_vec();
+        let mut more_notes = more.notes.into_vec()?;
         out.append(&mut more_out)?;
         ups.append(&mut more_ups)?;
         notes.append(&mut more_notes)?;
@@ -240,8 +290,19 @@ impl GateEffects {
     }
 }
 
-/// Datagrams that go out at a face.
+/// Datagrams that go out at a face. Memory is wanted only where there are any.
 fn datagrams_at(alloc: Global, face: Face, out: Outs) -> Result<RoutedList, AllocError>
+    ensures routed { IfOk result (λ all. all ≡ map (datagram_at face) out) }
+    ensures wanted { OnErr result (out ≡ [] → ⊥) }
+{
+    if out.as_slice().is_empty() {
+        return Ok(RoutedList::from_vec(Vec::new(alloc)));
+    }
+    all_datagrams_at(alloc, face, out)
+}
+
+/// All datagrams, which go out at a face.
+fn all_datagrams_at(alloc: Global, face: Face, out: Outs) -> Result<RoutedList, AllocError>
     ensures { IfOk result (λ all. all ≡ map (datagram_at face) out) }
 {
     let mut items = Vec::new(alloc);
@@ -251,8 +312,19 @@ fn datagrams_at(alloc: Global, face: Face, out: Outs) -> Result<RoutedList, Allo
     Ok(RoutedList { items })
 }
 
-/// Red parts that were handed up at a face.
+/// Red parts that were handed up at a face. Memory is wanted only where there are any.
 fn ups_at(alloc: Global, face: Face, ups: Ups) -> Result<FaceUps, AllocError>
+    ensures told { IfOk result (λ all. all ≡ map (told_at face) ups) }
+    ensures wanted { OnErr result (ups ≡ [] → ⊥) }
+{
+    if ups.as_slice().is_empty() {
+        return Ok(FaceUps::from_vec(Vec::new(alloc)));
+    }
+    all_ups_at(alloc, face, ups)
+}
+
+/// All red parts, which were handed up at a face.
+fn all_ups_at(alloc: Global, face: Face, ups: Ups) -> Result<FaceUps, AllocError>
     ensures { IfOk result (λ all. all ≡ map (told_at face) ups) }
 {
     let mut items = Vec::new(alloc);
@@ -267,14 +339,37 @@ fn ups_at(alloc: Global, face: Face, ups: Ups) -> Result<FaceUps, AllocError>
     Ok(FaceUps { items })
 }
 
-/// Notes about a face, by its engine.
+/// Notes about a face, by its engine. Memory is wanted only where there is more than one.
 fn notes_at(alloc: Global, face: Face, notes: Notes) -> Result<GateNotes, AllocError>
+    ensures notes { IfOk result (λ all. all ≡ map (engine_note_at face) notes) }
+    ensures wanted { OnErr result (length notes ≤ 1 → ⊥) }
+{
+    if notes.as_slice().len() > 1 {
+        return all_notes_at(alloc, face, notes);
+    }
+    match notes.as_slice().first().copied() {
+        None => Ok(GateNotes::from_vec(Vec::new(alloc))),
+        Some(note) => Ok(GateNotes::one(alloc, engine_note_at(face, note))),
+    }
+}
+
+/// All notes about a face, by its engine.
+fn all_notes_at(alloc: Global, face: Face, notes: Notes) -> Result<GateNotes, AllocError>
     ensures { IfOk result (λ all. all ≡ map (engine_note_at face) notes) }
 {
     let mut items = Vec::new(alloc);
     'each: for note in notes.into_vec()? {
-        let note = GateNote::Engine { note };
-        items.push(FaceNote { face, note })?;
+        items.push(engine_note_at(face, note))?;
     }
-    Ok(GateNotes { items })
+    Ok(GateNotes::from_vec(items))
+}
+
+/// A note about a face, by its engine.
+fn engine_note_at(face: Face, note: Note) -> FaceNote
+    ensures { result ≡ engine_note_at face note }
+{
+    FaceNote {
+        face,
+        note: GateNote::Engine { note },
+    }
 }

@@ -4,10 +4,11 @@ ghost use Rattle.std.specs.Prelude.{◌≡◌, ◌<◌, ◌^◌, false, true, If
 ghost use Rattle.ltp_segment.specs.PolicyViews.{policy_value};
 ghost use Rattle.ltp_segment.specs.Reading.{segment_of};
 ghost use Rattle.ltp_engine.specs.Steps.{is_due_at};
-ghost use Rattle.gateway_core.specs.Gate.{starts_gate, arrives_at, ticks_gate};
+ghost use Rattle.gateway_core.specs.Gate.{starts_gate, hears_at, arrives_at, ticks_gate};
 ghost use Rattle.gateway_core.specs.Config.{IsGateConfig};
 ghost use Rattle.gateway_core.specs.Values.{setup_of, new_gateway, gate_deadline};
 ghost use Rattle.gateway_core.specs.Shows.{ShowsGate, IsGateBounded};
+ghost use Rattle.gateway_core.specs.Quiet.{IsNeverQuietAt};
 ghost use Rattle.gateway_core.specs.Steps.{GateSteps};
 
 use crate::config::GateConfig;
@@ -79,6 +80,10 @@ impl Gateway {
         ensures done { IfOk result (GateSteps self.old self.new
             (arrives_at (setup_of self.old) face (segment_of datagram.now) now)) }
         ensures bounds { OnOk result (IsGateBounded self.new) }
+        // Whoever sends it, a datagram that the face's engine only notes wants no memory, and
+        // neither does a piece that brings nothing new and isn't answered.
+        ensures wanted { OnErr result (IsNeverQuietAt self.old face
+            (λ g. hears_at (setup_of self.old) face g (segment_of datagram.now) now)) }
         ensures err { OnErr result (self.new.spent ≡ true) }
     {
         self.spent = true;

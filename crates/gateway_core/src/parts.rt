@@ -1,6 +1,6 @@
 //! What a gateway keeps, and what it does about what comes.
 
-ghost use Rattle.std.specs.Prelude.{◌≡◌, ◌<◌, ◌^◌, false, length, IfOk, OnOk, Ok};
+ghost use Rattle.std.specs.Prelude.{◌≡◌, ◌<◌, ◌^◌, [], false, length, IfOk, OnOk, OnErr, Ok};
 ghost use Rattle.std.specs.List.{All};
 ghost use Rattle.ltp_segment.specs.PolicyViews.{policy_value};
 ghost use Rattle.ltp_segment.specs.Reading.{segment_of};
@@ -12,6 +12,7 @@ ghost use Rattle.gateway_core.specs.Gate.{reports_at, answers_at, decides_at, pa
 ghost use Rattle.gateway_core.specs.Gate.{ticks_gate, starts_gate};
 ghost use Rattle.gateway_core.specs.Shows.{ShowsGate};
 ghost use Rattle.gateway_core.specs.Effects.{nothing_routed};
+ghost use Rattle.gateway_core.specs.Quiet.{IsNeverQuietAt};
 ghost use Rattle.gateway_core.specs.Ties.{IsUnrefused};
 ghost use Rattle.gateway_core.specs.Config.{IsGateConfig};
 ghost use Rattle.gateway_core.specs.Values.{new_gateway, gate_deadline};
@@ -92,8 +93,10 @@ impl Parts {
     ) -> Result<GateEffects, AllocError>
         requires whole { IsWhole self.old }
         requires moment { now < 2 ^ 62 }
-        ensures { IfOk result (Did self.old self.new
+        ensures did { IfOk result (Did self.old self.new
             (arrives_at (setup_in self.old) face (segment_of datagram.now) now)) }
+        ensures wanted { OnErr result (IsNeverQuietAt (live self.old) face
+            (λ g. hears_at (setup_in self.old) face g (segment_of datagram.now) now)) }
     {
         let told = self.hear(face, datagram, now)?;
         let passed = self.pass_all(face, told.ups.as_slice(), now)?;
@@ -143,7 +146,9 @@ impl Parts {
     fn hear(&mut self, face: Face, datagram: &[u8], now: u64) -> Result<Effects, AllocError>
         requires whole { IsWhole self.old }
         requires moment { now < 2 ^ 62 }
-        ensures { IfOk result (DidAt self.old self.new face
+        ensures did { IfOk result (DidAt self.old self.new face
+            (λ g. hears_at (setup_in self.old) face g (segment_of datagram.now) now)) }
+        ensures wanted { OnErr result (IsNeverQuietAt (live self.old) face
             (λ g. hears_at (setup_in self.old) face g (segment_of datagram.now) now)) }
     {
         match face {
@@ -152,12 +157,14 @@ impl Parts {
         }
     }
 
-    /// Blocks that came whole at a face go on, or not, one after the other.
+    /// Blocks that came whole at a face go on, or not, one after the other. Memory is wanted only
+    /// where there are any.
     fn pass_all(&mut self, face: Face, ups: &[Up], now: u64) -> Result<GateEffects, AllocError>
         requires whole { IsWhole self.old }
         requires moment { now < 2 ^ 62 }
-        ensures { IfOk result (Did self.old self.new
+        ensures did { IfOk result (Did self.old self.new
             (in_turn (passes_at (setup_in self.old) face now) (up_values ups.now))) }
+        ensures wanted { OnErr result (ups.now ≡ [] → ⊥) }
     {
         let mut passed = GateEffects::none(self.alloc);
         'passing: for up in ups {
@@ -216,7 +223,7 @@ impl Parts {
         } = judged;
         let sent = self.send_all(face.other(), pieces.as_slice(), now)?;
         let note = case_note(session, pieces.len() as u64, case);
-        let noted = GateEffects::noted(self.alloc, face, note)?;
+        let noted = GateEffects::noted(self.alloc, face, note);
         let answered = self.answer(face, session, report, now)?;
         let after = noted.followed_by(answered)?;
         sent.followed_by(after)
@@ -241,7 +248,7 @@ impl Parts {
         };
         if self.cannot_report(face, now) {
             let note = GateNote::Unreported { session };
-            return GateEffects::noted(self.alloc, face, note);
+            return Ok(GateEffects::noted(self.alloc, face, note));
         }
         self.report(face, session, &asked, now)
     }
@@ -265,7 +272,7 @@ impl Parts {
         self.counter += 1;
         let sent = self.send(face, block.as_slice(), now)?;
         let note = GateNote::Reported { session };
-        let noted = GateEffects::noted(self.alloc, face, note)?;
+        let noted = GateEffects::noted(self.alloc, face, note);
         sent.followed_by(noted)
     }
 

@@ -144,7 +144,7 @@ fn face_notes(alloc: Global, notes: GateNotes) -> Result<PlaceNotes, AllocError>
     ensures { IfOk result (λ all. all ≡ map gate_note notes) }
 {
     let mut items = Vec::new(alloc);
-    'each: for noted in notes.into_vec() {
+    'each: for noted in notes.into_vec()? {
         let FaceNote { face, note } = noted;
         items.push(NoteAt {
             place: Place::of_face(face),

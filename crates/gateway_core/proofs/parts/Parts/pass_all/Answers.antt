@@ -8,4 +8,4 @@ passing-init c = did-none-yet (passes_at (setup_in c.args.self.now) c.args.face 
 
 pub passing-preserved : goal.passing-preserved
 passing-preserved c = passes-more c.args.face c.args.now c.args.self.now c.passing.self c.pass.new.self c.args.ups.now c.passing.up-index c.up-item.result c.as_slice.result.now
-    c.passing.passed c.in_ok-more.more c.in_ok-passed.passed c.passing-test.true c.up-item.is c.as_slice.ensures c.passing.invariant c.in_ok-more.ensures c.in_ok-passed.ensures
+    c.passing.passed c.in_ok-more.more c.in_ok-passed.passed c.passing-test.true c.up-item.is c.as_slice.ensures c.passing.invariant c.in_ok-more.ensures c.in_ok-passed.ensures.joined

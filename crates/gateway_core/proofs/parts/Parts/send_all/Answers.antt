@@ -6,4 +6,4 @@ sending-init c = sends-none c.args.face c.args.now c.args.self.now c.args.blocks
 
 pub sending-preserved : goal.sending-preserved
 sending-preserved c = sends-more c.args.face c.args.now c.args.self.now c.sending.self c.send.new.self c.args.blocks.now c.sending.block-index c.block-item.result c.as_slice.result.now
-    c.sending.sent c.in_ok-more.more c.in_ok-sent.sent c.sending-test.true c.block-item.is c.as_slice.ensures c.sending.invariant c.in_ok-more.ensures.done c.in_ok-more.ensures.takes c.in_ok-sent.ensures
+    c.sending.sent c.in_ok-more.more c.in_ok-sent.sent c.sending-test.true c.block-item.is c.as_slice.ensures c.sending.invariant c.in_ok-more.ensures.done c.in_ok-more.ensures.takes c.in_ok-sent.ensures.joined

@@ -15,7 +15,7 @@ use Rattle.ltp_engine.specs.Bounds.{IsBounded}
 use Rattle.ltp_engine.specs.Shows.{Shows}
 use Rattle.ltp_engine.specs.Steps.{Steps, deadline_of, is_due_at}
 use Rattle.ltp_engine.specs.Values.{EngineValue}
-use Rattle.gateway_core.proofs.QuietLemmas.{quiet-steps}
+use Rattle.ltp_engine.proofs.QuietLemmas.{quiet-steps}
 use Rattle.gate_cases.specs.declared.face.Face.{Face}
 use Rattle.gate_cases.specs.declared.face.Face.TheVariants as faces
 use Rattle.gateway_core.specs.declared.effects.GateEffects.{GateEffects}

@@ -1,4 +1,3 @@
-mod QuietLemmas
 mod GateLemmas
 mod DidLemmas
 mod SendLemmas

@@ -14,7 +14,7 @@ pub mod HearLemmas
 mod WantLemmas
 pub mod LegalLemmas
 mod BeginLemmas
-mod QuietLemmas
+pub mod QuietLemmas
 pub mod ElsewhereLemmas
 mod OctetLemmas
 mod RedPartLemmas

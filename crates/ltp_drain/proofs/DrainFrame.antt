@@ -22,11 +22,11 @@ use Rattle.ltp_laws.specs.Runs.{KeepsUnder, no_facts}
 use Rattle.ltp_laws.specs.View.{IsIn, session_of, View, is_of, receiver_moves, said, same_end}
 use Rattle.ltp_laws.specs.View.{sender_moves, view_by}
 use Rattle.ltp_laws.proofs.FrameLemmas.{AreTwo, Left, alone, closed_for_room, opening, owns-stay}
+use Rattle.ltp_laws.proofs.FrameLemmas.{find-with_receiver_other}
 use Rattle.ltp_laws.proofs.FrameLemmas.{peers-stay, receiver-here, receiver-others}
 use Rattle.ltp_laws.proofs.FrameLemmas.{roomy-received, sender-here, sender-others}
 use Rattle.ltp_laws.proofs.ListLemmas.{by_arms}
 use Rattle.ltp_laws.proofs.RunLemmas.{Linked}
-use Rattle.ltp_laws.proofs.TableLemmas.{find-put_other, find-without_other}
 use Rattle.ltp_drain.specs.Calm.{AreFit, Falls, Given, IsComing, Advances, Setting}
 use Rattle.ltp_drain.specs.Draining.{Oldest, oldest}
 use Rattle.ltp_drain.specs.Hopeful.{IsHanded, IsOpen}
@@ -336,13 +336,6 @@ opening-same p e None (keeps r) room =
     ap (without_evicted e) (evicted-none p e (room refl r refl))
 opening-same p e None ends room = refl
 opening-same p e (Some s) c room = refl
-
-pub find-with_receiver_other : (f : Engine) (m n : ℕ) (c : Change Receiving) → m ≢ n
-    → find m (with_receiver f n c).receivers ≡ find m f.receivers
-unfolding with_receiver
-find-with_receiver_other f m n stays apart = refl
-find-with_receiver_other f m n (keeps r) apart = find-put_other m n r f.receivers apart
-find-with_receiver_other f m n ends apart = find-without_other m n f.receivers apart
 
 peer-touches : (F : List ℕ → ℕ → View → Type 0) → Gives F
     → (me you : End) (p q : Party) (e f : Engine) (sent new : List Sent) (rank_p rank_q : ℕ

@@ -37,7 +37,7 @@ use Rattle.ltp_drain.proofs.RoomSteps.{room-ticked, room-ticked_peer}
 -- ---- what a step changes
 
 -- a sender that isn't kept stays so
-unkept-stays : (policy : PolicyValue) (content : ContentValue) (now : ℕ) (t : StepValue Sending)
+pub unkept-stays : (policy : PolicyValue) (content : ContentValue) (now : ℕ) (t : StepValue Sending)
     → sender_answers policy None content now ≡ Some t → t.next ≡ stays
 unfolding sender_answers
 unkept-stays policy (a_report x) now t hears = answered (λ t. t.next ≡ stays) _ t hears refl
@@ -67,7 +67,7 @@ sent-of policy n es content now t hears = by_kept (find n es) refl
     by_kept (Some s) some = of-kept n es s t.next some
 
 -- a receiver that isn't kept doesn't end
-abbrev NeverEnds : StepValue Receiving → Type 0
+abbrev pub NeverEnds : StepValue Receiving → Type 0
 NeverEnds t = t.next ≡ ends → ⊥
 
 piece-never : (policy : PolicyValue) (r : Receiving) (q : _) (now : ℕ)
@@ -100,7 +100,7 @@ unkept-never policy place content now t hears =
     })
 
 -- a session that comes is counted
-comes : (me you : End) (q : Party) (e f : Engine) (sent : List Sent) (n : ℕ)
+pub comes : (me you : End) (q : Party) (e f : Engine) (sent : List Sent) (n : ℕ)
     → IsComing (view_by you me q f e sent n) → Comes_to e f n
 comes me you q e f sent n (is_open, none, unclosed) = by_sender (find n f.senders) refl
   where
@@ -119,7 +119,7 @@ some-come e f n c = omega (
       c.kept,
 )
 
-received-of : (policy : PolicyValue) (place : Place) (e f : Engine) (n : ℕ)
+pub received-of : (policy : PolicyValue) (place : Place) (e f : Engine) (n : ℕ)
     (content : ContentValue) (now : ℕ) (t : StepValue Receiving)
     → receiver_answers policy place (find n e.receivers) content now ≡ Some t
     → ((r' : Receiving) → find n e.receivers ≡ None → t.next ≡ keeps r' → Comes_to e f n)

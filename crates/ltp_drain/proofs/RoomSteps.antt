@@ -3,7 +3,7 @@
 use Rattle.std.proofs.Common.{◌≡◌, ◌≢◌, ℕ, ◌<◌, ◌≤◌, Bool, true, false, not, ◌==◌, ◌&&◌, List, []}
 use Rattle.std.proofs.Common.{◌++◌, length, Option, None, Some, is_some, ◌⊎◌, inl, inr, refl, sym}
 use Rattle.std.proofs.Common.{◌∙◌, ap, arith, subst}
-use Rattle.std.proofs.lemmas.Bool.{eqb-true, eqb-false, ne_eqb}
+use Rattle.std.proofs.lemmas.Bool.{eqb-true, eqb-false}
 use Rattle.ltp_session.specs.Engine.{Engine, Party, is_closed, receiver_changes, receiver_ticks}
 use Rattle.ltp_session.specs.Engine.{sender_changes, tick_engine, tick_out, with_receiver}
 use Rattle.ltp_session.specs.Engine.{with_sender}
@@ -15,16 +15,17 @@ use Rattle.ltp_session.specs.World.{End, sent_by}
 use Rattle.ltp_laws.specs.Runs.{receiver_after}
 use Rattle.ltp_laws.specs.View.{View, closed_after, view_by}
 use Rattle.ltp_laws.proofs.FrameLemmas.{AreTwo, closed-with_receiver, find-with_receiver}
+use Rattle.ltp_laws.proofs.FrameLemmas.{find-with_receiver_other}
+use Rattle.ltp_laws.proofs.FrameLemmas.{closed-with_receiver_other}
 use Rattle.ltp_laws.proofs.FrameLemmas.{senders-with_receiver, tick-peer}
 use Rattle.ltp_laws.proofs.RunLemmas.{Linked}
 use Rattle.ltp_drain.specs.Hopeful.{HasRoom, coming, is_unknown}
-use Rattle.ltp_drain.proofs.DrainFrame.{find-with_receiver_other}
 use Rattle.ltp_drain.proofs.RoomLemmas.{count-is, how_many, length-put, length-put_new}
 use Rattle.ltp_drain.proofs.RoomLemmas.{length-ticked, length-without, length-without_kept}
 use Rattle.ltp_drain.proofs.RoomLemmas.{many-less, many-most, many-put, many-ticked}
 use Rattle.ltp_drain.proofs.RoomLemmas.{many-without, runs-append, runs-more}
 
-coming-is : (e f : Engine) → how_many (λ entry. is_unknown e entry.0) f.senders ≡ coming e f
+pub coming-is : (e f : Engine) → how_many (λ entry. is_unknown e entry.0) f.senders ≡ coming e f
 coming-is e f = count-is (λ entry. is_unknown e entry.0) f.senders
 
 -- ---- a sender's step
@@ -35,7 +36,7 @@ OfKept n es stays = Unit {0}
 OfKept n es (keeps s') = (s : _) × (find n es ≡ Some s)
 OfKept n es ends = Unit {0}
 
-many-settled : {S : Type 0} (p : ℕ → Bool) (n : ℕ) (c : Change S) (es : List (ℕ × S))
+pub many-settled : {S : Type 0} (p : ℕ → Bool) (n : ℕ) (c : Change S) (es : List (ℕ × S))
     → AreAscending 0 es
     → OfKept n es c → how_many (λ e. p e.0) (settled n c es) ≤ how_many (λ e. p e.0) es
 many-settled p n stays es ascending of = omega arith
@@ -43,7 +44,7 @@ many-settled p n (keeps s') es ascending of =
     omega (arith, many-put p n 0 of.0 s' es ascending of.1)
 many-settled p n ends es ascending of = many-without p n es
 
-length-settled : {S : Type 0} (n : ℕ) (c : Change S) (es : List (ℕ × S)) → AreAscending 0 es
+pub length-settled : {S : Type 0} (n : ℕ) (c : Change S) (es : List (ℕ × S)) → AreAscending 0 es
     → OfKept n es c → length (settled n c es) ≤ length es
 length-settled n stays es ascending of = omega arith
 length-settled n (keeps s') es ascending of =
@@ -77,15 +78,8 @@ room-sent_peer e f n c ascending of room = record {
 
 -- ---- a receiver's step
 
-closed-with_receiver_other : (f : Engine) (m n : ℕ) (c : Change Receiving) → m ≢ n
-    → is_closed m (with_receiver f n c).closed ≡ is_closed m f.closed
-unfolding with_receiver
-closed-with_receiver_other f m n stays apart = refl
-closed-with_receiver_other f m n (keeps r) apart = refl
-closed-with_receiver_other f m n ends apart = rw (ne_eqb n m (λ h. apart (sym h))) refl
-
 -- of what is kept, and of whether the number is closed
-abbrev unknown_of : Option Receiving → Bool → Bool
+abbrev pub unknown_of : Option Receiving → Bool → Bool
 unknown_of kept closed = not (is_some kept) && not closed
 
 unknown-after : (c : Change Receiving) (kept : Option Receiving) (closed : Bool)
@@ -94,7 +88,7 @@ unknown-after stays kept closed is = is
 unknown-after (keeps r) kept closed is = absurd (cc)
 unknown-after ends kept closed is = absurd (cc)
 
-unknown-received : (e : Engine) (n : ℕ) (c : Change Receiving) (m : ℕ)
+pub unknown-received : (e : Engine) (n : ℕ) (c : Change Receiving) (m : ℕ)
     → is_unknown (with_receiver e n c) m ≡ true → is_unknown e m ≡ true
 unknown-received e n c m is = by_test (m == n) refl
   where
@@ -190,7 +184,7 @@ room-received e f n ends ascending (r, kept) room = record {
           (λ entry. unknown-received e n ends entry.0),
     )
 
-same-senders : (e f f' : Engine) → f'.senders ≡ f.senders → coming e f' ≡ coming e f
+pub same-senders : (e f f' : Engine) → f'.senders ≡ f.senders → coming e f' ≡ coming e f
 same-senders e f f' same = sym (coming-is e f')
     ∙ ap (λ (es : List (ℕ × Sending)). how_many (λ entry. is_unknown e entry.0) es) same
     ∙ coming-is e f
@@ -208,7 +202,7 @@ room-received_peer e f n c room =
 
 -- ---- ticks
 
-unknown-ticked : (me you : End) (p q : Party) (e f : Engine) (now : ℕ) → AreTwo me you
+pub unknown-ticked : (me you : End) (p q : Party) (e f : Engine) (now : ℕ) → AreTwo me you
     → Linked p q
     → AreAscending 0 e.receivers → (m : ℕ) → is_unknown (tick_engine p e now) m ≡ true
     → is_unknown e m ≡ true

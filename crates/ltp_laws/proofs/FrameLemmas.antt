@@ -245,14 +245,14 @@ closed-with_receiver f n stays = refl
 closed-with_receiver f n (keeps r) = refl
 closed-with_receiver f n ends = rw self_eqb refl
 
-find-with_receiver_other : (f : Engine) (m n : ℕ) (c : Change Receiving) → m ≢ n
+pub find-with_receiver_other : (f : Engine) (m n : ℕ) (c : Change Receiving) → m ≢ n
     → find m (with_receiver f n c).receivers ≡ find m f.receivers
 unfolding with_receiver
 find-with_receiver_other f m n stays apart = refl
 find-with_receiver_other f m n (keeps r) apart = find-put_other m n r f.receivers apart
 find-with_receiver_other f m n ends apart = find-without_other m n f.receivers apart
 
-closed-with_receiver_other : (f : Engine) (m n : ℕ) (c : Change Receiving) → m ≢ n
+pub closed-with_receiver_other : (f : Engine) (m n : ℕ) (c : Change Receiving) → m ≢ n
     → is_closed m (with_receiver f n c).closed ≡ is_closed m f.closed
 unfolding with_receiver
 closed-with_receiver_other f m n stays apart = refl

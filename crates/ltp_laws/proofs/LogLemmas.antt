@@ -62,7 +62,7 @@ IsHanded r = r.handed_up ≡ true
 abbrev IsPast : Option Receiving → Bool → Type 0
 IsPast kept closed = IsClosedOr IsHanded kept closed
 
-still_true : (a b : Bool) → a ≡ true → (a || b) ≡ true
+pub still_true : (a b : Bool) → a ≡ true → (a || b) ≡ true
 still_true true b is = refl
 still_true false b is = absurd (cc)
 
@@ -349,7 +349,7 @@ same-octets (x ∷ xs) (y ∷ ys) size same =
     same-octets xs ys (omega (arith, size)) (λ k low. same (suc k) (omega (arith, low))) in
     rw (here, rest) refl
 
-whole-front : (block : List ℕ) (red : ℕ) (cells : List (Option ℕ)) (known : Option ℕ)
+pub whole-front : (block : List ℕ) (red : ℕ) (cells : List (Option ℕ)) (known : Option ℕ)
     (body : List ℕ) → red ≤ length block
     → ((k octet : ℕ) → cell cells k ≡ Some octet → IsAt block k octet) → IfKnown red known
     → whole_part cells known ≡ Some body → body ≡ take red block

@@ -25,6 +25,7 @@ use Rattle.ltp_laws.specs.Runs.{HoldsIn}
 use Rattle.ltp_laws.specs.View.{IsIn, View, receiver_moves, sender_moves, session_of, view}
 use Rattle.ltp_laws.specs.View.{view_by}
 use Rattle.ltp_laws.proofs.FrameLemmas.{AreTwo, Left, alone, closed_for_room, opening}
+use Rattle.ltp_laws.proofs.FrameLemmas.{find-with_receiver_other}
 use Rattle.ltp_laws.proofs.FrameLemmas.{Roomy, owns-stay, peers-stay, receiver-here, receiver-others}
 use Rattle.ltp_laws.proofs.FrameLemmas.{roomy-received, sender-here, sender-others}
 use Rattle.ltp_laws.proofs.ListLemmas.{by_arms}
@@ -32,7 +33,6 @@ use Rattle.ltp_laws.proofs.RunLemmas.{KeepsAll, Linked, holds-at, in-left, in-ri
 use Rattle.ltp_laws.proofs.RunLemmas.{two_ends}
 use Rattle.ltp_laws.proofs.TableLemmas.{ascending-settled}
 use Rattle.ltp_drain.specs.Effects.{EndEffects, IsHandedUp, IsNoted}
-use Rattle.ltp_drain.proofs.DrainFrame.{find-with_receiver_other}
 
 -- what an end does in answer to a segment
 abbrev pub heard_effects : End → Party → Engine → SegmentValue → ℕ → List EndEffects

@@ -12,9 +12,9 @@ use Rattle.ltp_session.specs.Table.{AreAscending, find, put, without}
 use Rattle.ltp_laws.specs.HandUps.{up_of}
 use Rattle.ltp_laws.specs.View.{IsIn}
 use Rattle.ltp_laws.proofs.FrameLemmas.{find-with_receiver, senders-with_receiver}
+use Rattle.ltp_laws.proofs.FrameLemmas.{find-with_receiver_other}
 use Rattle.ltp_laws.proofs.TableLemmas.{find-put, find-put_other, find-without}
 use Rattle.ltp_laws.proofs.TableLemmas.{find-without_other, self_eqb}
-use Rattle.ltp_drain.proofs.DrainFrame.{find-with_receiver_other}
 use Rattle.path_drain.specs.OnTheWay.{is_handed_up, is_on_its_way, sum_on_way}
 use Rattle.path_drain.specs.RoomKept.{SendsRed}
 use Rattle.path_drain.proofs.Arrivals.{Arrived, IsAwaited, StaysUp, by_receiver, by_sender}

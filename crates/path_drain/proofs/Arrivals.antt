@@ -8,12 +8,10 @@ use Rattle.std.proofs.lemmas.Bool.Decides.{nat_tests}
 use Rattle.ltp_segment.specs.Kinds.{is_red}
 use Rattle.ltp_segment.specs.Policy.{PolicyValue}
 use Rattle.ltp_segment.specs.Values.{ContentValue, PieceValue, SegmentValue, a_piece}
-use Rattle.ltp_segment.specs.Values.{a_receiver_cancel, a_receiver_cancel_ack, a_report}
-use Rattle.ltp_segment.specs.Values.{a_report_ack, a_sender_cancel, a_sender_cancel_ack}
 use Rattle.ltp_session.specs.Engine.{Engine, Party, Reply, arrives, closed_runs, evicted_by}
 use Rattle.ltp_session.specs.Engine.{evicted_of, is_closed, is_used, notes_of, place_of}
 use Rattle.ltp_session.specs.Engine.{receiver_replies, sender_replies, with_receiver}
-use Rattle.ltp_session.specs.Receiver.{Place, Receiving, fresh, receiver_answers}
+use Rattle.ltp_session.specs.Receiver.{Place, Receiving, receiver_answers}
 use Rattle.ltp_session.specs.Sender.{Sending, sender_answers}
 use Rattle.ltp_session.specs.Step.{Change, StepValue, after, ends, keeps, stays}
 use Rattle.ltp_session.specs.Table.{find}
@@ -24,20 +22,19 @@ use Rattle.ltp_laws.specs.Kept.{IfKeeps, IfKept, KeepsOrEnds}
 use Rattle.ltp_laws.specs.Steps.{HandsUp}
 use Rattle.ltp_laws.specs.View.{View, said, view_by}
 use Rattle.ltp_laws.proofs.FrameLemmas.{AreTwo}
-use Rattle.ltp_laws.proofs.ListLemmas.{answered}
 use Rattle.ltp_laws.proofs.RedPartLemmas.{hears-ups}
 use Rattle.ltp_laws.proofs.RunLemmas.{Linked}
 use Rattle.ltp_laws.proofs.SenderLemmas.{sender-keeps}
 use Rattle.ltp_laws.proofs.StepLemmas.{hears-form, met}
-use Rattle.ltp_laws.proofs.WalkLemmas.{OnPiece, walk-segment}
-use Rattle.ltp_drain.specs.Calm.{Calm, IsComing, Setting}
+use Rattle.ltp_drain.specs.Calm.{Calm, Setting}
 use Rattle.ltp_drain.specs.Draining.{Draining, Oldest, oldest}
-use Rattle.ltp_drain.specs.Hopeful.{IsHanded, IsOpen, is_unknown}
+use Rattle.ltp_drain.specs.Hopeful.{IsHanded, IsOpen}
 use Rattle.ltp_drain.specs.Standing.{DrainHolds, IsRoomy, Stands, setting, setting_by}
 use Rattle.ltp_drain.proofs.DrainFrame.{AllStand, Begun, Shorter, is-begun, never_begun, shorter}
 use Rattle.ltp_drain.proofs.DrainFrame.{stands-so, was_begun}
 use Rattle.ltp_drain.proofs.ReceiverDrains.{receiver-opens}
 use Rattle.ltp_drain.proofs.RoomSteps.{Comes_to, OfComing, OfKept}
+use Rattle.ltp_drain.proofs.RoomRuns.{unkept-stays, received-of, comes}
 use Rattle.path_drain.specs.OnTheWay.{is_handed_up}
 use Rattle.path_drain.proofs.WayLemmas.{OfBlock}
 use Rattle.path_drain.proofs.FullLemmas.{FindsRoom, NotFull, receiver-not_full, sender-not_full}
@@ -87,20 +84,6 @@ kept-of n es stays of = tt
 kept-of n es (keeps s') (s, kept, same, reds) = (s, kept)
 kept-of n es ends of = tt
 
--- a sender that isn't kept stays so
-unkept-stays : (policy : PolicyValue) (content : ContentValue) (now : ℕ) (t : StepValue Sending)
-    → sender_answers policy None content now ≡ Some t → t.next ≡ stays
-unfolding sender_answers
-unkept-stays policy (a_report x) now t hears = answered (λ t. t.next ≡ stays) _ t hears refl
-unkept-stays policy (a_receiver_cancel reason) now t hears =
-    answered (λ t. t.next ≡ stays) _ t hears refl
-unkept-stays policy a_sender_cancel_ack now t hears =
-    answered (λ t. t.next ≡ stays) _ t hears refl
-unkept-stays policy (a_piece q) now t hears = absurd (cc)
-unkept-stays policy (a_report_ack serial) now t hears = absurd (cc)
-unkept-stays policy (a_sender_cancel reason) now t hears = absurd (cc)
-unkept-stays policy a_receiver_cancel_ack now t hears = absurd (cc)
-
 none-of : (policy : PolicyValue) (n : ℕ) (es : List (ℕ × Sending)) (content : ContentValue)
     (now : ℕ) (t : StepValue Sending) → find n es ≡ None
     → sender_answers policy (find n es) content now ≡ Some t → OfBlock n es t.next
@@ -128,62 +111,6 @@ block-of block red policy n es content now t is hears =
     by_kept (Some s) some is still = by_some s some is t.next still
 
 -- ---- a receiver's step
-
--- a receiver that isn't kept doesn't end
-abbrev NeverEnds : StepValue Receiving → Type 0
-NeverEnds t = t.next ≡ ends → ⊥
-
-piece-never : (policy : PolicyValue) (r : Receiving) (q : PieceValue) (now : ℕ)
-    → OnPiece policy r q now NeverEnds
-piece-never policy r q now = record {
-  outside = λ note is. cc;
-  miscoloured = λ is. cc;
-  greener = λ green_kind is. cc;
-  filled = λ red_kind plain is. cc;
-  serials_out = λ red_kind asks is. cc;
-  reported = λ red_kind asks more is. cc;
-}
-
-unkept-never : (policy : PolicyValue) (place : Place) (content : ContentValue) (now : ℕ)
-    (t : StepValue Receiving)
-    → receiver_answers policy place None content now ≡ Some t → NeverEnds t
-unkept-never policy place content now t hears =
-    walk-segment policy place None content now t NeverEnds hears (record {
-      rests = λ note is. cc;
-      refused_service = λ q is_q other is. cc;
-      echoed = λ none is. cc;
-      green_alone = λ q is_q none is. cc;
-      opened = λ q is_q none open_number. piece-never policy (fresh place.session) q now;
-      came = λ q r is_q some listening. absurd (cc);
-      unmoved = λ r some is. cc;
-      closed_whole = λ r p serial some phase is_ack named whole is. cc;
-      dropped = λ r p serial some phase is_ack part is. cc;
-      called_off = λ r reason some is. cc;
-      answered_off = λ r some cancelling is. cc;
-    })
-
-received-of : (policy : PolicyValue) (place : Place) (e f : Engine) (n : ℕ)
-    (content : ContentValue) (now : ℕ) (t : StepValue Receiving)
-    → receiver_answers policy place (find n e.receivers) content now ≡ Some t
-    → ((r' : Receiving) → find n e.receivers ≡ None → t.next ≡ keeps r' → Comes_to e f n)
-    → OfComing e f n t.next
-received-of policy place e f n content now t hears opens = by_kept (find n e.receivers) refl
-  where
-    by_some : (r : Receiving) → find n e.receivers ≡ Some r → (c : Change Receiving)
-        → OfComing e f n c
-    by_some r some stays = tt
-    by_some r some (keeps r') = inl (r, some)
-    by_some r some ends = (r, some)
-
-    by_none : find n e.receivers ≡ None → (c : Change Receiving) → t.next ≡ c → OfComing e f n c
-    by_none none stays is = tt
-    by_none none (keeps r') is = inr (opens r' none is)
-    by_none none ends is = absurd (unkept-never policy place content now t
-        (subst (λ o. receiver_answers policy place o content now ≡ Some t) none hears) is)
-
-    by_kept : (o : Option Receiving) → find n e.receivers ≡ o → OfComing e f n t.next
-    by_kept None none = by_none none t.next refl
-    by_kept (Some r) some = by_some r some t.next
 
 -- ---- a link in a drain
 
@@ -217,18 +144,6 @@ unclosed-in parties d rank second_end holds n s kept =
     stands-unclosed (setting parties first_end n) _ _ _ _ (holds.session first_end n) s kept
 
 -- ---- an arrival
-
--- a session that comes is counted
-comes : (me you : End) (q : Party) (e f : Engine) (sent : List Sent) (n : ℕ)
-    → IsComing (view_by you me q f e sent n) → Comes_to e f n
-comes me you q e f sent n (is_open, none, unclosed) = by_sender (find n f.senders) refl
-  where
-    unknown : is_unknown e n ≡ true
-    unknown = rw (none, unclosed) refl
-
-    by_sender : (o : Option Sending) → find n f.senders ≡ o → Comes_to e f n
-    by_sender None is = absurd (subst IsOpen is is_open)
-    by_sender (Some s) is = record { unknown = unknown; sender = s; kept = is }
 
 evicted-none : (p : Party) (e : Engine) → length e.receivers < p.sessions → evicted_of p e ≡ None
 unfolding evicted_of

@@ -1,30 +1,27 @@
 -- What steps of an engine leave of its room: no count rises, but where a block is submitted.
 
-use Rattle.std.proofs.Common.{◌≡◌, ◌≢◌, ℕ, ◌+◌, ◌<◌, ◌≤◌, Bool, true, false, not, ◌==◌, ◌&&◌}
-use Rattle.std.proofs.Common.{List, [], ◌∷◌, ◌++◌, length, Option, None, Some, is_some, inl, inr}
-use Rattle.std.proofs.Common.{refl, sym, ◌∙◌, ap, arith, subst, nat_lt, if◌then◌else◌}
+use Rattle.std.proofs.Common.{◌≡◌, ℕ, ◌+◌, ◌<◌, ◌≤◌, Bool, true, false, ◌==◌}
+use Rattle.std.proofs.Common.{List, [], ◌∷◌, length, Option, inl, inr}
+use Rattle.std.proofs.Common.{refl, ap, arith, nat_lt, if◌then◌else◌}
 use Rattle.std.specs.Prelude.{cond}
-use Rattle.std.proofs.lemmas.Bool.{eqb-true, eqb-false, ne_eqb}
 use Rattle.ltp_session.specs.Engine.{Engine, Party, closed_runs, is_closed, receiver_changes}
-use Rattle.ltp_session.specs.Engine.{receiver_ticks, sender_changes, tick_engine, tick_out}
+use Rattle.ltp_session.specs.Engine.{sender_changes, tick_engine}
 use Rattle.ltp_session.specs.Engine.{with_receiver, with_sender}
 use Rattle.ltp_session.specs.Receiver.{Receiving}
 use Rattle.ltp_session.specs.Sender.{Sending}
-use Rattle.ltp_session.specs.Step.{Change, after, stays, keeps, ends}
-use Rattle.ltp_session.specs.Table.{AreAscending, ended, find, put, settled, without}
-use Rattle.ltp_session.specs.World.{End, sent_by}
-use Rattle.ltp_laws.specs.Runs.{receiver_after}
-use Rattle.ltp_laws.specs.View.{View, closed_after, view_by}
-use Rattle.ltp_laws.proofs.FrameLemmas.{AreTwo, closed-with_receiver, find-with_receiver}
-use Rattle.ltp_laws.proofs.FrameLemmas.{senders-with_receiver, tick-peer}
+use Rattle.ltp_session.specs.Step.{Change, stays, keeps, ends}
+use Rattle.ltp_session.specs.Table.{AreAscending, ended, put, without}
+use Rattle.ltp_session.specs.World.{End}
+use Rattle.ltp_laws.proofs.FrameLemmas.{AreTwo, find-with_receiver}
+use Rattle.ltp_laws.proofs.FrameLemmas.{senders-with_receiver}
 use Rattle.ltp_laws.proofs.RunLemmas.{Linked}
 use Rattle.ltp_drain.specs.Hopeful.{HasRoom, coming, is_unknown}
-use Rattle.ltp_drain.proofs.DrainFrame.{find-with_receiver_other}
-use Rattle.ltp_drain.proofs.RoomLemmas.{count-is, how_many, length-put, length-put_new}
-use Rattle.ltp_drain.proofs.RoomLemmas.{length-ticked, length-without, length-without_kept}
-use Rattle.ltp_drain.proofs.RoomLemmas.{many-less, many-most, many-put, many-ticked}
-use Rattle.ltp_drain.proofs.RoomLemmas.{many-without, runs-append, runs-more}
-use Rattle.ltp_drain.proofs.RoomSteps.{OfComing, OfKept}
+use Rattle.ltp_drain.proofs.RoomLemmas.{how_many, length-put, length-put_new}
+use Rattle.ltp_drain.proofs.RoomLemmas.{length-ticked, length-without_kept}
+use Rattle.ltp_drain.proofs.RoomLemmas.{many-less, many-most, many-ticked}
+use Rattle.ltp_drain.proofs.RoomLemmas.{runs-append, runs-more}
+use Rattle.ltp_drain.proofs.RoomSteps.{OfComing, OfKept, coming-is, many-settled, length-settled}
+use Rattle.ltp_drain.proofs.RoomSteps.{unknown_of, unknown-received, same-senders, unknown-ticked}
 use Rattle.path_drain.specs.PathRoom.{HasRoomFor}
 
 -- engine e is e' after an event, and its peer f is f': it needs no more room
@@ -65,25 +62,7 @@ link-room own peer e f room = record {
   numbers = omega (arith, room.numbers);
 }
 
-pub coming-is : (e f : Engine) → how_many (λ entry. is_unknown e entry.0) f.senders ≡ coming e f
-coming-is e f = count-is (λ entry. is_unknown e entry.0) f.senders
-
 -- ---- a sender's step
-
-many-settled : {S : Type 0} (p : ℕ → Bool) (n : ℕ) (c : Change S) (es : List (ℕ × S))
-    → AreAscending 0 es
-    → OfKept n es c → how_many (λ e. p e.0) (settled n c es) ≤ how_many (λ e. p e.0) es
-many-settled p n stays es ascending of = omega arith
-many-settled p n (keeps s') es ascending of =
-    omega (arith, many-put p n 0 of.0 s' es ascending of.1)
-many-settled p n ends es ascending of = many-without p n es
-
-length-settled : {S : Type 0} (n : ℕ) (c : Change S) (es : List (ℕ × S)) → AreAscending 0 es
-    → OfKept n es c → length (settled n c es) ≤ length es
-length-settled n stays es ascending of = omega arith
-length-settled n (keeps s') es ascending of =
-    omega (arith, length-put n 0 of.0 s' es ascending of.1)
-length-settled n ends es ascending of = length-without n es
 
 pub need-sent : (e f : Engine) (n : ℕ) (c : Change Sending) → AreAscending 0 e.senders
     → OfKept n e.senders c → NoMore e f (with_sender e n c) f
@@ -110,44 +89,6 @@ need-sent_peer e f n c ascending of = record {
     )
 
 -- ---- a receiver's step
-
-closed-with_receiver_other : (f : Engine) (m n : ℕ) (c : Change Receiving) → m ≢ n
-    → is_closed m (with_receiver f n c).closed ≡ is_closed m f.closed
-unfolding with_receiver
-closed-with_receiver_other f m n stays apart = refl
-closed-with_receiver_other f m n (keeps r) apart = refl
-closed-with_receiver_other f m n ends apart = rw (ne_eqb n m (λ h. apart (sym h))) refl
-
--- of what is kept, and of whether the number is closed
-abbrev unknown_of : Option Receiving → Bool → Bool
-unknown_of kept closed = not (is_some kept) && not closed
-
-unknown-after : (c : Change Receiving) (kept : Option Receiving) (closed : Bool)
-    → unknown_of (after c kept) (closed_after c closed) ≡ true → unknown_of kept closed ≡ true
-unknown-after stays kept closed is = is
-unknown-after (keeps r) kept closed is = absurd (cc)
-unknown-after ends kept closed is = absurd (cc)
-
-unknown-received : (e : Engine) (n : ℕ) (c : Change Receiving) (m : ℕ)
-    → is_unknown (with_receiver e n c) m ≡ true → is_unknown e m ≡ true
-unknown-received e n c m is = by_test (m == n) refl
-  where
-    by_test : (same : Bool) → (m == n) ≡ same → is_unknown e m ≡ true
-    by_test true same =
-        let here : m ≡ n = eqb-true m n same in
-        subst (λ k. is_unknown e k ≡ true) (sym here)
-        (unknown-after c (find n e.receivers) (is_closed n e.closed)
-        (subst (λ (kept : Option Receiving). unknown_of kept
-        (closed_after c (is_closed n e.closed)) ≡ true) (find-with_receiver e n c)
-        (subst (λ (closed : Bool). unknown_of (find n (with_receiver e n c).receivers) closed ≡
-        true) (closed-with_receiver e n c)
-        (subst (λ k. is_unknown (with_receiver e n c) k ≡ true) here is))))
-    by_test false same =
-        let away : m ≢ n = eqb-false m n same in
-        subst (λ (kept : Option Receiving). unknown_of kept (is_closed m e.closed) ≡ true)
-        (find-with_receiver_other e m n c away)
-        (subst (λ (closed : Bool). unknown_of (find m (with_receiver e n c).receivers) closed ≡
-        true) (closed-with_receiver_other e m n c away) is)
 
 fewer-received : (e f : Engine) (n : ℕ) (c : Change Receiving)
     → coming (with_receiver e n c) f ≤ coming e f
@@ -205,11 +146,6 @@ need-received e f n ends ascending (r, kept) = record {
     less : length (without n e.receivers) < length e.receivers
     less = length-without_kept n e.receivers r kept
 
-same-senders : (e f f' : Engine) → f'.senders ≡ f.senders → coming e f' ≡ coming e f
-same-senders e f f' same = sym (coming-is e f')
-    ∙ ap (λ (es : List (ℕ × Sending)). how_many (λ entry. is_unknown e entry.0) es) same
-    ∙ coming-is e f
-
 pub need-received_peer : (e f : Engine) (n : ℕ) (c : Change Receiving)
     → NoMore f e f (with_receiver e n c)
 need-received_peer e f n c =
@@ -222,37 +158,6 @@ need-received_peer e f n c =
     }
 
 -- ---- ticks
-
-unknown-ticked : (me you : End) (p q : Party) (e f : Engine) (now : ℕ) → AreTwo me you
-    → Linked p q
-    → AreAscending 0 e.receivers → (m : ℕ) → is_unknown (tick_engine p e now) m ≡ true
-    → is_unknown e m ≡ true
-unknown-ticked me you p q e f now both linked ascending m is = by_kept (find m e.receivers) refl
-    (ap (λ (v : View). v.receiver) same) (ap (λ (v : View). v.closed) same)
-  where
-    v : View
-    v = view_by you me q f e [] m
-
-    same : view_by you me q f (tick_engine p e now) ([] ++ sent_by me (tick_out p e now)) m ≡
-        receiver_after (receiver_ticks p now) (find m e.receivers) (view_by you me q f e [] m)
-    same = tick-peer me you p q e f [] m now both linked.knows linked.apart ascending
-
-    by_kept : (kept : Option Receiving) → find m e.receivers ≡ kept
-        → find m (tick_engine p e now).receivers ≡
-        (receiver_after (receiver_ticks p now) kept v).receiver
-        → is_closed m (tick_engine p e now).closed ≡
-        (receiver_after (receiver_ticks p now) kept v).closed
-        → is_unknown e m ≡ true
-    by_kept None kept found closed =
-        subst (λ (o : Option Receiving). unknown_of o (is_closed m e.closed) ≡ true) found
-        (subst (λ (b : Bool). unknown_of (find m (tick_engine p e now).receivers) b ≡ true) closed
-        is)
-    by_kept (Some r) kept found closed =
-        unknown-after (receiver_ticks p now r).next (find m e.receivers) (is_closed m e.closed)
-        (subst (λ (o : Option Receiving). unknown_of o
-        (closed_after (receiver_ticks p now r).next (is_closed m e.closed)) ≡ true) found
-        (subst (λ (b : Bool). unknown_of (find m (tick_engine p e now).receivers) b ≡ true) closed
-        is))
 
 pub need-ticked : (me you : End) (p q : Party) (e f : Engine) (now : ℕ) → AreTwo me you
     → Linked p q → AreAscending 0 e.receivers → NoMore e f (tick_engine p e now) f

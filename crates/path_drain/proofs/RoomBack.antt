@@ -21,8 +21,8 @@ use Rattle.ltp_session.specs.World.{replies, run, second_end, submit, submit_rep
 use Rattle.ltp_session.specs.World.{unless_refused}
 use Rattle.ltp_drain.specs.Hopeful.{HasRoom, Room, coming, is_unknown}
 use Rattle.ltp_drain.proofs.RoomLemmas.{how_many}
+use Rattle.ltp_drain.proofs.RoomSteps.{coming-is}
 use Rattle.path_drain.specs.RoomKept.{IsRoomyThrough}
-use Rattle.path_drain.proofs.CountSteps.{coming-is}
 use Rattle.path_drain.proofs.SubmitSteps.{with_begun}
 
 -- ---- a session that begins is one more, or none

@@ -12,8 +12,9 @@ use Rattle.ltp_session.specs.Step.{Change, StepValue, ends, keeps, stays}
 use Rattle.ltp_session.specs.Table.{settled}
 use Rattle.ltp_drain.specs.Hopeful.{coming, is_unknown}
 use Rattle.ltp_drain.proofs.RoomLemmas.{how_many, length-put_new, length-without, many-without}
+use Rattle.ltp_drain.proofs.RoomSteps.{coming-is}
 use Rattle.path_drain.specs.PathRoom.{HasRoomFor}
-use Rattle.path_drain.proofs.CountSteps.{coming-is, many-new}
+use Rattle.path_drain.proofs.CountSteps.{many-new}
 
 -- ---- a session more
 

@@ -76,7 +76,7 @@ report-ahead policy c s x now waits low ahead =
         (both_arms Ahead (is_past_serials (q.checkpoint + 1)) _ _ (later policy c now 1 waits low)
         (by_last q _ _)) ahead)
 
-hears-ahead : (policy : PolicyValue) (c : ℕ) (kept : Option Sending) (content : ContentValue)
+pub hears-ahead : (policy : PolicyValue) (c : ℕ) (kept : Option Sending) (content : ContentValue)
     (now : ℕ) (t : StepValue Sending) → Waits policy → c ≤ now → IfKept (SenderAhead c) kept
     → sender_answers policy kept content now ≡ Some t → IfKeeps (SenderAhead c) t.next
 unfolding sender_answers
@@ -103,7 +103,7 @@ hears-ahead policy c kept (a_report_ack n) now t waits low ahead hears = absurd 
 hears-ahead policy c kept (a_sender_cancel n) now t waits low ahead hears = absurd (cc)
 hears-ahead policy c kept a_receiver_cancel_ack now t waits low ahead hears = absurd (cc)
 
-begin-ahead : (policy : PolicyValue) (c n : ℕ) (block : List ℕ) (red now : ℕ) → Waits policy
+pub begin-ahead : (policy : PolicyValue) (c n : ℕ) (block : List ℕ) (red now : ℕ) → Waits policy
     → c ≤ now → IfKeeps (SenderAhead c) (begin policy n block red now).next
 begin-ahead policy c n block red now waits low =
     subst (IfKeeps (SenderAhead c)) (sym (begin-next policy n block red now)) (go _)
@@ -114,7 +114,7 @@ begin-ahead policy c n block red now waits low =
     go (Some part) = later policy c now 1 waits low
 
 -- after a tick a deadline is above its moment
-tick-ahead : (policy : PolicyValue) (now : ℕ) (s : Sending) → Waits policy
+pub tick-ahead : (policy : PolicyValue) (now : ℕ) (s : Sending) → Waits policy
     → IfKept (SenderAhead now) (after (sender_tick policy s now).next (Some s))
 unfolding sender_tick
 tick-ahead policy now s waits =
@@ -170,7 +170,7 @@ segment-ahead policy place c kept content now waits low ahead = record {
   answered_off = λ r _ _. tt;
 }
 
-receiver-ahead : (policy : PolicyValue) (place : Place) (c : ℕ) (kept : Option Receiving)
+pub receiver-ahead : (policy : PolicyValue) (place : Place) (c : ℕ) (kept : Option Receiving)
     (content : ContentValue) (now : ℕ) (t : StepValue Receiving) → Waits policy → c ≤ now
     → IfKept (ReceiverAhead c) kept
     → receiver_answers policy place kept content now ≡ Some t → IfKeeps (ReceiverAhead c) t.next
@@ -178,7 +178,7 @@ receiver-ahead policy place c kept content now t waits low ahead hears =
     walk-segment policy place kept content now t (NextAhead c) hears
     (segment-ahead policy place c kept content now waits low ahead)
 
-receiver_tick-ahead : (policy : PolicyValue) (now : ℕ) (r : Receiving) → Waits policy
+pub receiver_tick-ahead : (policy : PolicyValue) (now : ℕ) (r : Receiving) → Waits policy
     → IfKept (ReceiverAhead now) (after (receiver_tick policy r now).next (Some r))
 unfolding receiver_tick
 receiver_tick-ahead policy now r waits = by_phase r.phase refl

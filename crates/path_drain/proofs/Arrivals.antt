@@ -110,8 +110,6 @@ block-of block red policy n es content now t is hears =
     by_kept None none is still = none-of policy n es content now t none hears
     by_kept (Some s) some is still = by_some s some is t.next still
 
--- ---- a receiver's step
-
 -- ---- a link in a drain
 
 -- each session of it stands, there is room, and no receiver is kept whose number is closed

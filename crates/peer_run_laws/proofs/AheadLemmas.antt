@@ -1,201 +1,30 @@
 -- After a tick of a face's sessions every deadline is after its moment, and stays so at that moment. A tick then does
 -- nothing.
 
-use Rattle.std.proofs.Common.{◌≡◌, ℕ, ◌+◌, ◌-◌, ◌<◌, ◌≤◌, ◌==◌, Bool, true, false, List, [], ◌∷◌, length, if◌then◌else◌, Result, Ok, Err}
-use Rattle.std.proofs.Common.{Option, None, Some, refl, sym, ap, ◌∙◌, arith, subst, nat_lt, nat_le}
+use Rattle.std.proofs.Common.{◌≡◌, ℕ, ◌+◌, ◌-◌, ◌≤◌, ◌==◌, Bool, true, false, List, [], ◌∷◌, length, if◌then◌else◌, Result, Ok, Err}
+use Rattle.std.proofs.Common.{Option, None, Some, refl, ap, ◌∙◌, arith, nat_lt, nat_le}
 use Rattle.std.proofs.lemmas.Bool.Decides.{nat_tests}
-use Rattle.std.proofs.Math.Nat.{le-mul_of_pos_right}
-use Rattle.std.proofs.lemmas.Nat.{pow_pos}
-use Rattle.ltp_segment.specs.Policy.{PolicyValue, wait_after}
+use Rattle.ltp_segment.specs.Policy.{PolicyValue}
 use Rattle.ltp_segment.specs.declared.fault.SegmentCause.{SegmentCause}
-use Rattle.ltp_segment.specs.Values.{PieceValue, ReportValue, ContentValue, SegmentValue, a_piece, a_report}
-use Rattle.ltp_segment.specs.Values.{a_report_ack, a_sender_cancel, a_sender_cancel_ack}
-use Rattle.ltp_segment.specs.Values.{a_receiver_cancel, a_receiver_cancel_ack}
-use Rattle.ltp_session.specs.Claims.{with_claims}
+use Rattle.ltp_segment.specs.Values.{SegmentValue}
 use Rattle.ltp_session.specs.Engine.{Engine, Party, Reply, is_used, receiver_changes, receiver_ticks, replied_or_stranger, sender_changes, sender_replies, sender_ticks, tick_remarks, tick_segments, tick_step, to_sender, with_receiver, without_evicted}
 use Rattle.ltp_session.specs.Receiver.{Receiving, ReceivingPhase, receiver_open}
-use Rattle.ltp_session.specs.Receiver.{receiver_cancelling, Place, fresh, receiver_due}
-use Rattle.ltp_session.specs.Receiver.{receiver_tick, receiver_answers}
-use Rattle.ltp_session.specs.Sender.{Sending, SendingPhase, sender_open, sender_cancelling}
-use Rattle.ltp_session.specs.Sender.{checkpoint_at, opened, begin, sends_again, takes_report}
-use Rattle.ltp_session.specs.Sender.{report_step, sender_due, sender_tick, sending_timer}
-use Rattle.ltp_session.specs.Sender.{ends_cancelling, sender_answers, is_all_claimed}
+use Rattle.ltp_session.specs.Receiver.{receiver_cancelling, receiver_due}
+use Rattle.ltp_session.specs.Receiver.{receiver_tick}
+use Rattle.ltp_session.specs.Sender.{Sending}
+use Rattle.ltp_session.specs.Sender.{begin}
+use Rattle.ltp_session.specs.Sender.{sender_tick, sending_timer}
+use Rattle.ltp_session.specs.Sender.{sender_answers}
 use Rattle.ltp_session.specs.Step.{Change, StepValue, after, ends, keeps, sending, stays}
 use Rattle.ltp_session.specs.Table.{find, put, settled, then_kept, ticked, without}
-use Rattle.ltp_session.specs.Timer.{first_serial, is_past_serials}
 use Rattle.ltp_laws.specs.Deadlines.{SenderAhead, PhaseAhead, ReceiverAhead, Waits}
 use Rattle.ltp_laws.specs.Kept.{IfKept, IfKeeps}
-use Rattle.ltp_laws.proofs.CheckpointLemmas.{begin-next}
-use Rattle.ltp_laws.proofs.ListLemmas.{both_arms, by_arms, answered}
-use Rattle.ltp_laws.proofs.WalkLemmas.{OnPiece, OnSegment, walk-segment}
+use Rattle.ltp_laws.proofs.DeadlineLemmas.{hears-ahead, begin-ahead, tick-ahead, receiver-ahead}
+use Rattle.ltp_laws.proofs.DeadlineLemmas.{receiver_tick-ahead}
 use Rattle.session_memory.specs.Memory.{passed}
 use Rattle.peer_sessions.specs.Keys.{FaceKeys}
 use Rattle.peer_sessions.specs.Sessions.{Sessions, answer_to, answers, block_begins, closes, hears, is_opened, left_by, makes_room, passes, peer_replies, place_in, replies, stale, ticks, to_trim}
 use Rattle.peer_sessions.specs.Sessions.{answered as answered_by}
-
--- ---- one session
-
-later : (policy : PolicyValue) (c now n : ℕ) → Waits policy → c ≤ now
-    → c < now + wait_after policy n
-later policy c now n waits low =
-    let power = pow_pos (n - 1) in
-    let longer = le-mul_of_pos_right policy.timeout power in
-    omega (arith, low, waits.0, waits.1, longer)
-
--- ---- a sender
-
-report-ahead : (policy : PolicyValue) (c : ℕ) (s : Sending) (x : ReportValue) (now : ℕ)
-    → Waits policy → c ≤ now → SenderAhead c s
-    → IfKeeps (SenderAhead c) (report_step policy s x now).next
-unfolding report_step
-report-ahead policy c s x now waits low ahead =
-    both_arms Ahead (nat_lt s.red x.upper) _ _ tt (by_phase s.phase)
-  where
-    Ahead : StepValue Sending → Type 0
-    Ahead t = IfKeeps (SenderAhead c) t.next
-
-    by_last : (q : PieceValue) (parts : List (ℕ × List ℕ)) (o : Option (ℕ × List ℕ))
-        → Ahead (sends_again policy (record s {
-          claimed = (with_claims x.lower x.claims s.claimed);
-        }) now parts (checkpoint_at (length s.block) s.red (q.checkpoint + 1) x.serial) o
-        (a_report_ack x.serial ∷ []))
-    by_last q parts None = ahead
-    by_last q parts (Some part) = later policy c now 1 waits low
-
-    by_phase : (phase : SendingPhase)
-        → Ahead (takes_report policy s phase x now (a_report_ack x.serial ∷ []))
-    by_phase (sender_cancelling reason timer) = tt
-    by_phase (sender_open q timer) =
-        both_arms Ahead (is_all_claimed (with_claims x.lower x.claims s.claimed)) _ _ tt
-        (both_arms Ahead (x.checkpoint == q.checkpoint) _ _
-        (both_arms Ahead (is_past_serials (q.checkpoint + 1)) _ _ (later policy c now 1 waits low)
-        (by_last q _ _)) ahead)
-
-hears-ahead : (policy : PolicyValue) (c : ℕ) (kept : Option Sending) (content : ContentValue)
-    (now : ℕ) (t : StepValue Sending) → Waits policy → c ≤ now → IfKept (SenderAhead c) kept
-    → sender_answers policy kept content now ≡ Some t → IfKeeps (SenderAhead c) t.next
-unfolding sender_answers
-hears-ahead policy c None (a_report x) now t waits low ahead hears =
-    answered (λ (u : StepValue Sending). IfKeeps (SenderAhead c) u.next) _ t hears tt
-hears-ahead policy c (Some s) (a_report x) now t waits low ahead hears =
-    answered (λ (u : StepValue Sending). IfKeeps (SenderAhead c) u.next) _ t hears
-    (report-ahead policy c s x now waits low ahead)
-hears-ahead policy c None (a_receiver_cancel reason) now t waits low ahead hears =
-    answered (λ (u : StepValue Sending). IfKeeps (SenderAhead c) u.next) _ t hears tt
-hears-ahead policy c (Some s) (a_receiver_cancel reason) now t waits low ahead hears =
-    answered (λ (u : StepValue Sending). IfKeeps (SenderAhead c) u.next) _ t hears tt
-hears-ahead policy c None a_sender_cancel_ack now t waits low ahead hears =
-    answered (λ (u : StepValue Sending). IfKeeps (SenderAhead c) u.next) _ t hears tt
-hears-ahead policy c (Some s) a_sender_cancel_ack now t waits low ahead hears =
-    answered (λ (u : StepValue Sending). IfKeeps (SenderAhead c) u.next) _ t hears
-    (by_phase s.phase)
-  where
-    by_phase : (phase : SendingPhase) → IfKeeps (SenderAhead c) (ends_cancelling phase).next
-    by_phase (sender_open q timer) = tt
-    by_phase (sender_cancelling reason timer) = tt
-hears-ahead policy c kept (a_piece q) now t waits low ahead hears = absurd (cc)
-hears-ahead policy c kept (a_report_ack n) now t waits low ahead hears = absurd (cc)
-hears-ahead policy c kept (a_sender_cancel n) now t waits low ahead hears = absurd (cc)
-hears-ahead policy c kept a_receiver_cancel_ack now t waits low ahead hears = absurd (cc)
-
-begin-ahead : (policy : PolicyValue) (c n : ℕ) (block : List ℕ) (red now : ℕ) → Waits policy
-    → c ≤ now → IfKeeps (SenderAhead c) (begin policy n block red now).next
-begin-ahead policy c n block red now waits low =
-    subst (IfKeeps (SenderAhead c)) (sym (begin-next policy n block red now)) (go _)
-  where
-    go : (o : Option (ℕ × List ℕ)) → IfKeeps (SenderAhead c) (opened policy block red now
-        (checkpoint_at (length block) red (first_serial n) 0) o)
-    go None = tt
-    go (Some part) = later policy c now 1 waits low
-
--- after a tick a deadline is above its moment
-tick-ahead : (policy : PolicyValue) (now : ℕ) (s : Sending) → Waits policy
-    → IfKept (SenderAhead now) (after (sender_tick policy s now).next (Some s))
-unfolding sender_tick
-tick-ahead policy now s waits =
-    by_arms Ahead (nat_le (sending_timer s.phase).deadline now) _ _ (λ due. by_phase s.phase)
-    (λ early. grind (arith, nat_tests))
-  where
-    Ahead : StepValue Sending → Type 0
-    Ahead t = IfKept (SenderAhead now) (after t.next (Some s))
-
-    by_phase : (phase : SendingPhase) → Ahead (sender_due policy s phase now)
-    by_phase (sender_open q timer) = both_arms Ahead (nat_lt timer.times policy.limit) _ _
-        (later policy now now (timer.times + 1) waits (omega arith)) (later policy now now 1 waits
-        (omega arith))
-    by_phase (sender_cancelling reason timer) =
-        both_arms Ahead (nat_lt timer.times policy.limit) _ _
-        (later policy now now (timer.times + 1) waits (omega arith)) tt
-
--- ---- a receiver
-
-abbrev NextAhead : ℕ → StepValue Receiving → Type 0
-NextAhead c t = IfKeeps (ReceiverAhead c) t.next
-
-piece-ahead : (policy : PolicyValue) (c : ℕ) (r : Receiving) (q : PieceValue) (now : ℕ)
-    → Waits policy → c ≤ now → ReceiverAhead c r → OnPiece policy r q now (NextAhead c)
-piece-ahead policy c r q now waits low ahead =
-    let fresh_one = later policy c now 1 waits low in
-    record {
-      outside = λ note. tt;
-      miscoloured = fresh_one;
-      greener = λ _. ahead;
-      filled = λ _ _.
-          ahead;
-      serials_out = λ _ _. fresh_one;
-      reported = λ _ _ _. fresh_one;
-    }
-
-segment-ahead : (policy : PolicyValue) (place : Place) (c : ℕ) (kept : Option Receiving)
-    (content : ContentValue) (now : ℕ) → Waits policy → c ≤ now → IfKept (ReceiverAhead c) kept
-    → OnSegment policy place kept content now (NextAhead c)
-segment-ahead policy place c kept content now waits low ahead = record {
-  rests = λ note. tt;
-  refused_service = λ q _ _. tt;
-  echoed = λ _. tt;
-  green_alone = λ q _ _. tt;
-  opened = λ q _ _ _. piece-ahead policy c (fresh place.session) q now waits low tt;
-  came = λ q r _ is _. piece-ahead policy c r q now waits low
-      (subst (IfKept (ReceiverAhead c)) is ahead);
-  unmoved = λ r is. subst (IfKept (ReceiverAhead c)) is ahead;
-  closed_whole = λ r p serial _ _ _ _ _. tt;
-  dropped = λ r p serial _ _ _ _. tt;
-  called_off =
-      λ r reason _. tt;
-  answered_off = λ r _ _. tt;
-}
-
-receiver-ahead : (policy : PolicyValue) (place : Place) (c : ℕ) (kept : Option Receiving)
-    (content : ContentValue) (now : ℕ) (t : StepValue Receiving) → Waits policy → c ≤ now
-    → IfKept (ReceiverAhead c) kept
-    → receiver_answers policy place kept content now ≡ Some t → IfKeeps (ReceiverAhead c) t.next
-receiver-ahead policy place c kept content now t waits low ahead hears =
-    walk-segment policy place kept content now t (NextAhead c) hears
-    (segment-ahead policy place c kept content now waits low ahead)
-
-receiver_tick-ahead : (policy : PolicyValue) (now : ℕ) (r : Receiving) → Waits policy
-    → IfKept (ReceiverAhead now) (after (receiver_tick policy r now).next (Some r))
-unfolding receiver_tick
-receiver_tick-ahead policy now r waits = by_phase r.phase refl
-  where
-    Ahead : StepValue Receiving → Type 0
-    Ahead t = IfKept (ReceiverAhead now) (after t.next (Some r))
-
-    by_phase : (phase : ReceivingPhase) → r.phase ≡ phase → Ahead (receiver_due policy r phase now)
-    by_phase (receiver_open None) is = subst (PhaseAhead now) (sym is) tt
-    by_phase (receiver_open (Some pending)) is =
-        by_arms Ahead (nat_le pending.timer.deadline now) _ _
-        (λ due. both_arms Ahead (nat_lt pending.timer.times policy.limit) _ _
-        (later policy now now ((pending.timer).times + 1) waits (omega arith))
-        (both_arms Ahead r.handed_up _ _ tt (later policy now now 1 waits (omega arith))))
-        (λ early. let above : now < (pending.timer).deadline = grind (arith, nat_tests) in
-        subst (PhaseAhead now) (sym is) above)
-    by_phase (receiver_cancelling reason timer) is =
-        by_arms Ahead (nat_le timer.deadline now) _ _
-        (λ due. both_arms Ahead (nat_lt timer.times policy.limit) _ _
-        (later policy now now (timer.times + 1) waits (omega arith)) tt)
-        (λ early. let above : now < timer.deadline = grind (arith, nat_tests) in
-        subst (PhaseAhead now) (sym is) above)
 
 -- ---- all sessions of a table
 

@@ -698,6 +698,27 @@ unfolding ticked-world
 ticked-next parties w now first_end = refl
 ticked-next parties w now second_end = refl
 
+-- nor do they change the order of what is kept
+pub ticked-senders : (parties : Party × Party) (w : World) (now : ℕ)
+    → ((o : End) → AreAscending 0 (at_end w.engines o).senders)
+    → (o : End) → AreAscending 0 (at_end (ticked-world parties w now).engines o).senders
+unfolding ticked-world
+ticked-senders parties w now ascending first_end =
+    ascending-ticked (sender_changes parties.0 now) 0 w.engines.0.senders (ascending first_end)
+ticked-senders parties w now ascending second_end =
+    ascending-ticked (sender_changes parties.1 now) 0 w.engines.1.senders (ascending second_end)
+
+pub ticked-receivers : (parties : Party × Party) (w : World) (now : ℕ)
+    → ((o : End) → AreAscending 0 (at_end w.engines o).receivers)
+    → (o : End) → AreAscending 0 (at_end (ticked-world parties w now).engines o).receivers
+unfolding ticked-world
+ticked-receivers parties w now ascending first_end =
+    ascending-ticked (receiver_changes parties.0 now) 0 w.engines.0.receivers
+    (ascending first_end)
+ticked-receivers parties w now ascending second_end =
+    ascending-ticked (receiver_changes parties.1 now) 0 w.engines.1.receivers
+    (ascending second_end)
+
 pub sent-ticked : (parties : Party × Party) (w : World) (now : ℕ)
     → (ticked-world parties w now).sent ≡ w.sent ++ ticked-new parties w now
 unfolding ticked-world ticked-new
@@ -717,8 +738,8 @@ tick-holds F gives parties d rank now peers holds none = record {
   rank' = rank';
   holds = record {
     session = session;
-    senders = senders;
-    receivers = receivers;
+    senders = ticked-senders parties d.world now holds.senders;
+    receivers = ticked-receivers parties d.world now holds.receivers;
     next = next;
     known = known;
   };
@@ -799,26 +820,6 @@ tick-holds F gives parties d rank now peers holds none = record {
         (pick (λ n. (low_one n).left) (λ n. (low_two n).left) o n)
     session first_end n = (low_one n).stands
     session second_end n = (low_two n).stands
-
-    senders : (o : End) → AreAscending 0 (at_end (
-      tick_engine parties.0 (d.world).engines.0 now,
-      tick_engine parties.1 (d.world).engines.1
-          now,
-    ) o).senders
-    senders first_end = ascending-ticked (sender_changes parties.0 now) 0
-        (d.world).engines.0.senders (holds.senders first_end)
-    senders second_end = ascending-ticked (sender_changes parties.1 now) 0
-        (d.world).engines.1.senders (holds.senders second_end)
-
-    receivers : (o : End) → AreAscending 0 (at_end (
-      tick_engine parties.0 (d.world).engines.0 now,
-      tick_engine parties.1 (d.world).engines.1
-          now,
-    ) o).receivers
-    receivers first_end = ascending-ticked (receiver_changes parties.0 now) 0
-        (d.world).engines.0.receivers (holds.receivers first_end)
-    receivers second_end = ascending-ticked (receiver_changes parties.1 now) 0
-        (d.world).engines.1.receivers (holds.receivers second_end)
 
     next : (o : End) → (at_end parties o).first ≤
         (at_end (

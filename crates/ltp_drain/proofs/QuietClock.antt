@@ -5,7 +5,7 @@ use Rattle.std.proofs.Common.{inr, refl, sym, ◌∙◌, ap, arith, subst, appen
 use Rattle.std.proofs.lemmas.Bool.Decides.{nat_tests}
 use Rattle.std.proofs.lemmas.List.{append-nil}
 use Rattle.ltp_segment.specs.Policy.{PolicyValue}
-use Rattle.ltp_session.specs.Engine.{sender_changes, receiver_changes, Engine, Party}
+use Rattle.ltp_session.specs.Engine.{Engine, Party}
 use Rattle.ltp_session.specs.Engine.{receiver_ticks, sender_ticks, tick_engine, tick_out}
 use Rattle.ltp_session.specs.Receiver.{receiver_due, Pending, Receiving, ReceivingPhase}
 use Rattle.ltp_session.specs.Receiver.{is_cancelling, receiver_cancelling, receiver_open}
@@ -20,13 +20,13 @@ use Rattle.ltp_laws.specs.Serials.{pending_of}
 use Rattle.ltp_laws.specs.View.{View, receiver_moves, said, sender_moves, view, view_by}
 use Rattle.ltp_laws.proofs.FrameLemmas.{AreTwo, same_view, tick-own, tick-peer}
 use Rattle.ltp_laws.proofs.RunLemmas.{Linked, linked-apart, linked-at, two_ends}
-use Rattle.ltp_laws.proofs.TableLemmas.{ascending-ticked}
 use Rattle.ltp_drain.specs.Draining.{Draining, since}
 use Rattle.ltp_drain.specs.Standing.{AreKnown, BelowDeadlines, DrainHolds, Stands, setting}
 use Rattle.ltp_drain.proofs.DrainFrame.{was_begun, never_begun, Begun, is-begun, stands-so}
 use Rattle.ltp_drain.proofs.DrainLists.{new-none}
 use Rattle.ltp_drain.proofs.DrainRun.{known-append, known-out, same_draining, since-ticks}
-use Rattle.ltp_drain.proofs.DrainRun.{ticked-new, ticked-world, ticks-are}
+use Rattle.ltp_drain.proofs.DrainRun.{ticked-new, ticked-receivers, ticked-senders, ticked-world}
+use Rattle.ltp_drain.proofs.DrainRun.{ticks-are}
 use Rattle.ltp_drain.proofs.PieceForms.{only_false}
 
 -- ---- nothing fires
@@ -122,8 +122,8 @@ unfolding ticked-world ticked-new
 quiet-world F parties d rank now peers holds before =
     record {
       session = session;
-      senders = senders;
-      receivers = receivers;
+      senders = ticked-senders parties d.world now holds.senders;
+      receivers = ticked-receivers parties d.world now holds.receivers;
       next = next;
       known = known;
     }
@@ -202,26 +202,6 @@ quiet-world F parties d rank now peers holds before =
         (nothing second_end second_end n (ap (λ (v : View). v.by_sender) (same second_end n)))
         (nothing first_end second_end n (ap (λ (v : View). v.by_receiver) (same second_end n)))
         (holds.session second_end n)
-
-    senders : (o : End) → AreAscending 0 (at_end (
-      tick_engine parties.0 (d.world).engines.0 now,
-      tick_engine parties.1 (d.world).engines.1
-          now,
-    ) o).senders
-    senders first_end = ascending-ticked (sender_changes parties.0 now) 0
-        (d.world).engines.0.senders (holds.senders first_end)
-    senders second_end = ascending-ticked (sender_changes parties.1 now) 0
-        (d.world).engines.1.senders (holds.senders second_end)
-
-    receivers : (o : End) → AreAscending 0 (at_end (
-      tick_engine parties.0 (d.world).engines.0 now,
-      tick_engine parties.1 (d.world).engines.1
-          now,
-    ) o).receivers
-    receivers first_end = ascending-ticked (receiver_changes parties.0 now) 0
-        (d.world).engines.0.receivers (holds.receivers first_end)
-    receivers second_end = ascending-ticked (receiver_changes parties.1 now) 0
-        (d.world).engines.1.receivers (holds.receivers second_end)
 
     next : (o : End) → (at_end parties o).first ≤
         (at_end (

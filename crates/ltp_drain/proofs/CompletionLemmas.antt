@@ -73,7 +73,7 @@ handed-later xs ys end n is = record {
 
 -- ---- one event, and others after it
 
-advances-on : (parties : Party × Party) (w w' v : World) (xs ys : List EndEffects)
+pub advances-on : (parties : Party × Party) (w w' v : World) (xs ys : List EndEffects)
     → AllAdvance parties w w' xs → AllAdvance parties w' v ys
     → AllAdvance parties w v (xs ++ ys)
 advances-on parties w w' v xs ys first later o n = record {

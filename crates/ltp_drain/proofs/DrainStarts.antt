@@ -18,8 +18,8 @@ use Rattle.ltp_session.specs.Step.{after}
 use Rattle.ltp_session.specs.Timer.{first_serial, first_timer}
 use Rattle.ltp_session.specs.declared.timer.Timer.{Timer}
 use Rattle.ltp_laws.specs.View.{IsIn, Unused, View, begins}
-use Rattle.ltp_laws.proofs.CheckpointLemmas.{round-has, begin-next, checkpoint_at-asks}
-use Rattle.ltp_laws.proofs.SerialLemmas.{among-left, among-append, among-right}
+use Rattle.ltp_laws.proofs.CheckpointLemmas.{begin-next, checkpoint_at-asks, begun-has}
+use Rattle.ltp_laws.proofs.SerialLemmas.{among-append, among-right}
 use Rattle.ltp_laws.proofs.WholeLemmas.{cut-has}
 use Rattle.ltp_drain.specs.Calm.{AreFit, Calm, Drains, IsPromising, NoCancels, Rests, is_cancel}
 use Rattle.ltp_drain.specs.Hopeful.{IsOpen}
@@ -182,16 +182,6 @@ begun-sender policy n block red now s kept =
               (first_timer policy now);
         } ≡ s = cc in
         record { part = part; last = is; waits = ap (λ (s : Sending). s.phase) (sym one) }
-
-begun-has : (policy : PolicyValue) (n : ℕ) (block : List ℕ) (red now : ℕ) (c : PieceValue)
-    (part : ℕ × List ℕ) → last_segment (segments_of policy.segment 0 (take red block)) ≡ Some part
-    → checkpoint_at (length block) red (first_serial n) 0 part ≡ c
-    → IsIn (a_piece c) (begin policy n block red now).out
-unfolding begin
-begun-has policy n block red now c part is is_c =
-    among-left (a_piece c) _ _ (subst (λ p. IsIn (a_piece p)
-    (red_pieces (checkpoint_at (length block) red (first_serial n) 0)
-    (segments_of policy.segment 0 (take red block)))) is_c (round-has _ _ part is))
 
 begun-asked : (policy : PolicyValue) (n : ℕ) (block : List ℕ) (red now : ℕ) (s : Sending)
     (c : PieceValue) (timer : Timer) → after (begin policy n block red now).next None ≡ Some s

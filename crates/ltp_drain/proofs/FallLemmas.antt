@@ -42,7 +42,7 @@ parts-few size zero at octets = omega arith
 parts-few size (suc n) at [] = omega arith
 parts-few size (suc n) at (octet ∷ octets) = let rest = parts-few size n (at + size) (drop size (octet ∷ octets)) in omega (arith, rest)
 
-left-few : (claimed : List Bool) (parts : List (ℕ × List ℕ)) → length (unclaimed claimed parts) ≤ length parts
+pub left-few : (claimed : List Bool) (parts : List (ℕ × List ℕ)) → length (unclaimed claimed parts) ≤ length parts
 unfolding unclaimed
 left-few claimed [] = omega arith
 left-few claimed (part ∷ parts) =

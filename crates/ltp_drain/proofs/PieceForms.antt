@@ -1,6 +1,6 @@
 -- What a receiver does about a piece of its own session, where nobody cancels.
 
-use Rattle.std.proofs.Common.{◌≡◌, ℕ, zero, suc, ◌+◌, ◌<◌, ◌≤◌, ◌^◌, Bool, true, false, not, ◌==◌}
+use Rattle.std.proofs.Common.{◌≡◌, ℕ, zero, suc, ◌+◌, ◌≤◌, ◌^◌, Bool, true, false, not, ◌==◌}
 use Rattle.std.proofs.Common.{◌&&◌, ◌||◌, List, [], ◌∷◌, length, take, Option, None, Some}
 use Rattle.std.proofs.Common.{is_some, ◌⊎◌, inl, inr, refl, sym, ◌∙◌, ap, arith, subst, nat_lt}
 use Rattle.std.proofs.Common.{nat_le, if◌then◌else◌}
@@ -13,7 +13,7 @@ use Rattle.ltp_segment.specs.Values.{PieceValue, ReportValue, a_piece, a_report}
 use Rattle.ltp_segment.specs.declared.segment.Claim.{Claim}
 use Rattle.ltp_segment.specs.declared.segment.PieceKind.{PieceKind}
 use Rattle.ltp_segment.specs.declared.segment.PieceKind.TheVariants as kinds
-use Rattle.ltp_session.specs.Cells.{is_misplaced, length_after, reach_of, cell, filled}
+use Rattle.ltp_session.specs.Cells.{is_misplaced, reach_of, cell, filled}
 use Rattle.ltp_session.specs.Cells.{is_another, is_below, is_past, octet_in}
 use Rattle.ltp_session.specs.Receiver.{bound_of, Place, Receiving, fresh, is_cancelling}
 use Rattle.ltp_session.specs.Receiver.{is_miscoloured, is_outside, on_piece, piece_for}
@@ -34,6 +34,7 @@ use Rattle.ltp_laws.proofs.ListLemmas.{both_arms, by_arms}
 use Rattle.ltp_laws.proofs.ReceiverLemmas.{end-within, fresh-is}
 use Rattle.ltp_laws.proofs.StepLemmas.{met}
 use Rattle.ltp_laws.proofs.WholeLemmas.{one-claim}
+use Rattle.ltp_laws.proofs.ReachLemmas.{all-some}
 use Rattle.ltp_drain.specs.Rank.{has_cell}
 use Rattle.ltp_drain.proofs.RankLemmas.{or_first}
 
@@ -43,14 +44,6 @@ pub only_false : {A : Type 0} (P : A → Type 0) (b : Bool) (x y : A) → b ≡ 
     → P (if b then x else y)
 only_false P true x y is holds = absurd (cc)
 only_false P false x y is holds = holds
-
-pub checkpoint-red : (kind : PieceKind) → is_checkpoint kind ≡ true → is_red kind ≡ true
-checkpoint-red kinds.Red is = refl
-checkpoint-red kinds.RedCheckpoint is = refl
-checkpoint-red kinds.RedEnd is = refl
-checkpoint-red kinds.RedEndBlock is = refl
-checkpoint-red kinds.Green is = absurd (cc)
-checkpoint-red kinds.GreenEndBlock is = absurd (cc)
 
 pub green-plain : (kind : PieceKind) → is_red kind ≡ false → is_checkpoint kind ≡ false
 green-plain kinds.Red is = refl
@@ -276,15 +269,6 @@ piece-comes block red policy place kept q now is of some within roomy listening 
 
 -- ---- a report over cells that are all filled is one whole claim
 
-all-some : (cells : List (Option ℕ)) → ((i : ℕ) → i < length cells
-    → is_some (cell cells i) ≡ true) → AllByRecursion (λ c. is_some c ≡ true) cells
-all-some [] each = tt
-all-some (c ∷ cells) each = (
-  each zero (omega arith),
-  all-some cells
-      (λ i low. each (suc i) (omega arith)),
-)
-
 take-all : {X : Type 0} (xs : List X) (n : ℕ) → length xs ≡ n → take n xs ≡ xs
 take-all [] zero is = refl
 take-all [] (suc n) is = absurd (omega (arith, is))
@@ -326,8 +310,3 @@ report_of-names r q = ap (λ (x : ReportValue). x.checkpoint) (report_of-with r 
         → (report_with most r.serial q.checkpoint upper cs).checkpoint ≡ q.checkpoint
     names most upper cs = both_arms (λ (x : ReportValue). x.checkpoint ≡ q.checkpoint)
         (nat_lt most (length cs)) _ _ refl refl
-
-pub still-known : (red : ℕ) (known : Option ℕ) (q : PieceValue) → known ≡ Some red
-    → length_after known (ends_red_part q.kind) (piece_stop q) ≡ Some red
-still-known red None q is = absurd (cc)
-still-known red (Some end) q is = is

@@ -29,6 +29,7 @@ use Rattle.ltp_laws.proofs.SerialLemmas.{among-left, among-right}
 use Rattle.ltp_laws.proofs.WholeLemmas.{HasPart, cut-has, place-filled}
 use Rattle.ltp_drain.specs.Rank.{HasFilled, IsReportedOn, RankAtMost, Settled, ahead, has_cell}
 use Rattle.ltp_drain.specs.Rank.{is_checkpoint_of, weights}
+use Rattle.ltp_drain.proofs.FallLemmas.{left-few}
 
 -- what a round weighs
 pub weights-round : (last : ℕ × List ℕ → PieceValue)
@@ -125,14 +126,6 @@ unclaimed-has places (p ∷ ps) i open_place (inr has) =
         → HasPart i (if all then unclaimed places ps else p ∷ unclaimed places ps)
     by_test true rest = rest
     by_test false rest = inr rest
-
-pub unclaimed-length : (places : List Bool) (parts : List (ℕ × List ℕ))
-    → length (unclaimed places parts) ≤ length parts
-unfolding unclaimed
-unclaimed-length places [] = omega arith
-unclaimed-length places (p ∷ ps) =
-    both_arms (λ (xs : List (ℕ × List ℕ)). length xs ≤ suc (length ps)) (is_claimed places p) _ _
-    (omega (arith, unclaimed-length places ps)) (omega (arith, unclaimed-length places ps))
 
 checkpoint_at-red : (size red serial report : ℕ) (part : ℕ × List ℕ)
     → is_red (checkpoint_at size red serial report part).kind ≡ true
@@ -263,7 +256,7 @@ round-row z red v s s' t r x new_s new_r n is_s is_r next on is_z cuts red_is wi
     few = subst (λ y. length on.parts ≤ length (segments_of y 0 (take s.red s.block))) is_z
         (subst (λ (ps : List (ℕ × List ℕ)). length ps ≤ length
         (segments_of on.z 0 (take s.red s.block))) (sym on.parts_are)
-        (unclaimed-length s'.claimed (segments_of on.z 0 (take s.red s.block))))
+        (left-few s'.claimed (segments_of on.z 0 (take s.red s.block))))
 
     not_whole : IsWhole red x → ⊥
     not_whole whole =

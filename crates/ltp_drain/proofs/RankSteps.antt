@@ -24,6 +24,7 @@ use Rattle.ltp_laws.specs.Facts.{SessionFacts}
 use Rattle.ltp_laws.specs.Serials.{pending_of}
 use Rattle.ltp_laws.specs.View.{said, view}
 use Rattle.ltp_laws.proofs.FrameLemmas.{said-append, next-unused}
+use Rattle.ltp_laws.proofs.WritableLemmas.{cuts-at}
 use Rattle.ltp_drain.specs.Calm.{Rests}
 use Rattle.ltp_drain.specs.Clean.{link_deadline}
 use Rattle.ltp_drain.specs.Completion.{IsReady}
@@ -48,7 +49,6 @@ use Rattle.ltp_drain.proofs.DrainStarts.{rank-zero}
 use Rattle.ltp_drain.proofs.OffsetLemmas.{begin-differ, different-more, offsets-append}
 use Rattle.ltp_drain.proofs.QuietClock.{quiet-clock}
 use Rattle.ltp_drain.proofs.RoomRuns.{delivery-room, room-roomy, tick-room}
-use Rattle.ltp_drain.proofs.SizeLemmas.{cuts-at}
 use Rattle.ltp_drain.proofs.StartLemmas.{ample-at, session-gives}
 
 -- ---- what a drain keeps from step to step

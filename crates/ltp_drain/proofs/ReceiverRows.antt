@@ -26,11 +26,13 @@ use Rattle.ltp_laws.proofs.ListLemmas.{by_arms}
 use Rattle.ltp_laws.proofs.ReceiverLemmas.{end-within, fresh-is, with_red-is}
 use Rattle.ltp_laws.proofs.SerialLemmas.{all-among, among-append, among-left, among-right}
 use Rattle.ltp_laws.proofs.StepLemmas.{met}
+use Rattle.ltp_laws.proofs.WritableLemmas.{asks-red}
+use Rattle.ltp_laws.proofs.HandUpLemmas.{still-known}
 use Rattle.ltp_drain.specs.Calm.{Given, Onward, WasAwaited, WasPending}
 use Rattle.ltp_drain.specs.Rank.{HasFilled, IsAskedOn, IsReportedOn, Settled, ahead, has_cell}
 use Rattle.ltp_drain.specs.Rank.{is_checkpoint_of}
-use Rattle.ltp_drain.proofs.PieceForms.{fills_only, report_of-names, still-known, Comes, answers}
-use Rattle.ltp_drain.proofs.PieceForms.{checkpoint-red, filled-here, filled-old, passes}
+use Rattle.ltp_drain.proofs.PieceForms.{fills_only, report_of-names, Comes, answers}
+use Rattle.ltp_drain.proofs.PieceForms.{filled-here, filled-old, passes}
 use Rattle.ltp_drain.proofs.PieceForms.{report-whole, takes}
 use Rattle.ltp_drain.proofs.RankLemmas.{ahead-front}
 
@@ -118,7 +120,7 @@ known-then block red session v q is of asks sent reports facts opens =
   where
     part : IsInPart red true (ends_red_part q.kind) q.offset (piece_stop q)
     part = subst (λ b. IsInPart red b (ends_red_part q.kind) q.offset (piece_stop q))
-        (checkpoint-red q.kind asks) of.part
+        (asks-red q.kind asks) of.part
 
     after_report : (o : Option Receiving) → v.receiver ≡ o → SomeReport v.by_receiver
         → (met session o).length ≡ Some red
@@ -195,7 +197,7 @@ piece-onward block red place v q new_s new_r t given closed unclosed sent
       where
         by : (asks : Bool) → is_checkpoint q.kind ≡ asks → asks ≡ false
         by false h = refl
-        by true h = absurd (let colour = checkpoint-red q.kind h in let other_colour = green s
+        by true h = absurd (let colour = asks-red q.kind h in let other_colour = green s
             kept in cc)
 piece-onward block red place v q new_s new_r t given closed unclosed sent
     (takes opens (fills_only r' plain next out grows phase serial)) = record {
@@ -286,7 +288,7 @@ piece-onward block red place v q new_s new_r t given closed unclosed sent
         sent
 
     red_kind : is_red q.kind ≡ true
-    red_kind = checkpoint-red q.kind asks
+    red_kind = asks-red q.kind asks
 
     is_r : IsReceiverOf block red (met place.session v.receiver)
     is_r = met-is block red place.session v.receiver ((given.facts).0.0.0).receiver

@@ -6,7 +6,6 @@ use Rattle.std.proofs.Common.{inl, inr, refl, sym, ◌∙◌, ap, arith, subst}
 use Rattle.std.proofs.lemmas.Bool.{ne_eqb}
 use Rattle.std.proofs.lemmas.List.{length-take, length-drop}
 use Rattle.std.specs.List.{AllByRecursion}
-use Rattle.std.specs.Prelude.{slice_index_or}
 use Rattle.ltp_segment.specs.Kinds.{is_red}
 use Rattle.ltp_segment.specs.Policy.{PolicyValue}
 use Rattle.ltp_segment.specs.Values.{PieceValue, ReportValue, ContentValue, a_piece, a_report}
@@ -26,14 +25,16 @@ use Rattle.ltp_laws.specs.Checkpoints.{HasAsked, IsClaimedBy}
 use Rattle.ltp_laws.specs.Claims.{ClaimsFilled, HasPlace, IsReportOf}
 use Rattle.ltp_laws.specs.HandUps.{AllFilled}
 use Rattle.ltp_laws.specs.Kept.{IfKept}
-use Rattle.ltp_laws.specs.SenderSteps.{Adds, Rounds}
+use Rattle.ltp_laws.specs.SenderSteps.{Rounds}
 use Rattle.ltp_laws.specs.Serials.{pending_of}
 use Rattle.ltp_laws.specs.View.{IsIn, View, sender_moves}
 use Rattle.ltp_laws.proofs.AckLemmas.{length-claims}
-use Rattle.ltp_laws.proofs.CheckpointLemmas.{with-claims, checkpoint_at-asks, round-has}
+use Rattle.ltp_laws.proofs.CheckpointLemmas.{checkpoint_at-asks, round-has}
+use Rattle.ltp_laws.proofs.CheckpointLemmas.{adds-claimed}
 use Rattle.ltp_laws.proofs.ListLemmas.{answered, both_arms}
 use Rattle.ltp_laws.proofs.SerialLemmas.{among-append, among-right}
 use Rattle.ltp_laws.proofs.WholeLemmas.{place-filled}
+use Rattle.ltp_laws.proofs.CompletionLemmas.{all-at}
 use Rattle.ltp_drain.specs.Calm.{WaitsOn, AreFit, Calm, Drains, Falls, Given, HandedUpWhole}
 use Rattle.ltp_drain.specs.Calm.{HasSerials, NoCancels, Onward, Setting, is_cancel}
 use Rattle.ltp_drain.specs.Hopeful.{IsHanded, IsOpen}
@@ -45,14 +46,6 @@ use Rattle.ltp_drain.proofs.SenderRows.{Told, adds-onward, adds_only, asks_again
 use Rattle.ltp_drain.proofs.SenderRows.{late-report-onward, report-told, reported-acked}
 
 -- ---- where all is claimed, the receiver has handed the red part up
-
-all-places : (places : List Bool) (i : ℕ) → is_all_claimed places ≡ true → i < length places
-    → slice_index_or places i false ≡ true
-all-places [] i all low = absurd (omega (arith, low))
-all-places (true ∷ bs) zero all low = refl
-all-places (false ∷ bs) zero all low = absurd (cc)
-all-places (true ∷ bs) (suc i) all low = all-places bs i all (omega (arith, low))
-all-places (false ∷ bs) (suc i) all low = absurd (cc)
 
 pub claimed-filled : (block : List ℕ) (red most : ℕ) (v : View) (r : Receiving)
     → Given block red most v → v.receiver ≡ Some r
@@ -75,25 +68,6 @@ kept-receiver block red most v x given unclosed heard = by_kept v.receiver refl
 
 -- ---- what is claimed was reported
 
-adds-claimed : (by_receiver : List ContentValue) (content : ContentValue) (s s' : Sending)
-    → IsIn content by_receiver
-    → ((k : ℕ) → slice_index_or s.claimed k false ≡ true → IsClaimedBy by_receiver k)
-    → Adds content s s' → (k : ℕ) → slice_index_or s'.claimed k false ≡ true
-    → IsClaimedBy by_receiver k
-adds-claimed by_receiver content s s' heard before adds k is =
-    go (with-claims (adds.report).lower (adds.report).claims s.claimed k
-    (subst (λ (places : List Bool). slice_index_or places k false ≡ true) adds.claimed is))
-  where
-    go : (slice_index_or s.claimed k false ≡ true)
-        ⊎ HasPlace (adds.report).lower (adds.report).claims k → IsClaimedBy by_receiver k
-    go (inl old) = before k old
-    go (inr now) = record {
-      report = adds.report;
-      among = subst (λ c. IsIn c by_receiver)
-          (adds.told).is heard;
-      claims = now;
-    }
-
 pub all-handed : (block : List ℕ) (red most : ℕ) (v : View) (s : Sending) (x : ReportValue)
     → Given block red most v → v.sender ≡ Some s → v.closed ≡ false
     → IsIn (a_report x) v.by_receiver → length (with_claims x.lower x.claims s.claimed) ≡ red
@@ -108,7 +82,7 @@ all-handed block red most v s x given is_s unclosed heard size all =
     (adds-claimed v.by_receiver (a_report x) s
     (record s { claimed = with_claims x.lower x.claims s.claimed }) heard asks.claimed
     (record { report = x; told = record { is = refl }; claimed = refl }) i
-    (all-places (with_claims x.lower x.claims s.claimed) i all (omega (arith, size, low)))) in
+    (all-at (with_claims x.lower x.claims s.claimed) i all (omega (arith, size, low)))) in
     subst IsHanded (sym is_r) (subst (IfKept (HandedUpWhole red)) is_r given.handed known filled)
 
 -- ---- calm

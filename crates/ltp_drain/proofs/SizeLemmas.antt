@@ -2,7 +2,7 @@
 -- engine's greatest.
 
 use Rattle.std.proofs.Common.{◌≡◌, ℕ, zero, suc, ◌+◌, ◌≤◌, ◌^◌, Bool, true, false, ◌==◌, List, []}
-use Rattle.std.proofs.Common.{◌∷◌, ◌++◌, length, take, drop, Option, None, Some, inl, inr, refl}
+use Rattle.std.proofs.Common.{◌∷◌, ◌++◌, length, take, drop, Option, None, Some, refl}
 use Rattle.std.proofs.Common.{arith, subst, nat_lt, nat_le, if◌then◌else◌}
 use Rattle.std.proofs.lemmas.Bool.Decides.{nat_tests}
 use Rattle.std.proofs.lemmas.List.{length-take}
@@ -22,8 +22,8 @@ use Rattle.ltp_session.specs.Sender.{sender_tick, sending_timer, sends_again, ta
 use Rattle.ltp_session.specs.Sender.{unclaimed as parts_left}
 use Rattle.ltp_session.specs.Step.{Change, StepValue, after, ends, keeps, stays}
 use Rattle.ltp_session.specs.Timer.{first_serial, is_past_serials}
-use Rattle.ltp_session.specs.World.{ArePeers, End, Event, World, at_end, clock, deliver}
-use Rattle.ltp_session.specs.World.{first_end, happens, run, second_end, starts_world, submit}
+use Rattle.ltp_session.specs.World.{ArePeers, Event, World, at_end, clock, deliver}
+use Rattle.ltp_session.specs.World.{happens, run, starts_world, submit}
 use Rattle.ltp_session.specs.World.{submit_reply, unless_refused}
 use Rattle.ltp_laws.specs.Kept.{IfKept, IfKeeps}
 use Rattle.ltp_laws.specs.Log.{Submission, submission_of, submissions, submissions_at}
@@ -32,6 +32,7 @@ use Rattle.ltp_laws.specs.View.{IsIn, View}
 use Rattle.ltp_laws.proofs.ListLemmas.{all-append, answered, both_arms}
 use Rattle.ltp_laws.proofs.RunLemmas.{holds-run, holds-start, no_submissions}
 use Rattle.ltp_laws.proofs.SenderLemmas.{last-part, unclaimed-parts}
+use Rattle.ltp_laws.proofs.WritableLemmas.{Cuts, cuts-at, in-all}
 
 -- ---- a part, a piece, a sender with an octet
 
@@ -199,9 +200,6 @@ moves-octets v t step of = (
       step.1,
 )
 
-abbrev Cuts : PolicyValue → ℕ → Type 0
-Cuts policy now = 1 ≤ policy.segment
-
 octets-invariant : IsInvariant Cuts no_submissions (λ o n. AreOctets)
 octets-invariant = record {
   begins = λ o policy n block red now v cuts told _ within unused of.
@@ -221,11 +219,6 @@ octets-invariant = record {
   receiver_tick = λ o n policy now v r cuts is of. record { said = of.said; sender = of.sender };
   evicted = λ o n v r is of. record { said = of.said; sender = of.sender };
 }
-
-pub cuts-at : (parties : Party × Party) (o : End) → ArePeers parties
-    → 1 ≤ (at_end parties o).policy.segment
-cuts-at parties first_end peers = peers.first_cuts
-cuts-at parties second_end peers = peers.second_cuts
 
 pub run-octets : (parties : Party × Party) (events : List Event) → ArePeers parties
     → HoldsIn (λ o n. AreOctets) parties (run parties (starts_world parties) events)
@@ -284,12 +277,6 @@ run-within parties w (event ∷ events) =
     all-append (IsWithin parties) (submissions_at parties w event)
     (submissions parties (happens parties w event) events)
     (event-within parties w event) (run-within parties (happens parties w event) events)
-
-in-all : {X : Type 0} (P : X → Type 0) (x : X) (xs : List X) → AllByRecursion P xs → IsIn x xs
-    → P x
-in-all P x [] all among = absurd among
-in-all P x (y ∷ xs) all (inl here) = subst P here all.0
-in-all P x (y ∷ xs) all (inr there) = in-all P x xs all.1 there
 
 pub submitted-within : (parties : Party × Party) (w : World) (events : List Event)
     (plan : Submission)

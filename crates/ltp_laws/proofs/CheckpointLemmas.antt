@@ -123,7 +123,7 @@ checkpoint_at-asks size red serial report part =
     refl refl) refl
 
 -- a checkpoint among the pieces of a round is its last
-round-among : (last : ℕ × List ℕ → PieceValue) (parts : List (ℕ × List ℕ)) (q : PieceValue)
+pub round-among : (last : ℕ × List ℕ → PieceValue) (parts : List (ℕ × List ℕ)) (q : PieceValue)
     → IsIn (a_piece q) (red_pieces last parts) → is_checkpoint q.kind ≡ true
     → (part : ℕ × List ℕ) × (last_segment parts ≡ Some part) × (last part ≡ q)
 unfolding red_pieces last_segment
@@ -176,7 +176,7 @@ still-current said out c old current =
         go (inl before) = current.largest q before asks
         go (inr now) = current.largest q (old q now) asks
 
-adds-claimed : (by_receiver : List ContentValue) (content : ContentValue) (s s' : Sending)
+pub adds-claimed : (by_receiver : List ContentValue) (content : ContentValue) (s s' : Sending)
     → IsIn content by_receiver
     → ((k : ℕ) → slice_index_or s.claimed k false ≡ true → IsClaimedBy by_receiver k)
     → Adds content s s'
@@ -376,7 +376,7 @@ pub begin-next : (policy : PolicyValue) (n : ℕ) (block : List ℕ) (red now : 
 unfolding begin
 begin-next policy n block red now = refl
 
-begun-has : (policy : PolicyValue) (n : ℕ) (block : List ℕ) (red now : ℕ) (c : PieceValue)
+pub begun-has : (policy : PolicyValue) (n : ℕ) (block : List ℕ) (red now : ℕ) (c : PieceValue)
     (part : ℕ × List ℕ) → last_segment (segments_of policy.segment 0 (take red block)) ≡ Some part
     → checkpoint_at (length block) red (first_serial n) 0 part ≡ c
     → IsIn (a_piece c) (begin policy n block red now).out

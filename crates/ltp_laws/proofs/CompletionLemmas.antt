@@ -101,7 +101,7 @@ largest (a_receiver_cancel_ack ∷ cs) = no-report a_receiver_cancel_ack cs (λ 
 
 -- ---- all places claimed by one report
 
-place-above : (low most : ℕ) (cs : List Claim) (k : ℕ) → AreApart low most cs
+pub place-above : (low most : ℕ) (cs : List Claim) (k : ℕ) → AreApart low most cs
     → HasPlace 0 cs k → low ≤ k
 place-above low most [] k apart has = absurd has
 place-above low most (c ∷ cs) k apart (inl within) = omega (arith, apart.0, within.0)
@@ -139,7 +139,7 @@ one-whole red (c ∷ cs) some apart has = by_rest cs apart.3 (go (has 0 (omega (
     by_rest (d ∷ ds) further first is =
         absurd (omega (arith, further.0, further.1, further.2, first, full first))
 
-all-at : (places : List Bool) (k : ℕ) → is_all_claimed places ≡ true → k < length places
+pub all-at : (places : List Bool) (k : ℕ) → is_all_claimed places ≡ true → k < length places
     → slice_index_or places k false ≡ true
 all-at [] k all low = absurd (omega arith)
 all-at (true ∷ bs) zero all low = refl

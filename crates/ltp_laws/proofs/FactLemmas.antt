@@ -1,9 +1,9 @@
 -- The facts of a session are kept by its steps.
 
-use Rattle.std.proofs.Common.{ℕ, List, Option, subst}
+use Rattle.std.proofs.Common.{ℕ, List, subst}
 use Rattle.ltp_session.specs.Receiver.{Receiving}
 use Rattle.ltp_session.specs.Sender.{Sending, begin}
-use Rattle.ltp_session.specs.Step.{StepValue, Change, stays, keeps, ends, after}
+use Rattle.ltp_session.specs.Step.{StepValue, ends}
 use Rattle.ltp_laws.specs.Acknowledgements.{AckFacts}
 use Rattle.ltp_laws.specs.Blocks.{IsReceiverOf, BlockFacts, IsSenderOf}
 use Rattle.ltp_laws.specs.Cancels.{CancelFacts}
@@ -11,7 +11,7 @@ use Rattle.ltp_laws.specs.Checkpoints.{CheckpointFacts, FirstFacts}
 use Rattle.ltp_laws.specs.Claims.{ClaimFacts}
 use Rattle.ltp_laws.specs.Facts.{SessionFacts}
 use Rattle.ltp_laws.specs.HandUps.{HandUpFacts}
-use Rattle.ltp_laws.specs.Kept.{IfKept, IfKeeps}
+use Rattle.ltp_laws.specs.Kept.{IfKept}
 use Rattle.ltp_laws.specs.Kinds.{KindFacts}
 use Rattle.ltp_laws.specs.Reach.{ReachFacts, WholeFacts}
 use Rattle.ltp_laws.specs.Runs.{ReportedFacts, AskedFacts, KeepsTo, no_facts, both_facts}
@@ -25,7 +25,7 @@ use Rattle.ltp_laws.proofs.CheckpointLemmas.{asks-keep}
 use Rattle.ltp_laws.proofs.ClaimLemmas.{claims-keep}
 use Rattle.ltp_laws.proofs.CloseLemmas.{closes-whole, first-keep}
 use Rattle.ltp_laws.proofs.CompletionLemmas.{ends-whole, block-keep}
-use Rattle.ltp_laws.proofs.HandUpLemmas.{handed-keep}
+use Rattle.ltp_laws.proofs.HandUpLemmas.{handed-keep, kept-on}
 use Rattle.ltp_laws.proofs.KindLemmas.{kinds-keep}
 use Rattle.ltp_laws.proofs.ListLemmas.{all-append}
 use Rattle.ltp_laws.proofs.ReachLemmas.{reach-keep, whole-keep}
@@ -37,19 +37,13 @@ use Rattle.ltp_laws.proofs.SerialLemmas.{reports-keep, all-among}
 
 -- ---- a session's facts
 
-kept-after : {S : Type 0} (P : S → Type 0) (c : Change S) (kept : Option S) → IfKept P kept
-    → IfKeeps P c → IfKept P (after c kept)
-kept-after P stays kept is change = is
-kept-after P (keeps s) kept is change = change
-kept-after P ends kept is change = tt
-
 sender_moves-good : (block : List ℕ) (red : ℕ) (v : View) (t : StepValue Sending)
     → BlockFacts block red v → KeepsTo block red (IsSenderOf block red) t
     → BlockFacts block red (sender_moves v t)
 sender_moves-good block red v t facts keeps_to = record {
   within = facts.within;
   said = all-append _ v.by_sender t.out facts.said keeps_to.out;
-  sender = kept-after (IsSenderOf block red) t.next v.sender facts.sender keeps_to.next;
+  sender = kept-on (IsSenderOf block red) t.next v.sender facts.sender keeps_to.next;
   receiver = facts.receiver;
 }
 
@@ -60,7 +54,7 @@ receiver_moves-good block red v t facts keeps_to = record {
   within = facts.within;
   said = facts.said;
   sender = facts.sender;
-  receiver = kept-after (IsReceiverOf block red) t.next v.receiver facts.receiver keeps_to.next;
+  receiver = kept-on (IsReceiverOf block red) t.next v.receiver facts.receiver keeps_to.next;
 }
 
 pub facts-keep : KeepsUnder no_facts BlockFacts
@@ -70,7 +64,7 @@ facts-keep = record {
       record {
         within = within;
         said = rw unused.by_sender keeps_to.out;
-        sender = kept-after (IsSenderOf block red) (begin policy n block red now).next v.sender
+        sender = kept-on (IsSenderOf block red) (begin policy n block red now).next v.sender
             (rw unused.sender tt) keeps_to.next;
         receiver = rw unused.receiver tt;
       };

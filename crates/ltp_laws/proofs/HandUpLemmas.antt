@@ -71,7 +71,7 @@ pub still-filled : (red : ℕ) (cells : List (Option ℕ)) (offset : ℕ) (body 
 still-filled red cells offset body all k low =
     rw (cell-filled cells offset body k) (still_some (cell cells k) _ (all k low))
 
-still-known : (red : ℕ) (known : Option ℕ) (q : PieceValue) → known ≡ Some red
+pub still-known : (red : ℕ) (known : Option ℕ) (q : PieceValue) → known ≡ Some red
     → length_after known (ends_red_part q.kind) (piece_stop q) ≡ Some red
 still-known red None q is = absurd (cc)
 still-known red (Some end) q is = is

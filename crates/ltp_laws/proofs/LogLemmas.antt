@@ -267,10 +267,10 @@ past-none parties peers o n (event ∷ events) w good =
     by_event (clock now) = tt
 
 -- nothing is asked of a session
-abbrev Anything : End → ℕ → View → Type 0
+abbrev pub Anything : End → ℕ → View → Type 0
 Anything o n v = Unit {0}
 
-anything-invariant : IsInvariant any_time no_submissions Anything
+pub anything-invariant : IsInvariant any_time no_submissions Anything
 anything-invariant = record {
   begins = λ o policy n block red now v ok told cuts within unused any. tt;
   sender = λ o n policy v content now t ok among hears any. tt;

@@ -38,17 +38,11 @@ use Rattle.ltp_laws.proofs.SerialLemmas.{fresh-tells}
 use Rattle.ltp_laws.proofs.StepLemmas.{Hears, hears-form, tick-form}
 use Rattle.ltp_laws.proofs.WalkLemmas.{OnPiece, OnSegment, OnTick, walk-segment, walk-tick}
 use Rattle.ltp_laws.proofs.WholeLemmas.{one-claim, place-filled}
+use Rattle.ltp_laws.proofs.CompletionLemmas.{place-above}
 use Rattle.ltp_segment.specs.Reports.{end_from}
 use Rattle.ltp_segment.specs.Kinds.{ends_red_part}
 
 -- ---- runs of cells
-
-place-above : (low most : ℕ) (cs : List Claim) (k : ℕ) → AreApart low most cs
-    → HasPlace 0 cs k → low ≤ k
-place-above low most [] k apart has = absurd has
-place-above low most (c ∷ cs) k apart (inl within) = omega (arith, apart.0, within.0)
-place-above low most (c ∷ cs) k apart (inr has) =
-    omega (arith, apart.0, place-above (c.offset + c.length + 1) most cs k apart.3 has)
 
 grown-here : (k : ℕ) (cs : List Claim) → HasPlace 0 (grown k cs) k
 grown-here k [] = inl (omega arith, omega arith)
@@ -166,7 +160,7 @@ report-reach most serial checkpoint upper cells some =
 
 -- ---- a whole report
 
-all-some : (cells : List (Option ℕ)) → ((k : ℕ) → k < length cells → is_some (cell cells k) ≡ true)
+pub all-some : (cells : List (Option ℕ)) → ((k : ℕ) → k < length cells → is_some (cell cells k) ≡ true)
     → AllByRecursion (λ c. is_some c ≡ true) cells
 all-some [] has = tt
 all-some (c ∷ cells) has =

@@ -30,7 +30,7 @@ use Rattle.ltp_session.specs.Sender.{opened, unclaimed as parts_left, red_pieces
 use Rattle.ltp_session.specs.Sender.{sends_again, takes_report, report_step, sender_due}
 use Rattle.ltp_session.specs.Sender.{sender_tick, sending_timer, ends_cancelling, sender_answers}
 use Rattle.ltp_session.specs.Sender.{is_all_claimed}
-use Rattle.ltp_session.specs.Step.{StepValue, Change, after, stays, keeps, ends}
+use Rattle.ltp_session.specs.Step.{StepValue, ends}
 use Rattle.ltp_session.specs.Timer.{first_serial, is_past_serials}
 use Rattle.ltp_session.specs.World.{End, first_end, second_end, at_end, World, Sent, Event}
 use Rattle.ltp_session.specs.World.{submit, deliver, clock, happens, run, starts_world, ArePeers}
@@ -57,6 +57,7 @@ use Rattle.ltp_laws.proofs.SegmentLemmas.{segments_have_sessions}
 use Rattle.ltp_laws.proofs.SenderLemmas.{last-part, unclaimed-parts}
 use Rattle.ltp_laws.proofs.SerialLemmas.{all-among}
 use Rattle.ltp_laws.proofs.WalkLemmas.{OnPiece, OnSegment, OnTick, walk-segment, walk-tick}
+use Rattle.ltp_laws.proofs.HandUpLemmas.{kept-on}
 
 -- ---- parts of a block
 
@@ -349,17 +350,11 @@ small-receiver-tick policy r now small = record {
 
 -- ---- every session
 
-abbrev Cuts : PolicyValue → ℕ → Type 0
+abbrev pub Cuts : PolicyValue → ℕ → Type 0
 Cuts policy now = 1 ≤ policy.segment
 
 abbrev BegunSmall : End → ℕ → List ℕ → ℕ → Type 0
 BegunSmall o n block red = (n < 2 ^ 32) × (length block < 2 ^ 64)
-
-small-after : {S : Type 0} (P : S → Type 0) (c : Change S) (kept : Option S) → IfKept P kept
-    → IfKeeps P c → IfKept P (after c kept)
-small-after P stays kept is change = is
-small-after P (keeps s) kept is change = change
-small-after P ends kept is change = tt
 
 sender-small : (n : ℕ) (v : View) (t : StepValue Sending) → SenderSmall t → AreSmall n v
     → AreSmall n (sender_moves v t)
@@ -367,7 +362,7 @@ sender-small n v t step small = record {
   session = small.session;
   by_sender = all-append IsSmall v.by_sender t.out small.by_sender step.0;
   by_receiver = small.by_receiver;
-  sender = small-after IsSmallSender t.next v.sender small.sender step.1;
+  sender = kept-on IsSmallSender t.next v.sender small.sender step.1;
   receiver = small.receiver;
 }
 
@@ -378,7 +373,7 @@ receiver-small n v t step small = record {
   by_sender = small.by_sender;
   by_receiver = all-append IsSmall v.by_receiver t.out small.by_receiver step.0;
   sender = small.sender;
-  receiver = small-after IsSmallReceiver t.next v.receiver small.receiver step.1;
+  receiver = kept-on IsSmallReceiver t.next v.receiver small.receiver step.1;
 }
 
 small-invariant : IsInvariant Cuts BegunSmall (λ o n. AreSmall n)
@@ -390,7 +385,7 @@ small-invariant = record {
         by_sender = all-append IsSmall v.by_sender (begin policy n block red now).out
             small.by_sender step.0;
         by_receiver = small.by_receiver;
-        sender = small-after IsSmallSender (begin policy n block red now).next v.sender
+        sender = kept-on IsSmallSender (begin policy n block red now).next v.sender
             small.sender step.1;
         receiver = small.receiver;
       };
@@ -478,13 +473,13 @@ all-small parties (event ∷ events) w first second =
     (event-small parties w event first second)
     (all-small parties events (happens parties w event) first second)
 
-in-all : {X : Type 0} (P : X → Type 0) (x : X) (xs : List X) → AllByRecursion P xs → IsIn x xs
+pub in-all : {X : Type 0} (P : X → Type 0) (x : X) (xs : List X) → AllByRecursion P xs → IsIn x xs
     → P x
 in-all P x [] all among = absurd among
 in-all P x (y ∷ xs) all (inl here) = subst P here all.0
 in-all P x (y ∷ xs) all (inr there) = in-all P x xs all.1 there
 
-cuts-at : (parties : Party × Party) (o : End) → ArePeers parties
+pub cuts-at : (parties : Party × Party) (o : End) → ArePeers parties
     → 1 ≤ (at_end parties o).policy.segment
 cuts-at parties first_end peers = peers.first_cuts
 cuts-at parties second_end peers = peers.second_cuts
@@ -519,7 +514,7 @@ claims-legal most end low (c ∷ cs) least apart = (
   claims-legal most (c.offset + c.length) (c.offset + c.length + 1) cs (omega arith) apart.3,
 )
 
-asks-red : (kind : PieceKind) → is_checkpoint kind ≡ true → is_red kind ≡ true
+pub asks-red : (kind : PieceKind) → is_checkpoint kind ≡ true → is_red kind ≡ true
 asks-red kinds.Red is = refl
 asks-red kinds.RedCheckpoint is = refl
 asks-red kinds.RedEnd is = refl

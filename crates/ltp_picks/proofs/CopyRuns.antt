@@ -14,6 +14,7 @@ use Rattle.ltp_drain.specs.Hopeful.{AreAlike}
 use Rattle.ltp_drain.specs.Standing.{AllAdvance, sum_of}
 use Rattle.ltp_drain.proofs.CleanSteps.{taken}
 use Rattle.ltp_drain.proofs.DrainRun.{all-still}
+use Rattle.ltp_drain.proofs.CompletionLemmas.{advances-on}
 use Rattle.ltp_picks.specs.Picks.{AreNext, Crossing, Pick, Placed, Turn, after_pick}
 use Rattle.ltp_picks.specs.Picks.{after_picks, after_turn, after_turns, as_turns, copies}
 use Rattle.ltp_picks.specs.Picks.{copies_of, events_of, is_old, old_copy, oldest_of}
@@ -22,7 +23,7 @@ use Rattle.ltp_picks.specs.PickedRuns.{NoneTurnedAway}
 use Rattle.ltp_picks.proofs.CopyComes.{Carries}
 use Rattle.ltp_picks.proofs.CopyTurns.{CarriesOn, copy-carries, turn-carries}
 use Rattle.ltp_picks.proofs.CrossingSteps.{next-turn, oldest-turn}
-use Rattle.ltp_picks.proofs.EffectLemmas.{advances-then, noted-among}
+use Rattle.ltp_picks.proofs.EffectLemmas.{noted-among}
 
 -- ---- turns, one after the other
 
@@ -58,7 +59,7 @@ one-turn parties k k₁ k' d rank t turns d' on rest = record {
   rank' = rest.rank';
   carries = rest.carries;
   bound = omega (arith, rest.bound, on.less);
-  advances = advances-then parties d.world (after_turn parties d t).world d'.world
+  advances = advances-on parties d.world (after_turn parties d t).world d'.world
       (effects_at parties d.world t.event)
       (effects_in parties (after_turn parties d t).world (events_of turns))
       on.advances rest.advances;

@@ -15,7 +15,7 @@ use Rattle.ltp_drain.specs.Effects.{IsHandedUp, IsNoted, effects_at, effects_in}
 use Rattle.ltp_drain.specs.Hopeful.{AreAlike, IsHanded, IsOpen, cost}
 use Rattle.ltp_drain.specs.Standing.{AllAdvance, DrainHolds, setting, sum_of}
 use Rattle.ltp_drain.proofs.CleanSteps.{idle-link, idle-senders}
-use Rattle.ltp_drain.proofs.CompletionLemmas.{first_rank, starts, starts-low}
+use Rattle.ltp_drain.proofs.CompletionLemmas.{first_rank, starts, starts-low, advances-on}
 use Rattle.ltp_drain.proofs.DrainFrame.{Begun, is-begun, never_begun, was_begun}
 use Rattle.ltp_drain.proofs.DrainRun.{all-still}
 use Rattle.ltp_picks.specs.Picks.{AreNext, Crossing, IsOver, Pick, Placed, Turn, after_pick}
@@ -26,7 +26,6 @@ use Rattle.ltp_picks.specs.PickedRuns.{HasPickedRun, PickedRun, PicksNew, run_ev
 use Rattle.ltp_picks.proofs.CrossingLemmas.{sent_of}
 use Rattle.ltp_picks.proofs.CrossingSteps.{Crosses, CrossesOn, next-turn, oldest-turn}
 use Rattle.ltp_picks.proofs.CrossingSteps.{turn-goes}
-use Rattle.ltp_picks.proofs.EffectLemmas.{advances-then}
 
 -- ---- turns, one after the other
 
@@ -60,7 +59,7 @@ one-turn parties d rank t turns d' on rest = record {
   rank' = rest.rank';
   crosses = rest.crosses;
   bound = omega (arith, rest.bound, on.falls);
-  advances = advances-then parties d.world (after_turn parties d t).world d'.world
+  advances = advances-on parties d.world (after_turn parties d t).world d'.world
       (effects_at parties d.world t.event)
       (effects_in parties (after_turn parties d t).world (events_of turns))
       on.advances rest.advances;

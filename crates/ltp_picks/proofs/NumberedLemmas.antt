@@ -5,10 +5,9 @@ use Rattle.std.proofs.Common.{Option, None, Some, ◌⊎◌, inl, inr, refl, sym
 use Rattle.ltp_segment.specs.Kinds.{is_checkpoint}
 use Rattle.ltp_segment.specs.Values.{ContentValue, PieceValue, a_piece}
 use Rattle.ltp_segment.specs.Values.{a_report_ack, a_sender_cancel_ack}
-use Rattle.ltp_segment.specs.declared.segment.PieceKind.TheVariants as kinds
 use Rattle.ltp_segment.specs.Policy.{PolicyValue}
 use Rattle.ltp_session.specs.Engine.{Party}
-use Rattle.ltp_session.specs.Sender.{Sending, begin, checkpoint_at, last_segment, piece_at}
+use Rattle.ltp_session.specs.Sender.{Sending, begin, checkpoint_at}
 use Rattle.ltp_session.specs.Sender.{red_pieces, sender_tick}
 use Rattle.ltp_session.specs.Step.{StepValue}
 use Rattle.ltp_session.specs.World.{ArePeers, End, World, run, starts_world}
@@ -19,7 +18,7 @@ use Rattle.ltp_laws.specs.Log.{HasFactsBy, submissions}
 use Rattle.ltp_laws.specs.Runs.{KeepsUnder, both_facts}
 use Rattle.ltp_laws.specs.SenderSteps.{NoPieces, SenderStep, continues, leaves, rests, rounds}
 use Rattle.ltp_laws.specs.View.{IsIn, View, view}
-use Rattle.ltp_laws.proofs.CheckpointLemmas.{begun-among}
+use Rattle.ltp_laws.proofs.CheckpointLemmas.{begun-among, round-among}
 use Rattle.ltp_laws.proofs.FactLemmas.{session-keep}
 use Rattle.ltp_laws.proofs.LogLemmas.{every_submitted}
 use Rattle.ltp_laws.proofs.RunLemmas.{joined}
@@ -27,22 +26,6 @@ use Rattle.ltp_laws.proofs.SenderStepLemmas.{Listens, listens-form, sender_tick-
 use Rattle.ltp_laws.proofs.SerialLemmas.{among-append}
 use Rattle.ltp_drain.specs.Hopeful.{IsReached}
 use Rattle.ltp_picks.specs.Asking.{AreNumbered}
-
--- a checkpoint among the pieces of a round is its last
-pub round-last : (last : ℕ × List ℕ → PieceValue) (parts : List (ℕ × List ℕ)) (q : PieceValue)
-    → IsIn (a_piece q) (red_pieces last parts) → is_checkpoint q.kind ≡ true
-    → (part : ℕ × List ℕ) × (last_segment parts ≡ Some part) × (last part ≡ q)
-unfolding red_pieces last_segment
-round-last last [] q among asks = absurd among
-round-last last (part ∷ []) q (inl here) asks =
-    let same : last part ≡ q = cc in (part, refl, same)
-round-last last (part ∷ []) q (inr none) asks = absurd none
-round-last last (part ∷ next ∷ parts) q (inl here) asks =
-    let same : piece_at kinds.Red 0 0 part ≡ q = cc in
-    absurd (let plain : is_checkpoint q.kind ≡ false =
-    ap (λ (p : PieceValue). is_checkpoint p.kind) (sym same) in cc)
-round-last last (part ∷ next ∷ parts) q (inr among) asks =
-    round-last last (next ∷ parts) q among asks
 
 -- what a list of pieces says of checkpoints
 abbrev OnceIn : List ContentValue → Type 0
@@ -108,7 +91,7 @@ step-once content said by_receiver s t asked (rounds s' next on) once =
             → last on.part ≡ q
         by_sends (inl here) = absurd (cc)
         by_sends (inr among) =
-            let (part, is_part, is_piece) = round-last last on.parts q among asks in
+            let (part, is_part, is_piece) = round-among last on.parts q among asks in
             let one : Some on.part ≡ Some part = sym on.last ∙ is_part in
             let same : on.part ≡ part = cc in
             ap last same ∙ is_piece

@@ -22,7 +22,7 @@ use Rattle.ltp_session.specs.World.{sent_by, starts_world, submit, submit_reply,
 use Rattle.ltp_session.specs.World.{unless_refused, with_end}
 use Rattle.ltp_laws.specs.HandUps.{up_by, up_of}
 use Rattle.ltp_laws.specs.Log.{HandUp, hand_up_of, hand_ups, hand_ups_at, hand_ups_by}
-use Rattle.ltp_laws.specs.Runs.{HoldsIn, IsInvariant, receiver_after}
+use Rattle.ltp_laws.specs.Runs.{HoldsIn, receiver_after}
 use Rattle.ltp_laws.specs.Steps.{ReceiverStep, again, fills, idle, over, reports_on, turns}
 use Rattle.ltp_laws.specs.View.{IsIn, View, session_of, view, view_by}
 use Rattle.ltp_laws.proofs.FrameLemmas.{AreTwo, Left, alone, closed_for_room, opening}
@@ -30,6 +30,7 @@ use Rattle.ltp_laws.proofs.FrameLemmas.{receiver-here, receiver-others, tick-pee
 use Rattle.ltp_laws.proofs.RunLemmas.{any_time, holds-happens, holds-start, in-left}
 use Rattle.ltp_laws.proofs.RunLemmas.{in-right, linked-at, no_submissions, two_ends}
 use Rattle.ltp_laws.proofs.StepLemmas.{tick-form}
+use Rattle.ltp_laws.proofs.LogLemmas.{Anything, anything-invariant}
 use Rattle.ltp_drain.specs.Hopeful.{IsHanded}
 use Rattle.ltp_drain.proofs.HandedLemmas.{hands-up-now}
 
@@ -257,20 +258,6 @@ ticks-hand parties now end w o n peers ascending =
     (linked-at parties end peers).knows (linked-at parties end peers).apart ascending)) handed)))
 
 -- ---- an event
-
--- nothing is asked of a session
-abbrev Anything : End → ℕ → View → Type 0
-Anything o n v = Unit {0}
-
-anything-invariant : IsInvariant any_time no_submissions Anything
-anything-invariant = record {
-  begins = λ o policy n block red now v ok told cuts within unused any. tt;
-  sender = λ o n policy v content now t ok among hears any. tt;
-  receiver = λ o n policy place v content now t ok closed among hears any. tt;
-  sender_tick = λ o n policy now v s ok is any. tt;
-  receiver_tick = λ o n policy now v r ok is any. tt;
-  evicted = λ o n v r is any. tt;
-}
 
 -- one step, and then another
 hands-then : (parties : Party × Party) (w x y : World) (all more : List HandUp) (o : End) (n : ℕ)

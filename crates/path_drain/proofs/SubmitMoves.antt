@@ -25,6 +25,7 @@ use Rattle.ltp_laws.specs.Log.{Submission, submission_of, submissions, submissio
 use Rattle.ltp_laws.specs.View.{IsIn, View, begins, session_of, view}
 use Rattle.ltp_laws.proofs.FrameLemmas.{begun-here, begun-others, next-unused, peers-stay}
 use Rattle.ltp_laws.proofs.RunLemmas.{linked-at, two_ends}
+use Rattle.ltp_laws.proofs.WritableLemmas.{cuts-at}
 use Rattle.ltp_drain.specs.Draining.{since}
 use Rattle.ltp_drain.specs.Effects.{EndEffects}
 use Rattle.ltp_drain.specs.Hopeful.{AreAlike, IsHanded, IsOpen, IsReached, Room, different}
@@ -35,7 +36,6 @@ use Rattle.ltp_drain.proofs.DrainBegins.{AfterBlock, left_alone, one_more, submi
 use Rattle.ltp_drain.proofs.DrainRun.{all-still}
 use Rattle.ltp_drain.proofs.OffsetLemmas.{begin-differ}
 use Rattle.ltp_drain.proofs.RankSteps.{Grows, submitted-grows}
-use Rattle.ltp_drain.proofs.SizeLemmas.{cuts-at}
 use Rattle.ltp_drain.proofs.StartLemmas.{session-gives}
 use Rattle.path_drain.specs.RoomKept.{IsRoomyThrough}
 use Rattle.path_drain.proofs.AdvanceLemmas.{advances-both, in-either, none-handed, none-noted}

@@ -58,7 +58,7 @@ taken (x ∷ xs) zero low = record { x = x; got = refl; rest = refl }
 taken (x ∷ xs) (suc k) low =
     let t = taken xs k (omega (arith, low)) in record { x = t.x; got = t.got; rest = t.rest }
 
-drop-append : {X : Type 0} (k : ℕ) (xs ys : List X) → k ≤ length xs
+pub drop-append : {X : Type 0} (k : ℕ) (xs ys : List X) → k ≤ length xs
     → drop k (xs ++ ys) ≡ drop k xs ++ ys
 drop-append zero xs ys low = refl
 drop-append (suc k) [] ys low = absurd (omega (arith, low))
@@ -139,7 +139,7 @@ earlier-none None b is = (refl, is)
 earlier-none (Some a) None is = absurd (cc)
 earlier-none (Some a) (Some b) is = absurd (cc)
 
-earlier-some : (a b : Option ℕ) (now : ℕ) → earlier a b ≡ Some now → (a ≡ Some now)
+pub earlier-some : (a b : Option ℕ) (now : ℕ) → earlier a b ≡ Some now → (a ≡ Some now)
     ⊎ (b ≡ Some now)
 earlier-some None b now is = inr is
 earlier-some (Some a) None now is = inl is

@@ -18,7 +18,7 @@ use Rattle.ltp_laws.proofs.ListLemmas.{all-append}
 use Rattle.ltp_drain.specs.Draining.{since}
 use Rattle.ltp_drain.specs.Left.{burden}
 use Rattle.ltp_drain.specs.Effects.{effects_at}
-use Rattle.ltp_drain.proofs.CleanSteps.{Taken, drop-end, taken}
+use Rattle.ltp_drain.proofs.CleanSteps.{Taken, drop-end, taken, drop-append}
 use Rattle.ltp_picks.specs.Picks.{AreNext, Crossing, Placed, Turn, after_turn, after_turns}
 use Rattle.ltp_picks.specs.Picks.{events_of, next_turn, placed_from}
 use Rattle.ltp_picks.proofs.CrossingLemmas.{delivered-sent}
@@ -206,12 +206,6 @@ skip-falls v k low =
     read-weighs (Ok s) = weighs s.content
     read-weighs (Err refusal) = omega arith
 
-drop-more : {X : Type 0} (k : ℕ) (xs ys : List X) → k ≤ length xs
-    → drop k (xs ++ ys) ≡ drop k xs ++ ys
-drop-more zero xs ys low = refl
-drop-more (suc k) [] ys low = absurd (omega (arith, low))
-drop-more (suc k) (x ∷ xs) ys low = drop-more k xs ys (omega (arith, low))
-
 length-left : {X : Type 0} (k : ℕ) (xs : List X) → k ≤ length xs → k + length (drop k xs) ≡ length xs
 length-left zero xs low = omega arith
 length-left (suc k) [] low = absurd (omega (arith, low))
@@ -235,7 +229,7 @@ left-after parties d k marks t adds left low first second =
     ++ new_from j (marks_at marks) added) (sym (length-left (k + 1) d.world.sent (omega (arith, low))))
     ∙ sym (ap (λ (sent : List LinkSent). new_from (k + 1) (marks_at marks) (drop (k + 1) sent)) adds
     ∙ ap (new_from (k + 1) (marks_at marks))
-    (drop-more (k + 1) d.world.sent added (omega (arith, low)))
+    (drop-append (k + 1) d.world.sent added (omega (arith, low)))
     ∙ new-append (k + 1) (marks_at marks) (drop (k + 1) d.world.sent) added)
   where
     added : List LinkSent

@@ -28,7 +28,7 @@ length-more [] ys = omega arith
 length-more (x ∷ xs) ys = omega (arith, length-more xs ys)
 
 -- no segment is lost from the list
-sent-more : (s : PathSetup) (w : Path) (event : PathEvent)
+pub sent-more : (s : PathSetup) (w : Path) (event : PathEvent)
     → length w.sent ≤ length (path_step s w event).path.sent
 sent-more s w event = omega (
   arith,

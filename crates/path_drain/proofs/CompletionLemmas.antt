@@ -3,9 +3,8 @@
 use Rattle.std.proofs.Common.{◌≡◌, ℕ, ◌+◌, ◌^◌, ◌≤◌, List, [], ◌∷◌, length, None, ◌⊎◌, inl, inr}
 use Rattle.std.proofs.Common.{refl, sym, ◌∙◌, ap, arith, subst}
 use Rattle.ltp_laws.specs.View.{IsIn}
-use Rattle.ltp_session.specs.Engine.{Engine}
 use Rattle.ltp_session.specs.World.{first_end, second_end}
-use Rattle.ltp_drain.specs.Hopeful.{HasRoom, IsOpen, Room}
+use Rattle.ltp_drain.specs.Hopeful.{IsOpen, Room}
 use Rattle.gate_cases.specs.declared.face.Face.{Face}
 use Rattle.gate_cases.specs.declared.face.Face.TheVariants as faces
 use Rattle.path_laws.specs.declared.effects.UpAt.{UpAt}
@@ -16,7 +15,7 @@ use Rattle.path_laws.specs.Log.{Begun, begun_in, ups_in}
 use Rattle.path_laws.specs.Links.{link_at}
 use Rattle.path_drain.specs.OnTheWay.{gate_at, node_at}
 use Rattle.path_drain.specs.Owing.{RoomStarts}
-use Rattle.path_drain.specs.PathRoom.{HasRoomFor, PathRoom}
+use Rattle.path_drain.specs.PathRoom.{PathRoom}
 use Rattle.path_drain.specs.Pieces.{PathNotesCases}
 use Rattle.path_drain.specs.RoomKept.{IsRoomyPath, NodesSendRed, RoomIsKept, SendsRed}
 use Rattle.path_drain.specs.Clean.{AreCleanOnPathFrom, PathCleanRun, path_deadline}
@@ -30,6 +29,7 @@ use Rattle.path_drain.proofs.PathRuns.{session-ends}
 use Rattle.path_drain.proofs.PathRuns.{path-starts}
 use Rattle.path_drain.proofs.RunsEnd.{DrainsOut, numbers-end}
 use Rattle.path_drain.proofs.WholeLemmas.{handed-whole}
+use Rattle.path_drain.proofs.CountSteps.{link-room}
 
 -- ---- notes
 
@@ -75,13 +75,6 @@ pub record RoomLaws : Type 0 where
   pub reds : NodesSendRed
   pub kept : RoomIsKept
   pub cases : PathNotesCases
-
-link-room : (own peer : ℕ) (e f : Engine) → HasRoomFor own peer e f → HasRoom e f
-link-room own peer e f room = record {
-  senders = omega (arith, room.senders);
-  receivers = omega (arith, room.receivers);
-  numbers = omega (arith, room.numbers);
-}
 
 links-room : (s : PathSetup) (w : Path) → PathRoom s w → (face : Face) → Room (link_at face w)
 links-room s w room faces.Old = record {

@@ -28,7 +28,6 @@ use Rattle.gate_cases.specs.declared.face.Face.TheVariants as faces
 use Rattle.path_laws.specs.declared.effects.NoteAt.{NoteAt}
 use Rattle.path_laws.specs.declared.effects.UpAt.{UpAt}
 use Rattle.path_laws.specs.declared.places.Place.{Place}
-use Rattle.path_laws.specs.declared.places.Place.TheVariants as places
 use Rattle.path_laws.specs.Places.{across, link_end_of, link_of}
 use Rattle.path_laws.specs.Path.{PathSetup, Path, SentFrom, PathEvent, clock_shows, delivers}
 use Rattle.path_laws.specs.Path.{path_run, path_step, starts_path}
@@ -39,6 +38,7 @@ use Rattle.path_laws.specs.Links.{sent_on}
 use Rattle.path_laws.proofs.ChunkLemmas.{place_at, submission_from, submissions_on}
 use Rattle.path_laws.proofs.LogLemmas.{in-link}
 use Rattle.path_laws.proofs.RunLemmas.{got-on, whole-chunk}
+use Rattle.path_laws.proofs.LawLemmas.{at-place}
 use Rattle.path_drain.specs.RoomKept.{IsOfLength, IsRoomyPath, MayFollow, NoneForRoom, PathStands}
 use Rattle.path_drain.specs.RoomKept.{RoomIsKept}
 use Rattle.path_drain.specs.Clean.{AreCleanOnPath, path_clean_event}
@@ -205,7 +205,7 @@ short-more s ms ns xs ys first later face n is =
 
 -- ---- effects, and more after them
 
-up-left : (xs ys : List UpAt) (place : Place) (n : ℕ) → IsUpAt xs place n
+pub up-left : (xs ys : List UpAt) (place : Place) (n : ℕ) → IsUpAt xs place n
     → IsUpAt (xs ++ ys) place n
 up-left xs ys place n is = record {
   up = is.up;
@@ -214,7 +214,7 @@ up-left xs ys place n is = record {
   session = is.session;
 }
 
-up-right : (xs ys : List UpAt) (place : Place) (n : ℕ) → IsUpAt ys place n
+pub up-right : (xs ys : List UpAt) (place : Place) (n : ℕ) → IsUpAt ys place n
     → IsUpAt (xs ++ ys) place n
 up-right xs ys place n is = record {
   up = is.up;
@@ -230,12 +230,6 @@ abbrev pub IsDone : PathSetup → Path → List NoteAt → List UpAt → Place �
 IsDone s v ns us place n =
     IsOpen (session_at s v place n).sender
     ⊎ (IsNotedSent ns place n × IsUpAt us (across place) n)
-
-at-place : (place : Place) → place_at (link_of place) (link_end_of place) ≡ place
-at-place places.OldNode = refl
-at-place places.OldFace = refl
-at-place places.NewFace = refl
-at-place places.NewNode = refl
 
 -- no receiver knows of a number that wasn't given yet
 none-received : (s : PathSetup) (w0 w : Path) (c : ℕ) (rank : Face → End → ℕ → ℕ) (face : Face)

@@ -3,14 +3,11 @@
 -- only these. A clock is one on both links.
 
 use Rattle.std.proofs.Common.{◌^◌, ◌≡◌, ℕ, ◌+◌, ◌<◌, ◌≤◌, List, [], ◌∷◌}
-use Rattle.std.proofs.Common.{◌++◌, length, Option, None, Some, ◌⊎◌, inl, inr, refl}
-use Rattle.std.proofs.Common.{sym, ◌∙◌, ap, arith, subst, ⊎_elim}
-use Rattle.std.proofs.lemmas.Bool.{cases_lt}
+use Rattle.std.proofs.Common.{◌++◌, length, Option, Some, ◌⊎◌, inl, inr, refl}
+use Rattle.std.proofs.Common.{sym, ◌∙◌, ap, arith, subst}
 use Rattle.std.proofs.lemmas.Option.{slice_get_within}
 use Rattle.std.specs.List.{slice_get}
-use Rattle.std.specs.Prelude.{min}
 use Rattle.ltp_segment.specs.declared.session.Note.TheVariants as notes
-use Rattle.ltp_session.specs.Engine.{earlier}
 use Rattle.ltp_session.specs.World.{ArePeers, End, Event, World, at_end, clock, deliver}
 use Rattle.ltp_session.specs.World.{happens, other, run}
 use Rattle.ltp_laws.specs.Log.{Submission, submissions}
@@ -20,7 +17,7 @@ use Rattle.ltp_drain.specs.Clean.{link_deadline}
 use Rattle.ltp_drain.specs.Effects.{EndEffects, IsHandedUp, IsNoted, deliver_effects, effects_at}
 use Rattle.ltp_drain.specs.Hopeful.{AreAlike}
 use Rattle.ltp_drain.specs.Standing.{AllAdvance, sum_of}
-use Rattle.ltp_drain.proofs.CleanSteps.{IsGoing}
+use Rattle.ltp_drain.proofs.CleanSteps.{IsGoing, earlier-some}
 use Rattle.ltp_drain.proofs.DrainRun.{all-still}
 use Rattle.gate_cases.specs.declared.face.Face.{Face}
 use Rattle.gate_cases.specs.declared.face.Face.TheVariants as faces
@@ -48,6 +45,7 @@ use Rattle.path_drain.proofs.PathLists.{counted-there, counted_on, step-sends}
 use Rattle.path_drain.proofs.ShownLemmas.{handed-shown, heard_at, noted-shown}
 use Rattle.path_drain.proofs.SubmitMoves.{AreBegun, AreBlocks, EventMoves}
 use Rattle.path_drain.proofs.SubmitMoves.{event-moves}
+use Rattle.path_drain.proofs.CleanLemmas.{sent-more}
 
 -- ---- what is kept
 
@@ -368,14 +366,6 @@ counted-after s w event face c low =
     ap (λ (ds : List SentFrom). counted_on face c ds) (step-sends s w event)
     ∙ counted-more face c w.sent (path_step s w event).effects.sent low
 
-sent-more : (s : PathSetup) (w : Path) (event : PathEvent)
-    → length w.sent ≤ length (path_step s w event).path.sent
-sent-more s w event = omega (
-  arith,
-  ap length (step-sends s w event),
-  length-more w.sent (path_step s w event).effects.sent,
-)
-
 -- ---- a delivery
 
 -- room is left on both links after each block that an event submits
@@ -440,15 +430,6 @@ delivery-on s w0 w c rank d fit goes is room =
     }
 
 -- ---- a clock
-
-earlier-some : (a b : Option ℕ) (now : ℕ) → earlier a b ≡ Some now
-    → (a ≡ Some now) ⊎ (b ≡ Some now)
-earlier-some None b now is = inr is
-earlier-some (Some a) None now is = inl is
-earlier-some (Some a) (Some b) now is =
-    let less : min a b ≡ now = cc in
-    ⊎_elim (λ low. inl (ap (λ k. Some k) (omega (arith, less, low))))
-    (λ low. inr (ap (λ k. Some k) (omega (arith, less, low)))) (cases_lt a b)
 
 pub clock-on : (s : PathSetup) (w0 w : Path) (c : ℕ) (rank : Face → End → ℕ → ℕ) (now : ℕ)
     → AreFit s → PathGoes s w0 w c rank → length w.sent ≤ c → path_deadline w ≡ Some now

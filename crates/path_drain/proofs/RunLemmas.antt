@@ -6,30 +6,20 @@ use Rattle.ltp_laws.specs.View.{IsIn}
 use Rattle.path_laws.specs.declared.effects.NoteAt.{NoteAt}
 use Rattle.path_laws.specs.Path.{PathSetup, Path, PathEvent, path_run, path_step}
 use Rattle.path_laws.specs.Places.{face_place}
-use Rattle.path_laws.specs.Log.{Begun, begun_at, begun_in}
 use Rattle.path_laws.proofs.LogLemmas.{in-left, in-right}
 use Rattle.path_drain.specs.Pieces.{case_at}
 use Rattle.path_drain.proofs.CaseNotes.{path-notes}
 use Rattle.path_drain.specs.Completion.{IsCaseNotedIn}
 use Rattle.path_drain.specs.Effects.{notes_in}
 use Rattle.path_drain.proofs.CompletionLemmas.{cases-noted}
-use Rattle.path_drain.proofs.WholeLemmas.{ups-append}
+use Rattle.path_drain.proofs.WholeLemmas.{ups-append, begun-append}
 use Rattle.path_drain.specs.Runs.{CaseNotesStandInRuns, CasesAreNotedInRuns, RunsGoOn}
 
-run-append : (s : PathSetup) (w : Path) (xs ys : List PathEvent)
+pub run-append : (s : PathSetup) (w : Path) (xs ys : List PathEvent)
     → path_run s w (xs ++ ys) ≡ path_run s (path_run s w xs) ys
 unfolding path_run
 run-append s w [] ys = refl
 run-append s w (x ∷ xs) ys = run-append s (path_step s w x).path xs ys
-
-begun-append : (s : PathSetup) (w : Path) (xs ys : List PathEvent)
-    → begun_in s w (xs ++ ys) ≡ begun_in s w xs ++ begun_in s (path_run s w xs) ys
-unfolding begun_in path_run
-begun-append s w [] ys = refl
-begun-append s w (x ∷ xs) ys =
-    ap (λ (bs : List Begun). begun_at s w x ++ bs) (begun-append s (path_step s w x).path xs ys)
-    ∙ sym (append_assoc (begun_at s w x) (begun_in s (path_step s w x).path xs)
-    (begun_in s (path_run s (path_step s w x).path xs) ys))
 
 notes-append : (s : PathSetup) (w : Path) (xs ys : List PathEvent)
     → notes_in s w (xs ++ ys) ≡ notes_in s w xs ++ notes_in s (path_run s w xs) ys

@@ -1,6 +1,6 @@
 -- What an engine notes and hands up at a delivery stands among the effects of the path.
 
-use Rattle.std.proofs.Common.{◌≡◌, ℕ, List, [], ◌∷◌, ◌++◌, map, Ok}
+use Rattle.std.proofs.Common.{◌≡◌, ℕ, [], ◌∷◌, ◌++◌, map, Ok}
 use Rattle.std.proofs.Common.{inl, inr, refl, sym, ◌∙◌, ap, subst}
 use Rattle.ltp_segment.specs.declared.session.Note.{Note}
 use Rattle.ltp_segment.specs.declared.session.Note.TheVariants as notes
@@ -22,14 +22,7 @@ use Rattle.path_laws.specs.Path.{gate_note, gate_up, note_from, up_from}
 use Rattle.path_laws.specs.Links.{link_engines, link_parties}
 use Rattle.path_laws.proofs.ChunkLemmas.{place_at}
 use Rattle.path_drain.specs.Effects.{IsNotedSent, IsUpAt}
-
--- ---- lists
-
-in-map : {X Y : Type 0} (made : X → Y) (xs : List X) (x : X) → IsIn x xs
-    → IsIn (made x) (map made xs)
-in-map made [] x is = absurd is
-in-map made (y ∷ xs) x (inl same) = inl (ap made same)
-in-map made (y ∷ xs) x (inr is) = inr (in-map made xs x is)
+use Rattle.path_drain.proofs.CaseNotes.{make-in}
 
 -- ---- effects
 
@@ -53,19 +46,19 @@ gate-shows s w face segment = record { notes = noted; ups = handed }
     noted : (note : Note) → IsIn note (hears_at s.gate face w.gate (Ok segment) w.now).effects.notes
         → IsIn (note_from (face_place face) note)
         (map gate_note (map (engine_note_at face) step.effects.notes ++ later.effects.notes))
-    noted note is = in-map gate_note
+    noted note is = make-in gate_note
         (map (engine_note_at face) step.effects.notes ++ later.effects.notes)
         (engine_note_at face note)
         (in-left (engine_note_at face note) (map (engine_note_at face) step.effects.notes)
-        later.effects.notes (in-map (engine_note_at face) step.effects.notes note is))
+        later.effects.notes (make-in (engine_note_at face) step.effects.notes note is))
 
     handed : (up : UpValue) → IsIn up (hears_at s.gate face w.gate (Ok segment) w.now).effects.ups
         → IsIn (up_from (face_place face) up)
         (map gate_up (map (up_at face) step.effects.ups ++ later.effects.ups))
-    handed up is = in-map gate_up (map (up_at face) step.effects.ups ++ later.effects.ups)
+    handed up is = make-in gate_up (map (up_at face) step.effects.ups ++ later.effects.ups)
         (up_at face up)
         (in-left (up_at face up) (map (up_at face) step.effects.ups) later.effects.ups
-        (in-map (up_at face) step.effects.ups up is))
+        (make-in (up_at face) step.effects.ups up is))
 
 -- the step of the engine to which a segment comes
 abbrev pub hearing : PathSetup → Path → SentFrom → EngineStep
@@ -86,15 +79,15 @@ delivery-shows s w d = by d.from d.segment
     by places.OldNode segment = gate-shows s w faces.Old segment
     by places.NewNode segment = gate-shows s w faces.New segment
     by places.OldFace segment = record {
-      notes = in-map (note_from places.OldNode)
+      notes = make-in (note_from places.OldNode)
           (datagram_step s.nodes.0 w.nodes.0 (Ok segment) w.now).effects.notes;
-      ups = in-map (up_from places.OldNode)
+      ups = make-in (up_from places.OldNode)
           (datagram_step s.nodes.0 w.nodes.0 (Ok segment) w.now).effects.ups;
     }
     by places.NewFace segment = record {
-      notes = in-map (note_from places.NewNode)
+      notes = make-in (note_from places.NewNode)
           (datagram_step s.nodes.1 w.nodes.1 (Ok segment) w.now).effects.notes;
-      ups = in-map (up_from places.NewNode)
+      ups = make-in (up_from places.NewNode)
           (datagram_step s.nodes.1 w.nodes.1 (Ok segment) w.now).effects.ups;
     }
 

@@ -27,7 +27,7 @@ ups-append s w (x ∷ xs) ys =
     ∙ sym (append_assoc (path_step s w x).effects.ups (ups_in s (path_step s w x).path xs)
     (ups_in s (path_run s (path_step s w x).path xs) ys))
 
-begun-append : (s : PathSetup) (w : Path) (xs ys : List PathEvent)
+pub begun-append : (s : PathSetup) (w : Path) (xs ys : List PathEvent)
     → begun_in s w (xs ++ ys) ≡ begun_in s w xs ++ begun_in s (path_run s w xs) ys
 unfolding begun_in path_run
 begun-append s w [] ys = refl
@@ -56,7 +56,7 @@ same-session (z ∷ begun) none b c (inr in_b) (inr in_c) same =
 
 -- ---- blocks
 
-across-twice : (place : Place) → across (across place) ≡ place
+pub across-twice : (place : Place) → across (across place) ≡ place
 across-twice places.OldNode = refl
 across-twice places.OldFace = refl
 across-twice places.NewFace = refl

@@ -1,14 +1,13 @@
 -- What a run of a path and a drain after it have done to the sessions.
 
 use Rattle.std.proofs.Common.{◌≡◌, ℕ, List, ◌∷◌, ◌++◌, length, ◌⊎◌, inl, inr, refl, sym, ◌∙◌, ap, subst}
-use Rattle.ltp_session.specs.World.{End, clock, other, starts_world}
+use Rattle.ltp_session.specs.World.{End, clock, starts_world}
 use Rattle.ltp_laws.specs.Log.{hand_ups}
 use Rattle.ltp_laws.specs.View.{IsIn, view}
 use Rattle.ltp_drain.specs.Hopeful.{IsHanded}
 use Rattle.gate_cases.specs.declared.face.Face.{Face}
 use Rattle.path_laws.specs.declared.effects.UpAt.{UpAt}
 use Rattle.path_laws.specs.declared.places.Place.{Place}
-use Rattle.path_laws.specs.declared.places.Place.TheVariants as places
 use Rattle.path_laws.specs.Places.{across, link_end_of, link_of}
 use Rattle.path_laws.specs.Path.{PathSetup, Path, PathEvent, path_run, starts_path}
 use Rattle.path_laws.specs.Log.{ups_in}
@@ -16,7 +15,7 @@ use Rattle.path_laws.specs.Laws.{IsAsSent, IsLinked}
 use Rattle.path_laws.specs.Links.{link_events, link_parties}
 use Rattle.path_laws.proofs.ChunkLemmas.{hand_up_from, place_at, same_up}
 use Rattle.path_laws.proofs.LawLemmas.{OneLink, as-sent, one-link}
-use Rattle.path_laws.proofs.LogLemmas.{OnLink, all-in, in-left, in-right, link-in}
+use Rattle.path_laws.proofs.LogLemmas.{OnLink, all-in, link-in}
 use Rattle.path_laws.proofs.RunLemmas.{whole-chunk}
 use Rattle.path_drain.proofs.CaseNotes.{make-in}
 use Rattle.path_drain.specs.Completion.{Completes}
@@ -24,21 +23,15 @@ use Rattle.path_drain.specs.Effects.{IsUpAt}
 use Rattle.path_drain.specs.Hopeful.{session_at}
 use Rattle.path_drain.proofs.CleanLemmas.{none-left}
 use Rattle.path_drain.proofs.LawLemmas.{runs-complete}
-use Rattle.path_drain.proofs.WholeLemmas.{ups-append}
+use Rattle.path_drain.proofs.WholeLemmas.{ups-append, across-twice}
 use Rattle.path_drain.specs.WholeRun.{IsHandedWhole, WholeRunsComplete}
 use Rattle.path_drain.specs.Runs.{HandedUpInRuns, run_begun, run_path, run_ups}
 use Rattle.path_drain.proofs.HandedUps.{WasHandedUp, start-hands}
 use Rattle.path_drain.proofs.RunLemmas.{noted-in-runs}
+use Rattle.path_drain.proofs.PathRuns.{up-left, up-right}
+use Rattle.path_drain.proofs.ShownLemmas.{place-here}
 
 -- ---- a receiver that has handed up
-
--- the place across a place's link
-across-place : (place : Place)
-    → place_at (link_of place) (other (link_end_of place)) ≡ across place
-across-place places.OldNode = refl
-across-place places.OldFace = refl
-across-place places.NewFace = refl
-across-place places.NewNode = refl
 
 -- what a link hands up, the path does
 up-on-path : (s : PathSetup) (start : ℕ) (events : List PathEvent) (place : Place) (n : ℕ)
@@ -60,7 +53,7 @@ up-on-path s start events place n was =
       up = found.x;
       among = found.among;
       at = ap (λ (u : UpAt). u.place) found.is
-          ∙ (ap (λ (e : End). place_at face e) was.end ∙ across-place place);
+          ∙ (ap (λ (e : End). place_at face e) was.end ∙ place-here place);
       session = ap (λ (u : UpAt). u.session) found.is ∙ was.session;
     }
 
@@ -76,24 +69,6 @@ handed-in-run s start events linked place n handed =
 
 -- ---- a run, and a drain
 
-up-before : (xs ys : List UpAt) (place : Place) (n : ℕ) → IsUpAt xs place n
-    → IsUpAt (xs ++ ys) place n
-up-before xs ys place n up = record {
-  up = up.up;
-  among = in-left up.up xs ys up.among;
-  at = up.at;
-  session = up.session;
-}
-
-up-since : (xs ys : List UpAt) (place : Place) (n : ℕ) → IsUpAt ys place n
-    → IsUpAt (xs ++ ys) place n
-up-since xs ys place n up = record {
-  up = up.up;
-  among = in-right up.up xs ys up.among;
-  at = up.at;
-  session = up.session;
-}
-
 -- it was handed up in the run, or in the drain
 up-in-both : (s : PathSetup) (start : ℕ) (events made : List PathEvent) → IsLinked s
     → (place : Place) (n : ℕ)
@@ -108,17 +83,11 @@ up-in-both s start events made linked place n either =
         ⊎ IsUpAt (ups_in s (run_path s start events) made) (across place) n
         → IsUpAt (run_ups s start events ++ ups_in s (run_path s start events) made)
         (across place) n
-    by (inl before) = up-before (run_ups s start events)
+    by (inl before) = up-left (run_ups s start events)
         (ups_in s (run_path s start events) made) (across place) n
         (handed-in-run s start events linked place n before)
-    by (inr since) = up-since (run_ups s start events)
+    by (inr since) = up-right (run_ups s start events)
         (ups_in s (run_path s start events) made) (across place) n since
-
-across-twice : (place : Place) → across (across place) ≡ place
-across-twice places.OldNode = refl
-across-twice places.OldFace = refl
-across-twice places.NewFace = refl
-across-twice places.NewNode = refl
 
 -- what is handed up is the whole block of a session that was begun across the link
 whole-there : (s : PathSetup) (start : ℕ) (events : List PathEvent) → IsLinked s → (place : Place)

@@ -24,7 +24,7 @@ use Rattle.path_laws.proofs.RunLemmas.{whole-chunk}
 
 -- ---- places and ends
 
-at-place : (place : Place) → place_at (link_of place) (link_end_of place) ≡ place
+pub at-place : (place : Place) → place_at (link_of place) (link_end_of place) ≡ place
 at-place places.OldNode = refl
 at-place places.OldFace = refl
 at-place places.NewFace = refl

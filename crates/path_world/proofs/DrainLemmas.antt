@@ -24,6 +24,8 @@ use Rattle.path_drain.specs.Completion.{IsPathReady}
 use Rattle.path_drain.specs.Completion.{Completes as CompletesPath}
 use Rattle.path_drain.specs.Effects.{IsNotedSent, IsUpAt, IsUpWhole, notes_in}
 use Rattle.path_drain.proofs.LawLemmas.{runs-complete}
+use Rattle.path_drain.proofs.WholeLemmas.{ups-append}
+use Rattle.path_drain.proofs.RunLemmas.{run-append}
 use Rattle.path_world.specs.declared.drained.PathDrained.{PathDrained}
 use Rattle.path_world.specs.Clean.{LeadsIn, LeadsOn}
 use Rattle.path_world.specs.Drain.{Completed, Completes, DrainsAll, DrainsAsSent, DrainsUntilLate, Drains, HandsUpAsSentIn, IsEarly, IsLate, done_in, notes_told, ups_told}
@@ -32,12 +34,6 @@ use Rattle.path_world.specs.Steps.{Happens}
 use Rattle.path_world.specs.Values.{PathValue, effects_told, path_deadline, setup_of, spelled}
 
 -- ---- events after events
-
-pub run-append : (s : PathSetup) (w : Path) (xs ys : List PathEvent)
-    → path_run s w (xs ++ ys) ≡ path_run s (path_run s w xs) ys
-unfolding path_run
-run-append s w [] ys = refl
-run-append s w (x ∷ xs) ys = run-append s (path_step s w x).path xs ys
 
 clean-append : (s : PathSetup) (w : Path) (c : ℕ) (xs ys : List PathEvent) → AreCleanOnPath s w c xs
     → AreCleanOnPath s (path_run s w xs) (path_passed c xs) ys → AreCleanOnPath s w c (xs ++ ys)
@@ -83,16 +79,6 @@ notes-done s w [] = refl
 notes-done s w (x ∷ xs) =
     ap (λ (rest : List NoteAt). (path_step s w x).effects.notes ++ rest)
     (notes-done s (path_step s w x).path xs)
-
-ups-append : (s : PathSetup) (w : Path) (xs ys : List PathEvent)
-    → ups_in s w (xs ++ ys) ≡ ups_in s w xs ++ ups_in s (path_run s w xs) ys
-unfolding ups_in path_run
-ups-append s w [] ys = refl
-ups-append s w (x ∷ xs) ys =
-    ap (λ (us : List UpAt). (path_step s w x).effects.ups ++ us)
-    (ups-append s (path_step s w x).path xs ys)
-    ∙ sym (append_assoc (path_step s w x).effects.ups (ups_in s (path_step s w x).path xs)
-    (ups_in s (path_run s (path_step s w x).path xs) ys))
 
 -- where a world stands after more events
 pub path-on : (old new : PathValue) (start : ℕ) (events made : List PathEvent)

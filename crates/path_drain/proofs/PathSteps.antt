@@ -354,10 +354,6 @@ face-as : (s : PathSetup) (w0 w : Path) (rank : End → ℕ → ℕ) (face : Fac
 face-as s w0 w rank face event k c c' same goes =
     subst (λ (c : ℕ). FaceGoes s w0 w rank face event k c) (sym same) goes
 
-length-more : {X : Type 0} (xs ys : List X) → length xs ≤ length (xs ++ ys)
-length-more [] ys = omega arith
-length-more (x ∷ xs) ys = omega (arith, length-more xs ys)
-
 -- how many of a link are delivered or lost after an event
 counted-after : (s : PathSetup) (w : Path) (event : PathEvent) (face : Face) (c : ℕ)
     → c ≤ length w.sent

@@ -6,6 +6,9 @@ ghost use Rattle.bundle6.specs.Legal.{IsLegal};
 ghost use Rattle.bundle6.specs.Table as table6;
 ghost use Rattle.bundle7.specs.Legal.{IsLegal7};
 ghost use Rattle.bundle7.specs.Table as table7;
+ghost use Rattle.translate.specs.Reading6.{refusals6};
+ghost use Rattle.translate.specs.Reading7.{refusals7};
+ghost use Rattle.translate.specs.Refusals.{first_that_holds};
 ghost use Rattle.gate_cases.specs.Blocks.{arrival6, arrival7, one};
 ghost use Rattle.gate_cases.specs.Cases.{judged, judgement_of, case_of};
 ghost use Rattle.gate_cases.specs.Promises.{AreAskable, HaveRoom};
@@ -200,7 +203,7 @@ fn decided7(
     })
 }
 
-/// The case of a version 6 bundle, and what goes on.
+/// The case of a version 6 bundle, and what goes on. Memory is wanted only where it is translated.
 fn sent6(
     alloc: Global,
     bundle: &Bundle6,
@@ -210,7 +213,8 @@ fn sent6(
 ) -> Result<Sent, AllocError>
     requires some { 0 < size }
     requires legal { IsLegal bundle.now }
-    ensures { IfOk result (λ sent. sent ≡ sent_arrival Face.New (arrival6 bundle.now) now size room) }
+    ensures exact { IfOk result (λ sent. sent ≡ sent_arrival Face.New (arrival6 bundle.now) now size room) }
+    ensures memory { OnErr result (first_that_holds (refusals6 bundle.now) ≡ None) }
 {
     match read6(alloc, bundle)? {
         Ok(full) => send(alloc, Face::New, full, now, size, room),
@@ -218,7 +222,7 @@ fn sent6(
     }
 }
 
-/// The case of a version 7 bundle, and what goes on.
+/// The case of a version 7 bundle, and what goes on. Memory is wanted only where it is translated.
 fn sent7(
     alloc: Global,
     bundle: &Bundle7,
@@ -228,7 +232,8 @@ fn sent7(
 ) -> Result<Sent, AllocError>
     requires some { 0 < size }
     requires legal { IsLegal7 bundle.now }
-    ensures { IfOk result (λ sent. sent ≡ sent_arrival Face.Old (arrival7 bundle.now) now size room) }
+    ensures exact { IfOk result (λ sent. sent ≡ sent_arrival Face.Old (arrival7 bundle.now) now size room) }
+    ensures memory { OnErr result (first_that_holds (refusals7 bundle.now) ≡ None) }
 {
     match read7(alloc, bundle)? {
         Ok(full) => send(alloc, Face::Old, full, now, size, room),

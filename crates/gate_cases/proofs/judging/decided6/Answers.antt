@@ -7,4 +7,4 @@ use Rattle.gate_cases.proofs.judging.decided6.Goals as goal
 pub returns-clause-exact : goal.returns-clause-exact
 returns-clause-exact c =
     sym (decided-one Old (arrival6 c.args.bundle.now) c.args.now c.args.size c.args.room c.in_ok-sent.sent c.in_ok-asked6.field-0
-    c.in_ok-sent.ensures c.in_ok-asked6.ensures.exact)
+    c.in_ok-sent.ensures.exact c.in_ok-asked6.ensures.exact)

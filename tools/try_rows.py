@@ -18,6 +18,7 @@ from rows import ROOT, departs
 WHOLE, STREAMS = (os.path.join(ROOT, "crates", name) for name in ("bundle_cli", "stream_cli"))
 COMPILED, EACH = {WHOLE: 220, STREAMS: 60}, 0.4
 WITH_SOCKETS = (b"serve", b"gate")
+FEWEST = 3                 # processors; with fewer the program with sockets would be most of the wait
 MOST_SIDE_BY_SIDE = 4
 MEMORY = 2_500_000_000     # of one `rt try`, most of it while the program is compiled
 SECONDS = 300              # of one run: beside other work some take more than a minute
@@ -28,8 +29,15 @@ ENDED = re.compile(rb"case=(\w+) run=ended status=(\d+) ")
 CASE = re.compile(rb"case=(\w+) ")
 
 
+def needs_sockets(row):
+    """Whether the program without sockets has no answer to a row."""
+    return row.words[:1] and row.words[0] in WITH_SOCKETS
+
+
 def reason(row):
     """Why the unproved program can't be run on a row, or None."""
+    if needs_sockets(row) and processors() < FEWEST:
+        return f"serve and gate are compiled where there are {FEWEST} processors"
     if row.source:
         return f"standard input is from {row.source.split()[0]}"
     if row.sink:
@@ -108,7 +116,7 @@ def tried(crate, folder, rows, runs, ran):
 def shares_of(rows, count):
     """The rows in shares, by their names, each with the crate that runs it: each row that needs no
     sockets goes to the share that would be through first."""
-    whole = [row for row in rows if row.words[:1] and row.words[0] in WITH_SOCKETS]
+    whole = [row for row in rows if needs_sockets(row)]
     shares = [(STREAMS, []) for _ in range(max(1, count - bool(whole)))]
     shares += [(WHOLE, whole)] if whole else []
     ends = [COMPILED[crate] + EACH * len(part) for crate, part in shares]

@@ -8,8 +8,7 @@ use Rattle.std.specs.List.{flat_map}
 use Rattle.std.specs.Prelude.{slice_get}
 use Rattle.edge_traits.specs.declared.status.Status.{Status}
 use Rattle.edge_traits.specs.declared.status.Status.TheVariants as statuses
-use Rattle.command_frame.specs.InputLines.{lines_of, ended_part}
-use Rattle.command_frame.proofs.InputLinesLemmas.{lines-line}
+use Rattle.command_frame.specs.InputLines.{ended_part}
 use Rattle.ltp_session.specs.Engine.{EngineStep, SubmitFault}
 use Rattle.ltp_segment.specs.Spelling.{segment_octets}
 use Rattle.replay_script.specs.declared.fault.LineFault.{LineFault}
@@ -29,36 +28,12 @@ use Rattle.path_drain.specs.Effects.{notes_in}
 use Rattle.endpoint.specs.Endpoints.{begins}
 use Rattle.world_run.specs.WrittenLines.{sent_words, place_word, up_words, up_line, note_words, end_words, sent_line, sent_lines, join_words, join_line, note_line, effects_text, refused_line, refusal_line, after_drain_line, end_line}
 use Rattle.world_run.specs.World.{unless_sent, unless_there, refused_text, event_text, events_text}
-use Rattle.world_run.specs.Headline.{lines_with, datagram_texts, up_text, note_text, join_text, joins_in, end_texts, DrainMakes, if_drained_text, RefusesNext, ClosesAs}
+use Rattle.world_run.specs.Headline.{datagram_texts, up_text, note_text, join_text, joins_in, end_texts, DrainMakes, if_drained_text, RefusesNext, ClosesAs}
 use Rattle.path_drain.proofs.PathLists.{step-sends}
 use Rattle.world_run.proofs.StepLemmas.{run-append}
-use Rattle.world_run.proofs.PlainLemmas.{PlainWords, plain-spaced, decimal-plain, hex-plain, place-plain, route-plain, join-plain, fault-plain, submit-plain, whole-plain, gate-name-plain, gate-details-plain}
-
--- ---- the lines that begin so
-
--- those of a text that ends with a line feed, whatever follows it
-abbrev pub Has : List ℕ → List ℕ → List (List ℕ) → Type 0
-Has front text lines =
-    (rest : List ℕ) → lines_with front (lines_of (text ++ rest)) ≡ lines ++ lines_with front (lines_of rest)
-
-has-both : (front first more : List ℕ) (lines others : List (List ℕ)) → Has front first lines → Has front more others
-    → Has front (first ++ more) (lines ++ others)
-has-both front first more lines others has have = λ rest.
-    ap (λ (t : List ℕ). lines_with front (lines_of t)) (append_assoc first more rest)
-    ∙ (has (more ++ rest) ∙ (ap (λ ls. lines ++ ls) (have rest) ∙ sym (append_assoc lines others (lines_with front (lines_of rest)))))
-
-line-lines : (words : List (List ℕ)) (rest : List ℕ) → PlainWords words → lines_of (line_of words ++ rest) ≡ spaced words ∷ lines_of rest
-line-lines words rest plain =
-    ap lines_of (append_assoc (spaced words) (codes "\n") rest) ∙ lines-line (spaced words) rest (plain-spaced words plain)
-
-module _ (front : List ℕ) (words : List (List ℕ)) (plain : PlainWords words) where
-  has-other : begins front (spaced words) ≡ false → Has front (line_of words) []
-  unfolding lines_with
-  has-other other = λ rest. ap (lines_with front) (line-lines words rest plain) ∙ rw other refl
-
-  has-one : begins front (spaced words) ≡ true → Has front (line_of words) (spaced words ∷ [])
-  unfolding lines_with
-  has-one is = λ rest. ap (lines_with front) (line-lines words rest plain) ∙ rw is refl
+use Rattle.node_run.proofs.PlainLemmas.{PlainWords, decimal-plain, hex-plain, fault-plain, submit-plain}
+use Rattle.node_run.proofs.TextLineLemmas.{Has, has-both, has-other, has-one}
+use Rattle.world_run.proofs.PlainLemmas.{place-plain, route-plain, join-plain, whole-plain, gate-name-plain, gate-details-plain}
 
 -- ---- the kinds of lines that are told apart
 

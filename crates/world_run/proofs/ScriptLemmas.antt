@@ -1,5 +1,5 @@
 -- What `world` answers to an input, by what its lines say.
-use Rattle.std.proofs.Common.{◌≡◌, ℕ, Bool, true, false, ◌||◌, ◌≤◌, nat_lt, nat_le, List, [], ◌∷◌, ◌++◌, length, map, take, codes, Some, Result, Ok, Err, refl, sym, ap, ◌∙◌, arith, inl, inr, if◌then◌else◌}
+use Rattle.std.proofs.Common.{◌≡◌, ℕ, Bool, true, false, ◌||◌, ◌≤◌, nat_lt, nat_le, List, [], ◌∷◌, ◌++◌, length, map, take, codes, Some, Result, Ok, Err, refl, ap, ◌∙◌, arith, inl, inr, if◌then◌else◌}
 use Rattle.std.proofs.lemmas.List.{append-nil}
 use Rattle.std.proofs.lemmas.Bool.Decides.{nat_tests}
 use Rattle.edge_traits.specs.declared.status.Status.{Status}
@@ -21,10 +21,12 @@ use Rattle.path_drain.specs.Decided.{BegunAreDecided}
 use Rattle.path_drain.specs.WholeRun.{WholeRunsComplete, run_path}
 use Rattle.path_drain.specs.Drained.{DrainsAreMade, PathsAreTimed}
 use Rattle.world_run.specs.World.{PathStart, WorldState, no_path, on_path, start_in, no_moment, start_turn, world_rules, settles}
-use Rattle.world_run.specs.Headline.{DrainMakes, DrainCompletes, lines_with, datagram_lines, datagram_texts, PassesFirst, up_lines, note_lines, join_lines, end_lines, up_text, note_text, join_text, joins_in, end_texts, PlaysScript, ClosesFirst, EndsLawfully, WorldsKeepHeadline}
+use Rattle.world_run.specs.Headline.{DrainMakes, DrainCompletes, datagram_lines, datagram_texts, PassesFirst, note_lines, join_lines, end_lines, up_text, note_text, join_text, joins_in, end_texts, PlaysScript, ClosesFirst, EndsLawfully, WorldsKeepHeadline}
 use Rattle.world_run.proofs.StartLemmas.{starts_fit, starts_named, starts_takes, starts_timed}
 use Rattle.world_run.proofs.PlayLemmas.{Plays, EndsLines, plays_from, past-lines}
-use Rattle.world_run.proofs.LineLemmas.{Has, HasLines, nothing, and_then, sent_in, told_in, told_if, both-have, events-have, drained-have, closing-has, sents-append, ups-append, joins-append, notes-append}
+use Rattle.node_run.specs.TextLines.{up_lines}
+use Rattle.node_run.proofs.TextLineLemmas.{alone}
+use Rattle.world_run.proofs.LineLemmas.{HasLines, nothing, and_then, sent_in, told_in, told_if, both-have, events-have, drained-have, closing-has, sents-append, ups-append, joins-append, notes-append}
 use Rattle.world_run.proofs.JoinerLemmas.{all_joined}
 use Rattle.world_run.proofs.SendLemmas.{all_send, is_done, up_octets}
 
@@ -45,12 +47,6 @@ record Laws : Type 0 where
   arrives : WhatPassesArrives
 
 -- ---- a path is set up
-
--- what a text tells, wherever it stands alone
-alone : (front text : List ℕ) (lines : List (List ℕ)) → Has front text lines → lines_with front (lines_of text) ≡ lines
-unfolding lines_of lines_with
-alone front text lines has =
-    ap (λ (t : List ℕ). lines_with front (lines_of t)) (sym (append-nil text)) ∙ (has [] ∙ append-nil lines)
 
 module _ (longer : Bool) (s : PathSetup) (w : Path) (n : ℕ) (lines : List (List ℕ)) (settled : Settled) (plays : Plays longer s w n lines settled) where
   all-have : HasLines settled.text (and_then (told_in s w plays.events)

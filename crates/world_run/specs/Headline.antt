@@ -10,7 +10,6 @@ use Rattle.edge_traits.specs.declared.status.Status.TheVariants as statuses
 use Rattle.edge_traits.specs.Settled.{at_end}
 use Rattle.command_frame.specs.InputLines.{lines_of, lines_within}
 use Rattle.command_frame.specs.Within.{within}
-use Rattle.endpoint.specs.Endpoints.{begins}
 use Rattle.ltp_segment.specs.Spelling.{segment_octets}
 use Rattle.replay_script.specs.declared.fault.LineFault.{LineFault}
 use Rattle.replay_script.specs.declared.fault.LineFault.TheVariants as faults
@@ -40,6 +39,7 @@ use Rattle.path_drain.specs.CarriedOut.{IsReportBegun, IsReportNoted, PiecesBegi
 use Rattle.path_drain.specs.Completion.{IsCaseNotedIn}
 use Rattle.path_drain.specs.Decided.{IsBegunIn}
 use Rattle.path_drain.specs.WholeRun.{IsRunComplete, run_begun, run_path, run_ups}
+use Rattle.node_run.specs.TextLines.{lines_with, up_lines}
 use Rattle.world_run.specs.WrittenLines.{sent_words, up_words, note_words, join_words, end_words}
 use Rattle.world_run.specs.WrittenLines.{refusal_line, after_drain_line}
 use Rattle.world_run.specs.World.{PathStart, LaterLine, says_event, says_drain, start_in, line_in}
@@ -142,19 +142,10 @@ ClosesAs longer s w statuses.Memory drained n left closing = ⊥
 
 -- ---- the lines of a text, by how they begin
 
--- those that begin so
-unfoldable pub lines_with : List ℕ → List (List ℕ) → List (List ℕ)
-lines_with front [] = []
-lines_with front (line ∷ lines) =
-    if begins front line then line ∷ lines_with front lines else lines_with front lines
-
--- the lines that say that a datagram was sent or that a block came whole, the notes, what the ends'
--- joiners answered, and the lines that say that a drain ended
+-- the lines that say that a datagram was sent, the notes, what the ends' joiners answered, and the lines
+-- that say that a drain ended
 abbrev pub datagram_lines : List ℕ → List (List ℕ)
 datagram_lines text = lines_with (codes "sent ") (lines_of text)
-
-abbrev pub up_lines : List ℕ → List (List ℕ)
-up_lines text = lines_with (codes "up ") (lines_of text)
 
 abbrev pub note_lines : List ℕ → List (List ℕ)
 note_lines text = lines_with (codes "note ") (lines_of text)

@@ -15,6 +15,7 @@ use Rattle.ltp_engine.specs.declared.refused.SubmitRefused.{SubmitRefused}
 use Rattle.ltp_engine.specs.declared.refused.SubmitRefused.TheVariants as causes
 use Rattle.ltp_engine.specs.Refused.{refusal_of}
 use Rattle.ltp_engine.specs.Steps.{IsFault, IsNoFault}
+use Rattle.node_run.specs.Wanted.{HasText}
 use Rattle.path_laws.specs.declared.effects.PathEffects.{PathEffects}
 use Rattle.path_laws.specs.declared.places.PathEnd.{PathEnd}
 use Rattle.path_laws.specs.Places.{node_place}
@@ -108,6 +109,15 @@ module _ (old new : PathValue) (event : PathEvent) (effects : PathEffects) (s : 
     path = after;
     few = few;
   }
+
+  -- what it did is written
+  pub has_text : is_late event ≡ false → refused_text s w event ≡ [] → octets_in new.sent ≤ most_sent → 0 < length (told_text effects)
+      → HasText (happens_on s w event)
+  unfolding event_text
+  has_text on_time none low some =
+      let few : octets_sent (path_step s w event).path.sent ≤ most_sent = rw octets at low in
+      let test : nat_lt most_sent (octets_sent (path_step s w event).path.sent) ≡ false = grind (arith, nat_tests, few) in
+      rw (on_time, test, none, ← text) some
 
   module _ (on_time : is_late event ≡ false) (before now : List ℕ) where
     written : refused_text s w event ≡ [] → now ≡ before ++ told_text effects → now ≡ before ++ event_text s w event

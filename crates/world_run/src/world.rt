@@ -1,6 +1,6 @@
 //! A path, told by lines.
 
-ghost use Rattle.std.specs.Prelude.{◌≡◌, ◌<◌, ◌^◌, ◌++◌, ℕ, List, [], true, false, nat_lt, None, Some, IfOk, IfSome, if◌then◌else◌};
+ghost use Rattle.std.specs.Prelude.{◌≡◌, ◌<◌, ◌≤◌, ◌^◌, ◌++◌, ℕ, List, [], true, false, nat_lt, length, None, Some, IfOk, OnErr, IfSome, if◌then◌else◌};
 ghost use Rattle.std.specs.String.{string_bytes};
 ghost use Rattle.std.proofs.Props.{props};
 ghost use Rattle.edge_traits.specs.declared.status.Status.TheVariants as statuses;
@@ -10,10 +10,11 @@ ghost use Rattle.command_frame.specs.PartTask.{LeavesTurn};
 ghost use Rattle.command_frame.specs.PartLines.{TurnsPart};
 ghost use Rattle.path_laws.specs.Path.{PathSetup, Path, sends, delivers, clock_shows};
 ghost use Rattle.path_world.specs.Values.{octets_in};
-ghost use Rattle.world_run.specs.World.{WorldState, no_path, drained, world_rules, world_turn, start_turn, start_in, happens, drain_made, drains_by, line_turn, line_in, most_sent};
+ghost use Rattle.world_run.specs.World.{WorldState, no_path, drained, world_rules, world_turn, start_turn, start_in, happens, drain_made, drains_by, line_turn, line_in, most_sent, says_event, says_drain};
 ghost use Rattle.world_run.specs.WrittenLines.{refusal_line, after_drain_line, end_line};
 ghost use Rattle.world_run.specs.Shows.{StandsOn, StandsFor, told_text, steps_text};
 ghost use Rattle.world_run.specs.Telling.{StandsAs, OwesAs, ShowsWorld, at_once, due_parts, is_over};
+ghost use Rattle.world_run.specs.Wanted.{IsStirred, MayWant};
 
 use crate::script::{end_named, read_later, read_start};
 use crate::telling::Telling;
@@ -246,6 +247,9 @@ fn pass(
     ensures turn { (s : PathSetup) (w : Path) → StandsOn path.old s w
         → IfOk result (TurnsAs (StandsFor (Some path.new)) (happens s w (clock_shows now))
         (string_bytes text.old) (string_bytes text.new)) }
+    // Where no timer is due, and so nothing is to be written, no memory is wanted.
+    ensures memory { (s : PathSetup) (w : Path) → StandsOn path.old s w
+        → OnErr result (MayWant path.old (says_event (clock_shows now)) (happens s w (clock_shows now))) }
 {
     let effects = path.clock(now)?;
     tell(alloc, path, effects, text)
@@ -269,6 +273,8 @@ fn tell(
     ensures told { (state : WorldState) → IfOk result (TurnsAs (λ now. now ≡ state)
         (if nat_lt most_sent (octets_in path.now.sent) then ends_run [] statuses.Limit else passes (told_text effects) state)
         (string_bytes text.old) (string_bytes text.new)) }
+    // Memory is wanted only where there is something to write, and it is to be written.
+    ensures memory { OnErr result ((octets_in path.now.sent ≤ most_sent) × (0 < length (told_text effects))) }
 {
     if too_much_was_sent(path) {
         return Ok(Some(Status::Limit));
@@ -284,6 +290,8 @@ fn drain(path: &mut PathWorld, course: &mut Course) -> Result<Turned, AllocError
     ensures whole { IfOk result (λ turned. path.new.spent ≡ false) }
     ensures turn { (s : PathSetup) (w : Path) (text : List ℕ) → StandsOn path.old s w
         → IfOk result (TurnsPart (OwesAs course.new (Some path.new)) (drains_by s w (drain_made s w)) text text) }
+    // Where there is nothing to do, or the first event would be too late, no memory is wanted.
+    ensures memory { OnErr result (IsStirred path.old says_drain) }
 {
     drains_are_one();
     match path.drain() {

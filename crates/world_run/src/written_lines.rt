@@ -1,6 +1,6 @@
 //! The lines that `world` writes.
 
-ghost use Rattle.std.specs.Prelude.{◌≡◌, ◌++◌, OnOk};
+ghost use Rattle.std.specs.Prelude.{◌≡◌, ◌<◌, ◌++◌, OnOk, OnErr, length};
 ghost use Rattle.std.specs.List.{flat_map};
 ghost use Rattle.std.specs.String.{string_bytes};
 ghost use Rattle.ltp_session.specs.Engine.{SubmitFault};
@@ -25,7 +25,9 @@ pub fn write_effects(
     text: &mut String,
     effects: PathEffects,
 ) -> Result<(), AllocError>
-    ensures { OnOk result (string_bytes text.new ≡ string_bytes text.old ++ told_text effects) }
+    ensures written { OnOk result (string_bytes text.new ≡ string_bytes text.old ++ told_text effects) }
+    // Memory is wanted only where there is something to write.
+    ensures memory { OnErr result (0 < length (told_text effects)) }
 {
     let PathEffects {
         sent,
@@ -49,7 +51,8 @@ pub fn write_end(alloc: Global, text: &mut String, events: u64) -> Result<(), Al
 
 /// Writes the datagrams that were sent.
 fn write_all_sent(alloc: Global, text: &mut String, sent: SentList) -> Result<(), AllocError>
-    ensures { OnOk result (string_bytes text.new ≡ string_bytes text.old ++ flat_map sent_at_line sent) }
+    ensures written { OnOk result (string_bytes text.new ≡ string_bytes text.old ++ flat_map sent_at_line sent) }
+    ensures memory { OnErr result (0 < length (flat_map sent_at_line sent)) }
 {
     'each: for datagram in sent.into_vec() {
         write_sent(alloc, text, datagram)?;
@@ -72,7 +75,8 @@ fn write_sent(alloc: Global, text: &mut String, sent: SentAt) -> Result<(), Allo
 
 /// Writes the blocks that came whole.
 fn write_ups(alloc: Global, text: &mut String, ups: PlaceUps) -> Result<(), AllocError>
-    ensures { OnOk result (string_bytes text.new ≡ string_bytes text.old ++ flat_map up_line ups) }
+    ensures written { OnOk result (string_bytes text.new ≡ string_bytes text.old ++ flat_map up_line ups) }
+    ensures memory { OnErr result (0 < length (flat_map up_line ups)) }
 {
     'each: for up in ups.into_vec() {
         write_up(alloc, text, up)?;
@@ -100,7 +104,8 @@ fn write_up(alloc: Global, text: &mut String, up: UpAt) -> Result<(), AllocError
 
 /// Writes what the ends' joiners answered.
 fn write_joins(alloc: Global, text: &mut String, joins: PlaceJoins) -> Result<(), AllocError>
-    ensures { OnOk result (string_bytes text.new ≡ string_bytes text.old ++ flat_map join_line joins) }
+    ensures written { OnOk result (string_bytes text.new ≡ string_bytes text.old ++ flat_map join_line joins) }
+    ensures memory { OnErr result (0 < length (flat_map join_line joins)) }
 {
     'each: for join in joins.into_vec() {
         write_join(alloc, text, join)?;
@@ -125,7 +130,8 @@ fn write_join(alloc: Global, text: &mut String, join: JoinAt) -> Result<(), Allo
 
 /// Writes notes.
 fn write_notes(alloc: Global, text: &mut String, notes: PlaceNotes) -> Result<(), AllocError>
-    ensures { OnOk result (string_bytes text.new ≡ string_bytes text.old ++ flat_map note_line notes) }
+    ensures written { OnOk result (string_bytes text.new ≡ string_bytes text.old ++ flat_map note_line notes) }
+    ensures memory { OnErr result (0 < length (flat_map note_line notes)) }
 {
     'each: for noted in notes.into_vec() {
         write_note(alloc, text, noted)?;

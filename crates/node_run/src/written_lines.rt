@@ -114,8 +114,8 @@ fn write_notes(alloc: Global, text: &mut String, notes: Notes) -> Result<(), All
     ensures written { OnOk result (string_bytes text.new ≡ string_bytes text.old ++ flat_map (note_line None) notes) }
     ensures memory { OnErr result (0 < length (flat_map (note_line None) notes)) }
 {
-    'each: for note in notes.into_vec()? {
-        write_note(alloc, text, note)?;
+    'each: for note in notes.as_slice() {
+        write_note(alloc, text, *note)?;
     }
     Ok(())
 }

@@ -1,5 +1,5 @@
 -- What the code comes to is the definition's answer.
-use Rattle.std.proofs.Common.{◌≡◌, ℕ, ◌+◌, true, false, List, [], ◌++◌, length, Result, Ok, Err, IsErrAnd, String, refl, sym, ap, ◌∙◌, arith}
+use Rattle.std.proofs.Common.{◌≡◌, ℕ, ◌+◌, true, false, List, [], ◌++◌, length, Result, Ok, Err, IsErrAnd, String, inl, inr, refl, sym, ap, ◌∙◌, arith}
 use Rattle.std.proofs.Math.Path.{subst}
 use Rattle.std.proofs.lemmas.List.{append-nil}
 use Rattle.edge_traits.specs.declared.status.Status.TheVariants as statuses
@@ -16,7 +16,8 @@ use Rattle.path_world.specs.Values.{PathValue, setup_of}
 use Rattle.path_world.specs.Shows.{ShowsRun}
 use Rattle.world_run.specs.Shows.{StandsOn}
 use Rattle.path_laws.specs.Log.{ups_in}
-use Rattle.world_run.specs.World.{octets_sent, events_text, drain_text, drain_made, drains_by}
+use Rattle.world_run.specs.World.{says_drain, octets_sent, events_text, drain_text, drain_made, drains_by}
+use Rattle.world_run.specs.Wanted.{MayWant}
 use Rattle.world_run.proofs.StepLemmas.{run-append}
 use Rattle.make_run.specs.declared.making.Making.{Making}
 use Rattle.make_run.specs.declared.stop.Stop.{Stop}
@@ -24,9 +25,11 @@ use Rattle.make_run.specs.declared.stop.Stop.TheVariants as stops
 use Rattle.make_run.specs.Script.{the_setup, the_start, plans, events_of, script_of}
 use Rattle.make_run.specs.Making.{is_over, is_past, sum_after, count_at_ends, done_by, made_line, answer_to, answer_of}
 use Rattle.make_run.specs.Runs.{RanMade}
+use Rattle.make_run.specs.Wanted.{RunsOut}
 use Rattle.make_run.specs.Ties.{SoFar, Leaves, PlaysUpTo, Drained, MadeAs, with_line, past_limit, done_so}
 use Rattle.make_run.proofs.RunLemmas.{sum-append, ups-append}
 use Rattle.make_run.proofs.PlayLemmas.{count-append}
+use Rattle.make_run.proofs.DrainLemmas.{going-text}
 
 -- ---- the beginning, and the end
 
@@ -135,13 +138,32 @@ module _ (seed count : ℕ) (m : Making) where
         made-so the_setup the_start count (script_of seed count)
         (drain_made the_setup (path_run the_setup the_start (script_of seed count))) m script-played new events done
 
+    -- memory ran out in the drain, or for what is written of it
+    pub drained-out : MayWant m.path says_drain (drains_by the_setup (path_run the_setup the_start (script_of seed count))
+        (drain_made the_setup (path_run the_setup the_start (script_of seed count)))) → RunsOut seed count
+    drained-out wants = inr (record {
+      fits = script-played.fits;
+      path = m.path;
+      stands = script-played.stands;
+      wants = wants;
+    })
+
+    pub line-out : (new : Making) (events : ℕ)
+        → Drained the_setup (path_run the_setup the_start (script_of seed count))
+        (drain_made the_setup (path_run the_setup the_start (script_of seed count))) m new events
+        → RunsOut seed count
+    line-out new events done =
+        drained-out (inl (going-text the_setup (path_run the_setup the_start (script_of seed count))
+        (drain_made the_setup (path_run the_setup the_start (script_of seed count))) done.goes_on))
+
 -- ---- where it stops
 
-pub made-stops : {A : Type 0} (due : Settled) (stop : Stop) → (stop ≡ stops.Limit → due ≡ past_limit)
-    → (result : Result (String A) Stop) → IsErrAnd result (λ other. other ≡ stop) → MadeAs due result
-made-stops due stop limit (Ok line) is = absurd is
-made-stops due stop limit (Err stops.Limit) is = limit (sym is)
-made-stops due stop limit (Err stops.Memory) is = tt
+pub made-stops : {A : Type 0} (seed count : ℕ) (stop : Stop) → (stop ≡ stops.Limit → answer_of seed count ≡ past_limit)
+    → (stop ≡ stops.Memory → RunsOut seed count)
+    → (result : Result (String A) Stop) → IsErrAnd result (λ other. other ≡ stop) → MadeAs seed count result
+made-stops seed count stop limit memory (Ok line) is = absurd is
+made-stops seed count stop limit memory (Err stops.Limit) is = limit (sym is)
+made-stops seed count stop limit memory (Err stops.Memory) is = memory (sym is)
 
 -- ---- nothing is written
 

@@ -14,8 +14,11 @@ use Rattle.path_world.specs.declared.drained.PathDrained.{PathDrained}
 use Rattle.path_world.specs.Drain.{DrainsAll, DrainsUntilLate, done_in, ups_told}
 use Rattle.path_world.specs.Shows.{path_after}
 use Rattle.path_world.specs.Values.{PathValue, setup_of, octets_in, spelled, effects_told}
-use Rattle.world_run.specs.WrittenLines.{end_line}
-use Rattle.world_run.specs.World.{drained, no_moment, octets_sent, most_sent, events_text, clean_after, drain_made, drain_text, drains_by}
+use Rattle.world_run.specs.WrittenLines.{end_words, end_line}
+use Rattle.node_run.specs.Wanted.{HasText}
+use Rattle.node_run.proofs.TextLineLemmas.{line-some, some-after}
+use Rattle.world_run.specs.Wanted.{MayWant}
+use Rattle.world_run.specs.World.{says_drain, is_late_if_any, if_kept, drained, no_moment, octets_sent, most_sent, events_text, clean_after, drain_made, drain_text, drains_by}
 use Rattle.world_run.specs.Shows.{StandsOn, steps_text}
 use Rattle.world_run.proofs.StepLemmas.{run-append}
 use Rattle.world_run.proofs.DrainLemmas.{late_turn, clean-text, none-follows, made-is, drained_octets}
@@ -87,6 +90,23 @@ module _ (one : DrainsAreOne) (old new : PathValue) (s : PathSetup) (w : Path) (
       moved (Told done new) s (setup_of old) w begins (drain_made s w) made stands.setup stands.path
       (made-is one old new s w stands same made ends) told-there
 
+-- ---- what is written of it
+
+-- where the run goes on there is
+pub going-text : (s : PathSetup) (w : Path) (made : List PathEvent) → is_over (drains_by s w made) ≡ false → HasText (drains_by s w made)
+going-text s w made = by_late (is_late_if_any (clean_after s w made))
+  where
+    by_most : (t : Bool) → is_over (if t then ends_run [] statuses.Limit else passes (drain_text s w made) drained) ≡ false
+        → HasText (if t then ends_run [] statuses.Limit else passes (drain_text s w made) drained)
+    by_most true on = absurd (cc)
+    by_most false on = some-after (events_text s w made) (end_line (length made)) (line-some (end_words (length made)))
+
+    by_late : (t : Bool)
+        → is_over (if t then ends_run [] statuses.Limit else if_kept (drain_text s w made) (path_run s w made) drained) ≡ false
+        → HasText (if t then ends_run [] statuses.Limit else if_kept (drain_text s w made) (path_run s w made) drained)
+    by_late true on = absurd (cc)
+    by_late false on = by_most (nat_lt most_sent (octets_sent (path_run s w made).sent)) on
+
 -- ---- what the code takes of it
 
 module _ (old mid new : Making) (s : PathSetup) (w : Path) (made : List PathEvent) (done : PathDrained)
@@ -103,6 +123,12 @@ module _ (old mid new : Making) (s : PathSetup) (w : Path) (made : List PathEven
   drain-past past =
       let high : most_sent < octets_sent (path_run s w made).sent = rw told.octets at past in
       over-by ∙ grind (arith, nat_tests, high)
+
+  -- there are its lines to write
+  pub drain-has : octets_in mid.path.sent ≤ most_sent → HasText (drains_by s w made)
+  drain-has few =
+      let low : octets_sent (path_run s w made).sent ≤ most_sent = rw told.octets at few in
+      going-text s w made (over-by ∙ grind (arith, nat_tests, low))
 
   pub drain-done : octets_in mid.path.sent ≤ most_sent
       → Takes mid new (steps_text done.effects ++ end_line done.events) (count_at_ends (ups_told done.effects))
@@ -133,3 +159,10 @@ pub drain-stops : (s : PathSetup) (w : Path) (made : List PathEvent) (old new : 
 drain-stops s w made old new stop limit over (Ok events) is = absurd is
 drain-stops s w made old new stop limit over (Err stops.Limit) is = over
 drain-stops s w made old new stop limit over (Err stops.Memory) is = absurd (cc)
+
+-- memory ran out where it may be wanted
+pub drain-out : (s : PathSetup) (w : Path) (made : List PathEvent) (old new : Making) → MayWant old.path says_drain (drains_by s w made)
+    → (result : Result ℕ Stop) → IsErrAnd result (λ other. other ≡ stops.Memory) → DrainsTo s w made old new result
+drain-out s w made old new wants (Ok events) is = absurd is
+drain-out s w made old new wants (Err stops.Limit) is = absurd (cc)
+drain-out s w made old new wants (Err stops.Memory) is = wants

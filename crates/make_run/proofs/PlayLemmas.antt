@@ -1,9 +1,10 @@
 -- An event that the code plays is that of the definition.
-use Rattle.std.proofs.Common.{◌≡◌, ℕ, ◌+◌, ◌%◌, ◌^◌, ◌==◌, ◌<◌, ◌≤◌, eq-eqb, Bool, true, false, ◌||◌, nat_lt, List, [], ◌∷◌, ◌++◌, length, cond, zero, suc, ◌-◌, Result, Ok, Err, OnOk, IsErrAnd, refl, sym, ap, ◌∙◌, append_assoc, arith, if◌then◌else◌}
+use Rattle.std.proofs.Common.{◌≡◌, ℕ, ◌+◌, ◌%◌, ◌^◌, ◌==◌, ◌<◌, ◌≤◌, eq-eqb, Bool, true, false, ◌||◌, nat_lt, List, [], ◌∷◌, ◌++◌, length, cond, zero, suc, ◌-◌, Result, Ok, Err, OnOk, OnErr, IsErrAnd, refl, sym, ap, ◌∙◌, append_assoc, arith, if◌then◌else◌}
 use Rattle.std.proofs.lemmas.Bool.Decides.{nat_tests}
 use Rattle.std.proofs.Math.Path.{subst}
 use Rattle.std.proofs.lemmas.List.{append-nil}
 use Rattle.std.proofs.lemmas.Grind.{flat_map-append}
+use Rattle.std.specs.List.{flat_map}
 use Rattle.std.proofs.lemmas.Option.{slice_get_past}
 use Rattle.std.proofs.lemmas.List.Sums.{sum_by-append}
 use Rattle.edge_traits.specs.declared.status.Status.TheVariants as statuses
@@ -22,9 +23,11 @@ use Rattle.path_world.specs.Values.{PathValue, octets_in, nothing_told}
 use Rattle.path_world.specs.Shows.{path_after}
 use Rattle.path_world.specs.Steps.{Happens, Stays, OfSend}
 use Rattle.path_world.specs.Drain.{ups_told}
-use Rattle.world_run.specs.Shows.{StandsOn, told_text, steps_text}
-use Rattle.world_run.specs.World.{happens, on_path, is_late, octets_sent, most_sent, unless_sent, unless_there, refused_text, event_text, events_text}
-use Rattle.world_run.specs.WrittenLines.{effects_text, send_refusal, deliver_refusal}
+use Rattle.world_run.specs.Shows.{StandsOn, sent_at_line, told_text, steps_text}
+use Rattle.node_run.proofs.TextLineLemmas.{line-some, lines-some, some-after, some-before}
+use Rattle.world_run.specs.Wanted.{MayWant}
+use Rattle.world_run.specs.World.{says_event, happens, on_path, is_late, octets_sent, most_sent, unless_sent, unless_there, refused_text, event_text, events_text}
+use Rattle.world_run.specs.WrittenLines.{up_words, up_line, effects_text, send_refusal, deliver_refusal}
 use Rattle.world_run.proofs.StepLemmas.{run-append, same-length, text, octets, stands_after, octets-are, nothing-told, of_send}
 use Rattle.make_run.specs.declared.making.Making.{Making}
 use Rattle.make_run.specs.declared.stop.Stop.{Stop}
@@ -86,13 +89,14 @@ module _ (old mid new : Making) (event : PathEvent) (effects : PathEffects) (s :
 
     pub plays-done : (result : Result (Unit {0}) Stop) → OnOk result (octets_in mid.path.sent ≤ most_sent)
         → (result ≡ Err stops.Limit → most_sent < octets_in mid.path.sent)
-        → OnOk result (Takes mid new (told_text effects) (count_at_ends effects.ups)) → Plays s w event old new result
-    plays-done (Ok x) few past takes = done few takes
-    plays-done (Err stops.Limit) few past takes =
+        → OnOk result (Takes mid new (told_text effects) (count_at_ends effects.ups))
+        → (result ≡ Err stops.Memory → MayWant old.path (says_event event) (happens s w event)) → Plays s w event old new result
+    plays-done (Ok x) few past takes wants = done few takes
+    plays-done (Err stops.Limit) few past takes wants =
         let octets-are = octets old.path mid.path event effects s w stands does in
         let high : most_sent < octets_sent (path_step s w event).path.sent = rw octets-are at (past refl) in
         over-octets s w event early ∙ grind (arith, nat_tests, high)
-    plays-done (Err stops.Memory) few past takes = tt
+    plays-done (Err stops.Memory) few past takes wants = wants refl
 
 -- an event was not done, and that was written
 module _ (old mid new : Making) (event : PathEvent) (s : PathSetup) (w : Path) (stands : StandsOn old.path s w)
@@ -124,6 +128,29 @@ module _ (old mid new : Making) (event : PathEvent) (s : PathSetup) (w : Path) (
           ups = rw (no-ups, ← ups) takes.ups;
         };
       }
+
+-- ---- where memory ran out
+
+-- blocks that came whole have lines
+pub ups-text : (e : PathEffects) → 0 < length e.ups → 0 < length (told_text e)
+unfolding told_text
+ups-text e some =
+    some-after (flat_map sent_at_line e.sent) _ (some-before (flat_map up_line e.ups) _ (lines-some up_line (λ up. line-some (up_words up)) e.ups some))
+
+pub ups-wanted : {T E : Type 0} (e : PathEffects) → 0 < length e.ups → (result : Result T E) → OnErr result (0 < length (told_text e))
+ups-wanted e some (Ok x) = tt
+ups-wanted e some (Err fault) = ups-text e some
+
+pub count-some : (ups : List UpAt) → 0 < count_at_ends ups → 0 < length ups
+count-some [] some = absurd (omega (arith, some))
+count-some (up ∷ ups) some = omega arith
+
+-- where it may be wanted
+pub plays-out : (s : PathSetup) (w : Path) (event : PathEvent) (old new : Making) → MayWant old.path (says_event event) (happens s w event)
+    → (result : Result (Unit {0}) Stop) → IsErrAnd result (λ other. other ≡ stops.Memory) → Plays s w event old new result
+plays-out s w event old new wants (Ok x) is = absurd is
+plays-out s w event old new wants (Err stops.Limit) is = absurd (cc)
+plays-out s w event old new wants (Err stops.Memory) is = wants
 
 -- ---- one more event
 
@@ -197,7 +224,16 @@ module _ (s : PathSetup) (w : Path) (script : List PathEvent) (plan : Plan) (mor
       let over = plays at leaves.so_far.stands in
       ap (is_past s w) script-is
       ∙ (past-one s w leaves.played event leaves.so_far.fits (events_of s (path_step s at event).path more) ∙ rw over refl)
-  plays-on (Err stops.Memory) plays = tt
+  plays-on (Err stops.Memory) plays = record {
+    earlier = leaves.played;
+    event = event;
+    later = events_of s (path_step s at event).path more;
+    script_is = script-is;
+    fits = leaves.so_far.fits;
+    path = old.path;
+    stands = leaves.so_far.stands;
+    wants = plays at leaves.so_far.stands;
+  }
 
 -- ---- which event is planned
 
@@ -262,7 +298,7 @@ stops-so s w script plans more old new stop past (Err other) is = same-stop s w 
     same-stop : (s : PathSetup) (w : Path) (script : List PathEvent) (plans more : List Plan) (old new : Making) (stop : Stop)
         → PlaysUpTo s w script plans old (Err stop) → PlaysUpTo s w script more new (Err stop)
     same-stop s w script plans more old new stops.Limit past = past
-    same-stop s w script plans more old new stops.Memory past = tt
+    same-stop s w script plans more old new stops.Memory past = past
 
 -- ---- rounds
 

@@ -4,5 +4,7 @@ pub mod Bundles
 pub mod Script
 pub mod Making
 pub mod Runs
+-- where its answer may be want of memory
+pub mod Wanted
 -- what only ties code to these
 pub mod Ties

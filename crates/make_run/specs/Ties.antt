@@ -6,12 +6,14 @@ use Rattle.edge_traits.specs.Settled.{Settled}
 use Rattle.path_laws.specs.Path.{PathSetup, Path, PathEvent, path_step, path_run}
 use Rattle.path_laws.specs.Log.{ups_in}
 use Rattle.world_run.specs.Shows.{StandsOn}
-use Rattle.world_run.specs.World.{happens, event_text, events_text, drains_by, drain_text}
+use Rattle.world_run.specs.World.{says_event, says_drain, happens, event_text, events_text, drains_by, drain_text}
+use Rattle.world_run.specs.Wanted.{MayWant}
 use Rattle.make_run.specs.declared.making.Making.{Making}
 use Rattle.make_run.specs.declared.stop.Stop.{Stop}
 use Rattle.make_run.specs.declared.stop.Stop.TheVariants as stops
 use Rattle.make_run.specs.Script.{Plan, events_of}
-use Rattle.make_run.specs.Making.{is_over, is_past, sum_after, count_at_ends, Done}
+use Rattle.make_run.specs.Making.{is_over, is_past, sum_after, count_at_ends, Done, answer_of}
+use Rattle.make_run.specs.Wanted.{RunsOutIn, RunsOut}
 
 -- ---- one step
 
@@ -27,11 +29,11 @@ pub record Played (s : PathSetup) (w : Path) (event : PathEvent) (old new : Maki
   pub takes :
       Takes old new (event_text s w event) (count_at_ends (path_step s w event).effects.ups)
 
--- or `world` ends with it
+-- or `world` ends with it; or memory ran out where it may be wanted
 abbrev pub Plays : PathSetup → Path → PathEvent → Making → Making → Result (Unit {0}) Stop → Type 0
 Plays s w event old new (Ok x) = Played s w event old new
 Plays s w event old new (Err stops.Limit) = is_over (happens s w event) ≡ true
-Plays s w event old new (Err stops.Memory) = Unit {0}
+Plays s w event old new (Err stops.Memory) = MayWant old.path (says_event event) (happens s w event)
 
 -- ---- so far
 
@@ -49,11 +51,11 @@ pub record Leaves (s : PathSetup) (w : Path) (script : List PathEvent) (plans : 
   pub so_far : SoFar s w played m
   pub goes_on : script ≡ played ++ events_of s (path_run s w played) plans
 
--- a script was played on up to some plans that are left, or `world` ends in it
+-- a script was played on up to some plans that are left; or `world` ends in it; or memory ran out in it
 abbrev pub PlaysUpTo : PathSetup → Path → List PathEvent → List Plan → Making → Result (Unit {0}) Stop → Type 0
 PlaysUpTo s w script plans m (Ok x) = Leaves s w script plans m
 PlaysUpTo s w script plans m (Err stops.Limit) = is_past s w script ≡ true
-PlaysUpTo s w script plans m (Err stops.Memory) = Unit {0}
+PlaysUpTo s w script plans m (Err stops.Memory) = RunsOutIn s w script
 
 -- ---- the drain
 
@@ -65,11 +67,11 @@ pub record Drained (s : PathSetup) (w : Path) (made : List PathEvent) (old new :
   pub takes : Takes old new (drain_text s w made) (count_at_ends (ups_in s w made))
   pub sent : length new.path.sent ≡ length (path_run s w made).sent
 
--- or `world` ends with it
+-- or `world` ends with it; or memory ran out where it may be wanted
 abbrev pub Drains : PathSetup → Path → List PathEvent → Making → Making → Result ℕ Stop → Type 0
 Drains s w made old new (Ok events) = Drained s w made old new events
 Drains s w made old new (Err stops.Limit) = is_over (drains_by s w made) ≡ true
-Drains s w made old new (Err stops.Memory) = Unit {0}
+Drains s w made old new (Err stops.Memory) = MayWant old.path says_drain (drains_by s w made)
 
 -- what was done, by what was counted
 abbrev pub done_so : Making → ℕ → Done
@@ -83,8 +85,8 @@ with_line line = record { text = line; ends = Some statuses.Done }
 abbrev pub past_limit : Settled
 past_limit = record { text = []; ends = Some statuses.Limit }
 
--- the answer is this line, or that the limit is passed
-abbrev pub MadeAs : {A : Type 0} → Settled → Result (String A) Stop → Type 0
-MadeAs due (Ok line) = due ≡ with_line (string_bytes line)
-MadeAs due (Err stops.Limit) = due ≡ past_limit
-MadeAs due (Err stops.Memory) = Unit {0}
+-- the answer to a seed and a number of sends is this line, or that the limit is passed; or memory ran out
+abbrev pub MadeAs : {A : Type 0} → ℕ → ℕ → Result (String A) Stop → Type 0
+MadeAs seed count (Ok line) = answer_of seed count ≡ with_line (string_bytes line)
+MadeAs seed count (Err stops.Limit) = answer_of seed count ≡ past_limit
+MadeAs seed count (Err stops.Memory) = RunsOut seed count

@@ -1,6 +1,6 @@
 //! A path on which a script is played, and what is kept of its transcript.
 
-ghost use Rattle.std.specs.Prelude.{◌≡◌, ◌<◌, ◌≤◌, ◌^◌, ◌+◌, ◌++◌, ℕ, [], false, length, OnOk, IfErr, Err};
+ghost use Rattle.std.specs.Prelude.{◌≡◌, ◌<◌, ◌≤◌, ◌^◌, ◌+◌, ◌++◌, ℕ, [], false, length, OnOk, OnErr, IfErr, Err};
 ghost use Rattle.std.specs.String.{string_bytes};
 ghost use Rattle.gateway_core.specs.Config.{IsGateConfig};
 ghost use Rattle.ltp_segment.specs.PolicyViews.{policy_value};
@@ -189,6 +189,9 @@ impl Making {
         ensures past { result ≡ Err Stop.Limit → most_sent < octets_in self.old.path.sent }
         ensures path { self.new.path ≡ self.old.path }
         ensures takes { OnOk result (Takes self.old self.new (told_text effects) (count_at_ends effects.ups)) }
+        // Memory is wanted only where there is something to write, and it is to be written.
+        ensures memory { result ≡ Err Stop.Memory
+            → (octets_in self.old.path.sent ≤ most_sent) × (0 < length (told_text effects)) }
     {
         self.stay_within()?;
         self.take(effects)?;
@@ -221,6 +224,7 @@ impl Making {
     fn take(&mut self, effects: PathEffects) -> Result<(), AllocError>
         ensures path { self.new.path ≡ self.old.path }
         ensures takes { OnOk result (Takes self.old self.new (told_text effects) (count_at_ends effects.ups)) }
+        ensures memory { OnErr result (0 < length (told_text effects)) }
     {
         self.count(effects.ups.as_slice())?;
         self.text.clear();
@@ -269,6 +273,7 @@ impl Making {
         ensures counts { OnOk result (self.new.ups ≡ self.old.ups + count_at_ends ups.now) }
         ensures sum { self.new.sum ≡ self.old.sum }
         ensures path { self.new.path ≡ self.old.path }
+        ensures memory { OnErr result (0 < length ups.now) }
     {
         let more = count_at_ends(ups) as u64;
         self.ups = self.ups.checked_add(more).ok_or(AllocError)?;

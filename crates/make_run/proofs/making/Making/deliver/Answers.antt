@@ -1,4 +1,4 @@
-use Rattle.std.proofs.Common.{refl}
+use Rattle.std.proofs.Common.{refl, inr}
 use Rattle.std.proofs.Math.Path.{subst}
 use Rattle.path_laws.specs.Path.{delivers}
 use Rattle.world_run.proofs.StepLemmas.{delivered_whole}
@@ -13,7 +13,7 @@ returns-in-Ok-clause-plays c = λ s w stands.
     (plays-done c.args.self.now (record c.args.self.now { path = c.deliver.new.self }) c.tell.new.self (delivers c.one_of_last-k.result)
     c.in-Ok.effects s w stands c.in-Ok.ensures.does.1 refl refl c.tell.ensures.path refl
     (delivered_whole c.args.self.now.path c.deliver.new.self c.one_of_last-k.result s w stands c.in-Ok.ensures.does.0)
-    c.tell.result c.tell.ensures.few c.tell.ensures.past c.tell.ensures.takes)
+    c.tell.result c.tell.ensures.few c.tell.ensures.past c.tell.ensures.takes (λ is. inr tt))
 
 pub returns-in_ok-take_undelivered-in-Err-NoSuchDatagram : goal.returns-in_ok-take_undelivered-in-Err-NoSuchDatagram
 returns-in_ok-take_undelivered-in-Err-NoSuchDatagram c =

@@ -1,4 +1,4 @@
-use Rattle.std.proofs.Common.{refl, ◌∙◌}
+use Rattle.std.proofs.Common.{refl, inl, ◌∙◌}
 use Rattle.path_drain.proofs.OneDrain.{drains-are-one}
 use Rattle.path_world.specs.Drain.{ups_told}
 use Rattle.world_run.specs.World.{drain_made}
@@ -6,7 +6,7 @@ use Rattle.world_run.specs.WrittenLines.{end_line}
 use Rattle.world_run.specs.Shows.{steps_text}
 use Rattle.make_run.specs.Making.{count_at_ends}
 use Rattle.make_run.proofs.PlayLemmas.{takes-end}
-use Rattle.make_run.proofs.DrainLemmas.{told-so, drain-past, drain-done, drain-late, drain-stops}
+use Rattle.make_run.proofs.DrainLemmas.{told-so, drain-past, drain-done, drain-late, drain-stops, drain-has, drain-out}
 use Rattle.make_run.proofs.making.Making.drain.Goals as goal
 
 pub returns-in_err-stay_within-in-Ok : goal.returns-in_err-stay_within-in-Ok
@@ -36,3 +36,21 @@ returns-in-Err-TooLate c =
     λ s w stands.
     drain-late drains-are-one c.args.self.now.path c.drain.new.self s w stands late.setup
     (late.run stands.start stands.events stands.run)
+
+pub returns-in_err-take_all-in-Ok : goal.returns-in_err-take_all-in-Ok
+returns-in_err-take_all-in-Ok c = λ s w stands.
+    let told = told-so drains-are-one c.args.self.now.path c.drain.new.self s w stands c.in-Ok.ensures.does.setup c.in-Ok.field-0
+    (c.in-Ok.ensures.does.run stands.start stands.events stands.run) in
+    drain-out s w (drain_made s w) c.args.self.now c.take_all.new.self
+    (inl (drain-has c.args.self.now (record c.args.self.now { path = c.drain.new.self }) c.take_all.new.self
+    s w (drain_made s w) c.in-Ok.field-0 told refl refl c.in_ok-stay_within-in-Ok.ensures.few))
+    c.from_residual-in_err-take_all-in-Ok.result c.from_residual-in_err-take_all-in-Ok.ensures.1
+
+pub returns-in_err-take_end-in-Ok : goal.returns-in_err-take_end-in-Ok
+returns-in_err-take_end-in-Ok c = λ s w stands.
+    let told = told-so drains-are-one c.args.self.now.path c.drain.new.self s w stands c.in-Ok.ensures.does.setup c.in-Ok.field-0
+    (c.in-Ok.ensures.does.run stands.start stands.events stands.run) in
+    drain-out s w (drain_made s w) c.args.self.now c.take_end.new.self
+    (inl (drain-has c.args.self.now (record c.args.self.now { path = c.drain.new.self }) c.take_end.new.self
+    s w (drain_made s w) c.in-Ok.field-0 told refl refl c.in_ok-stay_within-in-Ok.ensures.few))
+    c.from_residual-in_err-take_end-in-Ok.result c.from_residual-in_err-take_end-in-Ok.ensures.1

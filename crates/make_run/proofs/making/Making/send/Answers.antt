@@ -1,4 +1,4 @@
-use Rattle.std.proofs.Common.{refl}
+use Rattle.std.proofs.Common.{refl, inr}
 use Rattle.path_laws.specs.Path.{sends}
 use Rattle.world_run.proofs.StepLemmas.{sent_whole, refused-so}
 use Rattle.make_run.proofs.PlayLemmas.{plays-done, sends-refused}
@@ -9,7 +9,7 @@ returns-in-Ok-clause-plays c = λ s w stands.
     plays-done c.args.self.now (record c.args.self.now { path = c.send.new.self }) c.tell.new.self (sends c.args.end c.args.bundle.now)
     c.in-Ok.effects s w stands c.in-Ok.ensures.does.0 refl refl c.tell.ensures.path refl
     (sent_whole c.args.self.now.path c.send.new.self c.args.end c.args.bundle.now s w stands c.in-Ok.ensures.does.1)
-    c.tell.result c.tell.ensures.few c.tell.ensures.past c.tell.ensures.takes
+    c.tell.result c.tell.ensures.few c.tell.ensures.past c.tell.ensures.takes (λ is. inr tt)
 
 pub returns-in_ok-take_unsent-in_default : goal.returns-in_ok-take_unsent-in_default
 returns-in_ok-take_unsent-in_default c =

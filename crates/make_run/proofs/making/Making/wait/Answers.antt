@@ -1,7 +1,7 @@
-use Rattle.std.proofs.Common.{◌≡◌, ◌+◌, ◌<◌, ◌^◌, refl, arith}
+use Rattle.std.proofs.Common.{◌≡◌, ◌+◌, ◌<◌, ◌^◌, refl, inl, arith}
 use Rattle.std.proofs.Math.Path.{subst}
 use Rattle.path_laws.specs.Path.{clock_shows}
-use Rattle.world_run.proofs.StepLemmas.{on_time}
+use Rattle.world_run.proofs.StepLemmas.{on_time, has_text}
 use Rattle.make_run.specs.Ties.{Plays}
 use Rattle.make_run.proofs.PlayLemmas.{plays-done, waits-as}
 use Rattle.make_run.proofs.making.Making.wait.Goals as goal
@@ -15,4 +15,7 @@ returns-clause-plays c = λ s w stands.
     (plays-done c.args.self.now (record c.args.self.now { path = c.clock.new.self }) c.tell.new.self (clock_shows c.saturating_add-now.result)
     c.in_ok-effects.effects s w stands c.in_ok-effects.ensures.done.happens refl refl c.tell.ensures.path
     (on_time c.saturating_add-now.result early) refl
-    c.tell.result c.tell.ensures.few c.tell.ensures.past c.tell.ensures.takes)
+    c.tell.result c.tell.ensures.few c.tell.ensures.past c.tell.ensures.takes
+    (λ is. let wanted = c.tell.ensures.memory is in
+    inl (has_text c.args.self.now.path c.clock.new.self (clock_shows c.saturating_add-now.result) c.in_ok-effects.effects s w stands
+    c.in_ok-effects.ensures.done.happens (on_time c.saturating_add-now.result early) refl wanted.0 wanted.1)))

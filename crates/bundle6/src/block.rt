@@ -13,9 +13,8 @@ use crate::fault::{Cause6, Fail6, Refused6};
 use crate::fields::{number, octet, octets};
 use crate::flags::{LAST, REFS, has_bit, without};
 use crate::names::{Offsets, place_in};
-use endpoint::{Fragment, Octets, Place, PlaceList, Refs, Texts};
+use endpoint::{Fragment, Listed, Octets, Place, PlaceList, Refs, Texts};
 use std::alloc::{AllocError, Global};
-use std::marker::Model;
 
 /// The type of the payload block.
 pub(crate) const PAYLOAD: u8 = 1;
@@ -36,68 +35,7 @@ pub struct Block6 {
 }
 
 /// A list of blocks.
-#[derive(Debug, Drop)]
-pub struct Blocks6 {
-    items: Vec<Block6>,
-}
-
-impl Model for Blocks6 {
-    ghost use Rattle.std.specs.Prelude.{List};
-    ghost use Rattle.bundle6.specs.declared.block.Block6.{Block6};
-
-    ghost Value = { List Block6 };
-
-    ghost view = { λ blocks. blocks.items.items };
-}
-
-impl Blocks6 {
-    /// No blocks yet. It takes no memory.
-    pub fn new(alloc: Global) -> Blocks6
-        ensures { result ≡ [] }
-    {
-        Blocks6 {
-            items: Vec::new(alloc),
-        }
-    }
-
-    /// These blocks, moved and not copied.
-    pub fn from_vec(items: Vec<Block6>) -> Blocks6
-        ensures { result ≡ items.items }
-    {
-        Blocks6 { items }
-    }
-
-    /// The blocks, moved and not copied.
-    pub fn into_vec(self) -> Vec<Block6>
-        ensures { result.items ≡ self }
-    {
-        let Blocks6 { items } = self;
-        items
-    }
-
-    /// The blocks, lent.
-    pub fn as_slice(&self) -> &[Block6]
-        ensures { result.now ≡ self.now }
-    {
-        self.items.as_slice()
-    }
-
-    /// How many blocks there are.
-    pub fn len(&self) -> usize
-        ensures { result ≡ length self.now }
-    {
-        self.items.len()
-    }
-
-    /// Adds a block at the end. Where memory runs out the list stays as it was.
-    pub fn push(&mut self, block: Block6) -> Result<(), AllocError>
-        ensures ok { OnOk result (self.new ≡ self.old ++ block ∷ []) }
-        ensures err { OnErr result (self.new ≡ self.old) }
-    {
-        self.items.push(block)?;
-        Ok(())
-    }
-}
+pub type Blocks6 = Listed<Block6>;
 
 /// The blocks so far, as far as they decide on the next.
 #[derive(Clone, Copy)]

@@ -14,9 +14,8 @@ use crate::fault::{Cause7, Refused7};
 use crate::fields::{item, octets, unsigned};
 use crate::primary::crc_type_at;
 use crate::seen::Seen;
-use endpoint::{Fragment, Octets};
+use endpoint::{Fragment, Listed, Octets};
 use std::alloc::{AllocError, Global};
-use std::marker::Model;
 use wire_fields::{ARRAY, BYTE_STRING};
 
 /// The block type of the payload.
@@ -39,59 +38,7 @@ pub struct Block7 {
 }
 
 /// A list of blocks.
-#[derive(Debug, Drop)]
-pub struct Blocks7 {
-    items: Vec<Block7>,
-}
-
-impl Model for Blocks7 {
-    ghost use Rattle.std.specs.Prelude.{List};
-    ghost use Rattle.bundle7.specs.declared.block.Block7.{Block7};
-
-    ghost Value = { List Block7 };
-
-    ghost view = { λ blocks. blocks.items.items };
-}
-
-impl Blocks7 {
-    /// No blocks yet. It takes no memory.
-    pub fn new(alloc: Global) -> Blocks7
-        ensures { result ≡ [] }
-    {
-        Blocks7 {
-            items: Vec::new(alloc),
-        }
-    }
-
-    /// These blocks, moved and not copied.
-    pub fn from_vec(items: Vec<Block7>) -> Blocks7
-        ensures { result ≡ items.items }
-    {
-        Blocks7 { items }
-    }
-
-    /// The blocks, moved and not copied.
-    pub fn into_vec(self) -> Vec<Block7>
-        ensures { result.items ≡ self }
-    {
-        let Blocks7 { items } = self;
-        items
-    }
-
-    /// The blocks, lent.
-    pub fn as_slice(&self) -> &[Block7]
-        ensures { result.now ≡ self.now }
-    {
-        self.items.as_slice()
-    }
-
-    /// How many blocks there are.
-    pub fn len(&self) -> usize
-        ensures { result ≡ length self.now }
-    {
-        self.items.len()
-    }
-}
+pub type Blocks7 = Listed<Block7>;
 
 /// What a block has before its body.
 #[derive(Clone, Copy)]
@@ -211,7 +158,7 @@ fn kind_at(text: &[u8], at: usize, left: u64, earlier: &Seen) -> Result<(u64, us
 }
 
 /// Whether a bundle has at most one block of this type.
-fn is_single(kind: u64) -> bool
+pub fn is_single(kind: u64) -> bool
     ensures { result ≡ is_single kind }
 {
     kind == PREVIOUS_NODE || kind == BUNDLE_AGE || kind == HOP_COUNT

@@ -5,8 +5,8 @@
 //! scheme and scheme-specific part, as a version 6 dictionary has it, and [`is_ssp`] and
 //! [`ipn_named`] are its two halves for formats that spell the scheme as a number.
 //!
-//! Beside it stand the small values that all formats share: [`Octets`] and [`Refs`], lists that
-//! contracts see as lists, and [`Fragment`], where a fragment lies in the whole. A list of names may
+//! Beside it stand the small values that all formats share: [`Listed`], [`Octets`] and [`Refs`], lists
+//! that contracts see as lists, and [`Fragment`], where a fragment lies in the whole. A list of names may
 //! be long and its names few, so [`Refs`] has of each name its [`Place`] in [`Texts`] that are shared.
 //!
 //! Schemes other than `dtn` and `ipn` are left out, and so is what a dtn name's parts mean.
@@ -15,6 +15,7 @@
 mod extent;
 mod fault;
 mod lent;
+mod listed;
 mod lists;
 mod name;
 mod numeral;
@@ -26,6 +27,7 @@ mod text;
 pub use extent::Fragment;
 pub use fault::EndpointFault;
 pub use lent::Name;
+pub use listed::Listed;
 pub use lists::Octets;
 pub use name::Endpoint;
 pub use place::Place;

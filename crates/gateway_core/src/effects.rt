@@ -6,7 +6,7 @@ ghost use Rattle.gateway_core.specs.Effects.{datagram_at, told_at};
 ghost use Rattle.gateway_core.specs.Quiet.{IsQuietTold};
 
 use crate::note::GateNote;
-use endpoint::Octets;
+use endpoint::{Listed, Octets};
 use gate_cases::Face;
 use ltp_engine::{Effects, Notes, Up, Ups};
 use ltp_segment::{Note, Outs};
@@ -24,43 +24,7 @@ pub struct Routed {
 }
 
 /// Datagrams that are to be sent, in their order.
-#[derive(Debug, Drop)]
-pub struct RoutedList {
-    items: Vec<Routed>,
-}
-
-impl Model for RoutedList {
-    ghost use Rattle.std.specs.Prelude.{List};
-    ghost use Rattle.gateway_core.specs.declared.effects.Routed.{Routed};
-
-    ghost Value = { List Routed };
-
-    ghost view = { λ out. out.items.items };
-}
-
-impl RoutedList {
-    /// These datagrams, moved and not copied.
-    pub fn from_vec(items: Vec<Routed>) -> RoutedList
-        ensures { result ≡ items.items }
-    {
-        RoutedList { items }
-    }
-
-    /// The datagrams, moved and not copied.
-    pub fn into_vec(self) -> Vec<Routed>
-        ensures { result.items ≡ self }
-    {
-        let RoutedList { items } = self;
-        items
-    }
-
-    /// The datagrams, lent.
-    pub fn as_slice(&self) -> &[Routed]
-        ensures { result.now ≡ self.now }
-    {
-        self.items.as_slice()
-    }
-}
+pub type RoutedList = Listed<Routed>;
 
 /// A red part that was handed up at a face.
 #[derive(Debug, Drop)]
@@ -74,43 +38,7 @@ pub struct FaceUp {
 }
 
 /// Red parts that were handed up, in their order.
-#[derive(Debug, Drop)]
-pub struct FaceUps {
-    items: Vec<FaceUp>,
-}
-
-impl Model for FaceUps {
-    ghost use Rattle.std.specs.Prelude.{List};
-    ghost use Rattle.gateway_core.specs.declared.effects.FaceUp.{FaceUp};
-
-    ghost Value = { List FaceUp };
-
-    ghost view = { λ ups. ups.items.items };
-}
-
-impl FaceUps {
-    /// These red parts, moved and not copied.
-    pub fn from_vec(items: Vec<FaceUp>) -> FaceUps
-        ensures { result ≡ items.items }
-    {
-        FaceUps { items }
-    }
-
-    /// The red parts, moved and not copied.
-    pub fn into_vec(self) -> Vec<FaceUp>
-        ensures { result.items ≡ self }
-    {
-        let FaceUps { items } = self;
-        items
-    }
-
-    /// The red parts, lent.
-    pub fn as_slice(&self) -> &[FaceUp]
-        ensures { result.now ≡ self.now }
-    {
-        self.items.as_slice()
-    }
-}
+pub type FaceUps = Listed<FaceUp>;
 
 /// A note, and the face that it is about.
 #[derive(Clone, Copy, Debug, PartialEq, Eq)]
@@ -309,7 +237,7 @@ fn all_datagrams_at(alloc: Global, face: Face, out: Outs) -> Result<RoutedList, 
     'each: for datagram in out.into_vec() {
         items.push(Routed { face, datagram })?;
     }
-    Ok(RoutedList { items })
+    Ok(RoutedList::from_vec(items))
 }
 
 /// Red parts that were handed up at a face. Memory is wanted only where there are any.
@@ -336,7 +264,7 @@ fn all_ups_at(alloc: Global, face: Face, ups: Ups) -> Result<FaceUps, AllocError
             body,
         })?;
     }
-    Ok(FaceUps { items })
+    Ok(FaceUps::from_vec(items))
 }
 
 /// Notes about a face, by its engine. Memory is wanted only where there is more than one.

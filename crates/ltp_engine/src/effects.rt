@@ -5,7 +5,7 @@ ghost use Rattle.std.specs.Option.{option_map};
 ghost use Rattle.ltp_segment.specs.declared.session.Note.TheVariants as notes;
 ghost use Rattle.ltp_session.specs.Engine.{list_of};
 
-use endpoint::Octets;
+use endpoint::{Listed, Octets};
 use ltp_segment::{Green, Note, Outs, Step};
 use std::alloc::{AllocError, Global};
 use std::marker::Model;
@@ -21,82 +21,10 @@ pub struct Up {
 }
 
 /// Red parts that are handed up, in their order.
-#[derive(Debug, Drop)]
-pub struct Ups {
-    items: Vec<Up>,
-}
-
-impl Model for Ups {
-    ghost use Rattle.std.specs.Prelude.{List};
-    ghost use Rattle.ltp_engine.specs.declared.effects.Up.{Up};
-
-    ghost Value = { List Up };
-
-    ghost view = { λ ups. ups.items.items };
-}
-
-impl Ups {
-    /// These red parts, moved and not copied.
-    pub fn from_vec(items: Vec<Up>) -> Ups
-        ensures { result ≡ items.items }
-    {
-        Ups { items }
-    }
-
-    /// The red parts, moved and not copied.
-    pub fn into_vec(self) -> Vec<Up>
-        ensures { result.items ≡ self }
-    {
-        let Ups { items } = self;
-        items
-    }
-
-    /// The red parts, lent.
-    pub fn as_slice(&self) -> &[Up]
-        ensures { result.now ≡ self.now }
-    {
-        self.items.as_slice()
-    }
-}
+pub type Ups = Listed<Up>;
 
 /// Pieces of green parts that are handed up, in their order.
-#[derive(Debug, Drop)]
-pub struct Greens {
-    items: Vec<Green>,
-}
-
-impl Model for Greens {
-    ghost use Rattle.std.specs.Prelude.{List};
-    ghost use Rattle.ltp_segment.specs.declared.session.Green.{Green};
-
-    ghost Value = { List Green };
-
-    ghost view = { λ greens. greens.items.items };
-}
-
-impl Greens {
-    /// These pieces, moved and not copied.
-    pub fn from_vec(items: Vec<Green>) -> Greens
-        ensures { result ≡ items.items }
-    {
-        Greens { items }
-    }
-
-    /// The pieces, moved and not copied.
-    pub fn into_vec(self) -> Vec<Green>
-        ensures { result.items ≡ self }
-    {
-        let Greens { items } = self;
-        items
-    }
-
-    /// The pieces, lent.
-    pub fn as_slice(&self) -> &[Green]
-        ensures { result.now ≡ self.now }
-    {
-        self.items.as_slice()
-    }
-}
+pub type Greens = Listed<Green>;
 
 /// How notes are kept.
 #[derive(Debug, Drop)]
@@ -304,7 +232,7 @@ fn handed_up(alloc: Global, session: u64, up: Option<Octets>) -> Result<Ups, All
     if let Some(body) = up {
         items.push(Up { session, body })?;
     }
-    Ok(Ups { items })
+    Ok(Ups::from_vec(items))
 }
 
 /// The piece of the green part, where one is handed up.
@@ -316,7 +244,7 @@ fn green_of(alloc: Global, green: Option<Green>) -> Result<Greens, AllocError>
     if let Some(green) = green {
         items.push(green)?;
     }
-    Ok(Greens { items })
+    Ok(Greens::from_vec(items))
 }
 
 /// Datagrams, and others after them.

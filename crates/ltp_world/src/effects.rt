@@ -5,6 +5,7 @@ ghost use Rattle.ltp_engine.specs.Effects.{nothing_done};
 ghost use Rattle.ltp_world.specs.Values.{both_ends};
 
 use crate::ends::End;
+use endpoint::Listed;
 use ltp_engine::{Effects, Greens, Notes, Ups};
 use ltp_segment::Outs;
 use std::alloc::{AllocError, Global};
@@ -100,50 +101,7 @@ fn nothing(alloc: Global) -> Effects
 }
 
 /// What ends do at one event after the other.
-#[derive(Debug, Drop)]
-pub struct WorldSteps {
-    items: Vec<WorldEffects>,
-}
-
-impl Model for WorldSteps {
-    ghost use Rattle.std.specs.Prelude.{List};
-    ghost use Rattle.ltp_world.specs.declared.effects.EndEffects.{EndEffects};
-
-    ghost Value = { List (List EndEffects) };
-
-    ghost view = { λ steps. steps.items.items };
-}
-
-impl WorldSteps {
-    /// These steps, moved and not copied.
-    pub(crate) fn from_vec(items: Vec<WorldEffects>) -> WorldSteps
-        ensures { result ≡ items.items }
-    {
-        WorldSteps { items }
-    }
-
-    /// The steps, moved and not copied.
-    pub fn into_vec(self) -> Vec<WorldEffects>
-        ensures { result.items ≡ self }
-    {
-        let WorldSteps { items } = self;
-        items
-    }
-
-    /// The steps, lent.
-    pub fn as_slice(&self) -> &[WorldEffects]
-        ensures { result.now ≡ self.now }
-    {
-        self.items.as_slice()
-    }
-
-    /// How many steps there are.
-    pub fn len(&self) -> usize
-        ensures { result ≡ length self.now }
-    {
-        self.items.len()
-    }
-}
+pub type WorldSteps = Listed<WorldEffects>;
 
 /// What a drain did.
 #[derive(Debug, Drop)]

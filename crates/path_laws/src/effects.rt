@@ -4,9 +4,8 @@ ghost use Rattle.std.specs.Prelude.{◌≡◌};
 ghost use Rattle.path_laws.specs.Words.{join_word};
 
 use crate::places::Place;
-use endpoint::Octets;
+use endpoint::{Listed, Octets};
 use gateway_core::GateNote;
-use std::marker::Model;
 
 /// A datagram that was sent. It has a number, by which it can be delivered.
 #[derive(Debug, Drop)]
@@ -22,43 +21,7 @@ pub struct SentAt {
 }
 
 /// Datagrams that were sent, in their order.
-#[derive(Debug, Drop)]
-pub struct SentList {
-    items: Vec<SentAt>,
-}
-
-impl Model for SentList {
-    ghost use Rattle.std.specs.Prelude.{List};
-    ghost use Rattle.path_laws.specs.declared.effects.SentAt.{SentAt};
-
-    ghost Value = { List SentAt };
-
-    ghost view = { λ list. list.items.items };
-}
-
-impl SentList {
-    /// These, moved and not copied.
-    pub fn from_vec(items: Vec<SentAt>) -> SentList
-        ensures { result ≡ items.items }
-    {
-        SentList { items }
-    }
-
-    /// The same, moved and not copied.
-    pub fn into_vec(self) -> Vec<SentAt>
-        ensures { result.items ≡ self }
-    {
-        let SentList { items } = self;
-        items
-    }
-
-    /// The same, lent.
-    pub fn as_slice(&self) -> &[SentAt]
-        ensures { result.now ≡ self.now }
-    {
-        self.items.as_slice()
-    }
-}
+pub type SentList = Listed<SentAt>;
 
 /// A block that came whole.
 #[derive(Debug, Drop)]
@@ -72,43 +35,7 @@ pub struct UpAt {
 }
 
 /// Blocks that came whole, in their order.
-#[derive(Debug, Drop)]
-pub struct PlaceUps {
-    items: Vec<UpAt>,
-}
-
-impl Model for PlaceUps {
-    ghost use Rattle.std.specs.Prelude.{List};
-    ghost use Rattle.path_laws.specs.declared.effects.UpAt.{UpAt};
-
-    ghost Value = { List UpAt };
-
-    ghost view = { λ list. list.items.items };
-}
-
-impl PlaceUps {
-    /// These, moved and not copied.
-    pub fn from_vec(items: Vec<UpAt>) -> PlaceUps
-        ensures { result ≡ items.items }
-    {
-        PlaceUps { items }
-    }
-
-    /// The same, moved and not copied.
-    pub fn into_vec(self) -> Vec<UpAt>
-        ensures { result.items ≡ self }
-    {
-        let PlaceUps { items } = self;
-        items
-    }
-
-    /// The same, lent.
-    pub fn as_slice(&self) -> &[UpAt]
-        ensures { result.now ≡ self.now }
-    {
-        self.items.as_slice()
-    }
-}
+pub type PlaceUps = Listed<UpAt>;
 
 /// What an end's joiner answered to a fragment that came there.
 #[derive(Debug, Drop)]
@@ -156,43 +83,7 @@ pub struct JoinAt {
 }
 
 /// Answers of joiners, in their order.
-#[derive(Debug, Drop)]
-pub struct PlaceJoins {
-    items: Vec<JoinAt>,
-}
-
-impl Model for PlaceJoins {
-    ghost use Rattle.std.specs.Prelude.{List};
-    ghost use Rattle.path_laws.specs.declared.effects.JoinAt.{JoinAt};
-
-    ghost Value = { List JoinAt };
-
-    ghost view = { λ list. list.items.items };
-}
-
-impl PlaceJoins {
-    /// These, moved and not copied.
-    pub fn from_vec(items: Vec<JoinAt>) -> PlaceJoins
-        ensures { result ≡ items.items }
-    {
-        PlaceJoins { items }
-    }
-
-    /// The same, moved and not copied.
-    pub fn into_vec(self) -> Vec<JoinAt>
-        ensures { result.items ≡ self }
-    {
-        let PlaceJoins { items } = self;
-        items
-    }
-
-    /// The same, lent.
-    pub fn as_slice(&self) -> &[JoinAt]
-        ensures { result.now ≡ self.now }
-    {
-        self.items.as_slice()
-    }
-}
+pub type PlaceJoins = Listed<JoinAt>;
 
 /// A note, and the place that it is about.
 #[derive(Clone, Copy, Debug, PartialEq, Eq)]
@@ -204,43 +95,7 @@ pub struct NoteAt {
 }
 
 /// Notes, in their order.
-#[derive(Debug, Drop)]
-pub struct PlaceNotes {
-    items: Vec<NoteAt>,
-}
-
-impl Model for PlaceNotes {
-    ghost use Rattle.std.specs.Prelude.{List};
-    ghost use Rattle.path_laws.specs.declared.effects.NoteAt.{NoteAt};
-
-    ghost Value = { List NoteAt };
-
-    ghost view = { λ list. list.items.items };
-}
-
-impl PlaceNotes {
-    /// These, moved and not copied.
-    pub fn from_vec(items: Vec<NoteAt>) -> PlaceNotes
-        ensures { result ≡ items.items }
-    {
-        PlaceNotes { items }
-    }
-
-    /// The same, moved and not copied.
-    pub fn into_vec(self) -> Vec<NoteAt>
-        ensures { result.items ≡ self }
-    {
-        let PlaceNotes { items } = self;
-        items
-    }
-
-    /// The same, lent.
-    pub fn as_slice(&self) -> &[NoteAt]
-        ensures { result.now ≡ self.now }
-    {
-        self.items.as_slice()
-    }
-}
+pub type PlaceNotes = Listed<NoteAt>;
 
 /// What a path does in answer to an event.
 #[derive(Debug, Drop)]

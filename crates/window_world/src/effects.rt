@@ -2,8 +2,8 @@
 
 ghost use Rattle.std.specs.Prelude.{◌≡◌, length};
 
+use endpoint::Listed;
 use ltp_world::WorldEffects;
-use std::marker::Model;
 
 /// What ends do at an event, and the moment at which it happens.
 #[derive(Debug, Drop)]
@@ -15,50 +15,7 @@ pub struct At {
 }
 
 /// What ends do at one event after the other, each with its moment.
-#[derive(Debug, Drop)]
-pub struct Timed {
-    items: Vec<At>,
-}
-
-impl Model for Timed {
-    ghost use Rattle.std.specs.Prelude.{List};
-    ghost use Rattle.window_world.specs.declared.effects.At.{At};
-
-    ghost Value = { List At };
-
-    ghost view = { λ timed. timed.items.items };
-}
-
-impl Timed {
-    /// These events, moved and not copied.
-    pub(crate) fn from_vec(items: Vec<At>) -> Timed
-        ensures { result ≡ items.items }
-    {
-        Timed { items }
-    }
-
-    /// The events, moved and not copied.
-    pub fn into_vec(self) -> Vec<At>
-        ensures { result.items ≡ self }
-    {
-        let Timed { items } = self;
-        items
-    }
-
-    /// The events, lent.
-    pub fn as_slice(&self) -> &[At]
-        ensures { result.now ≡ self.now }
-    {
-        self.items.as_slice()
-    }
-
-    /// How many events there are.
-    pub fn len(&self) -> usize
-        ensures { result ≡ length self.now }
-    {
-        self.items.len()
-    }
-}
+pub type Timed = Listed<At>;
 
 /// What a drain did.
 #[derive(Debug, Drop)]

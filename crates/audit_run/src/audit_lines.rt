@@ -10,17 +10,11 @@ ghost use Rattle.audit_run.specs.Shows.{ShowsAudited};
 
 use crate::entry_line::read_entry;
 use crate::written_lines::{write_fault, write_ok, write_refusal};
-use command_frame::LineStep;
+use command_frame::{LineStep, MOST_LINES, MOST_OCTETS};
 use edge_traits::Status;
 use ltp_audit::{Audit, AuditFault, Entry};
 use replay_script::LineFault;
 use std::alloc::{AllocError, Global};
-
-/// The most lines of an input.
-const MOST_LINES: u32 = 1_000_000;
-
-/// The most octets of a line, its line feed not counted.
-const MOST_OCTETS: u32 = 9_000_000;
 
 /// What `audit` keeps from line to line: the audit, and the number of the last line.
 #[derive(Debug, Drop)]

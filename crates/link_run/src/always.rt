@@ -4,8 +4,8 @@ ghost use Rattle.std.specs.Prelude.{◌≡◌, IfOk, if◌then◌else◌};
 ghost use Rattle.contact_plan.specs.Windows.{IsPlan};
 ghost use Rattle.link_run.specs.Link.{always};
 
-use crate::planned::NO_MOMENT;
 use contact_plan::{Plan, Window};
+use ltp_session::NO_MOMENT;
 use std::alloc::{AllocError, Global};
 
 /// The plan of the windows that were given; without any that of a link that is always open.

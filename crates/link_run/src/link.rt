@@ -12,22 +12,17 @@ ghost use Rattle.link_run.specs.Shows.{Answers, IsUnset, PlannedAs, RunsAs, Show
 ghost use Rattle.link_run.specs.WrittenLines.{refusal_line, refused_line};
 
 use crate::on_link::Running;
-use crate::planned::{NO_MOMENT, Planned};
+use crate::planned::Planned;
 use crate::script::{SetUp, end_named, read_planned, read_running, read_start, window_of};
 use crate::written_lines::{write_refusal, write_refused_line};
 use crate::{picked, running};
-use command_frame::LineStep;
+use command_frame::{LineStep, MOST_LINES, MOST_OCTETS};
 use contact_plan::{Plan, PlanFault, Window};
 use edge_traits::Status;
+use ltp_session::NO_MOMENT;
 use ltp_world::End;
 use replay_script::{LineFault, LinkEvent, PickWord};
 use std::alloc::{AllocError, Global};
-
-/// The most lines of an input.
-const MOST_LINES: u32 = 1_000_000;
-
-/// The most octets of a line, its line feed not counted.
-const MOST_OCTETS: u32 = 9_000_000;
 
 /// How far a script has come.
 #[derive(Debug, Drop)]

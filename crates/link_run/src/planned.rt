@@ -10,9 +10,6 @@ use ltp_segment::Policy;
 use std::alloc::{AllocError, Global};
 use window_world::WindowWorld;
 
-/// The first moment that no clock shows, in ms.
-pub(crate) const NO_MOMENT: u64 = 1 << 62;
-
 /// The number of an engine's first session.
 const FIRST_SESSION: u64 = 1;
 

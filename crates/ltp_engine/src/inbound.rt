@@ -17,7 +17,7 @@ ghost use Rattle.ltp_session.specs.Cells.{stop_of, is_no_part};
 ghost use Rattle.ltp_session.specs.Table.{find};
 ghost use Rattle.ltp_session.specs.Receiver.{on_report_ack, on_sender_cancel};
 ghost use Rattle.ltp_session.specs.Receiver.{on_receiver_cancel_ack, on_piece, first_piece};
-ghost use Rattle.ltp_session.specs.Receiver.{piece_step, fresh, green_of, ends_block};
+ghost use Rattle.ltp_session.specs.Receiver.{piece_step, fresh, green_of};
 ghost use Rattle.ltp_session.specs.Receiver.{on_receiver_tick, receiver_deadline};
 ghost use Rattle.ltp_session.specs.Step.{unreachable};
 ghost use Rattle.ltp_session.specs.Engine.{tick_segments, tick_remarks, least_deadline};
@@ -37,21 +37,17 @@ use crate::closed::Closed;
 use crate::deadlines::earlier;
 use crate::effects::Effects;
 use crate::held::Held;
-use crate::outbound::sending;
 use crate::terms::Terms;
 use crate::touched::{Receivers, touch};
 use endpoint::Octets;
 use indexmap::IndexMap;
 use ltp_receiver::Receiver;
-use ltp_segment::{
-    BLOCK_MAX, Green, Note, Outs, PieceKind, PieceView, Step, write_cancel, write_cancel_ack,
-};
+use ltp_segment::{BLOCK_MAX, Green, Note, Outs, PieceView, Step, write_cancel, write_cancel_ack};
+use ltp_session::UNREACHABLE;
 use std::alloc::{AllocError, Global};
 
 /// The client service that there is.
 const SERVICE: u64 = 1;
-/// The reason of a cancel: there is no such client service.
-const UNREACHABLE: u8 = 1;
 
 /// The receiving side.
 #[derive(Debug, Drop)]
@@ -60,18 +56,6 @@ pub(crate) struct Inbound {
     pub receivers: Receivers,
     /// The numbers of those that are over.
     pub closed: Closed,
-}
-
-/// An answer that only notes.
-fn noting(out: Outs, note: Note) -> Step
-    ensures { result ≡ record { out = out; up = None; green = None; note = Some note } }
-{
-    Step {
-        out,
-        up: None,
-        green: None,
-        note: Some(note),
-    }
 }
 
 impl Inbound {
@@ -120,7 +104,7 @@ impl Inbound {
         ensures wanted { OnErr result (IsQuietStep (find n (inbound_of self.old).receivers)
             (on_report_ack (find n (inbound_of self.old).receivers) serial) → ⊥) }
     {
-        let answer = sending(Outs::new(terms.alloc));
+        let answer = Step::sending(Outs::new(terms.alloc));
         let Some(receiver) = self.receivers.get_mut(&n) else {
             return Ok(answer);
         };
@@ -141,7 +125,7 @@ impl Inbound {
         ensures wanted { OnErr result (IsQuietStep (find n (inbound_of self.old).receivers)
             (on_receiver_cancel_ack (find n (inbound_of self.old).receivers)) → ⊥) }
     {
-        let answer = sending(Outs::new(terms.alloc));
+        let answer = Step::sending(Outs::new(terms.alloc));
         let Some(receiver) = self.receivers.get_mut(&n) else {
             return Ok(answer);
         };
@@ -167,10 +151,10 @@ impl Inbound {
         // The contract of `len` tells that no number stands twice.
         let _kept = self.receivers.len();
         if !self.receivers.contains_key(&n) {
-            return Ok(sending(out));
+            return Ok(Step::sending(out));
         }
         self.finish(n, true, false)?;
-        Ok(noting(out, Note::Cancelled { session: n, reason }))
+        Ok(Step::noting(out, Note::Cancelled { session: n, reason }))
     }
 
     /// How many sessions are kept.
@@ -369,12 +353,15 @@ impl Inbound {
             return Ok((None, handing_up(alloc, n, piece)?));
         }
         if self.closed.has(n) {
-            return Ok((None, noting(Outs::new(alloc), Note::Closed { session: n })));
+            return Ok((
+                None,
+                Step::noting(Outs::new(alloc), Note::Closed { session: n }),
+            ));
         }
         if self.is_full(&terms) {
             return Ok((
                 None,
-                noting(Outs::new(alloc), Note::HistoryFull { session: n }),
+                Step::noting(Outs::new(alloc), Note::HistoryFull { session: n }),
             ));
         }
         self.begin(terms, n, piece, now)
@@ -403,7 +390,7 @@ impl Inbound {
             return Ok(None);
         };
         if receiver.is_cancelling() {
-            let answer = noting(Outs::new(terms.alloc), Note::Closed { session: n });
+            let answer = Step::noting(Outs::new(terms.alloc), Note::Closed { session: n });
             return Ok(Some(answer));
         }
         let step = receiver.piece(piece, now)?;
@@ -443,7 +430,7 @@ impl Inbound {
         if is_no_part(piece) {
             return Ok((
                 None,
-                noting(Outs::new(alloc), Note::BadBounds { session: n }),
+                Step::noting(Outs::new(alloc), Note::BadBounds { session: n }),
             ));
         }
         match self.next_piece(terms, n, piece, now)? {
@@ -547,7 +534,7 @@ fn tick_one(
         (find n (by_number (table_of receivers.old.entries))) now).next) }
 {
     let Some(receiver) = receivers.get_mut(&n) else {
-        return Ok((sending(Outs::new(terms.alloc)), false));
+        return Ok((Step::sending(Outs::new(terms.alloc)), false));
     };
     let step = receiver.tick(now)?;
     let over = receiver.is_over();
@@ -592,7 +579,7 @@ fn refusing(terms: Terms, n: u64, service: u64) -> Result<Step, AllocError>
     let mut out = Outs::new(terms.alloc);
     let reason = UNREACHABLE;
     out.push(write_cancel(terms.alloc, terms.originator, n, false, reason)?)?;
-    Ok(noting(
+    Ok(Step::noting(
         out,
         Note::Refused {
             session: n,
@@ -613,7 +600,7 @@ fn handing_up(alloc: Global, n: u64, piece: &PieceView<'_>) -> Result<Step, Allo
     let green = Green {
         session: n,
         offset: piece.offset,
-        last: ends_block(piece.kind),
+        last: piece.kind.ends_block(),
         body: Octets::from_slice(alloc, piece.body)?,
     };
     Ok(Step {
@@ -622,11 +609,4 @@ fn handing_up(alloc: Global, n: u64, piece: &PieceView<'_>) -> Result<Step, Allo
         green: Some(green),
         note: None,
     })
-}
-
-/// Whether the block ends with a piece of this kind.
-fn ends_block(kind: PieceKind) -> bool
-    ensures { result ≡ ends_block kind }
-{
-    matches!(kind, PieceKind::RedEndBlock | PieceKind::GreenEndBlock)
 }

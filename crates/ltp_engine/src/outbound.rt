@@ -28,18 +28,6 @@ use std::collections::BTreeMap;
 /// Sending sessions by their numbers. None of them is over.
 pub(crate) type Senders = BTreeMap<u64, Sender>;
 
-/// An answer that only sends.
-pub(crate) fn sending(out: Outs) -> Step
-    ensures { result ≡ record { out = out; up = None; green = None; note = None } }
-{
-    Step {
-        out,
-        up: None,
-        green: None,
-        note: None,
-    }
-}
-
 /// The acknowledgement of a report for a session that isn't kept.
 fn acknowledged(terms: Terms, n: u64, serial: u64) -> Result<Step, AllocError>
     ensures { IfOk result (λ step. step ≡ record {
@@ -52,7 +40,7 @@ fn acknowledged(terms: Terms, n: u64, serial: u64) -> Result<Step, AllocError>
 {
     let mut out = Outs::new(terms.alloc);
     out.push(write_ack(terms.alloc, terms.originator, n, serial)?)?;
-    Ok(sending(out))
+    Ok(Step::sending(out))
 }
 
 /// The acknowledgement of a receiver's cancel for a session that isn't kept.
@@ -67,7 +55,7 @@ fn cancel_acknowledged(terms: Terms, n: u64) -> Result<Step, AllocError>
 {
     let mut out = Outs::new(terms.alloc);
     out.push(write_cancel_ack(terms.alloc, terms.originator, n, false)?)?;
-    Ok(sending(out))
+    Ok(Step::sending(out))
 }
 
 /// A session that begins is kept, where it isn't over at once.
@@ -150,12 +138,12 @@ pub(crate) fn cancel_came(senders: &mut Senders, terms: Terms, n: u64) -> Step
         senders.old.entries senders.new.entries result }
 {
     let Some(sender) = senders.get_mut(&n) else {
-        return sending(Outs::new(terms.alloc));
+        return Step::sending(Outs::new(terms.alloc));
     };
     sender.cancel_acknowledged();
     let over = sender.is_over();
     sweep(senders, n, over);
-    sending(Outs::new(terms.alloc))
+    Step::sending(Outs::new(terms.alloc))
 }
 
 /// Time has passed for a session.
@@ -173,7 +161,7 @@ pub(crate) fn tick_one(
         senders.old.entries senders.new.entries) }
 {
     let Some(sender) = senders.get_mut(&n) else {
-        return Ok(sending(Outs::new(terms.alloc)));
+        return Ok(Step::sending(Outs::new(terms.alloc)));
     };
     let step = sender.tick(now)?;
     let over = sender.is_over();

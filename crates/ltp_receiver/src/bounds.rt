@@ -2,9 +2,7 @@
 
 ghost use Rattle.std.specs.Prelude.{◌≡◌};
 ghost use Rattle.ltp_session.specs.Cells.{length_after, is_past, is_below, is_misplaced};
-ghost use Rattle.ltp_session.specs.Receiver.{lowest, ends_block, bound_of};
-
-use ltp_segment::PieceKind;
+ghost use Rattle.ltp_session.specs.Receiver.{lowest, bound_of};
 
 /// Whether a place is past the length, where that is known.
 pub(crate) fn is_past(length: Option<u64>, place: u64) -> bool
@@ -64,15 +62,5 @@ pub(crate) fn lowest(green: Option<u64>, offset: u64) -> Option<u64>
     match green {
         Some(low) => Some(low.min(offset)),
         None => Some(offset),
-    }
-}
-
-/// Whether the block ends with a piece of this kind.
-pub(crate) fn ends_block(kind: PieceKind) -> bool
-    ensures { result ≡ ends_block kind }
-{
-    match kind {
-        PieceKind::RedEndBlock | PieceKind::GreenEndBlock => true,
-        _ => false,
     }
 }

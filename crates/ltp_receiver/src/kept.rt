@@ -15,13 +15,15 @@ ghost use Rattle.ltp_session.specs.Receiver.{is_miscoloured, takes_green, with_r
 ghost use Rattle.ltp_session.specs.Receiver.{red_part, with_handed_up, takes_red, piece_step};
 ghost use Rattle.ltp_session.specs.Receiver.{acknowledged, receiver_tick};
 
-use crate::bounds::{bound_of, ends_block, is_below, is_misplaced, is_past, length_after, lowest};
+use crate::bounds::{bound_of, is_below, is_misplaced, is_past, length_after, lowest};
 use crate::phase::{Pending, Phase};
 use crate::report::Report;
 use cells::Cells;
 use endpoint::Octets;
 use ltp_segment::{Green, Note, Outs, PieceView, Policy, Step, write_cancel};
-use ltp_session::{SessionName, Timer, first_serial};
+use ltp_session::{
+    BY_SYSTEM, MISCOLOURED, SENT_TOO_OFTEN, SERIALS, SessionName, Timer, first_serial,
+};
 use std::alloc::{AllocError, Global};
 
 /// What never changes in a session.
@@ -54,39 +56,6 @@ pub(crate) struct Kept {
 
 /// A session after a step, where it isn't over, and what it answers.
 type Answer = Result<(Option<Kept>, Step), AllocError>;
-
-/// The reason of a cancel: a segment was sent as often as the policy allows.
-const SENT_TOO_OFTEN: u8 = 2;
-/// The reason of a cancel: red data came after green data in the block, or green before red.
-const MISCOLOURED: u8 = 3;
-/// The reason of a cancel: the serial numbers are used up.
-const BY_SYSTEM: u8 = 4;
-/// No serial number is this large.
-const SERIALS: u64 = 1 << 32;
-
-/// An answer that only sends.
-pub(crate) fn sending(out: Outs) -> Step
-    ensures { result ≡ record { out = out; up = None; green = None; note = None } }
-{
-    Step {
-        out,
-        up: None,
-        green: None,
-        note: None,
-    }
-}
-
-/// An answer with a note.
-pub(crate) fn noting(out: Outs, note: Note) -> Step
-    ensures { result ≡ record { out = out; up = None; green = None; note = Some note } }
-{
-    Step {
-        out,
-        up: None,
-        green: None,
-        note: Some(note),
-    }
-}
 
 /// An answer that sends, and hands up the red part where it is whole.
 fn handing_up(out: Outs, up: Option<Octets>) -> Step
@@ -184,7 +153,7 @@ impl Kept {
         let green = Green {
             session: terms.name.number,
             offset: piece.offset,
-            last: ends_block(piece.kind),
+            last: piece.kind.ends_block(),
             body: Octets::from_slice(terms.alloc, piece.body)?,
         };
         kept.green = lowest(kept.green, piece.offset);
@@ -342,7 +311,7 @@ impl Kept {
             let note = Note::BadBounds {
                 session: terms.name.number,
             };
-            return Ok((Some(self), noting(Outs::new(terms.alloc), note)));
+            return Ok((Some(self), Step::noting(Outs::new(terms.alloc), note)));
         }
         if self.is_miscoloured(piece) {
             return self.reject(terms, MISCOLOURED, now, None);
@@ -423,7 +392,7 @@ impl Kept {
             (receiving_of self).phase now)) }
     {
         if self.handed_up || self.phase.is_cancelling() {
-            return Ok((None, sending(Outs::new(terms.alloc))));
+            return Ok((None, Step::sending(Outs::new(terms.alloc))));
         }
         self.reject(terms, SENT_TOO_OFTEN, now, None)
     }
@@ -437,17 +406,17 @@ impl Kept {
             (receiver_tick (policy_value terms.policy) (receiving_of self) now)) }
     {
         let Some(timer) = self.phase.timer() else {
-            return Ok((Some(self), sending(Outs::new(terms.alloc))));
+            return Ok((Some(self), Step::sending(Outs::new(terms.alloc))));
         };
         if !timer.is_due(now) {
-            return Ok((Some(self), sending(Outs::new(terms.alloc))));
+            return Ok((Some(self), Step::sending(Outs::new(terms.alloc))));
         }
         if !timer.may_repeat(&terms.policy) {
             return self.exhausted(terms, now);
         }
         let out = self.phase.awaited(terms.alloc, terms.name)?;
         let next = timer.next(&terms.policy, now);
-        Ok((Some(self.with_timer(next)), sending(out)))
+        Ok((Some(self.with_timer(next)), Step::sending(out)))
     }
 }
 

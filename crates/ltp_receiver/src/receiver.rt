@@ -16,7 +16,7 @@ ghost use Rattle.ltp_receiver.specs.Receiver.{new_session, IsOpen, on_open_piece
 ghost use Rattle.ltp_receiver.specs.Receiver.{is_kept_cancelling, is_kept_handed_up, deadline_of};
 ghost use Rattle.ltp_receiver.specs.Receiver.{cells_of};
 
-use crate::kept::{Kept, Terms, sending};
+use crate::kept::{Kept, Terms};
 use ltp_segment::{BLOCK_MAX, Outs, PieceView, Policy, Step};
 use ltp_session::SessionName;
 use spans::Spans;
@@ -101,7 +101,7 @@ impl Receiver {
     {
         self.spent = true;
         let (kept, step) = match self.kept.take() {
-            None => (None, sending(Outs::new(self.terms.alloc))),
+            None => (None, Step::sending(Outs::new(self.terms.alloc))),
             Some(kept) => kept.piece(self.terms, piece, now)?,
         };
         self.kept = kept;
@@ -138,7 +138,7 @@ impl Receiver {
     {
         self.spent = true;
         let (kept, step) = match self.kept.take() {
-            None => (None, sending(Outs::new(self.terms.alloc))),
+            None => (None, Step::sending(Outs::new(self.terms.alloc))),
             Some(kept) => kept.tick(self.terms, now)?,
         };
         self.kept = kept;

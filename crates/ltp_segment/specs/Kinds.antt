@@ -30,3 +30,12 @@ ends_red_part kinds.RedEnd = true
 ends_red_part kinds.RedEndBlock = true
 ends_red_part kinds.Green = false
 ends_red_part kinds.GreenEndBlock = false
+
+-- the block ends with the piece
+abbrev pub ends_block : PieceKind → Bool
+ends_block kinds.Red = false
+ends_block kinds.RedCheckpoint = false
+ends_block kinds.RedEnd = false
+ends_block kinds.RedEndBlock = true
+ends_block kinds.Green = false
+ends_block kinds.GreenEndBlock = true

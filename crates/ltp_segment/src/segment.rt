@@ -1,7 +1,7 @@
 //! A segment as its datagram lends it.
 
 ghost use Rattle.std.specs.Prelude.{◌≡◌, ◌%◌};
-ghost use Rattle.ltp_segment.specs.Kinds.{is_red, is_checkpoint, ends_red_part};
+ghost use Rattle.ltp_segment.specs.Kinds.{is_red, is_checkpoint, ends_red_part, ends_block};
 ghost use Rattle.ltp_segment.specs.Types.{type_at};
 ghost use Rattle.ltp_segment.specs.Spelling.{piece_type};
 
@@ -128,6 +128,16 @@ impl PieceKind {
     {
         match self {
             PieceKind::RedEnd | PieceKind::RedEndBlock => true,
+            _ => false,
+        }
+    }
+
+    /// Whether the block ends with the piece.
+    pub fn ends_block(&self) -> bool
+        ensures { result ≡ ends_block self.now }
+    {
+        match self {
+            PieceKind::RedEndBlock | PieceKind::GreenEndBlock => true,
             _ => false,
         }
     }

@@ -1,6 +1,6 @@
 //! What a session is told, and what it answers.
 
-ghost use Rattle.std.specs.Prelude.{◌≡◌};
+ghost use Rattle.std.specs.Prelude.{◌≡◌, None, Some};
 ghost use Rattle.ltp_segment.specs.Notes.{note_name};
 
 use crate::claims::Claims;
@@ -60,6 +60,32 @@ pub struct Step {
     pub green: Option<Green>,
     /// What is to be noted.
     pub note: Option<Note>,
+}
+
+impl Step {
+    /// An answer that only sends.
+    pub fn sending(out: Outs) -> Step
+        ensures { result ≡ record { out = out; up = None; green = None; note = None } }
+    {
+        Step {
+            out,
+            up: None,
+            green: None,
+            note: None,
+        }
+    }
+
+    /// An answer that sends and notes something, and hands nothing up.
+    pub fn noting(out: Outs, note: Note) -> Step
+        ensures { result ≡ record { out = out; up = None; green = None; note = Some note } }
+    {
+        Step {
+            out,
+            up: None,
+            green: None,
+            note: Some(note),
+        }
+    }
 }
 
 /// A piece of a green part, handed up as it came.

@@ -12,7 +12,7 @@ ghost use Rattle.ltp_sender.specs.Sender.{is_kept_cancelling, is_kept_open, begu
 use crate::kept::{Kept, Terms};
 use crate::pieces::{send_green, send_red};
 use crate::segments::unclaimed;
-use crate::steps::{acknowledgement, noting, sending};
+use crate::steps::acknowledgement;
 use ltp_segment::{Note, Outs, Policy, ReportView, Step, write_cancel_ack};
 use ltp_session::{SessionName, Timer, first_serial};
 use spans::Spans;
@@ -138,7 +138,10 @@ impl Sender {
     {
         self.spent = true;
         let (kept, step) = match self.kept.take() {
-            None => (None, sending(acknowledgement(self.terms, report.serial)?)),
+            None => (
+                None,
+                Step::sending(acknowledgement(self.terms, report.serial)?),
+            ),
             Some(kept) => kept.report(self.terms, report, now)?,
         };
         self.kept = kept;
@@ -163,7 +166,7 @@ impl Sender {
     {
         self.spent = true;
         let (kept, step) = match self.kept.take() {
-            None => (None, sending(Outs::new(self.terms.alloc))),
+            None => (None, Step::sending(Outs::new(self.terms.alloc))),
             Some(kept) => kept.tick(self.terms, now)?,
         };
         self.kept = kept;
@@ -185,8 +188,8 @@ impl Sender {
         let mut out = Outs::new(alloc);
         out.push(write_cancel_ack(alloc, name.originator, name.number, false)?)?;
         let step = match self.kept.take() {
-            None => sending(out),
-            Some(_) => noting(
+            None => Step::sending(out),
+            Some(_) => Step::noting(
                 out,
                 Note::Cancelled {
                     session: name.number,

@@ -16,42 +16,11 @@ use crate::kept::{Kept, Phase, Terms};
 use crate::pieces::send_red;
 use crate::segments::{Checkpoint, unclaimed};
 use ltp_segment::{Note, Outs, ReportView, Step, write_ack, write_cancel};
-use ltp_session::Timer;
+use ltp_session::{BY_SYSTEM, SENT_TOO_OFTEN, SERIALS, Timer};
 use std::alloc::AllocError;
 
 /// A session after a step, where it isn't over, and what it answers.
 type Answer = Result<(Option<Kept>, Step), AllocError>;
-
-/// The reason of a cancel: a segment was sent as often as the policy allows.
-const SENT_TOO_OFTEN: u8 = 2;
-/// The reason of a cancel: the serial numbers are used up.
-const BY_SYSTEM: u8 = 4;
-/// No serial number is this large.
-const SERIALS: u64 = 1 << 32;
-
-/// An answer that only sends.
-pub(crate) fn sending(out: Outs) -> Step
-    ensures { result ≡ record { out = out; up = None; green = None; note = None } }
-{
-    Step {
-        out,
-        up: None,
-        green: None,
-        note: None,
-    }
-}
-
-/// An answer with a note.
-pub(crate) fn noting(out: Outs, note: Note) -> Step
-    ensures { result ≡ record { out = out; up = None; green = None; note = Some note } }
-{
-    Step {
-        out,
-        up: None,
-        green: None,
-        note: Some(note),
-    }
-}
 
 /// The acknowledgement of a report.
 pub(crate) fn acknowledgement(terms: Terms, serial: u64) -> Result<Outs, AllocError>
@@ -86,7 +55,7 @@ impl Kept {
             session: name.number,
             reason,
         };
-        Ok((Some(self.with_phase(phase)), noting(out, note)))
+        Ok((Some(self.with_phase(phase)), Step::noting(out, note)))
     }
 
     /// Sends each red segment that isn't wholly claimed once more.
@@ -120,11 +89,11 @@ impl Kept {
             report,
         )?;
         let Some(checkpoint) = last else {
-            return Ok((Some(self), sending(out)));
+            return Ok((Some(self), Step::sending(out)));
         };
         let timer = Timer::first(&policy, now);
         let phase = Phase::Open { checkpoint, timer };
-        Ok((Some(self.with_phase(phase)), sending(out)))
+        Ok((Some(self.with_phase(phase)), Step::sending(out)))
     }
 
     /// Goes on once the claims of a report are added: the session is over where the red part is
@@ -149,10 +118,10 @@ impl Kept {
             let note = Note::Sent {
                 session: terms.name.number,
             };
-            return Ok((None, noting(acks, note)));
+            return Ok((None, Step::noting(acks, note)));
         }
         if report.checkpoint != checkpoint.serial {
-            return Ok((Some(self), sending(acks)));
+            return Ok((Some(self), Step::sending(acks)));
         }
         self.next_round(terms, checkpoint.serial, report.serial, now, acks)
     }
@@ -172,7 +141,7 @@ impl Kept {
             let note = Note::BadBounds {
                 session: terms.name.number,
             };
-            return Ok((Some(self), noting(Outs::new(terms.alloc), note)));
+            return Ok((Some(self), Step::noting(Outs::new(terms.alloc), note)));
         }
         let acks = acknowledgement(terms, report.serial)?;
         match self.phase {
@@ -180,7 +149,7 @@ impl Kept {
                 self.add(report)?
                     .go_on(terms, checkpoint, report, now, acks)
             }
-            Phase::Cancelling { .. } => Ok((Some(self), sending(acks))),
+            Phase::Cancelling { .. } => Ok((Some(self), Step::sending(acks))),
         }
     }
 
@@ -195,7 +164,7 @@ impl Kept {
         let out = Outs::new(terms.alloc);
         match self.phase {
             Phase::Open { .. } => self.give_up(terms, SENT_TOO_OFTEN, now, out),
-            Phase::Cancelling { .. } => Ok((None, sending(out))),
+            Phase::Cancelling { .. } => Ok((None, Step::sending(out))),
         }
     }
 
@@ -209,13 +178,13 @@ impl Kept {
     {
         let timer = self.timer();
         if !timer.is_due(now) {
-            return Ok((Some(self), sending(Outs::new(terms.alloc))));
+            return Ok((Some(self), Step::sending(Outs::new(terms.alloc))));
         }
         if !timer.may_repeat(&terms.policy) {
             return self.exhausted(terms, now);
         }
         let out = self.awaited(terms)?;
         let next = timer.next(&terms.policy, now);
-        Ok((Some(self.with_timer(next)), sending(out)))
+        Ok((Some(self.with_timer(next)), Step::sending(out)))
     }
 }

@@ -3,9 +3,7 @@
 
 use Rattle.std.specs.Prelude.{ℕ, ◌+◌, Bool, true, false, not, ◌==◌, ◌&&◌, ◌||◌, nat_lt, min, List, [], ◌∷◌, Option, None, Some, is_some, if◌then◌else◌}
 use Rattle.std.specs.Option.{option_map}
-use Rattle.ltp_segment.specs.Kinds.{is_red, is_checkpoint, ends_red_part}
-use Rattle.ltp_segment.specs.declared.segment.PieceKind.{PieceKind}
-use Rattle.ltp_segment.specs.declared.segment.PieceKind.TheVariants as kinds
+use Rattle.ltp_segment.specs.Kinds.{is_red, is_checkpoint, ends_red_part, ends_block}
 use Rattle.ltp_segment.specs.Values.{PieceValue, ReportValue, ContentValue, a_piece, a_report, a_report_ack, a_sender_cancel, a_sender_cancel_ack, a_receiver_cancel, a_receiver_cancel_ack}
 use Rattle.ltp_segment.specs.Policy.{PolicyValue}
 use Rattle.ltp_session.specs.declared.timer.Timer.{Timer}
@@ -93,14 +91,6 @@ is_miscoloured r piece =
 abbrev pub lowest : Option ℕ → ℕ → Option ℕ
 lowest None offset = Some offset
 lowest (Some low) offset = Some (min low offset)
-
-abbrev pub ends_block : PieceKind → Bool
-ends_block kinds.Red = false
-ends_block kinds.RedCheckpoint = false
-ends_block kinds.RedEnd = false
-ends_block kinds.RedEndBlock = true
-ends_block kinds.Green = false
-ends_block kinds.GreenEndBlock = true
 
 abbrev pub green_of : PieceValue → GreenValue
 green_of piece =

@@ -9,12 +9,14 @@
 //!
 //! The contracts of the sessions and of all that stands on them cite these definitions, and the
 //! laws over whole runs are proved about them. [`examples`] computes short runs. What both kinds of
-//! session need as code, a session's name and a timer, stands here too.
+//! session need as code, a session's name, a timer and the reasons of cancels, stands here too.
 #![tactic(auto)]
 
 pub mod examples;
 mod name;
+mod reasons;
 mod timer;
 
 pub use name::SessionName;
-pub use timer::{Timer, first_serial, first_serials_are_short};
+pub use reasons::{BY_SYSTEM, MISCOLOURED, SENT_TOO_OFTEN, UNREACHABLE};
+pub use timer::{NO_MOMENT, SERIALS, Timer, first_serial, first_serials_are_short};

@@ -6,6 +6,12 @@ ghost use Rattle.ltp_session.specs.Timer.{first_timer, next_timer, is_due, may_r
 
 use ltp_segment::Policy;
 
+/// The first moment that no clock shows, in milliseconds.
+pub const NO_MOMENT: u64 = 1 << 62;
+
+/// No serial number is this large.
+pub const SERIALS: u64 = 1 << 32;
+
 /// How often a segment that waits for an answer was sent, and until when it waits (RFC 5326,
 /// sections 6.2, 6.3 and 6.15).
 #[derive(Clone, Copy, Debug, PartialEq, Eq)]

@@ -13,10 +13,8 @@ ghost use Rattle.ltp_world.specs.Work.{left_of};
 use crate::effects::{Drained, WorldEffects, WorldSteps};
 use crate::refused::DrainRefused;
 use crate::world::LinkWorld;
+use ltp_session::NO_MOMENT;
 use std::alloc::AllocError;
-
-/// A drain sets the clock to no moment from this one on.
-pub(crate) const LATE: u64 = 1 << 62;
 
 impl LinkWorld {
     /// The link stops losing. Every datagram that is sent from now on comes to its end, once and in
@@ -64,7 +62,7 @@ impl LinkWorld {
             let Some(deadline) = self.next_deadline() else {
                 break;
             };
-            if deadline >= LATE {
+            if deadline >= NO_MOMENT {
                 return Err(DrainRefused::TooLate);
             }
             self.tick_to(deadline, steps)?;

@@ -10,11 +10,12 @@ ghost use Rattle.ltp_world.specs.Work.{left_of};
 ghost use Rattle.ltp_world.specs.declared.picks.Pick.TheVariants.{Old};
 ghost use Rattle.ltp_world.specs.RedParts.{DrainHandsUpFronts};
 
-use crate::drain::{LATE, drained};
+use crate::drain::drained;
 use crate::effects::{Drained, WorldEffects};
 use crate::ends::End;
 use crate::refused::DrainRefused;
 use crate::world::LinkWorld;
+use ltp_session::NO_MOMENT;
 use std::alloc::AllocError;
 
 /// What happens next in a drain.
@@ -176,7 +177,7 @@ impl LinkWorld {
         let Some(deadline) = self.next_deadline() else {
             return Ok(());
         };
-        if deadline >= LATE {
+        if deadline >= NO_MOMENT {
             return Err(DrainRefused::TooLate);
         }
         self.tick_to(deadline, steps)?;

@@ -23,14 +23,12 @@ use endpoint::Endpoint;
 use gateway_core::GateConfig;
 use ltp_engine::SubmitRefused;
 use ltp_segment::Policy;
+use ltp_session::NO_MOMENT;
 use ltp_world::{DeliverRefused, DrainRefused};
 use path_laws::{PathEffects, PathEnd, UpAt};
 use path_world::{PathDrained, PathSteps, PathWorld};
 use std::alloc::{AllocError, Global};
 use world_run::{write_effects, write_end, write_undelivered, write_unsent};
-
-/// The first moment that no clock shows, in ms.
-const NO_MOMENT: u64 = 1 << 62;
 
 /// The most octets of all datagrams that were sent.
 const MOST_SENT: u64 = 1 << 28;

@@ -10,13 +10,11 @@ ghost use Rattle.path_world.specs.Work.{left_of};
 
 use crate::drained::{PathDrained, PathSteps};
 use crate::world::PathWorld;
+use ltp_session::NO_MOMENT;
 use ltp_world::DrainRefused;
 use path_laws::PathEffects;
 use path_laws::laws::received_as_sent;
 use std::alloc::AllocError;
-
-/// A drain sets the clock to no moment from this one on.
-const LATE: u64 = 1 << 62;
 
 impl PathWorld {
     /// The path stops losing. Every datagram that is sent from now on, on either link, comes to the
@@ -42,7 +40,7 @@ impl PathWorld {
             let Some(deadline) = self.next_deadline() else {
                 break;
             };
-            if deadline >= LATE {
+            if deadline >= NO_MOMENT {
                 return Err(DrainRefused::TooLate);
             }
             let from = self.sent();

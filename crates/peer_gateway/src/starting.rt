@@ -12,13 +12,11 @@ use crate::faces::FaceParts;
 use crate::waits::Waits;
 use gate_cases::Face;
 use ltp_segment::{Outs, write_cancel};
+use ltp_session::BY_SYSTEM;
 use peer_cases::PeerSettings;
 use peer_sessions::{Keys, PeerSessions};
 use piece_gathering::Gathering;
 use std::alloc::{AllocError, Global};
-
-/// The reason of a cancel that the system asks for (RFC 5326, section 3.2.4).
-const BY_SYSTEM: u8 = 4;
 
 impl FaceParts {
     ghost use Rattle.peer_gateway.specs.Faces.{IsEmpty, Starts};

@@ -11,22 +11,14 @@ ghost use Rattle.record_run.specs.Record.{record_rules, answers, happens, record
 ghost use Rattle.record_run.specs.Grows.{GrowsBy};
 
 use crate::written_lines::{write_entries, write_refusal};
-use command_frame::LineStep;
+use command_frame::{LineStep, MOST_LINES, MOST_OCTETS};
 use edge_traits::Status;
 use ltp_audit::Recorder;
 use ltp_engine::SubmitRefused;
 use ltp_segment::Policy;
+use ltp_session::NO_MOMENT;
 use replay_script::{LineFault, NodeEvent, read_node_line};
 use std::alloc::{AllocError, Global};
-
-/// The most lines of an input.
-const MOST_LINES: u32 = 1_000_000;
-
-/// The most octets of a line, its line feed not counted.
-const MOST_OCTETS: u32 = 9_000_000;
-
-/// The first moment that no clock shows, in ms.
-const NO_MOMENT: u64 = 1 << 62;
 
 /// The number of an engine's first session.
 const FIRST_SESSION: u64 = 1;

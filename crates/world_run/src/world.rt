@@ -21,24 +21,16 @@ use crate::telling::Telling;
 use crate::written_lines::{
     write_after_drain, write_effects, write_refusal, write_undelivered, write_unsent,
 };
-use command_frame::{PartLineStep, Turned};
+use command_frame::{MOST_LINES, MOST_OCTETS, PartLineStep, Turned};
 use edge_traits::Status;
 use ltp_engine::SubmitRefused;
+use ltp_session::NO_MOMENT;
 use ltp_world::{DeliverRefused, DrainRefused};
 use path_drain::ends::{drains_are_one, paths_are_timed};
 use path_laws::{PathEffects, PathEnd};
 use path_world::{PathDrained, PathWorld};
 use replay_script::{Event, LineFault};
 use std::alloc::{AllocError, Global};
-
-/// The most lines of an input.
-const MOST_LINES: u32 = 1_000_000;
-
-/// The most octets of a line, its line feed not counted.
-const MOST_OCTETS: u32 = 9_000_000;
-
-/// The first moment that no clock shows, in ms.
-const NO_MOMENT: u64 = 1 << 62;
 
 /// The most octets of all datagrams that were sent.
 const MOST_SENT: u64 = 1 << 28;

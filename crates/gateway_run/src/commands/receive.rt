@@ -16,16 +16,10 @@ use crate::piece::Piece;
 use crate::sessions::{is_one_too_many, meet, no_sessions};
 use crate::table::{Reply, Sessions, Whole};
 use crate::written_lines::{write_fault, write_no_hex, write_note, write_skip, write_up};
-use command_frame::LineStep;
+use command_frame::{LineStep, MOST_LINES, MOST_OCTETS};
 use edge_traits::Status;
 use hex_text::{is_hex, octets_of};
 use std::alloc::{AllocError, Global};
-
-/// The most lines of an input.
-const MOST_LINES: u32 = 1_000_000;
-
-/// The most octets of a line, its line feed not counted.
-const MOST_OCTETS: u32 = 9_000_000;
 
 /// The most sessions that may be unfinished at a time.
 const MOST_SESSIONS: usize = 64;

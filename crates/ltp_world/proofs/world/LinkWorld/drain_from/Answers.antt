@@ -20,15 +20,15 @@ ticking-preserved c = record {
   bounds = λ b. c.in_ok-tick_to.ensures.bounds (c.in_ok-deliver_from.ensures.bounds (c.ticking.invariant.bounds b));
 }
 
-pub returns-then-deadline-ge-LATE-clause-does : goal.returns-then-deadline-ge-LATE-clause-does
-returns-then-deadline-ge-LATE-clause-does c =
+pub returns-then-deadline-ge-NO_MOMENT-clause-does : goal.returns-then-deadline-ge-NO_MOMENT-clause-does
+returns-then-deadline-ge-NO_MOMENT-clause-does c =
     let due : deadline_in c.deliver_from.new.self ≡ Some c.in-Some.deadline = search rules in
     record {
       now = c.deliver_from.new.steps.items;
       leads = advance-more _ _ _ _ _ _ _ _ _ c.ticking.invariant.made c.in_ok-deliver_from.ensures.done;
       deadline = c.in-Some.deadline;
       due = due;
-      late = omega (arith, c.if-deadline-ge-LATE.true);
+      late = omega (arith, c.if-deadline-ge-NO_MOMENT.true);
     }
 
 pub returns-clause-does : goal.returns-clause-does

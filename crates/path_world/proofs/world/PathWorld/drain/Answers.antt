@@ -21,14 +21,14 @@ ticking-preserved c = record {
   made = advance-more _ _ _ _ _ _ _ _ _ c.ticking.invariant.made (advance-more _ _ _ _ _ _ _ _ _ c.in_ok-tick_to.ensures.done
       (subst (λ n. LeadsOn c.tick_to.new.self c.deliver_from.new.self n (length c.deliver_from.new.self.sent) c.tick_to.new.steps.items c.deliver_from.new.steps.items)
       c.sent-from.ensures c.in_ok-deliver_from.ensures.done));
-  begun = inr (due-early _ _ c.in-Some.deadline c.ticking.invariant.begun (sym c.in-Some.ensures.least) (omega (arith, c.if-deadline-ge-LATE.false)));
+  begun = inr (due-early _ _ c.in-Some.deadline c.ticking.invariant.begun (sym c.in-Some.ensures.least) (omega (arith, c.if-deadline-ge-NO_MOMENT.false)));
   bounds = c.in_ok-deliver_from.ensures.bounds c.in_ok-tick_to.ensures.bounds;
 }
 
-pub returns-then-deadline-ge-LATE-clause-does : goal.returns-then-deadline-ge-LATE-clause-does
-returns-then-deadline-ge-LATE-clause-does c =
+pub returns-then-deadline-ge-NO_MOMENT-clause-does : goal.returns-then-deadline-ge-NO_MOMENT-clause-does
+returns-then-deadline-ge-NO_MOMENT-clause-does c =
     drain-late c.args.self.now c.ticking.self c.in-Some.deadline c.ticking.steps.items c.ticking.invariant.made (sym c.in-Some.ensures.least)
-    (omega (arith, c.if-deadline-ge-LATE.true))
+    (omega (arith, c.if-deadline-ge-NO_MOMENT.true))
 
 pub returns-clause-does : goal.returns-clause-does
 returns-clause-does c =

@@ -1,12 +1,13 @@
 //! What a record loses where it is made bare.
 
 ghost use Rattle.std.specs.Prelude.{◌≡◌, ◌∷◌, ◌++◌, [], IfOk, OnOk};
-ghost use Rattle.translate.specs.View7.{is_null, is_default6, has_no_rest, needs_residue7};
+ghost use Rattle.translate.specs.View7.{needs_residue7};
 ghost use Rattle.block_types.specs.Bare.{kind_left, kinds_left};
 
-use bundle_meaning::{Content, Ext, Extra6, Full, Shared, default6};
-use endpoint::{Endpoint, Octets};
+use bundle_meaning::{Ext, Full};
+use endpoint::Octets;
 use std::alloc::{AllocError, Global};
+use translate::needs_residue7;
 
 /// What a record loses where it is made bare.
 #[derive(Debug, Drop)]
@@ -25,7 +26,7 @@ pub fn left_out(alloc: Global, full: &Full) -> Result<LeftOut, AllocError>
 {
     Ok(LeftOut {
         kinds: kinds_left(alloc, full.exts.as_slice())?,
-        residue: needs_residue(full),
+        residue: needs_residue7(full),
     })
 }
 
@@ -57,42 +58,5 @@ fn kind_left(ext: &Ext) -> Option<u8>
     match ext {
         Ext::Six(block) => Some(block.kind),
         Ext::Seven(_) => None,
-    }
-}
-
-/// Whether the version 7 bundle of a record has a residue.
-fn needs_residue(full: &Full) -> bool
-    ensures { result ≡ needs_residue7 full.now }
-{
-    !is_default(&full.shared, &full.extra6) || !has_no_rest(&full.shared.content)
-}
-
-/// Whether version 6 says nothing but its default.
-fn is_default(shared: &Shared, extra: &Extra6) -> bool
-    ensures { result ≡ is_default6 shared.now extra.now }
-{
-    extra.flags == default6(shared).flags
-        && is_null(&extra.custodian)
-        && extra.payload_flags == 0
-        && extra.after == 0
-}
-
-/// Whether it is the null endpoint.
-fn is_null(endpoint: &Endpoint) -> bool
-    ensures { result ≡ is_null endpoint.now }
-{
-    match endpoint {
-        Endpoint::Null => true,
-        Endpoint::Ipn { .. } | Endpoint::Dtn(_) => false,
-    }
-}
-
-/// Whether no report's time has a part below one millisecond.
-fn has_no_rest(content: &Content) -> bool
-    ensures { result ≡ has_no_rest content.now }
-{
-    match content {
-        Content::Bytes(_) => true,
-        Content::Report(report) => report.rests.iter().all(|rest| *rest == 0),
     }
 }

@@ -11,7 +11,7 @@ pub(crate) const LAST: u32 = 3;
 pub(crate) const REFS: u32 = 6;
 
 /// Whether a bit is set.
-pub(crate) fn has_bit(flags: u64, bit: u32) -> bool
+pub fn has_bit(flags: u64, bit: u32) -> bool
     requires { bit < 64 }
     ensures { result ≡ has_bit bit flags }
 {
@@ -19,7 +19,7 @@ pub(crate) fn has_bit(flags: u64, bit: u32) -> bool
 }
 
 /// The flags with a bit clear.
-pub(crate) fn without(flags: u64, bit: u32) -> u64
+pub fn without(flags: u64, bit: u32) -> u64
     requires { bit < 64 }
     ensures { result ≡ without bit flags }
 {

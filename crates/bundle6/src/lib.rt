@@ -34,6 +34,7 @@ mod writing;
 pub use block::{Block6, Blocks6, Seen, size_at};
 pub use bundle::Bundle6;
 pub use fault::{Cause6, Fail6, Refused6};
+pub use flags::{has_bit, without};
 pub use judging::judge6;
 pub use laws::{canonical_spells, cuts_alike, exactly_one, only_legal};
 pub use pass::{Head, Texts, head_judged, name_judged, primary_judged};

@@ -31,7 +31,7 @@ mod reading;
 mod seen;
 mod writing;
 
-pub use block::{Block7, Blocks7, Lead};
+pub use block::{Block7, Blocks7, Lead, is_single};
 pub use body::{Hop, age_of, hop_of, is_body};
 pub use bundle::Bundle7;
 pub use eid::{previous_of, read_eid, write_eid};

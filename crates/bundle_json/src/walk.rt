@@ -13,6 +13,7 @@ ghost use Rattle.wire_fields.specs.Words.{optional};
 ghost use Rattle.wire_fields.specs.Format.{Spells};
 ghost use Rattle.bundle_json.specs.Laid.{Walks, Same, IsPair, AreFour, LiesAt, AreRefs, ShowsPrimary, ShowsBlock, SpellsBlock, ShowsTexts, ValueOf, texts_in};
 
+use bundle6::{has_bit, without};
 use endpoint::Fragment;
 use wire_fields::{number_at, octet_at};
 
@@ -249,25 +250,5 @@ pub(crate) fn block(octets: &[u8], at: usize) -> BlockView
         refs,
         body,
         after,
-    }
-}
-
-/// Whether a bit is set.
-fn has_bit(flags: u64, bit: u32) -> bool
-    requires { bit < 64 }
-    ensures { result ≡ has_bit bit flags }
-{
-    (flags >> bit) & 1 == 1
-}
-
-/// The flags with a bit clear.
-fn without(flags: u64, bit: u32) -> u64
-    requires { bit < 64 }
-    ensures { result ≡ without bit flags }
-{
-    if has_bit(flags, bit) {
-        flags - (1 << bit)
-    } else {
-        flags
     }
 }

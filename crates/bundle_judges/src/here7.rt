@@ -8,9 +8,10 @@ ghost use Rattle.bundle7.specs.Table.{body_field};
 ghost use Rattle.bundle_judges.specs.Sum7.{with_octets, check_octets};
 ghost use Rattle.bundle_judges.specs.Here7.{HasCheck, HasBlock};
 
-use crate::stand7::is_single;
 use crate::sum7::{Sum, absent, missed};
-use bundle7::{Cause7, Front, Lead, MOST_EXTENSIONS, Refused7, Seen, front_judged, is_body};
+use bundle7::{
+    Cause7, Front, Lead, MOST_EXTENSIONS, Refused7, Seen, front_judged, is_body, is_single,
+};
 use endpoint::Fragment;
 use wire_fields::octets_at;
 

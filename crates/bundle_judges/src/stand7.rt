@@ -6,7 +6,6 @@ ghost use Rattle.wire_fields.specs.Words.{exact_octet};
 ghost use Rattle.wire_fields.specs.Gives.{Gives};
 ghost use Rattle.bundle7.specs.declared.fault.Cause7.TheVariants.{Break};
 ghost use Rattle.bundle7.specs.Cause.{refused};
-ghost use Rattle.bundle7.specs.Table.{is_single};
 ghost use Rattle.bundle_judges.specs.Field7.{small_field, most_octets, is_kept, body_stage};
 ghost use Rattle.bundle_judges.specs.Stand7.{entered, IsThere, waiting, waited, Fitting, Passes, Checks, Starts, Steps, StepsOn, RunsOn};
 
@@ -14,7 +13,8 @@ use crate::few::{Few, MOST};
 use crate::here7::{block_here, item_of};
 use crate::sum7::{Sum, absent, missed};
 use bundle7::{
-    Cause7, Fail7, Front, Lead, MOST_EXTENSIONS, Refused7, Seen, front_judged, start_judged,
+    Cause7, Fail7, Front, Lead, MOST_EXTENSIONS, Refused7, Seen, front_judged, is_single,
+    start_judged,
 };
 use endpoint::Fragment;
 use std::alloc::AllocError;
@@ -398,13 +398,6 @@ fn is_kept(front: Front) -> bool
     ensures { result ≡ is_kept front }
 {
     is_single(front.lead.kind) && front.size <= MOST as u64
-}
-
-/// Whether the body of a block of this type is one item: a previous node, a bundle age, a hop count.
-pub(crate) fn is_single(kind: u64) -> bool
-    ensures { result ≡ is_single kind }
-{
-    kind == 6 || kind == 7 || kind == 10
 }
 
 /// Whether no block follows one of this type after so many extension blocks.

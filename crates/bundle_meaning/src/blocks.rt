@@ -1,6 +1,7 @@
 //! The extension blocks of a record, each as its own version has it.
 
 ghost use Rattle.std.specs.Prelude.{◌≡◌, ◌++◌, ◌∷◌, [], length, take, IfOk, OnOk, OnErr};
+ghost use Rattle.bundle_meaning.specs.Blocks.{is_single};
 
 use endpoint::{Octets, Refs};
 use std::alloc::{AllocError, Global};
@@ -158,4 +159,12 @@ impl Exts {
         }
         Ok(Exts { items })
     }
+}
+
+/// Whether a version 7 bundle has at most one block of this type: a previous node, a bundle age or a
+/// hop count (RFC 9171, section 4.4).
+pub fn is_single(kind: u64) -> bool
+    ensures { result ≡ is_single kind }
+{
+    kind == 6 || kind == 7 || kind == 10
 }

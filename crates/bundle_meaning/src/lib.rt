@@ -29,7 +29,7 @@ mod wrap_new;
 mod wrap_old;
 mod writing;
 
-pub use blocks::{Block6Like, Block7Like, Ext, Exts};
+pub use blocks::{Block6Like, Block7Like, Ext, Exts, is_single};
 pub use creation::{Id6, Id7, SequenceTooLarge, TimeTooLarge, id_to_new, id_to_old, ids_pair_off};
 pub use expiry::{expiry_ms, lifetime6, slack};
 pub use extra::{Extra6, Extra7, default6, default7};

@@ -30,6 +30,12 @@ IsDtn Null = ⊥
 IsDtn (Ipn node service) = ⊥
 IsDtn (Dtn ssp) = Unit {0}
 
+-- nobody
+abbrev pub is_null : Endpoint → Bool
+is_null Null = true
+is_null (Ipn node service) = false
+is_null (Dtn ssp) = false
+
 abbrev pub scheme_of : Endpoint → List ℕ
 scheme_of Null = codes "dtn"
 scheme_of (Ipn node service) = codes "ipn"

@@ -1,7 +1,7 @@
 //! Endpoints, and their texts.
 
 ghost use Rattle.std.specs.Prelude.{◌≡◌, ◌≢◌, ◌⊎◌, IfOk, IfErr, IsOkAnd, OnErr, Ok, Err};
-ghost use Rattle.endpoint.specs.Endpoints.{IsDtn, text_of, scheme_of, ssp_of, is_singleton};
+ghost use Rattle.endpoint.specs.Endpoints.{IsDtn, text_of, scheme_of, ssp_of, is_null, is_singleton};
 ghost use Rattle.endpoint.specs.Reading.{Spells, SpellsDtn, Misses, Reads, read_text};
 ghost use Rattle.endpoint.specs.Reading.{HaveOneText};
 ghost use Rattle.endpoint.specs.Lent.{endpoint_of, seen};
@@ -79,6 +79,16 @@ impl Endpoint {
                 Ok(Octets::from_vec(pair.into_bytes()))
             }
             Endpoint::Dtn(ssp) => ssp.copy(alloc),
+        }
+    }
+
+    /// Whether it is the null endpoint.
+    pub fn is_null(&self) -> bool
+        ensures { result ≡ is_null self.now }
+    {
+        match self {
+            Endpoint::Null => true,
+            Endpoint::Ipn { .. } | Endpoint::Dtn(_) => false,
         }
     }
 

@@ -20,7 +20,7 @@ use crate::lines::write_word;
 use crate::reading::{read6, read7};
 use crate::telling::Telling;
 use crate::turned_down::TurnedDown;
-use crate::views::{sized, spelled_new, spelled_old};
+use crate::views::{spelled_new, spelled_old};
 use bundle_meaning::{Content, Full};
 use bundle6::Bundle6;
 use bundle7::Bundle7;
@@ -28,7 +28,7 @@ use endpoint::Octets;
 use fragments::{JoinRefused, Joined, Joiner};
 use std::alloc::{AllocError, Global};
 use std::marker::Model;
-use translate::{Refused, refusal6, refusal7};
+use translate::{Refused, refusal6, refusal7, sized};
 
 /// What is said of the joiner's answer: a word, or the whole.
 #[derive(Drop)]

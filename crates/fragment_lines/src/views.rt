@@ -1,19 +1,17 @@
 //! The octets of the bundle that stands for a record.
 
 ghost use Rattle.std.specs.Prelude.{◌≡◌, ◌<◌, ◌^◌, length, true, IfOk, OnErr};
-ghost use Rattle.std.specs.List.{All};
-ghost use Rattle.translate.specs.Legal.{IsSized6};
 ghost use Rattle.translate.specs.Sound.{IsSound};
 ghost use Rattle.translate.specs.View6.{fits6};
 ghost use Rattle.translate.specs.View7.{fits7};
 ghost use Rattle.fragment_lines.specs.Lines.{spelled_old, spelled_new};
 
 use bundle_meaning::Full;
-use bundle6::{Block6, encode6};
+use bundle6::encode6;
 use bundle7::encode7;
 use endpoint::Octets;
 use std::alloc::{AllocError, Global};
-use translate::{ViewRefused, view6, view6_is_legal, view7};
+use translate::{ViewRefused, sized6, view6, view6_is_legal, view7};
 
 /// The octets of the version 6 bundle that stands for a record, where there is room for its blocks. The
 /// record is let go before they are written.
@@ -53,17 +51,3 @@ pub fn spelled_new(alloc: Global, full: Full) -> Result<Option<Octets>, AllocErr
         Err(ViewRefused::Memory) => Err(AllocError),
     }
 }
-
-/// Says of each block that a number counts its octets, as one counts those of every slice.
-fn sized6(blocks: &[Block6])
-    ensures { All IsSized6 blocks.now }
-{
-    'telling: for block in blocks {
-        sized(block.body.as_slice());
-    }
-}
-
-/// Says that a number counts the octets.
-pub(crate) fn sized(octets: &[u8])
-    ensures { length octets.now < 2 ^ 64 }
-{}

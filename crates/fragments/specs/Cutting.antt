@@ -4,14 +4,13 @@ use Rattle.std.specs.Prelude.{◌≡◌, ℕ, zero, suc, ◌+◌, ◌-◌, ◌*�
 use Rattle.std.specs.List.{filter, count_by}
 use Rattle.std.specs.Int.Bits.{bit_or}
 use Rattle.endpoint.specs.declared.extent.Fragment.{Fragment}
-use Rattle.endpoint.specs.declared.name.Endpoint.{Endpoint}
-use Rattle.endpoint.specs.declared.name.Endpoint.TheVariants.{Null, Ipn, Dtn}
 use Rattle.bundle_meaning.specs.declared.shared.Content.{Content}
 use Rattle.bundle_meaning.specs.declared.shared.Content.TheVariants.{Bytes, Report}
 use Rattle.bundle_meaning.specs.declared.shared.Shared.{Shared}
 use Rattle.bundle_meaning.specs.declared.extra.Extra6.{Extra6}
 use Rattle.bundle_meaning.specs.declared.blocks.Ext.{Ext}
 use Rattle.bundle_meaning.specs.declared.blocks.Ext.TheVariants.{Six, Seven}
+use Rattle.endpoint.specs.Endpoints.{is_null}
 use Rattle.bundle_meaning.specs.declared.full.Full.{Full}
 use Rattle.bundle_meaning.specs.Bits.{has_bit}
 
@@ -23,11 +22,6 @@ octets_of (Report report) = []
 -- the payload is longer than a piece
 abbrev pub is_longer : Full → ℕ → Bool
 is_longer full size = nat_lt size (length (octets_of full.shared.content))
-
-abbrev pub is_null : Endpoint → Bool
-is_null Null = true
-is_null (Ipn node service) = false
-is_null (Dtn ssp) = false
 
 -- a bundle must stay whole: flag bit 2 is set, or no source names it, so that nobody could tell which
 -- fragments belong together

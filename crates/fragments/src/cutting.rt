@@ -3,13 +3,13 @@
 ghost use Rattle.std.specs.Prelude.{◌≡◌, ◌↔◌, ◌<◌, true, ◌&&◌, [], ◌∷◌, length, Err, IfOk};
 ghost use Rattle.std.specs.List.{All};
 ghost use Rattle.bundle_meaning.specs.Valid.{IsValid};
-ghost use Rattle.fragments.specs.Cutting.{octets_of, place_of, is_longer, is_null, must_not, how_many, fragment_of, piece, pieces, pieces_from};
+ghost use Rattle.fragments.specs.Cutting.{octets_of, place_of, is_longer, must_not, how_many, fragment_of, piece, pieces, pieces_from};
 
 use crate::fault::CutRefused;
 use crate::fulls::Fulls;
 use crate::kept::{after_in, exts_in};
 use bundle_meaning::{Content, Extra6, Full, Shared, copy};
-use endpoint::{Endpoint, Fragment, Octets};
+use endpoint::{Fragment, Octets};
 use std::alloc::{AllocError, Global};
 
 /// The pieces of a record, each with so many octets of its payload, the last with those that are left.
@@ -52,19 +52,10 @@ pub(crate) fn octets_of(content: &Content) -> &[u8]
 }
 
 /// Whether a record must stay whole: its flags say so, or no name tells its fragments from others.
-pub(crate) fn must_not(shared: &Shared) -> bool
+pub fn must_not(shared: &Shared) -> bool
     ensures { result ≡ must_not shared.now }
 {
-    shared.flags / 4 % 2 == 1 || is_null(&shared.source)
-}
-
-fn is_null(endpoint: &Endpoint) -> bool
-    ensures { result ≡ is_null endpoint.now }
-{
-    match endpoint {
-        Endpoint::Null => true,
-        Endpoint::Ipn { .. } | Endpoint::Dtn(_) => false,
-    }
+    shared.flags / 4 % 2 == 1 || shared.source.is_null()
 }
 
 /// The record alone.

@@ -25,7 +25,7 @@ mod laws;
 mod limits;
 
 pub use cutter::Cutter;
-pub use cutting::cut;
+pub use cutting::{cut, must_not};
 pub use fault::{CutRefused, JoinRefused};
 pub use fulls::Fulls;
 pub use joining::{Joined, Joiner};

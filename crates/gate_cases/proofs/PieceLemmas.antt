@@ -18,7 +18,8 @@ use Rattle.bundle_meaning.specs.Reports.{no_time_of}
 use Rattle.bundle_meaning.specs.Valid.{IsValid}
 use Rattle.translate.specs.Sound.{HasBody, IsSound}
 use Rattle.translate.specs.View6.{is_same7, needs_residue6}
-use Rattle.translate.specs.View7.{is_null, is_default6, has_no_rest, needs_residue7}
+use Rattle.endpoint.specs.Endpoints.{is_null}
+use Rattle.translate.specs.View7.{is_default6, has_no_rest, needs_residue7}
 use Rattle.fragments.specs.Cutting.{octets_of, is_longer, must_not, is_replicated, exts_in, after_in, how_many, piece, pieces_from, pieces}
 use Rattle.gate_cases.specs.declared.face.Face.{Face}
 use Rattle.gate_cases.specs.declared.face.Face.TheVariants.{Old, New}

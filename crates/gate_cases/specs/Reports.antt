@@ -2,7 +2,7 @@
 -- 6.1.1).
 use Rattle.std.specs.Prelude.{ℕ, Bool, true, false, ◌&&◌, ◌||◌, not, if◌then◌else◌, Option, Some, None}
 use Rattle.bundle6.specs.Bits.{has_bit}
-use Rattle.translate.specs.View7.{is_null}
+use Rattle.endpoint.specs.Endpoints.{is_null}
 use Rattle.gate_cases.specs.declared.case.GateCase.{GateCase}
 use Rattle.gate_cases.specs.declared.case.GateCase.TheVariants as cases
 use Rattle.gate_cases.specs.declared.face.Face.{Face}

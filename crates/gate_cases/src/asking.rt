@@ -5,7 +5,7 @@ ghost use Rattle.bundle6.specs.Bits.{has_bit};
 ghost use Rattle.bundle6.specs.Legal.{IsLegal};
 ghost use Rattle.bundle7.specs.Legal.{IsLegal7};
 ghost use Rattle.translate.specs.Reading6.{payload_in};
-ghost use Rattle.translate.specs.View7.{is_null};
+ghost use Rattle.endpoint.specs.Endpoints.{is_null};
 ghost use Rattle.gate_cases.specs.Blocks.{part_of, subject6, subject7};
 ghost use Rattle.gate_cases.specs.Reports.{is_passed, is_deleted, is_any, statuses_of, is_asked, asked};
 ghost use Rattle.gate_cases.specs.Promises.{AreAskable};
@@ -13,7 +13,7 @@ ghost use Rattle.gate_cases.specs.Promises.{AreAskable};
 use crate::case::GateCase;
 use crate::report::{AskedReport, Creation, Statuses};
 use bundle_meaning::{Id6, Id7, Part};
-use bundle6::{Block6, Bundle6};
+use bundle6::{Block6, Bundle6, has_bit};
 use bundle7::Bundle7;
 use endpoint::{Endpoint, Fragment};
 use std::alloc::{AllocError, Global};
@@ -94,7 +94,7 @@ pub fn asked7(
 fn is_asked(flags: u64, report_to: &Endpoint, case: GateCase) -> bool
     ensures { result ≡ (not (has_bit 1 flags) && not (is_null report_to.now) && is_any (statuses_of flags case)) }
 {
-    !has_bit(flags, ADMINISTRATIVE) && !is_null(report_to) && is_any(statuses_of(flags, case))
+    !has_bit(flags, ADMINISTRATIVE) && !report_to.is_null() && is_any(statuses_of(flags, case))
 }
 
 /// The statuses that flags ask for.
@@ -132,24 +132,6 @@ fn is_deleted(case: GateCase) -> bool
         | GateCase::Expired
         | GateCase::HopLimit
         | GateCase::Storage => true,
-    }
-}
-
-/// Whether a bit is set.
-fn has_bit(flags: u64, bit: u32) -> bool
-    requires { bit < 64 }
-    ensures { result ≡ has_bit bit flags }
-{
-    (flags >> bit) & 1 == 1
-}
-
-/// Whether it is the null endpoint.
-fn is_null(endpoint: &Endpoint) -> bool
-    ensures { result ≡ is_null endpoint.now }
-{
-    match endpoint {
-        Endpoint::Null => true,
-        Endpoint::Ipn { .. } | Endpoint::Dtn(_) => false,
     }
 }
 

@@ -3,7 +3,6 @@
 ghost use Rattle.std.specs.Prelude.{◌≡◌, ◌+◌, ◌<◌, ◌^◌, ◌||◌, not, nat_lt, true, length, map, Some, None, if◌then◌else◌, IfOk, OnErr, ◌==◌, [], ◌∷◌};
 ghost use Rattle.std.specs.List.{All, list_all, list_any};
 ghost use Rattle.bundle_meaning.specs.Valid.{IsValid};
-ghost use Rattle.translate.specs.Legal.{IsSized6};
 ghost use Rattle.translate.specs.Refusals.{first_that_holds};
 ghost use Rattle.translate.specs.Sound.{IsSound};
 ghost use Rattle.fragments.specs.Cutting.{octets_of, is_longer, must_not};
@@ -17,13 +16,13 @@ use crate::face::Face;
 use crate::hop::{has_no_hop_left, passage};
 use crate::judged::Pieces;
 use crate::names::is_any_over;
-use bundle_meaning::{Content, Full, Shared, expiry_ms};
-use bundle6::{Block6, encode6};
+use bundle_meaning::{Content, Full, expiry_ms};
+use bundle6::encode6;
 use bundle7::encode7;
-use endpoint::{Endpoint, Octets};
-use fragments::{CutRefused, Fulls, cut};
+use endpoint::Octets;
+use fragments::{CutRefused, Fulls, cut, must_not};
 use std::alloc::{AllocError, Global};
-use translate::{Refused, ViewRefused, fits6, fits7, view6, view6_is_legal, view7};
+use translate::{Refused, ViewRefused, fits6, fits7, sized6, view6, view6_is_legal, view7};
 
 /// The case of a bundle that is translated, and the pieces that go on.
 #[derive(Debug, Drop)]
@@ -218,13 +217,6 @@ fn octets_in(content: &Content) -> usize
     }
 }
 
-/// Whether a bundle must stay whole.
-fn must_not(shared: &Shared) -> bool
-    ensures { result ≡ must_not shared.now }
-{
-    shared.flags / 4 % 2 == 1 || matches!(shared.source, Endpoint::Null)
-}
-
 /// The records of those pieces, in order. One that stays whole is moved, and not copied.
 pub fn piece_records(alloc: Global, full: Full, size: u64) -> Result<Fulls, AllocError>
     requires some { 0 < size }
@@ -305,17 +297,3 @@ fn spelled_new(alloc: Global, full: &Full) -> Result<Option<Octets>, AllocError>
         Err(ViewRefused::Memory) => Err(AllocError),
     }
 }
-
-/// Says of each block that a number counts its octets, as one counts those of every slice.
-fn sized6(blocks: &[Block6])
-    ensures { All IsSized6 blocks.now }
-{
-    'telling: for block in blocks {
-        sized(block.body.as_slice());
-    }
-}
-
-/// Says that a number counts the octets.
-fn sized(octets: &[u8])
-    ensures { length octets.now < 2 ^ 64 }
-{}

@@ -13,6 +13,7 @@ use bundle7::{Block7, Blocks7, Bundle7, Primary7, encode7};
 use endpoint::{Endpoint, Octets, Refs};
 use status_reports::{Report6, Report7, Time6, write6, write7};
 use std::alloc::{AllocError, Global};
+use translate::sized;
 
 /// Flags of a version 6 report bundle: administrative, with priority normal.
 const FLAGS: u64 = 0x82;
@@ -276,8 +277,3 @@ fn bundle7_of(
         },
     })
 }
-
-/// Says that a number counts the octets.
-fn sized(octets: &[u8])
-    ensures { length octets.now < 2 ^ 64 }
-{}

@@ -18,6 +18,7 @@ use gate_cases::{Face, spelled};
 use ltp_engine::Up;
 use path_laws::EndJoin;
 use std::alloc::{AllocError, Global};
+use translate::sized;
 
 /// Blocks that came whole at an end: each that is a fragment is added to the end's joiner. Its
 /// answers come in their order.
@@ -68,7 +69,7 @@ fn join(alloc: Global, face: Face, joiner: &mut Joiner, full: &Full) -> Result<E
         Ok(Joined::Waiting) => Ok(EndJoin::Waiting),
         Ok(Joined::Repeat) => Ok(EndJoin::Repeat),
         Ok(Joined::Whole(whole)) => {
-            sized(&whole.shared.content);
+            sized_content(&whole.shared.content);
             Ok(EndJoin::Whole {
                 body: spelled_whole(alloc, face, &whole)?,
             })
@@ -81,19 +82,14 @@ fn join(alloc: Global, face: Face, joiner: &mut Joiner, full: &Full) -> Result<E
 }
 
 /// Says that a number counts the octets of a payload.
-fn sized(content: &Content)
+fn sized_content(content: &Content)
     ensures { length (octets_of content.now) < 2 ^ 64 }
 {
     match content {
-        Content::Bytes(octets) => counted(octets.as_slice()),
+        Content::Bytes(octets) => sized(octets.as_slice()),
         Content::Report(_) => {}
     }
 }
-
-/// Says that a number counts the octets, as one counts those of every slice.
-fn counted(octets: &[u8])
-    ensures { length octets.now < 2 ^ 64 }
-{}
 
 /// The octets of a whole, which has room for its blocks in the end's version.
 fn spelled_whole(alloc: Global, face: Face, whole: &Full) -> Result<Octets, AllocError>

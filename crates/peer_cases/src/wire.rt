@@ -1,8 +1,6 @@
 //! The octets of a record's bundle on the wire of a face.
 
 ghost use Rattle.std.specs.Prelude.{◌≡◌, ◌<◌, ◌^◌, true, length, IfOk};
-ghost use Rattle.std.specs.List.{All};
-ghost use Rattle.translate.specs.Legal.{IsSized6};
 ghost use Rattle.translate.specs.Sound.{IsSound};
 ghost use Rattle.gate_cases.specs.Faces.{fits_at};
 ghost use Rattle.peer_cases.specs.Pieces.{wire_octets, greatest_size};
@@ -11,12 +9,12 @@ use crate::settings::PeerSettings;
 use block_types::{relabel6, relabel7};
 use bundle_age::{has_age, raised};
 use bundle_meaning::Full;
-use bundle6::{Block6, encode6};
+use bundle6::encode6;
 use bundle7::encode7;
 use endpoint::Octets;
 use gate_cases::Face;
 use std::alloc::{AllocError, Global};
-use translate::{view6, view6_is_legal, view7};
+use translate::{sized6, view6, view6_is_legal, view7};
 
 /// The octets of the bundle that stands for a record, in the version of the face, with the types of the
 /// wire.
@@ -86,17 +84,3 @@ pub(crate) fn greatest_size(
     let oldest = raised(alloc, full, u64::MAX)?;
     Ok(wire_octets(alloc, settings, to, &oldest)?.len() as u64)
 }
-
-/// Says of each block that a number counts its octets, as one counts those of every slice.
-fn sized6(blocks: &[Block6])
-    ensures { All IsSized6 blocks.now }
-{
-    'telling: for block in blocks {
-        sized(block.body.as_slice());
-    }
-}
-
-/// Says that a number counts the octets.
-fn sized(octets: &[u8])
-    ensures { length octets.now < 2 ^ 64 }
-{}

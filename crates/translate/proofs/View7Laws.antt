@@ -35,7 +35,8 @@ use Rattle.bundle_meaning.proofs.RecordLemmas.{residue_new-is}
 use Rattle.translate.specs.declared.refused.Refused.{Refused}
 use Rattle.translate.specs.declared.refused.Refused.TheVariants as causes
 use Rattle.translate.specs.Refusals.{first_that_holds}
-use Rattle.translate.specs.View7.{is_null, is_default6, needs_residue7, next_free7, residue7_at, block7_at, number_after7, blocks7_of, exts7_of, octets7_of, view7_of}
+use Rattle.endpoint.specs.Endpoints.{is_null}
+use Rattle.translate.specs.View7.{is_default6, needs_residue7, next_free7, residue7_at, block7_at, number_after7, blocks7_of, exts7_of, octets7_of, view7_of}
 use Rattle.translate.specs.Reading7.{carried7, content7_of, shared7_with, residue7_of, no_residue7, residue_in7, is_residue7, are_residues7, is_wrap_legal7, ext7_of, exts_in7, shared7_of, extra7_of, extra6_of_residue, refusals7, Reads7}
 use Rattle.translate.specs.Admin.{lacks_report7, takes_parts, report7_in, content7}
 use Rattle.translate.proofs.AdminLemmas.{content7-back, takes7-back, lacks7-back, no-rests}

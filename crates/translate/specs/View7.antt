@@ -4,8 +4,7 @@
 use Rattle.std.specs.Prelude.{ℕ, zero, suc, ◌+◌, ◌-◌, ◌==◌, Bool, true, false, ◌&&◌, ◌||◌, not, nat_le, if◌then◌else◌, List, [], ◌∷◌, length}
 use Rattle.std.specs.Int.Bits.{bit_and, bit_or}
 use Rattle.std.specs.List.{list_any, list_all}
-use Rattle.endpoint.specs.declared.name.Endpoint.{Endpoint}
-use Rattle.endpoint.specs.declared.name.Endpoint.TheVariants.{Null, Ipn, Dtn}
+use Rattle.endpoint.specs.Endpoints.{is_null}
 use Rattle.bundle7.specs.declared.primary.Primary7.{Primary7}
 use Rattle.bundle7.specs.declared.block.Block7.{Block7}
 use Rattle.bundle7.specs.declared.bundle.Bundle7.{Bundle7}
@@ -42,11 +41,6 @@ primary7_of full = record {
 }
 
 -- ---- the residue
-
-abbrev pub is_null : Endpoint → Bool
-is_null Null = true
-is_null (Ipn node service) = false
-is_null (Dtn ssp) = false
 
 -- version 6 says nothing but its default
 abbrev pub is_default6 : Shared → Extra6 → Bool

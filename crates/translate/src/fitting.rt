@@ -16,7 +16,6 @@ use crate::reading7::{default_flags6, extra7, is_residue7};
 use crate::report6::has_no_rest6;
 use crate::report7::no_time7;
 use crate::writing6::{BLOCK_COMMON, COMMON, MOST, is_same7};
-use crate::writing7::is_null;
 use bundle_meaning::{Extra7, lend_wrap_new, lend_wrap_old};
 use bundle6::{Block6, Bundle6};
 use bundle7::{Block7, Bundle7};
@@ -134,7 +133,7 @@ fn says_default6(bundle: &Bundle6) -> bool
     let blocks = bundle.blocks.as_slice();
     let (_, after) = around_payload(blocks);
     own(primary.flags, COMMON) == default_flags6(&primary.destination)
-        && is_null(&primary.custodian)
+        && primary.custodian.is_null()
         && own(payload_flags(payload(blocks)), BLOCK_COMMON) == 0
         && count6(after) == 0
 }

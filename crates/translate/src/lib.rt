@@ -34,6 +34,6 @@ pub use laws::{
 pub use reading6::{from6, refusal6};
 pub use reading7::{from7, refusal7};
 pub use refused::{Refused, ViewRefused};
-pub use translation::{norm6, norm7, to_new, to_old};
+pub use translation::{norm6, norm7, sized, sized6, to_new, to_old};
 pub use writing6::{fits6, view6};
-pub use writing7::{fits7, view7};
+pub use writing7::{fits7, needs_residue7, view7};

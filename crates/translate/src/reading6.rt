@@ -7,7 +7,7 @@ ghost use Rattle.bundle6.specs.Bits.{has_bit};
 ghost use Rattle.bundle6.specs.Legal.{IsLegal};
 ghost use Rattle.bundle7.specs.Eid.{eid};
 ghost use Rattle.bundle7.specs.Body.{is_body, is_whole, age, hop};
-ghost use Rattle.bundle_meaning.specs.Blocks.{collide, is_single};
+ghost use Rattle.bundle_meaning.specs.Blocks.{collide};
 ghost use Rattle.bundle_meaning.specs.Views.{block7_lent};
 ghost use Rattle.bundle_meaning.specs.Wrap.{wrap_old};
 ghost use Rattle.bundle6.specs.Table.{is_payload};
@@ -26,9 +26,9 @@ use crate::report6::{admin_refusal6, content6, takes_mask};
 use crate::writing6::{BLOCK_COMMON, COMMON};
 use bundle_meaning::{
     Block6Like, BlockFault, Ext, Extra6, Extra7, Exts, Full, LentBlock7, ResidueOld, Shared,
-    id_to_new, lend_wrap_old, read_residue_old, read_wrap_old,
+    id_to_new, is_single, lend_wrap_old, read_residue_old, read_wrap_old,
 };
-use bundle6::{Block6, Bundle6};
+use bundle6::{Block6, Bundle6, has_bit};
 use bundle7::{EidFault, age_of, hop_of, previous_of};
 use endpoint::Endpoint;
 use std::alloc::{AllocError, Global};
@@ -109,14 +109,6 @@ fn is_late6(bundle: &Bundle6) -> bool
     let millis = 1000 * u128::from(primary.lifetime);
     id_to_new(primary.seconds, primary.sequence).is_err()
         || 1 << 64 <= millis.saturating_sub(u128::from(primary.sequence % 1000))
-}
-
-/// Whether a bit is set.
-pub(crate) fn has_bit(flags: u64, bit: u32) -> bool
-    requires { bit < 64 }
-    ensures { result ≡ has_bit bit flags }
-{
-    (flags >> bit) & 1 == 1
 }
 
 /// Whether a block is a residue.
@@ -285,13 +277,6 @@ fn collide(one: &LentBlock7<'_>, other: &LentBlock7<'_>) -> bool
     ensures { result ≡ collide (block7_lent one.now) (block7_lent other.now) }
 {
     one.number == other.number || is_single(one.kind) && one.kind == other.kind
-}
-
-/// Whether a bundle has at most one block of this type.
-fn is_single(kind: u64) -> bool
-    ensures { result ≡ is_single kind }
-{
-    kind == PREVIOUS_NODE || kind == BUNDLE_AGE || kind == HOP_COUNT
 }
 
 /// Whether a wrap collides with one of the others.

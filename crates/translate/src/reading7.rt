@@ -17,7 +17,7 @@ ghost use Rattle.translate.specs.Refusals.{first_that_holds};
 ghost use Rattle.translate.specs.Reading7.{refusals7, residue_in7, no_residue7, carried7, is_residue7, may_stand7, are_residues7, may_be_held6, is_wrap_legal7, ext7_of, exts_in7, shared7_with, extra7_of, extra6_of_residue, full7_of};
 
 use crate::private::{holds_octets, is_marked, is_residue, is_wrap};
-use crate::reading6::{ADMINISTRATIVE, FRAGMENT, has_bit, own};
+use crate::reading6::{ADMINISTRATIVE, FRAGMENT, own};
 use crate::refused::Refused;
 use crate::report7::{admin_refusal7, content7, takes_parts};
 use crate::writing6::{BLOCK_COMMON, COMMON};
@@ -25,6 +25,7 @@ use bundle_meaning::{
     Block7Like, BlockFault, Ext, Extra6, Extra7, Exts, Full, ResidueNew, Shared, id_to_old,
     lend_residue_new, lend_wrap_new, read_residue_new, read_wrap_new,
 };
+use bundle6::has_bit;
 use bundle7::{Block7, Bundle7};
 use endpoint::Endpoint;
 use std::alloc::{AllocError, Global};

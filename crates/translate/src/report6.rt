@@ -11,10 +11,10 @@ ghost use Rattle.translate.specs.Refusals.{first_that_holds};
 ghost use Rattle.translate.specs.View7.{has_no_rest};
 ghost use Rattle.translate.specs.Reading6.{payload_in, carried6, content6_of};
 
-use crate::reading6::{ADMINISTRATIVE, has_bit, payload};
+use crate::reading6::{ADMINISTRATIVE, payload};
 use crate::refused::Refused;
 use bundle_meaning::Content;
-use bundle6::Bundle6;
+use bundle6::{Bundle6, has_bit};
 use endpoint::Octets;
 use status_reports::{AdminFault, LentReport6, Time6, lend6};
 use std::alloc::{AllocError, Global};

@@ -9,10 +9,11 @@ ghost use Rattle.translate.specs.Admin.{admin_cause, lacks_report7, takes_parts,
 ghost use Rattle.translate.specs.Refusals.{first_that_holds};
 ghost use Rattle.translate.specs.Reading7.{carried7, content7_of};
 
-use crate::reading6::{ADMINISTRATIVE, has_bit};
+use crate::reading6::ADMINISTRATIVE;
 use crate::refused::Refused;
 use crate::report6::refused_by;
 use bundle_meaning::{Content, Stamp};
+use bundle6::has_bit;
 use bundle7::Bundle7;
 use status_reports::{LentReport7, lend7};
 use std::alloc::{AllocError, Global};

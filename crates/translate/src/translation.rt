@@ -137,7 +137,7 @@ fn made7(alloc: Global, full: &Full) -> Result<Bundle7, AllocError>
 }
 
 /// Says of each block that a number counts its octets, as one counts those of every slice.
-fn sized6(blocks: &[Block6])
+pub fn sized6(blocks: &[Block6])
     ensures { All IsSized6 blocks.now }
 {
     'telling: for block in blocks {
@@ -155,6 +155,6 @@ fn sized7(blocks: &[Block7])
 }
 
 /// Says that a number counts the octets.
-fn sized(octets: &[u8])
+pub fn sized(octets: &[u8])
     ensures { length octets.now < 2 ^ 64 }
 {}

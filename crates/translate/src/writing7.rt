@@ -5,7 +5,7 @@ ghost use Rattle.std.specs.List.{All};
 ghost use Rattle.bundle_meaning.specs.Valid.{IsContent, IsValid};
 ghost use Rattle.bundle_meaning.specs.Blocks.{IsBlock6, IsExt};
 ghost use Rattle.translate.specs.Sound.{IsSound};
-ghost use Rattle.translate.specs.View7.{primary7_of, is_null, is_default6, has_no_rest, needs_residue7, has_number7, is_taken7, next_free7, residue7_at, plain7, wrap7, block7_at, number_after7, blocks7_of, exts7_of, octets7_of, payload7_of, view7_of, fits7};
+ghost use Rattle.translate.specs.View7.{primary7_of, is_default6, has_no_rest, needs_residue7, has_number7, is_taken7, next_free7, residue7_at, plain7, wrap7, block7_at, number_after7, blocks7_of, exts7_of, octets7_of, payload7_of, view7_of, fits7};
 
 use crate::refused::ViewRefused;
 use crate::writing6::{BLOCK_COMMON, MOST};
@@ -14,7 +14,7 @@ use bundle_meaning::{
     write_wrap_new,
 };
 use bundle7::{Block7, Blocks7, Bundle7, Primary7};
-use endpoint::{Endpoint, Octets};
+use endpoint::Octets;
 use status_reports::write7;
 use std::alloc::{AllocError, Global};
 
@@ -75,22 +75,12 @@ fn primary7(alloc: Global, full: &Full) -> Result<Primary7, AllocError>
     })
 }
 
-/// Whether it is the null endpoint.
-pub(crate) fn is_null(endpoint: &Endpoint) -> bool
-    ensures { result ≡ is_null endpoint.now }
-{
-    match endpoint {
-        Endpoint::Null => true,
-        Endpoint::Ipn { .. } | Endpoint::Dtn(_) => false,
-    }
-}
-
 /// Whether version 6 says nothing but its default.
 fn is_default6(shared: &Shared, extra: &Extra6) -> bool
     ensures { result ≡ is_default6 shared.now extra.now }
 {
     extra.flags == default6(shared).flags
-        && is_null(&extra.custodian)
+        && extra.custodian.is_null()
         && extra.payload_flags == 0
         && extra.after == 0
 }
@@ -106,7 +96,7 @@ fn has_no_rest(content: &Content) -> bool
 }
 
 /// Whether something would be lost without a residue.
-fn needs_residue7(full: &Full) -> bool
+pub fn needs_residue7(full: &Full) -> bool
     ensures { result ≡ needs_residue7 full.now }
 {
     !is_default6(&full.shared, &full.extra6) || !has_no_rest(&full.shared.content)

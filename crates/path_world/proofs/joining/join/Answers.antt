@@ -4,11 +4,11 @@ use Rattle.path_world.proofs.joining.join.Goals as goal
 
 pub spelled_whole-requires-clause-sound : goal.spelled_whole-requires-clause-sound
 spelled_whole-requires-clause-sound c =
-    (whole-can c.args.face c.args.joiner.now c.add.new.self c.args.full.now c.in-Ok-Whole.whole c.add.result c.requires.whole c.requires.taken c.add.ensures.adds (search rules) c.sized.ensures).sound
+    (whole-can c.args.face c.args.joiner.now c.add.new.self c.args.full.now c.in-Ok-Whole.whole c.add.result c.requires.whole c.requires.taken c.add.ensures.adds (search rules) c.sized_content.ensures).sound
 
 pub spelled_whole-requires-clause-fits : goal.spelled_whole-requires-clause-fits
 spelled_whole-requires-clause-fits c =
-    (whole-can c.args.face c.args.joiner.now c.add.new.self c.args.full.now c.in-Ok-Whole.whole c.add.result c.requires.whole c.requires.taken c.add.ensures.adds (search rules) c.sized.ensures).fits
+    (whole-can c.args.face c.args.joiner.now c.add.new.self c.args.full.now c.in-Ok-Whole.whole c.add.result c.requires.whole c.requires.taken c.add.ensures.adds (search rules) c.sized_content.ensures).fits
 
 pub returns-in-Ok-Waiting-clause-whole : goal.returns-in-Ok-Waiting-clause-whole
 returns-in-Ok-Waiting-clause-whole c = joiner-stays c.args.face c.args.joiner.now c.add.new.self c.args.full.now c.add.result c.in-Ok-Waiting.field-0 c.requires.whole c.requires.taken c.add.ensures.adds c.in-Ok-Waiting.is c.add.ensures.bounded

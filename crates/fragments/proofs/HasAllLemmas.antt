@@ -9,7 +9,7 @@ use Rattle.cells.specs.Cells.{cell}
 use Rattle.cells.specs.Covers.{Covers}
 use Rattle.fragments.specs.Cells.{has_all}
 
-has-each : (cells : List (Option ℕ)) (offset : ℕ) (body : List ℕ) → has_all cells offset body ≡ true
+pub has-each : (cells : List (Option ℕ)) (offset : ℕ) (body : List ℕ) → has_all cells offset body ≡ true
     → (k : ℕ) → offset ≤ k → k < offset + length body → is_some (cell cells k) ≡ true
 unfolding has_all
 has-each cells offset [] all k from below = absurd (omega (arith, from, below))

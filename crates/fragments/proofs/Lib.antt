@@ -5,6 +5,7 @@ pub mod JoinLemmas
 pub mod AgainLemmas
 pub mod BegunLemmas
 pub mod SmallLemmas
+pub mod KnownLemmas
 pub mod CutterLemmas
 pub mod PayloadLemmas
 pub mod NameLemmas

@@ -13,7 +13,7 @@ use Rattle.fragments.specs.declared.joining.Joined.{Joined}
 use Rattle.fragments.specs.declared.joining.Joined.TheVariants as answers
 use Rattle.fragments.specs.Cutting.{octets_of, is_longer, how_many, piece}
 use Rattle.fragments.specs.Cells.{whole_octets}
-use Rattle.fragments.specs.Joining.{open_join, accepted, answer_to, joins_after, whole_of, joined_with}
+use Rattle.fragments.specs.Joining.{open_join, accepted, answer_to, joins_after, whole_of, joined_with, IsOpen}
 
 -- ---- one record after another
 
@@ -125,6 +125,11 @@ IsSmall join = join.total ≤ TOTAL_MAX
 pub record IsBounded (joins : List Join) : Type 0 where
   pub names : length joins ≤ NAMES_MAX
   pub totals : All IsSmall joins
+
+-- What a joiner keeps: no more than that, and no whole that is there.
+pub record AreKept (joins : List Join) : Type 0 where
+  pub bounded : IsBounded joins
+  pub unfinished : All IsOpen joins
 
 -- Whichever records came before: each total that is kept is one that is joined.
 abbrev pub TotalsAreSmall : Type 0

@@ -1,6 +1,6 @@
 -- Joining fragments (RFC 5050, section 5.9; RFC 9171, section 5.9).
 
-use Rattle.std.specs.Prelude.{◌≡◌, ℕ, ◌-◌, ◌%◌, ◌==◌, ◌&&◌, Bool, true, false, nat_lt, nat_le, if◌then◌else◌, List, [], ◌∷◌, ◌++◌, length, Option, Some, None, Result, Ok, Err}
+use Rattle.std.specs.Prelude.{◌≡◌, ℕ, ◌-◌, ◌%◌, ◌==◌, ◌&&◌, ◌||◌, not, Bool, true, false, nat_lt, nat_le, if◌then◌else◌, List, [], ◌∷◌, ◌++◌, length, Option, Some, None, is_some, Result, Ok, Err, IsOkAnd}
 use Rattle.std.specs.List.{position_or_len, remove, slice_get}
 use Rattle.std.specs.Option.{option_map}
 use Rattle.std.specs.Str.{bytes_eq}
@@ -164,6 +164,19 @@ abbrev pub is_repeat : Option Join → ℕ → List ℕ → Bool
 is_repeat (Some join) offset octets = has_all join.cells offset octets
 is_repeat None offset octets = false
 
+-- A fragment brings what isn't kept: it is the first of its name, or the first with offset 0, or one of
+-- its octets is for a place that has none.
+abbrev pub brings_new : Option Join → ℕ → List ℕ → Bool
+brings_new (Some join) offset octets =
+    not (has_all join.cells offset octets) || offset == 0 && not (is_some join.head)
+brings_new None offset octets = true
+
+-- so it is with a record that is taken beside these joins
+abbrev pub BringsNew : List Join → Full → Type 0
+BringsNew joins full =
+    IsOkAnd (accepted joins full.shared)
+    (λ part. brings_new (open_join full.shared joins) part.offset (octets_of full.shared.content) ≡ true)
+
 -- the join of a fragment once it came
 abbrev pub joined_with : List Join → Full → Fragment → Join
 joined_with joins full part =
@@ -193,6 +206,10 @@ joins_after joins full part =
 abbrev pub TakesIn : List Join → Full → Fragment → Joined → List Join → Type 0
 TakesIn joins full part joined new =
     (joined ≡ answer_to joins full part) × (new ≡ joins_after joins full part)
+
+-- the whole isn't there yet
+abbrev pub IsOpen : Join → Type 0
+IsOpen join = whole_of join ≡ None
 
 -- what a join came to
 abbrev pub Finishes : Join → Finished → Type 0

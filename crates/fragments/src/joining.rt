@@ -1,12 +1,15 @@
 //! Joining fragments.
 
-ghost use Rattle.std.specs.Prelude.{◌≡◌, ◌≤◌, [], true, false, Ok, Err, Some, None, IfOk, OnErr};
+ghost use Rattle.std.specs.Prelude.{◌≡◌, ◌≤◌, ◌<◌, ◌++◌, ◌∷◌, [], true, false, length, get_or, Ok, Err, Some, None, IfOk, OnErr};
+ghost use Rattle.std.specs.List.{All, remove};
+ghost use Rattle.fragments.specs.declared.join.Join.{Join};
 ghost use Rattle.bundle_meaning.specs.Valid.{IsValid};
 ghost use Rattle.fragments.specs.declared.limits.TheConstants.{TOTAL_MAX};
 ghost use Rattle.cells.specs.Cells.{stop_of};
 ghost use Rattle.fragments.specs.Cutting.{octets_of};
 ghost use Rattle.fragments.specs.Again.{JoinsAgain, IsBounded};
-ghost use Rattle.fragments.specs.Joining.{index_of, open_join, others, open_total, accepted, is_repeat, started, Adds, TakesIn};
+ghost use Rattle.fragments.specs.declared.fault.JoinRefused.TheVariants as refusals;
+ghost use Rattle.fragments.specs.Joining.{index_of, open_join, others, open_total, accepted, is_repeat, brings_new, started, Adds, BringsNew, IsOpen, TakesIn};
 
 use crate::cutting::octets_of;
 use crate::fault::JoinRefused;
@@ -43,13 +46,13 @@ pub struct Joiner {
 
 impl Model for Joiner {
     ghost use Rattle.fragments.specs.Joining.{Joining};
-    ghost use Rattle.fragments.specs.Again.{IsBounded};
+    ghost use Rattle.fragments.specs.Again.{AreKept};
 
     ghost Value = { Joining };
 
     ghost view = { λ j. record { joins = j.joins.items; spent = j.spent } };
 
-    ghost invariant = { λ j. IsBounded j.joins.items };
+    ghost invariant = { λ j. AreKept j.joins.items };
 }
 
 impl Joiner {
@@ -79,6 +82,10 @@ impl Joiner {
         // The pieces of a record, in any order and with repeats, give it with the last that was missing.
         ensures joins_again { JoinsAgain self.old.joins full.now result }
 
+        // Memory is wanted only where the fragment brings what isn't kept yet: its name, an octet, or what
+        // the first with offset 0 says. For a refusal and for the same fragment again it isn't.
+        ensures memory { result ≡ Err refusals.Memory → BringsNew self.old.joins full.now }
+
         // Whatever came, and after want of memory too: at most [`NAMES_MAX`] names are kept, and no
         // total above [`TOTAL_MAX`].
         ensures bounded { IsBounded self.new.joins }
@@ -91,6 +98,7 @@ impl Joiner {
         requires whole { self.old.spent ≡ false }
         requires valid { IsValid full.now }
         ensures adds { Adds self.old.joins full.now result self.new }
+        ensures memory { result ≡ Err refusals.Memory → BringsNew self.old.joins full.now }
         ensures bounded { IsBounded self.new.joins }
     {
         let part = accepted(self.joins.as_slice(), &full.shared)?;
@@ -156,8 +164,55 @@ fn take_out(joins: &mut Vec<Join>, shared: &Shared) -> Option<Join>
     }
 }
 
-/// Takes a fragment that is accepted.
+/// Takes a fragment that is accepted. One that brings nothing new wants no memory.
 fn take_in(
+    alloc: Global,
+    joins: &mut Vec<Join>,
+    full: &Full,
+    part: Fragment,
+) -> Result<Joined, AllocError>
+    requires accepted { accepted joins.old.items full.now.shared ≡ Ok part }
+    requires unfinished { All IsOpen joins.old.items }
+    requires valid { IsValid full.now }
+    ensures taken { IfOk result (λ joined. TakesIn joins.old.items full.now part joined joins.new.items) }
+    ensures lost { OnErr result (joins.new.items ≡ others full.now.shared joins.old.items) }
+    ensures memory { OnErr result
+        (brings_new (open_join full.now.shared joins.old.items) part.offset (octets_of full.now.shared.content) ≡ true) }
+{
+    let at = index_of(joins.as_slice(), &full.shared);
+    if brings_new(joins.as_slice(), full, part.offset) {
+        keep(alloc, joins, full, part)
+    } else {
+        put_last(joins.as_mut_slice(), at);
+        Ok(Joined::Repeat)
+    }
+}
+
+/// Puts a join behind the others, in the room that there is.
+fn put_last(joins: &mut [Join], at: usize)
+    requires { at < length joins.old }
+    ensures last { (d : Join) → joins.new ≡ remove joins.old at ++ get_or joins.old at d ∷ [] }
+    ensures size { length joins.new ≡ length joins.old }
+{
+    joins[at..].rotate_left(1);
+}
+
+/// Whether a fragment brings what the join with its name hasn't.
+fn brings_new(joins: &[Join], full: &Full, offset: u64) -> bool
+    requires { stop_of offset (octets_of full.now.shared.content) ≤ TOTAL_MAX }
+    ensures { result ≡ brings_new (open_join full.now.shared joins.now) offset (octets_of full.now.shared.content) }
+{
+    match joins.get(index_of(joins, &full.shared)) {
+        Some(join) => {
+            !join.has_all(offset, octets_of(&full.shared.content))
+                || offset == 0 && join.head.is_none()
+        }
+        None => true,
+    }
+}
+
+/// Takes a fragment that is accepted, and keeps what it brings.
+fn keep(
     alloc: Global,
     joins: &mut Vec<Join>,
     full: &Full,

@@ -13,7 +13,6 @@ pub mod LawLemmas
 pub mod ConvertLemmas
 pub mod KeepingLemmas
 pub mod ReadingLemmas
-pub mod SpelledLemmas
 pub mod OctetLemmas
 pub mod ViewOctetLemmas
 pub mod ThereAndBackLemmas

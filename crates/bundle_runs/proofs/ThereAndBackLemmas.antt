@@ -42,6 +42,7 @@ use Rattle.translate.proofs.Legal6Lemmas.{view6-legal}
 use Rattle.translate.proofs.Legal7Lemmas.{view7-legal}
 use Rattle.translate.proofs.BackLaws.{unrefused-read6, unrefused-read7, fits-own6, fits-own7, lifetime-fits, late_is_refused}
 use Rattle.translate.proofs.PlainLaws.{plain_is_normal}
+use Rattle.translate.proofs.SpelledLemmas.{spelled-octets6, spelled-octets7, canon-sized, octets7-sized}
 use Rattle.fragment_lines.specs.Said.{Said, says, refuses}
 use Rattle.fragment_lines.specs.Lines.{hex_line, unless_refused}
 use Rattle.bundle_runs.specs.declared.commands.command.Command.TheVariants as commands
@@ -53,7 +54,6 @@ use Rattle.bundle_runs.specs.ThereAndBack.{WritesLine, RunConverts, ThereAndBack
 use Rattle.bundle_runs.proofs.FrontsLemmas.{settles-none}
 use Rattle.bundle_runs.proofs.LawLemmas.{takes_bundle6, takes_bundle7}
 use Rattle.bundle_runs.proofs.ViewOctetLemmas.{full6-octets, full7-octets, view6-octets, view7-octets}
-use Rattle.bundle_runs.proofs.SpelledLemmas.{spelled-octets6, spelled-octets7, canon-sized, octets7-sized}
 
 -- ---- a line is written of what isn't refused
 

@@ -24,6 +24,7 @@ use Rattle.translate.proofs.Legal7Lemmas.{view7-legal}
 use Rattle.translate.proofs.Residue6Lemmas.{residue6-back}
 use Rattle.translate.proofs.Back6Lemmas.{exts6-back}
 use Rattle.translate.proofs.View6Laws.{shared6-back, extra6-back}
+use Rattle.translate.proofs.SpelledLemmas.{canon-sized, octets7-sized}
 use Rattle.gate_cases.specs.declared.case.GateCase.{GateCase}
 use Rattle.gate_cases.specs.declared.case.GateCase.TheVariants.{BadBundle, Untranslated, Expired, HopLimit, Storage, Passed}
 use Rattle.gate_cases.specs.declared.face.Face.{Face}
@@ -52,7 +53,6 @@ use Rattle.peer_gateway.specs.Going.{piece_at}
 use Rattle.peer_gateway.specs.Laws.{IsSizedAt}
 use Rattle.peer_gateway.specs.Ties.{CanBeAdded}
 use Rattle.peer_gateway.proofs.AgeLemmas.{came-old-in, came-new-in}
-use Rattle.peer_gateway.proofs.SpelledLemmas.{canon-sized, octets7-sized}
 use Rattle.peer_gateway.proofs.SizedLemmas.{AgesWithin, ReadsWithin, sized-at, longest, wire-some}
 use Rattle.peer_gateway.proofs.CameLemmas.{can-come}
 

@@ -26,6 +26,7 @@ use Rattle.translate.specs.Sound.{IsSound}
 use Rattle.translate.proofs.Sound6Lemmas.{sound6}
 use Rattle.translate.proofs.Sound7Lemmas.{sound7}
 use Rattle.translate.proofs.BackLaws.{fits-own6, fits-own7}
+use Rattle.translate.proofs.SpelledLemmas.{spelled-octets6, spelled-octets7}
 use Rattle.gate_cases.specs.declared.face.Face.{Face}
 use Rattle.gate_cases.specs.declared.face.Face.TheVariants as faces
 use Rattle.gate_cases.specs.Faces.{fits_at}
@@ -46,7 +47,6 @@ use Rattle.peer_cases.specs.Pieces.{wire_octets}
 use Rattle.peer_cases.specs.Rows.{came_in}
 use Rattle.peer_gateway.specs.Going.{raised_octets, stayed_size}
 use Rattle.peer_gateway.specs.Faces.{IsSized}
-use Rattle.peer_gateway.proofs.SpelledLemmas.{spelled-octets6, spelled-octets7}
 use Rattle.peer_gateway.proofs.SizedLemmas.{raises_of, AgesWithin, ReadsWithin, sized-at}
 
 -- ---- what is read

@@ -11,7 +11,6 @@ pub mod AgeLemmas
 pub mod LengthLemmas
 pub mod SizeLemmas
 pub mod StayLemmas
-pub mod SpelledLemmas
 pub mod SizedLemmas
 pub mod CameLemmas
 pub mod WaitLemmas

@@ -16,6 +16,7 @@ use Rattle.translate.specs.Legal.{IsSized6}
 use Rattle.translate.specs.Reading6.{full6_of}
 use Rattle.translate.specs.Reading7.{full7_of}
 use Rattle.translate.specs.Refusals.{first_that_holds}
+use Rattle.translate.proofs.SpelledLemmas.{canon-sized, octets7-sized}
 use Rattle.gate_cases.specs.declared.case.GateCase.{GateCase}
 use Rattle.gate_cases.specs.declared.face.Face.{Face}
 use Rattle.gate_cases.specs.declared.face.Face.TheVariants as faces
@@ -40,7 +41,6 @@ use Rattle.peer_cases.specs.Rows.{came_in, decided_in}
 use Rattle.peer_gateway.specs.Going.{piece_at}
 use Rattle.peer_gateway.specs.Ties.{CanBeAdded, IsReport}
 use Rattle.peer_gateway.proofs.AgeLemmas.{came-old-in, came-new-in}
-use Rattle.peer_gateway.proofs.SpelledLemmas.{canon-sized, octets7-sized}
 use Rattle.peer_gateway.proofs.SizedLemmas.{raises_of, ReadsWithin, sized-at}
 
 -- ---- a report is a legal bundle

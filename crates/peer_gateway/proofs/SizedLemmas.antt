@@ -17,6 +17,7 @@ use Rattle.translate.specs.Refusals.{first_that_holds}
 use Rattle.translate.specs.Sound.{IsSound}
 use Rattle.translate.specs.View6.{view6_of}
 use Rattle.translate.specs.View7.{view7_of}
+use Rattle.translate.proofs.SpelledLemmas.{octets7-sized}
 use Rattle.gate_cases.specs.declared.face.Face.{Face}
 use Rattle.gate_cases.specs.declared.face.Face.TheVariants as faces
 use Rattle.gate_cases.specs.Faces.{fits_at, octets_at}
@@ -33,7 +34,6 @@ use Rattle.peer_gateway.specs.Going.{stay_of, raised_octets}
 use Rattle.peer_gateway.specs.Laws.{IsSizedAt}
 use Rattle.peer_gateway.proofs.LengthLemmas.{length-head, new-grows, old-grows}
 use Rattle.peer_gateway.proofs.SizeLemmas.{length-wire}
-use Rattle.peer_gateway.proofs.SpelledLemmas.{octets7-sized}
 
 -- ---- numbers count the octets of a body, whatever the stay
 

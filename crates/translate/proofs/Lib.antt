@@ -19,3 +19,4 @@ pub mod Legal6Lemmas
 pub mod Legal7Lemmas
 pub mod MadeLemmas
 pub mod PlainLaws
+pub mod SpelledLemmas

@@ -1,3 +1,2 @@
-pub mod MapLemmas
 pub mod AgeLemmas
 pub mod ViewLemmas

@@ -20,3 +20,4 @@ pub mod Legal7Lemmas
 pub mod MadeLemmas
 pub mod PlainLaws
 pub mod SpelledLemmas
+pub mod MapLemmas

@@ -1,6 +1,6 @@
 use Rattle.std.proofs.Common.{ap, ◌∙◌, get_or, set}
+use Rattle.translate.proofs.MapLemmas.{become-next, become-more, become-all}
 use Rattle.block_types.specs.Relabelled.{retyped7}
-use Rattle.block_types.proofs.RetypeLemmas7.{become-next, become-more, become-all}
 use Rattle.block_types.proofs.wire7.retype_all.Goals as goal
 
 -- the block at the index becomes what it is to become

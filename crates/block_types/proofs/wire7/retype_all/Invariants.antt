@@ -1,6 +1,6 @@
 use Rattle.std.proofs.Common.{◌≡◌}
+use Rattle.translate.proofs.MapLemmas.{become}
 use Rattle.block_types.specs.Relabelled.{retyped7}
-use Rattle.block_types.proofs.RetypeLemmas7.{become}
 use Rattle.block_types.proofs.wire7.retype_all.Given as goal
 
 abbrev pub invariant-loop-block : goal.invariant-loop-block

@@ -1,6 +1,6 @@
 use Rattle.std.proofs.Common.{ap, ◌∙◌, get_or, set}
+use Rattle.translate.proofs.MapLemmas.{become-next, become-more, become-all}
 use Rattle.bundle_age.specs.Raised.{raised_ext}
-use Rattle.bundle_age.proofs.MapLemmas.{become-next, become-more, become-all}
 use Rattle.bundle_age.proofs.raising.raise_all.Goals as goal
 
 -- the block at the index becomes what it is to become

@@ -1,7 +1,9 @@
 -- What a run writes, by the events that its lines say.
-use Rattle.std.proofs.Common.{◌≡◌, ℕ, ◌+◌, ◌<◌, Bool, true, false, ◌||◌, nat_lt, List, [], ◌∷◌, ◌++◌, length, map, take, drop, reverse, Some, Result, Ok, Err, refl, sym, ap, ◌∙◌, append_assoc, subst, inl, inr, arith, if◌then◌else◌}
+use Rattle.std.proofs.Common.{◌≡◌, ℕ, ◌+◌, ◌<◌, ◌≤◌, ◌⊎◌, Bool, true, false, ◌||◌, nat_lt, List, [], ◌∷◌, ◌++◌, length, map, take, drop, get_or, reverse, Some, Result, Ok, Err, refl, sym, ap, ◌∙◌, append_assoc, subst, inl, inr, arith, if◌then◌else◌}
+use Rattle.std.proofs.lemmas.Bool.{cases_lt}
 use Rattle.std.proofs.lemmas.Bool.Decides.{nat_tests}
-use Rattle.std.proofs.lemmas.List.{map-append, reverse-append, length-append}
+use Rattle.std.proofs.lemmas.List.{map-append, reverse-append, length-append, get_or_append_left}
+use Rattle.std.proofs.Math.Seq.{get_or-append_seam}
 use Rattle.edge_traits.specs.declared.status.Status.{Status}
 use Rattle.edge_traits.specs.declared.status.Status.TheVariants as statuses
 use Rattle.edge_traits.specs.Settled.{at_end, goes_on as going_on, Settled}
@@ -29,6 +31,7 @@ record Answers (longer : Bool) (p : Party) (before lines : List (List ℕ)) (so_
   written : so_far ++ settled.text ≡ text_after p events ++ closing
   status : Status
   closes : ClosesAs longer status (1 + length events) (drop (length events) (before ++ lines)) closing
+  none_before : (i : ℕ) → i < length events → PassesLimit (1 + i) (get_or (before ++ lines) i []) → ⊥
   ends : settled.ends ≡ Some status
 
 dropped_before : (before lines : List (List ℕ)) (n : ℕ) → length before ≡ n → drop n (before ++ lines) ≡ lines
@@ -38,10 +41,11 @@ dropped_before before lines n is = rw (sym is) (dropped_all before)
     dropped_all [] = refl
     dropped_all (line ∷ front) = dropped_all front
 
--- some lines say some events, the newest first
+-- some lines say some events, the newest first, and none of them passes a limit
 record Said (before : List (List ℕ)) (earlier : List NodeEvent) : Type 0 where
   many : length before ≡ length earlier
   said : map node_event_of before ≡ map Ok (reverse earlier)
+  none : (i : ℕ) → i < length before → PassesLimit (1 + i) (get_or before i []) → ⊥
 
 taken_before : (before lines : List (List ℕ)) (n : ℕ) → length before ≡ n → take n (before ++ lines) ≡ before
 taken_before before lines n is = rw (sym is) (taken_all before)
@@ -63,21 +67,32 @@ module _ (longer : Bool) (p : Party) (before lines : List (List ℕ)) (earlier :
     closes = subst (λ (n : ℕ). ClosesAs longer status (1 + n) (drop (length earlier) (before ++ lines)) closing) says.many
         (subst (λ (ls : List (List ℕ)). ClosesAs longer status (1 + length before) ls closing)
         (sym (dropped_before before lines (length earlier) says.many)) closes);
+    none_before = λ i low past.
+        let there : i < length before = subst (λ (n : ℕ). i < n) (sym says.many) low in
+        says.none i there (subst (PassesLimit (1 + i)) (get_or_append_left before lines [] i there) past);
     ends = refl;
   }
 
 -- ---- one line more
 
 more-said : (before : List (List ℕ)) (earlier : List NodeEvent) (line : List ℕ) (event : NodeEvent) → node_event_of line ≡ Ok event
-    → Said before earlier → Said (before ++ line ∷ []) (event ∷ earlier)
-more-said before earlier line event is says = record {
+    → (PassesLimit (1 + length before) line → ⊥) → Said before earlier → Said (before ++ line ∷ []) (event ∷ earlier)
+more-said before earlier line event is within says = record {
   many = length-append before (line ∷ []) ∙ (ap (λ n. n + 1) says.many ∙ omega arith);
   said =
       map-append node_event_of before (line ∷ [])
       ∙ (ap (λ xs. xs ++ node_event_of line ∷ []) says.said
       ∙ (ap (λ x. map Ok (reverse earlier) ++ x ∷ []) is
       ∙ (sym (map-append Ok (reverse earlier) (event ∷ [])) ∙ ap (λ es. map Ok es) (sym (reverse-append (event ∷ []) earlier)))));
-}
+  none = λ i low past. by_place i (cases_lt i (length before)) low past;
+} where
+  by_place : (i : ℕ) → (i < length before) ⊎ (length before ≤ i) → i < length (before ++ line ∷ [])
+      → PassesLimit (1 + i) (get_or (before ++ line ∷ []) i []) → ⊥
+  by_place i (inl there) low past = says.none i there (subst (PassesLimit (1 + i)) (get_or_append_left before (line ∷ []) [] i there) past)
+  by_place i (inr beyond) low past =
+      let here : i ≡ length before = omega (arith, low, beyond, length-append before (line ∷ [])) in
+      within (subst (PassesLimit (1 + length before)) (get_or-append_seam before line [] [])
+      (subst (λ (k : ℕ). PassesLimit (1 + k) (get_or (before ++ line ∷ []) k [])) here past))
 
 module _ (longer : Bool) (p : Party) (before lines : List (List ℕ)) (line : List ℕ) (earlier : List NodeEvent) (event : NodeEvent) where
   -- what comes after an answered line, with the line before it
@@ -95,6 +110,8 @@ module _ (longer : Bool) (p : Party) (before lines : List (List ℕ)) (line : Li
     status = rest.status;
     closes = subst (λ (ls : List (List ℕ)). ClosesAs longer rest.status (1 + length rest.events) (drop (length rest.events) ls) rest.closing)
         (append_assoc before (line ∷ []) lines) rest.closes;
+    none_before = λ i low past.
+        rest.none_before i low (subst (λ (ls : List (List ℕ)). PassesLimit (1 + i) (get_or ls i [])) (sym (append_assoc before (line ∷ []) lines)) past);
     ends = rest.ends;
   }
 
@@ -110,6 +127,24 @@ past-limits n line = by (nat_lt node_rules.lines n) refl
     by true many past = inl (less node_rules.lines n many)
     by false few past = inr (inl (less node_rules.octets (length line) past))
 
+not-less : (a b : ℕ) → nat_lt a b ≡ false → a < b → ⊥
+not-less a b is low = grind (arith, nat_tests, is, low)
+
+within-limits : (n : ℕ) (line : List ℕ) → (nat_lt node_rules.lines n || nat_lt node_rules.octets (length line)) ≡ false
+    → ((event : NodeEvent) → node_event_of line ≡ Ok event → is_late event ≡ true → ⊥) → PassesLimit n line → ⊥
+within-limits n line inside early = by (nat_lt node_rules.lines n) refl inside
+  where
+    by : (many : Bool) → nat_lt node_rules.lines n ≡ many → (many || nat_lt node_rules.octets (length line)) ≡ false → PassesLimit n line → ⊥
+    by true many none past = absurd (cc (none))
+    by false few short (inl past) = not-less node_rules.lines n few past
+    by false few short (inr (inl past)) = not-less node_rules.octets (length line) short past
+    by false few short (inr (inr (event, said, late))) = early event said late
+
+-- what a line says sets the clock past the last moment
+abbrev late-said : Result NodeEvent LineFault → Bool
+late-said (Ok event) = is_late event
+late-said (Err fault) = false
+
 -- ---- a turn
 
 -- the line is answered, where it isn't refused and passes no limit; `settle` is what the lines after
@@ -124,7 +159,7 @@ module _ (longer : Bool) (p : Party) (before lines : List (List ℕ)) (line : Li
   answered event (Err fault) is later = goes_on longer p before lines line earlier event (answer_text (Err fault)) _ (ap answer_text is) later
 
   happened : (event : NodeEvent) → node_event_of line ≡ Ok event
-      → Answers longer p (before ++ line ∷ []) lines (text_after p (event ∷ earlier)) (settle (after_event (node_after p earlier) event))
+      → (is_late event ≡ false → Answers longer p (before ++ line ∷ []) lines (text_after p (event ∷ earlier)) (settle (after_event (node_after p earlier) event)))
       → Answers longer p before (line ∷ lines) (text_after p earlier) (after_turn (happens (node_after p earlier) event) settle)
   happened event said later = by_late (is_late event) refl
     where
@@ -132,20 +167,29 @@ module _ (longer : Bool) (p : Party) (before lines : List (List ℕ)) (line : Li
           (after_turn (if t then ends_run [] statuses.Limit
           else answers (at_moment (node_after p earlier) (moment_of (node_after p earlier).now event)) (done_at (node_after p earlier) event)) settle)
       by_late true late = stops longer p before (line ∷ lines) earlier says [] statuses.Limit (inr (inr (event, said, late)), refl)
-      by_late false early = answered event (done_at (node_after p earlier) event) refl later
+      by_late false early = answered event (done_at (node_after p earlier) event) refl (later early)
 
-  turned : (n : ℕ) → n ≡ 1 + length before → (said : Result NodeEvent LineFault) → node_event_of line ≡ said
-      → ((event : NodeEvent) → node_event_of line ≡ Ok event
+  turned : (n : ℕ) → n ≡ 1 + length before → (nat_lt node_rules.lines n || nat_lt node_rules.octets (length line)) ≡ false
+      → (said : Result NodeEvent LineFault) → node_event_of line ≡ said
+      → ((event : NodeEvent) → node_event_of line ≡ Ok event → (PassesLimit (1 + length before) line → ⊥)
       → Answers longer p (before ++ line ∷ []) lines (text_after p (event ∷ earlier)) (settle (after_event (node_after p earlier) event)))
       → Answers longer p before (line ∷ lines) (text_after p earlier) (after_turn (node_turn n (node_after p earlier) said) settle)
   unfolding node_turn
-  turned n number (Ok event) is later = happened event is (later event is)
-  turned n number (Err fault) is later =
-      stops longer p before (line ∷ lines) earlier says (refusal_line n fault) statuses.Refused
-      (fault, is, ap (λ (k : ℕ). refusal_line k fault) number)
+  turned n number inside (Ok event) is later =
+      happened event is (λ early. later event is (λ past.
+      within-limits n line inside
+      (λ other said late. let same : is_late other ≡ is_late event = ap late-said (sym said ∙ is) in absurd (cc (same, late, early)))
+      (subst (λ (k : ℕ). PassesLimit k line) (sym number) past)))
+  turned n number inside (Err fault) is later =
+      stops longer p before (line ∷ lines) earlier says (refusal_line n fault) statuses.Refused (
+        (λ past. within-limits n line inside
+            (λ other said late. let same : is_late other ≡ false = ap late-said (sym said ∙ is) in absurd (cc (same, late)))
+            (subst (λ (k : ℕ). PassesLimit k line) (sym number) past)),
+        (fault, is, ap (λ (k : ℕ). refusal_line k fault) number),
+      )
 
   line_turned : (n : ℕ) → n ≡ 1 + length before
-      → ((event : NodeEvent) → node_event_of line ≡ Ok event
+      → ((event : NodeEvent) → node_event_of line ≡ Ok event → (PassesLimit (1 + length before) line → ⊥)
       → Answers longer p (before ++ line ∷ []) lines (text_after p (event ∷ earlier)) (settle (after_event (node_after p earlier) event)))
       → Answers longer p before (line ∷ lines) (text_after p earlier) (after_turn (turn_at node_rules n (node_after p earlier) line) settle)
   unfolding turn_at
@@ -154,7 +198,7 @@ module _ (longer : Bool) (p : Party) (before lines : List (List ℕ)) (line : Li
       by_past : (t : Bool) → (nat_lt node_rules.lines n || nat_lt node_rules.octets (length line)) ≡ t → Answers longer p before (line ∷ lines) (text_after p earlier)
           (after_turn (if t then ends_run [] statuses.Limit else node_turn n (node_after p earlier) (node_event_of line)) settle)
       by_past true past = stops longer p before (line ∷ lines) earlier says [] statuses.Limit (subst (λ (k : ℕ). PassesLimit k line) number (past-limits n line past), refl)
-      by_past false past = turned n number (node_event_of line) refl later
+      by_past false inside = turned n number inside (node_event_of line) refl later
 
 -- ---- all lines
 
@@ -171,10 +215,10 @@ keeps_from longer p n before [] number earlier ending last says = stops longer p
 keeps_from longer p n before (line ∷ lines) number earlier ending last says =
     let more : n + 1 ≡ 1 + length (before ++ line ∷ []) = ap (λ (k : ℕ). k + 1) number ∙ omega (arith, length-append before (line ∷ [])) in
     line_turned longer p before lines line earlier says (λ now. lines_settle node_rules (n + 1) now lines (λ final. record { text = []; ends = Some ending })) n number
-    (λ event is. keeps_from longer p (n + 1) (before ++ line ∷ []) lines more (event ∷ earlier) ending last (more-said before earlier line event is says))
+    (λ event is within. keeps_from longer p (n + 1) (before ++ line ∷ []) lines more (event ∷ earlier) ending last (more-said before earlier line event is within says))
 
 none_said : Said [] []
-none_said = record { many = refl; said = refl }
+none_said = record { many = refl; said = refl; none = λ i low past. absurd (omega (arith, low)) }
 
 from_start : (longer : Bool) (p : Party) (lines : List (List ℕ)) (ending : Status) → EndsLines longer ending
     → Answers longer p [] lines [] (lines_settle node_rules 1 (begins p) lines (λ now. record { text = []; ends = Some ending }))
@@ -211,6 +255,7 @@ answers_lines hands_up once own peer most input =
         said = all.said;
         written = all.written;
         closes = all.closes;
+        none_before = all.none_before;
         ups = ups-are (nat_lt most (length input)) p all.events _ all.closing all.status (1 + length all.events)
             (drop (length all.events) (lines_within most input)) all.written all.closes;
         once = each_once once p all.events;

@@ -120,7 +120,7 @@ text-has p (event ∷ earlier) =
 
 refused-next : (n : ℕ) (left : List (List ℕ)) (closing : List ℕ) → RefusesNext n left closing → HasUps closing []
 refused-next n [] closing none = absurd none
-refused-next n (line ∷ left) closing (fault, said, is) = rw is (refusal-has n fault)
+refused-next n (line ∷ left) closing (within, (fault, said, is)) = rw is (refusal-has n fault)
 
 closing-has : (longer : Bool) (status : Status) (n : ℕ) (left : List (List ℕ)) (closing : List ℕ)
     → ClosesAs longer status n left closing → HasUps closing []

@@ -1,7 +1,7 @@
 -- What `node` writes and hands up over a run, whoever is at the other end (RFC 5326, section 6.9): the
 -- answers to the events that its lines say, and a red part with the event that makes it whole, and
 -- with no other.
-use Rattle.std.specs.Prelude.{◌≡◌, ℕ, ◌+◌, ◌<◌, ◌↔◌, ◌⊎◌, Bool, true, false, nat_lt, length, take, drop, map, reverse, List, [], ◌∷◌, ◌++◌, Some, Result, Ok, Err}
+use Rattle.std.specs.Prelude.{◌≡◌, ℕ, ◌+◌, ◌<◌, ◌↔◌, ◌⊎◌, Bool, true, false, nat_lt, length, take, drop, map, reverse, slice_index_or, List, [], ◌∷◌, ◌++◌, Some, Result, Ok, Err}
 use Rattle.edge_traits.specs.declared.status.Status.{Status}
 use Rattle.edge_traits.specs.declared.status.Status.TheVariants as statuses
 use Rattle.edge_traits.specs.Settled.{at_end}
@@ -106,15 +106,17 @@ abbrev pub LimitsNext : Bool → ℕ → List (List ℕ) → Type 0
 LimitsNext longer n [] = longer ≡ true
 LimitsNext longer n (line ∷ left) = PassesLimit n line
 
--- the next line is refused, for what it says
+-- the next line, line n, passes no limit, and is refused for what it says
 abbrev pub RefusesNext : ℕ → List (List ℕ) → List ℕ → Type 0
 RefusesNext n [] closing = ⊥
 RefusesNext n (line ∷ left) closing =
-    (fault : LineFault) × (node_event_of line ≡ Err fault) × (closing ≡ refusal_line n fault)
+    (PassesLimit n line → ⊥)
+    × ((fault : LineFault) × (node_event_of line ≡ Err fault) × (closing ≡ refusal_line n fault))
 
 -- How the text ends, by how the run ends. Where it is done, the input has been looked at whole, all lines
 -- were answered, and nothing more is written. Where it ends at a limit, the next line, line n, or the
--- length of the input passes it, and nothing more is written. Else the next line is refused.
+-- length of the input passes it, and nothing more is written. Else the next line passes none, and is
+-- refused.
 abbrev pub ClosesAs : Bool → Status → ℕ → List (List ℕ) → List ℕ → Type 0
 ClosesAs longer statuses.Done n left closing = (longer ≡ false) × (left ≡ []) × (closing ≡ [])
 ClosesAs longer statuses.Limit n left closing = LimitsNext longer n left × (closing ≡ [])
@@ -129,7 +131,8 @@ abbrev pub up_text : UpValue → List ℕ
 up_text up = spaced (up_words (up_of up))
 
 -- The text is what is written for the events that the first lines say, and after it what the end of the
--- run asks for; the lines are those of an input of which at most so many octets are looked at. Its `up`
+-- run asks for; the lines are those of an input of which at most so many octets are looked at. No line
+-- that is answered passes a limit: so a run ends at one exactly where an input passes one. Its `up`
 -- lines are exactly the red parts that are handed up with these events, in their order: no session's
 -- twice, and each with the event that makes it whole, and with no other.
 pub record AnswersLines (p : Party) (most : ℕ) (input text : List ℕ) (ending : Status) : Type 0 where
@@ -140,6 +143,8 @@ pub record AnswersLines (p : Party) (most : ℕ) (input text : List ℕ) (ending
   pub closes :
       ClosesAs (nat_lt most (length input)) ending (1 + length events)
       (drop (length events) (lines_within most input)) closing
+  pub none_before :
+      (i : ℕ) → i < length events → PassesLimit (1 + i) (slice_index_or (lines_within most input) i []) → ⊥
   pub ups : up_lines text ≡ map up_text (all_ups p events)
   pub once : EachOnce (all_ups p events)
   pub whole :

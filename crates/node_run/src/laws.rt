@@ -5,7 +5,8 @@ ghost use Rattle.node_run.specs.Node.{BeginsWithFirst};
 ghost use Rattle.node_run.specs.RedParts.{AnswersEvents, HandsUpRedParts, HandsUpEachOnce};
 
 /// Whatever the input: what is written are the answers to the events that its first lines say, in
-/// their order, and after them at most the line of a refusal. Its `up` lines are exactly the red
+/// their order, and after them at most the line of a refusal. No line that is answered or refused
+/// passes a limit, and at a limit the next one does. The `up` lines are exactly the red
 /// parts that are handed up with these events: no session's twice, and each with the event that
 /// makes it whole, and with no other.
 pub fn answers_events()

@@ -66,11 +66,11 @@ begun-started None shared total begun = begun-new shared total
 begun-started (Some join) shared total begun = begun join refl
 
 -- a fragment with offset 0 leaves a head
-headed-zero : (head : Option Full) (full : Full) (offset : ℕ) → offset ≡ 0 → is_some (head_with head full offset) ≡ true
+pub headed-zero : (head : Option Full) (full : Full) (offset : ℕ) → offset ≡ 0 → is_some (head_with head full offset) ≡ true
 headed-zero (Some h) full offset is = refl
 headed-zero None full offset is = let test : (offset == 0) ≡ true = grind (arith, nat_tests, is) in rw test refl
 
-headed-kept : (head : Option Full) (full : Full) (offset : ℕ) → is_some head ≡ true → is_some (head_with head full offset) ≡ true
+pub headed-kept : (head : Option Full) (full : Full) (offset : ℕ) → is_some head ≡ true → is_some (head_with head full offset) ≡ true
 headed-kept (Some h) full offset some = refl
 headed-kept None full offset some = absurd (cc)
 

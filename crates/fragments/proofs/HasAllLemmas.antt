@@ -20,7 +20,7 @@ has-each cells offset (o ∷ body) all k from below =
     (λ later. has-each cells (offset + 1) body parts.1 k later (omega (arith, below)))
     (cases_lt k (offset + 1))
 
-has-from : (cells : List (Option ℕ)) (offset : ℕ) (body : List ℕ)
+pub has-from : (cells : List (Option ℕ)) (offset : ℕ) (body : List ℕ)
     → ((k : ℕ) → offset ≤ k → k < offset + length body → is_some (cell cells k) ≡ true) → has_all cells offset body ≡ true
 unfolding has_all
 has-from cells offset [] each = refl

@@ -9,3 +9,4 @@ pub mod KnownLemmas
 pub mod CutterLemmas
 pub mod PayloadLemmas
 pub mod NameLemmas
+pub mod RepeatLemmas

@@ -19,11 +19,11 @@ use Rattle.fragments.proofs.PayloadLemmas.{found-named, named-same, own-name}
 abbrev first : Shared → List Join → Option Join
 first shared joins = find (is_named shared) joins
 
-open-first : (shared : Shared) (joins : List Join) → open_join shared joins ≡ first shared joins
+pub open-first : (shared : Shared) (joins : List Join) → open_join shared joins ≡ first shared joins
 open-first shared joins = sym (find_at (is_named shared) joins)
 
 -- the joins without the first of a name
-without : Shared → List Join → List Join
+unfoldable pub without : Shared → List Join → List Join
 without shared [] = []
 without shared (join ∷ joins) = if is_named shared join then joins else join ∷ without shared joins
 
@@ -37,7 +37,7 @@ below i n = by (nat_lt i n) refl
 some : (n : ℕ) → nat_lt 0 (suc n) ≡ true
 some n = grind (arith, nat_tests)
 
-others-without : (shared : Shared) (joins : List Join) → others shared joins ≡ without shared joins
+pub others-without : (shared : Shared) (joins : List Join) → others shared joins ≡ without shared joins
 unfolding without
 others-without shared [] = refl
 others-without shared (join ∷ joins) = by (is_named shared join) refl (others-without shared joins)
@@ -91,14 +91,14 @@ module _ (shared other : Shared) (apart : have_one_name shared other ≡ false) 
 -- ---- a record
 
 -- the join of a record has its name
-joined-own : (full : Full) (joins : List Join) (part : Fragment) → is_named full.shared (joined_with joins full part) ≡ true
+pub joined-own : (full : Full) (joins : List Join) (part : Fragment) → is_named full.shared (joined_with joins full part) ≡ true
 joined-own full joins part = by (open_join full.shared joins) refl
   where
     by : (kept : Option Join) → open_join full.shared joins ≡ kept → is_named full.shared (started kept full.shared part.total) ≡ true
     by None found = own-name full.shared
     by (Some join) found = found-named full.shared joins join found
 
-stand-after : (shared : Shared) (full : Full) (joins : List Join) → have_one_name shared full.shared ≡ false
+pub stand-after : (shared : Shared) (full : Full) (joins : List Join) → have_one_name shared full.shared ≡ false
     → open_join shared (after joins full) ≡ open_join shared joins
 stand-after shared full joins apart = by (accepted joins full.shared)
   where

@@ -5,6 +5,7 @@ pub mod Cells
 pub mod Joining
 pub mod Again
 pub mod Payload
+pub mod Repeats
 pub mod Word
 -- What ties code to it.
 pub mod CutterLeft

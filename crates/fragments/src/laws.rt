@@ -3,6 +3,7 @@
 ghost use Rattle.fragments.specs.Ends.{LieEndToEnd};
 ghost use Rattle.fragments.specs.Again.{PiecesJoinAgain, WholeWhenAllCame, TotalsAreSmall};
 ghost use Rattle.fragments.specs.Payload.{FragmentsGiveTheWhole, NamesStandAlone};
+ghost use Rattle.fragments.specs.Repeats.{RepeatsBringNothing};
 
 /// The octets of a record's pieces, one after another, are those of its payload.
 pub fn pieces_lie_end_to_end()
@@ -38,4 +39,10 @@ pub fn whole_when_all_came()
 /// [`crate::TOTAL_MAX`].
 pub fn totals_are_small()
     ensures { TotalsAreSmall }
+{}
+
+/// Whichever records came: one that was taken, and of whose name no whole was given since, brings nothing
+/// new when it comes again. So [`crate::Joiner::add`] answers it without memory.
+pub fn repeats_bring_nothing()
+    ensures { RepeatsBringNothing }
 {}

@@ -10,8 +10,8 @@
 //! other one those that are to stand in every fragment.
 //!
 //! The laws of the definitions are [`pieces_lie_end_to_end`], [`pieces_join_again`],
-//! [`fragments_give_the_whole`], [`names_stand_alone`], [`whole_when_all_came`] and
-//! [`totals_are_small`].
+//! [`fragments_give_the_whole`], [`names_stand_alone`], [`repeats_bring_nothing`],
+//! [`whole_when_all_came`] and [`totals_are_small`].
 #![tactic(auto)]
 
 mod cutter;
@@ -31,6 +31,6 @@ pub use fulls::Fulls;
 pub use joining::{Joined, Joiner};
 pub use laws::{
     fragments_give_the_whole, names_stand_alone, pieces_join_again, pieces_lie_end_to_end,
-    totals_are_small, whole_when_all_came,
+    repeats_bring_nothing, totals_are_small, whole_when_all_came,
 };
 pub use limits::{NAMES_MAX, TOTAL_MAX, joining_limits};

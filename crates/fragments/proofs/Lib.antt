@@ -10,3 +10,4 @@ pub mod CutterLemmas
 pub mod PayloadLemmas
 pub mod NameLemmas
 pub mod RepeatLemmas
+pub mod PieceLemmas

@@ -1,17 +1,11 @@
 -- The pieces of a record: how many there are, that they are sound, and that they have too many blocks if and
 -- only if the record has.
-use Rattle.std.proofs.Common.{◌≡◌, ℕ, zero, suc, ◌+◌, ◌-◌, ◌/◌, ◌<◌, ◌==◌, ◌≤◌, Bool, true, false, not, ◌&&◌, ◌||◌, cond, nat_le, if◌then◌else◌, List, [], ◌∷◌, length, drop, All, refl, arith, eqb-true, le-leb}
-use Rattle.std.specs.List.{filter, list_all}
-use Rattle.std.proofs.Math.ListN.{drop_of_length-le}
-use Rattle.std.proofs.lemmas.Bool.{leb-true, ltb-true}
-use Rattle.std.proofs.lemmas.List.Elements.{All-nil, All-cons, All-head, All-tail}
-use Rattle.std.proofs.lemmas.List.Sums.{length-filter, count_by-le-length}
+use Rattle.std.proofs.Common.{◌≡◌, ℕ, zero, suc, ◌+◌, ◌-◌, ◌/◌, ◌<◌, ◌==◌, Bool, true, false, not, ◌&&◌, ◌||◌, if◌then◌else◌, [], ◌∷◌, length, All, refl, arith}
+use Rattle.std.specs.List.{list_all}
+use Rattle.std.proofs.lemmas.Bool.{ltb-true}
 use Rattle.bundle_meaning.specs.declared.shared.Content.{Content}
 use Rattle.bundle_meaning.specs.declared.shared.Content.TheVariants.{Bytes, Report}
-use Rattle.bundle_meaning.specs.declared.blocks.Ext.{Ext}
-use Rattle.bundle_meaning.specs.declared.blocks.Ext.TheVariants.{Six, Seven}
 use Rattle.bundle_meaning.specs.declared.full.Full.{Full}
-use Rattle.bundle_meaning.specs.Blocks.{sevens}
 use Rattle.bundle_meaning.specs.Defaults.{default6_of, default7_of}
 use Rattle.bundle_meaning.specs.Expiry.{slack_of}
 use Rattle.bundle_meaning.specs.Reports.{no_time_of}
@@ -20,7 +14,8 @@ use Rattle.translate.specs.Sound.{HasBody, IsSound}
 use Rattle.translate.specs.View6.{is_same7, needs_residue6}
 use Rattle.endpoint.specs.Endpoints.{is_null}
 use Rattle.translate.specs.View7.{is_default6, has_no_rest, needs_residue7}
-use Rattle.fragments.specs.Cutting.{octets_of, is_longer, must_not, is_replicated, exts_in, after_in, how_many, piece, pieces_from, pieces}
+use Rattle.fragments.specs.Cutting.{octets_of, is_longer, must_not, exts_in, after_in, how_many, piece, pieces_from, pieces}
+use Rattle.fragments.proofs.PieceLemmas.{all-in, few-in, last-in, need6, default, need7, room, all-pieces}
 use Rattle.gate_cases.specs.declared.face.Face.{Face}
 use Rattle.gate_cases.specs.declared.face.Face.TheVariants.{Old, New}
 use Rattle.gate_cases.specs.Faces.{fits_at}
@@ -57,44 +52,9 @@ many-pieces full size whole = by (is_longer full size) (must_not full.shared) wh
 
 -- ---- they are sound
 
-bodies-kept : (p : Ext → Bool) (exts : List Ext) → All HasBody (sevens exts) → All HasBody (sevens (filter p exts))
-bodies-kept p [] all = all
-bodies-kept p (Six block ∷ exts) all = by (p (Six block)) (bodies-kept p exts all)
-  where
-    by : (t : Bool) → All HasBody (sevens (filter p exts)) → All HasBody (sevens (cond t (Six block ∷ filter p exts) (filter p exts)))
-    by true rest = rest
-    by false rest = rest
-bodies-kept p (Seven block ∷ exts) all = by (p (Seven block)) (bodies-kept p exts (All-tail HasBody block (sevens exts) all))
-  where
-    by : (t : Bool) → All HasBody (sevens (filter p exts)) → All HasBody (sevens (cond t (Seven block ∷ filter p exts) (filter p exts)))
-    by true rest = All-cons HasBody block (sevens (filter p exts)) (All-head HasBody block (sevens exts) all) rest
-    by false rest = rest
-
-bodies-in : (i : ℕ) (exts : List Ext) → All HasBody (sevens exts) → All HasBody (sevens (exts_in i exts))
-bodies-in zero exts all = all
-bodies-in (suc i) exts all = bodies-kept is_replicated exts all
-
-sound-from : (full : Full) (size i n : ℕ) → IsSound full → All IsValid (pieces_from full size i n) → All IsSound (pieces_from full size i n)
-unfolding pieces_from
-sound-from full size i zero sound valid = All-nil IsSound
-sound-from full size i (suc n) sound valid =
-    All-cons IsSound (piece full size i) (pieces_from full size (i + 1) n)
-    (record {
-      valid = All-head IsValid (piece full size i) (pieces_from full size (i + 1) n) valid;
-      bodies = bodies-in i full.exts sound.bodies;
-    })
-    (sound-from full size (i + 1) n sound (All-tail IsValid (piece full size i) (pieces_from full size (i + 1) n) valid))
-
 pub sound-pieces : (full : Full) (size : ℕ) → IsSound full → All IsValid (pieces full size) → All IsSound (pieces full size)
-sound-pieces full size sound = by (is_longer full size)
-  where
-    count : ℕ
-    count = how_many size (octets_of full.shared.content)
-
-    by : (t : Bool) → All IsValid (if t then pieces_from full size 0 count else full ∷ [])
-        → All IsSound (if t then pieces_from full size 0 count else full ∷ [])
-    by true valid = sound-from full size 0 count sound valid
-    by false valid = All-cons IsSound full [] sound (All-nil IsSound)
+sound-pieces full size sound =
+    all-pieces IsSound full size sound (λ j valid. record { valid = valid; bodies = all-in HasBody j full.exts sound.bodies })
 
 -- ---- whether there is room for the blocks
 
@@ -112,44 +72,7 @@ fits-first : (to : Face) (full : Full) (size : ℕ) → 0 < length (octets_of fu
 fits-first Old full size some = rw (no-time full.shared.content some) refl
 fits-first New full size some = rw (no-rest full.shared.content some) refl
 
-few-in : (i : ℕ) (exts : List Ext) → length (exts_in i exts) ≤ length exts
-few-in zero exts = omega arith
-few-in (suc i) exts = omega (arith, length-filter is_replicated exts, count_by-le-length is_replicated exts)
-
--- fewer blocks have room where more have
-room : (one other : Bool) (few more : ℕ) → (one ≡ true → other ≡ true) → few ≤ more
-    → nat_le ((if other then 1 else 0) + more) 64 ≡ true → nat_le ((if one then 1 else 0) + few) 64 ≡ true
-room one other few more only less fits = le-leb _ 64 (by one other only (leb-true _ 64 fits))
-  where
-    by : (one other : Bool) → (one ≡ true → other ≡ true) → (if other then 1 else 0) + more ≤ 64 → (if one then 1 else 0) + few ≤ 64
-    by true true only most = omega (arith, less, most)
-    by true false only most = let no = only refl in absurd (cc)
-    by false true only most = omega (arith, less, most)
-    by false false only most = omega (arith, less, most)
-
--- where a piece needs a residue, the record does
-need6 : (one two three : Bool) → ((one || two) || false) ≡ true → ((one || two) || three) ≡ true
-need6 true two three is = refl
-need6 false true three is = refl
-need6 false false three is = absurd (cc)
-
-last-in : (i after : ℕ) (exts : List Ext) → (after == 0) ≡ true → (after_in i after exts == 0) ≡ true
-last-in zero after exts last = last
-last-in (suc i) after exts last =
-    let none : drop (length exts - after) exts ≡ [] = drop_of_length-le exts (omega (arith, eqb-true after 0 last)) in
-    rw none refl
-
-default : (a b c d e : Bool) → (d ≡ true → e ≡ true) → (a && b && c && d) ≡ true → (a && b && c && e) ≡ true
-default true true true d e stays is = stays is
-default false b c d e stays is = absurd (cc)
-default true false c d e stays is = absurd (cc)
-default true true false d e stays is = absurd (cc)
-
-need7 : (one other rest : Bool) → (other ≡ true → one ≡ true) → (not one || false) ≡ true → (not other || rest) ≡ true
-need7 one false rest stays is = refl
-need7 true true rest stays is = absurd (cc)
-need7 false true rest stays is = let no = stays refl in absurd (cc)
-
+-- and a later one less
 fits-later : (to : Face) (full : Full) (size i : ℕ) → fits_at to full ≡ true → fits_at to (piece full size i) ≡ true
 fits-later Old full size i fits =
     room (needs_residue6 (piece full size i)) (needs_residue6 full) (length (exts_in i full.exts)) (length full.exts)

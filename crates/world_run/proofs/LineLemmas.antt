@@ -342,8 +342,8 @@ drained-have false s w made is = rw is none-has
 
 refused-next : (over : Bool) (n : ℕ) (left : List (List ℕ)) (closing : List ℕ) → RefusesNext over n left closing → HasLines closing nothing
 refused-next over n [] closing none = absurd none
-refused-next true n (line ∷ left) closing is = rw is (after-drain-has n)
-refused-next false n (line ∷ left) closing (fault, said, is) = rw is (refusal-has n fault)
+refused-next true n (line ∷ left) closing (within, is) = rw is (after-drain-has n)
+refused-next false n (line ∷ left) closing (within, (fault, said, is)) = rw is (refusal-has n fault)
 
 pub closing-has : (longer : Bool) (s : PathSetup) (w : Path) (ending : Status) (over : Bool) (n : ℕ) (left : List (List ℕ)) (closing : List ℕ)
     → ClosesAs longer s w ending over n left closing → HasLines closing nothing

@@ -1,5 +1,5 @@
 -- What `world` answers to an input, by what its lines say.
-use Rattle.std.proofs.Common.{◌≡◌, ℕ, Bool, true, false, ◌||◌, ◌≤◌, nat_lt, nat_le, List, [], ◌∷◌, ◌++◌, length, map, take, codes, Some, Result, Ok, Err, refl, ap, ◌∙◌, arith, inl, inr, if◌then◌else◌}
+use Rattle.std.proofs.Common.{◌≡◌, ℕ, Bool, true, false, ◌||◌, ◌≤◌, nat_lt, nat_le, List, [], ◌∷◌, ◌++◌, length, map, take, codes, Some, Result, Ok, Err, refl, sym, subst, ap, ◌∙◌, arith, inl, inr, if◌then◌else◌}
 use Rattle.std.proofs.lemmas.List.{append-nil}
 use Rattle.std.proofs.lemmas.Bool.Decides.{nat_tests}
 use Rattle.edge_traits.specs.declared.status.Status.{Status}
@@ -21,9 +21,9 @@ use Rattle.path_drain.specs.Decided.{BegunAreDecided}
 use Rattle.path_drain.specs.WholeRun.{WholeRunsComplete, run_path}
 use Rattle.path_drain.specs.Drained.{DrainsAreMade, PathsAreTimed}
 use Rattle.world_run.specs.World.{PathStart, WorldState, no_path, on_path, start_in, no_moment, start_turn, world_rules, settles}
-use Rattle.world_run.specs.Headline.{DrainMakes, DrainCompletes, datagram_lines, datagram_texts, PassesFirst, note_lines, join_lines, end_lines, up_text, note_text, join_text, joins_in, end_texts, PlaysScript, ClosesFirst, EndsLawfully, WorldsKeepHeadline}
+use Rattle.world_run.specs.Headline.{DrainMakes, DrainCompletes, datagram_lines, datagram_texts, IsPastLines, PassesFirst, note_lines, join_lines, end_lines, up_text, note_text, join_text, joins_in, end_texts, PlaysScript, ClosesFirst, EndsLawfully, WorldsKeepHeadline}
 use Rattle.world_run.proofs.StartLemmas.{starts_fit, starts_named, starts_takes, starts_timed}
-use Rattle.world_run.proofs.PlayLemmas.{Plays, EndsLines, plays_from, past-lines}
+use Rattle.world_run.proofs.PlayLemmas.{Plays, EndsLines, plays_from, past-lines, within-lines}
 use Rattle.node_run.specs.TextLines.{up_lines}
 use Rattle.node_run.proofs.TextLineLemmas.{alone}
 use Rattle.world_run.proofs.LineLemmas.{HasLines, nothing, and_then, sent_in, told_in, told_if, both-have, events-have, drained-have, closing-has, sents-append, ups-append, joins-append, notes-append}
@@ -88,9 +88,9 @@ module _ (longer : Bool) (laws : Laws) where
       record { sessions = sessions; arrives = laws.arrives s start events made takes sessions }
   completes false s start events made fit takes makes = tt
 
-  played : (first : List ℕ) (lines : List (List ℕ)) (start : PathStart) (settled : Settled) → start_in first ≡ Ok start
+  played : (first : List ℕ) (lines : List (List ℕ)) (start : PathStart) (settled : Settled) → start_in first ≡ Ok start → (PassesFirst first → ⊥)
       → Plays longer start.setup (starts_path start.setup start.now) 2 lines settled → Settles longer (first ∷ lines) settled
-  played first lines start settled said plays =
+  played first lines start settled said within plays =
       let fit = starts_fit first start said laws.fit in
       on_a_path plays.ending plays.ends (record {
         start = start;
@@ -108,6 +108,8 @@ module _ (longer : Bool) (laws : Laws) where
         drain = plays.drain;
         closing = plays.closing;
         closes = plays.closes;
+        first_within = within;
+        none_before = plays.none_before;
         written = plays.written;
         sents = sents-are longer start.setup (starts_path start.setup start.now) 2 lines settled plays refl;
         ups = ups-are longer start.setup (starts_path start.setup start.now) 2 lines settled plays;
@@ -138,13 +140,28 @@ limited longer first lines past = on_none statuses.Limit refl (past, refl)
 within-most : (a b : ℕ) → nat_le a b ≡ true → a ≤ b
 within-most a b is = grind (arith, nat_tests, is)
 
+not-within : (a b : ℕ) → nat_le a b ≡ false → a ≤ b → ⊥
+not-within a b is low = grind (arith, nat_tests, is, low)
+
+-- the moment at which the clock of a path begins, where a line sets one up
+abbrev now-of : Result PathStart LineFault → ℕ
+now-of (Ok start) = start.now
+now-of (Err fault) = 0
+
+-- a line that sets up a path passes no limit
+first-within : (first : List ℕ) (start : PathStart) → start_in first ≡ Ok start → (IsPastLines 1 first → ⊥)
+    → nat_le no_moment start.now ≡ false → PassesFirst first → ⊥
+first-within first start said within early (inl past) = within past
+first-within first start said within early (inr (other, reads, late)) =
+    not-within no_moment start.now early (subst (λ (n : ℕ). no_moment ≤ n) (ap now-of (sym reads ∙ said)) late)
+
 -- nothing happened yet
 reached-first : (s : PathSetup) (now : ℕ) → IsPathReached s (starts_path s now)
 unfolding path_run
 reached-first s now = record { start = now; events = []; leads = refl }
 
 module _ (longer : Bool) (laws : Laws) (ending : WorldState → Settled) (last : EndsLines longer ending) where
-  module _ (first : List ℕ) (lines : List (List ℕ)) where
+  module _ (first : List ℕ) (lines : List (List ℕ)) (inside : IsPastLines 1 first → ⊥) where
     started : (start : PathStart) → start_in first ≡ Ok start
         → Settles longer (first ∷ lines) (after_turn (start_turn 1 (Ok start)) (λ now. lines_settle world_rules 2 now lines ending))
     started start said = by_late (nat_le no_moment start.now) refl
@@ -156,15 +173,16 @@ module _ (longer : Bool) (laws : Laws) (ending : WorldState → Settled) (last :
             (after_turn (turn_by t) (λ now. lines_settle world_rules 2 now lines ending))
         by_late true late = limited longer first lines (inr (start, said, within-most no_moment start.now late))
         by_late false early =
-            played longer laws first lines start _ said
+            played longer laws first lines start _ said (first-within first start said inside early)
             (plays_from laws.made longer ending last start.setup (starts_path start.setup start.now) 2 lines
             (starts_timed first start said laws.timed) (reached-first start.setup start.now))
 
     first_turned : (said : Result PathStart LineFault) → start_in first ≡ said
         → Settles longer (first ∷ lines) (after_turn (start_turn 1 said) (λ now. lines_settle world_rules 2 now lines ending))
     first_turned (Ok start) said = started start said
-    first_turned (Err fault) said = on_none statuses.Refused refl (fault, said, refl)
+    first_turned (Err fault) said = on_none statuses.Refused refl (inside, (fault, said, refl))
 
+  module _ (first : List ℕ) (lines : List (List ℕ)) where
     first_answered : Settles longer (first ∷ lines) (lines_settle world_rules 1 no_path (first ∷ lines) ending)
     unfolding lines_settle turn_at
     first_answered = by_past (nat_lt world_rules.lines 1 || nat_lt world_rules.octets (length first)) refl
@@ -175,7 +193,7 @@ module _ (longer : Bool) (laws : Laws) (ending : WorldState → Settled) (last :
         by_past : (t : Bool) → (nat_lt world_rules.lines 1 || nat_lt world_rules.octets (length first)) ≡ t
             → Settles longer (first ∷ lines) (after_turn (turn_by t) (λ now. lines_settle world_rules 2 now lines ending))
         by_past true past = limited longer first lines (inl (past-lines 1 first past))
-        by_past false past = first_turned (start_in first) refl
+        by_past false inside = first_turned first lines (within-lines 1 first inside) (start_in first) refl
 
   all_settled : (lines : List (List ℕ)) → Settles longer [] (ending no_path) → Settles longer lines (lines_settle world_rules 1 no_path lines ending)
   unfolding lines_settle

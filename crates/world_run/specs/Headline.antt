@@ -2,8 +2,8 @@
 -- those of a drain after them. Each `up` line is a block that came whole and as it was sent, once; and
 -- where a path is hopeful and has room, a drain from there completes the sessions, in no more events
 -- than they cost.
-use Rattle.std.specs.Prelude.{◌≡◌, ℕ, ◌+◌, ◌<◌, ◌≤◌, nat_lt, ◌⊎◌, Bool, true, false, length, map, List, [], ◌∷◌, ◌++◌}
-use Rattle.std.specs.Prelude.{codes, None, Some, Ok, Err, if◌then◌else◌}
+use Rattle.std.specs.Prelude.{◌≡◌, ℕ, ◌+◌, ◌<◌, ◌≤◌, nat_lt, ◌⊎◌, Bool, true, false, length, map, take, List, [], ◌∷◌, ◌++◌}
+use Rattle.std.specs.Prelude.{slice_index_or, codes, None, Some, Ok, Err, if◌then◌else◌}
 use Rattle.std.specs.List.{AllByRecursion}
 use Rattle.edge_traits.specs.declared.status.Status.{Status}
 use Rattle.edge_traits.specs.declared.status.Status.TheVariants as statuses
@@ -122,14 +122,15 @@ RefusesLine true n line closing = closing ≡ after_drain_line n
 RefusesLine false n line closing =
     (fault : LineFault) × (line_in line ≡ Err fault) × (closing ≡ refusal_line n fault)
 
+-- the next line, line n, is neither one too many nor too long, and is refused
 abbrev pub RefusesNext : Bool → ℕ → List (List ℕ) → List ℕ → Type 0
 RefusesNext drained n [] closing = ⊥
-RefusesNext drained n (line ∷ left) closing = RefusesLine drained n line closing
+RefusesNext drained n (line ∷ left) closing = (IsPastLines n line → ⊥) × RefusesLine drained n line closing
 
 -- How the text ends after what happens, by how the run ends. Where it is done, the input has been looked
 -- at whole, all lines were answered, and nothing more is written. Where it ends at a limit, the next line,
--- line n, or the length of the input passes that limit, and nothing more is written. Else the next line is
--- refused.
+-- line n, or the length of the input passes that limit, and nothing more is written. Else the next line
+-- passes none, and is refused.
 abbrev pub ClosesAs : Bool → PathSetup → Path → Status → Bool → ℕ → List (List ℕ) → List ℕ → Type 0
 ClosesAs longer s w statuses.Done drained n left closing = (longer ≡ false) × (left ≡ []) × (closing ≡ [])
 ClosesAs longer s w statuses.Limit drained n left closing =
@@ -249,7 +250,8 @@ DrainCompletes false s start events made = Unit {0}
 
 -- The text of a script that sets up a path. It is what happens in these events, and in those of a
 -- drain after them, where there is one, with their number; after it at most the line of a refusal
--- follows. Its `sent` lines are exactly the datagrams that were sent, with their numbers, its `up` lines
+-- follows. No line that is answered passes a limit: so a run ends at one exactly where a script passes
+-- one. Its `sent` lines are exactly the datagrams that were sent, with their numbers, its `up` lines
 -- the blocks that came whole, its notes those that were made, and its `join` lines what the ends' joiners
 -- answered: those of an end to the fragments among the blocks that came whole there.
 -- After each of the events holds of the blocks all that `HandsOn` says, by what was begun up to then:
@@ -275,6 +277,12 @@ pub record PlaysScript
   pub closes :
       ClosesAs longer start.setup (run_path start.setup start.now events) ending drains
       (2 + length (lines_said events drains)) left closing
+  pub first_within : PassesFirst says.first → ⊥
+  pub none_before :
+      (i : ℕ) → i < length (lines_said events drains)
+      → PassesLimit false start.setup (run_path start.setup start.now (take i events)) (2 + i)
+      (slice_index_or says.later i [])
+      → ⊥
   pub written :
       text
       ≡ events_text start.setup (starts_path start.setup start.now) events
@@ -312,7 +320,8 @@ ClosesFirst longer statuses.Limit [] text = (longer ≡ true) × (text ≡ [])
 ClosesFirst longer statuses.Limit (first ∷ lines) text = PassesFirst first × (text ≡ [])
 ClosesFirst longer statuses.Refused [] text = (longer ≡ false) × (text ≡ refusal_line 1 faults.Word)
 ClosesFirst longer statuses.Refused (first ∷ lines) text =
-    (fault : LineFault) × (start_in first ≡ Err fault) × (text ≡ refusal_line 1 fault)
+    (IsPastLines 1 first → ⊥)
+    × ((fault : LineFault) × (start_in first ≡ Err fault) × (text ≡ refusal_line 1 fault))
 ClosesFirst longer statuses.Done lines text = ⊥
 ClosesFirst longer statuses.Usage lines text = ⊥
 ClosesFirst longer statuses.ReadFault lines text = ⊥

@@ -16,7 +16,11 @@ use Rattle.edge_traits.specs.declared.status.Status.TheVariants.{Done}
 use Rattle.serve_run.specs.Outside.{LinkAhead, ClockAhead, Outside, Polled, failed, empty, gave}
 use Rattle.gateway_core.specs.declared.effects.Routed.{Routed}
 use Rattle.serve_run.specs.Turns.{Call, clock_read, link_polled, datagram_sent, datagram_lost, lines_written, Made, datagram_on, IsNoSend, IsWhole, MayWrite, EndsWriting, says, does, StepEffects, polls, answers, TurnRules, half, turn, turns, reads_clock, sends, sends_all, Acted, Act, give, put_before, ◌>>=◌}
-use Rattle.serve_run.specs.Tells.{LinkTells, OutsideTells, LinkAgrees, ClockAgrees, RanTurns, status_of, Agrees, call_text, text_of, noted, failed_on, counted, LinkWent, LinksWent, Does, Leads, IsFrontOf, Breaks, Passed, Stopped, StopsAfter, StopsWithin, StopsWriting, Goes, WroteText, PolledAs, StepsTo, polled_in, Sent, made_by_send, link_line}
+use Rattle.serve_run.specs.Deeds.{polled_link, written, deeds_of, call_text, text_of, link_line}
+use Rattle.serve_run.specs.Edges.{ClockRead, LinkPolled, DatagramSent, TextWritten}
+use Rattle.serve_run.proofs.DeedLemmas.{sends-more, deeds-sends, deeds-step, deeds-more, breaks-after, did-until}
+use Rattle.serve_run.proofs.LinkLemmas.{polls-told, sends-told, reads-told}
+use Rattle.serve_run.specs.Tells.{LinkTells, OutsideTells, LinkAgrees, ClockAgrees, RanTurns, status_of, Agrees, noted, failed_on, counted, LinkWent, LinksWent, Does, Leads, IsFrontOf, Breaks, Passed, Stopped, StopsAfter, StopsWithin, StopsWriting, Goes, PolledAs, StepsTo, polled_in, Sent, made_by_send, AreSends}
 
 -- ---- what was made
 
@@ -167,6 +171,7 @@ pub record Going {X : Type 0} (act rest : Act X) (a b : OutsideTells) (sink sink
   pub whole : IsWhole made
   pub wrote : Gains sink.held sink_now.held (text_of made)
   pub writes : NoneFailed sink.calls sink_now.calls
+  pub trace : Gains a.trace b.trace (deeds_of made)
 
 wrote-until : (stop : Stop) (a b c : Option (List ℕ)) (text new : List ℕ) → Gains a b text → StopsWithin stop b c new → StopsWithin stop a c (text ++ new)
 wrote-until Fault a b c text new first second = front-more a b c text new first second
@@ -185,18 +190,22 @@ module _ {X : Type 0} where
     whole = tt;
     wrote = Gains-none sink.held;
     writes = NoneFailed-same sink.calls;
+    trace = Gains-none t.trace;
   }
 
   -- a call with which nothing is written
   pub Going-silent : {Y : Type 0} (act : Act X) (one : Act Y) (next : Y → Act X) (y : Y) (call : Call) (a b c : OutsideTells) (sink sink_now : SinkTells)
       → IsNoSend call → call_text call ≡ []
-      → Going act (one >>= next) a b sink sink_now → Does one y (call ∷ []) b c → Going act (next y) a c sink sink_now
-  Going-silent act one next y call a b c sink sink_now is silent going does = record {
+      → Going act (one >>= next) a b sink sink_now → Does one y (call ∷ []) b c → Gains b.trace c.trace (deeds_of (call ∷ []))
+      → Going act (next y) a c sink sink_now
+  Going-silent act one next y call a b c sink sink_now is silent going does traced = record {
     made = going.made ++ call ∷ [];
     leads = Leads-more act one next y going.made (call ∷ []) a b c going.leads does;
     whole = whole-last going.made call is;
     wrote = rw (text-more going.made (call ∷ []), silent, append-nil (text_of going.made)) going.wrote;
     writes = going.writes;
+    trace = rw (deeds-more going.made (call ∷ []) going.whole)
+        (Gains-more a.trace b.trace c.trace (deeds_of going.made) (deeds_of (call ∷ [])) going.trace traced);
   }
 
   pub Going-passed : {Y : Type 0} (Shows : Y → Type 0) (act : Act X) (one : Act Y) (next : Y → Act X) (a b c : OutsideTells) (sink sink_mid sink_now : SinkTells)
@@ -212,6 +221,8 @@ module _ {X : Type 0} where
       wrote = rw (text-more going.made passed.made)
           (Gains-more sink.held sink_mid.held sink_now.held (text_of going.made) (text_of passed.made) going.wrote passed.wrote);
       writes = NoneFailed-more sink.calls sink_mid.calls sink_now.calls going.writes passed.writes;
+      trace = rw (deeds-more going.made passed.made going.whole)
+          (Gains-more a.trace b.trace c.trace (deeds_of going.made) (deeds_of passed.made) going.trace passed.trace);
     },
   )
 
@@ -224,6 +235,8 @@ module _ {X : Type 0} where
     wrote = rw (text-more going.made stopped.made)
         (wrote-until stop sink.held sink_mid.held sink_now.held (text_of going.made) (text_of stopped.made) going.wrote stopped.wrote);
     writes = stopped-writing stop sink sink_mid sink_now going.writes stopped.writes;
+    trace = rw (deeds-more going.made stopped.made going.whole)
+        (did-until stop a.trace b.trace c.trace (deeds_of going.made) (deeds_of stopped.made) going.trace stopped.trace);
   }
 
   pub Going-end : (Shows : X → Type 0) (act : Act X) (x : X) (a b : OutsideTells) (sink sink_now : SinkTells)
@@ -236,6 +249,7 @@ module _ {X : Type 0} where
     whole = going.whole;
     wrote = going.wrote;
     writes = going.writes;
+    trace = going.trace;
   }
 
 -- ---- sending
@@ -249,20 +263,27 @@ Breaks-does act x made a b does = record {
 }
 
 module _ {E : Type 0} (routed : Routed) (text : List ℕ) (a b : OutsideTells) (result : Result (Unit {0}) E)
-    (does : Does (sends routed) tt (made_by_send routed result) a b) where
+    (told : DatagramSent routed.face result routed.datagram a b) where
+  send-did : Does (sends routed) tt (made_by_send routed result) a b
+  send-did = sends-told a b routed.datagram routed.face result told
+
   pub sent-ok : (x : Unit {0}) → result ≡ Ok x → Sent (sends routed) tt text text a b
   sent-ok x is = record {
     made = datagram_sent routed.face routed.datagram ∷ [];
-    does = rw is at does;
+    does = rw is at send-did;
     noted_is = sym (append-nil text);
+    sends = (tt, tt);
+    trace = rw is at told.trace;
   }
 
   pub sent-noted : (e : E) → result ≡ Err e → (text_now : List ℕ) → text_now ≡ text ++ link_line routed.face true
       → Sent (sends routed) tt text text_now a b
   sent-noted e is text_now added = record {
     made = datagram_lost routed.face routed.datagram ∷ [];
-    does = rw is at does;
+    does = rw is at send-did;
     noted_is = rw (append-nil (link_line routed.face true)) added;
+    sends = (tt, tt);
+    trace = rw is at told.trace;
   }
 
 -- ---- sending several
@@ -275,12 +296,16 @@ pub record Sending (out rest : List Routed) (text text_now : List ℕ) (a b : Ou
   pub made : Made
   pub leads : Leads (sends_all out) made (sends_all rest) a b
   pub noted_is : text_now ≡ text ++ text_of made
+  pub sends : AreSends made
+  pub trace : Gains a.trace b.trace (deeds_of made)
 
 pub sending-start : (out : List Routed) (text : List ℕ) (a : OutsideTells) → Sending out out text text a a
 sending-start out text a = record {
   made = [];
   leads = Leads-start (sends_all out) a;
   noted_is = sym (append-nil text);
+  sends = tt;
+  trace = Gains-none a.trace;
 }
 
 module _ (out : List Routed) (k : ℕ) (text text_mid text_now : List ℕ) (a b c : OutsideTells) (first : Routed)
@@ -295,6 +320,9 @@ module _ (out : List Routed) (k : ℕ) (text text_mid text_now : List ℕ) (a b 
     leads = Leads-more (sends_all out) (sends first) (λ x. sends_all (drop (k + 1) out)) tt sending.made sent.made a b c leads_on sent.does;
     noted_is = sent.noted_is ∙ ap (λ v. v ++ text_of sent.made) sending.noted_is ∙ append_assoc text (text_of sending.made) (text_of sent.made)
         ∙ ap (λ v. text ++ v) (sym (text-more sending.made sent.made));
+    sends = sends-more sending.made sent.made sending.sends sent.sends;
+    trace = rw (deeds-sends sending.made sent.made sending.sends sent.sends)
+        (Gains-more a.trace b.trace c.trace (deeds_of sending.made) (deeds_of sent.made) sending.trace sent.trace);
   }
 
 pub sending-end : (out : List Routed) (text text_now : List ℕ) (a b : OutsideTells) → Sending out [] text text_now a b → Sent (sends_all out) tt text text_now a b
@@ -303,6 +331,8 @@ sending-end out text text_now a b sending = record {
   made = sending.made;
   does = Leads-end (sends_all out) tt sending.made a b sending.leads;
   noted_is = sending.noted_is;
+  sends = sending.sends;
+  trace = sending.trace;
 }
 
 -- ---- what a step does
@@ -317,104 +347,143 @@ Does-then one next y x first second a b c does then = record {
   links = LinksWent-more first second a b c does.links then.links;
 }
 
-Does-says : (text : List ℕ) (a : OutsideTells) → Does (says text) tt (lines_written text ∷ []) a a
-Does-says text a = record {
-  back = λ later agrees. (later, agrees, refl);
-  links = record {
-    old = record { gone = Gains-none a.old.gone; count = refl };
-    new = record { gone = Gains-none a.new.gone; count = refl };
-  };
-}
+-- a text is written, and links and clock stay as they are
+module _ {T E : Type 0} (a b : OutsideTells) (sink sink_now : SinkTells) (text : List ℕ) (result : Result T E)
+    (told : TextWritten text result a b sink sink_now) where
+  pub agrees-before : (o : Outside) → Agrees b o → Agrees a o
+  agrees-before o agrees = record {
+    old = rw told.old at agrees.old;
+    new = rw told.new at agrees.new;
+    clock = rw told.readings at agrees.clock;
+  }
 
-module _ (effects : StepEffects) (a b : OutsideTells) (sink sink_now : SinkTells) where
-  does-all : (made : Made) → Does (sends_all effects.out) tt made a b → Does (does effects) tt (made ++ lines_written effects.text ∷ []) a b
-  unfolding does
-  does-all made sent =
-      Does-then (sends_all effects.out) (λ x. says effects.text) tt tt made (lines_written effects.text ∷ []) a b b sent (Does-says effects.text b)
+  Does-says : (said : List ℕ) → Does (says said) tt (lines_written said ∷ []) a b
+  Does-says said = record {
+    back = λ later agrees. (later, agrees-before later agrees, refl);
+    links = record {
+      old = rw told.old (record { gone = Gains-none a.old.gone; count = refl });
+      new = rw told.new (record { gone = Gains-none a.new.gone; count = refl });
+    };
+  }
 
-  said-all : (made : Made) → text_of (made ++ lines_written effects.text ∷ []) ≡ text_of made ++ effects.text
-  said-all made = text-more made (lines_written effects.text ∷ []) ∙ ap (λ v. text_of made ++ v) (append-nil effects.text)
+  -- what was done before it
+  Does-before : {X : Type 0} (act : Act X) (x : X) (made : Made) (first : OutsideTells) → Does act x made first a → Does act x made first b
+  Does-before act x made first does = record {
+    back = λ later agrees. does.back later (agrees-before later agrees);
+    links = record { old = rw told.old does.links.old; new = rw told.new does.links.new };
+  }
 
-  module _ {T E : Type 0} (notes : List ℕ) (written : Result T E) (sent : Sent (sends_all effects.out) tt [] notes a b)
-      (wrote : WroteText (notes ++ effects.text) sink sink_now written) where
-    pub performed : (t : T) → written ≡ Ok t → Passed (λ x. Unit {0}) (does effects) a b sink sink_now
+module _ (effects : StepEffects) (a b c : OutsideTells) (sink sink_now : SinkTells) where
+  module _ {T E : Type 0} (notes : List ℕ) (result : Result T E) (sent : Sent (sends_all effects.out) tt [] notes a b)
+      (told : TextWritten (notes ++ effects.text) result b c sink sink_now) where
+    abbrev made : Made
+    made = sent.made ++ lines_written effects.text ∷ []
+
+    does-all : Does (does effects) tt made a c
+    unfolding does
+    does-all =
+        Does-then (sends_all effects.out) (λ x. says effects.text) tt tt sent.made (lines_written effects.text ∷ []) a b c sent.does
+        (Does-says b c sink sink_now (notes ++ effects.text) result told effects.text)
+
+    said-all : text_of made ≡ notes ++ effects.text
+    said-all =
+        text-more sent.made (lines_written effects.text ∷ []) ∙ ap (λ v. text_of sent.made ++ v) (append-nil effects.text)
+        ∙ ap (λ v. v ++ effects.text) (sym sent.noted_is)
+
+    deeds-all : deeds_of made ≡ deeds_of sent.made ++ written (notes ++ effects.text)
+    deeds-all =
+        deeds-step sent.made effects.text sent.sends
+        ∙ ap (λ v. deeds_of sent.made ++ written (v ++ effects.text)) (sym sent.noted_is)
+
+    pub performed : (t : T) → result ≡ Ok t → Passed (λ x. Unit {0}) (does effects) a c sink sink_now
     performed t is =
-        let done = rw is at wrote in
+        let done = rw is at told.wrote in
         record {
           value = tt;
           shows = tt;
-          made = sent.made ++ lines_written effects.text ∷ [];
-          does = does-all sent.made sent.does;
+          made = made;
+          does = does-all;
           whole = whole-last sent.made (lines_written effects.text) tt;
-          wrote = rw (said-all sent.made, ← sent.noted_is) done.0;
+          wrote = rw said-all done.0;
           writes = done.1;
+          trace = rw deeds-all (Gains-more a.trace b.trace c.trace _ _ sent.trace (rw is at told.trace));
         }
 
-    pub performed-stopped : (e : E) → written ≡ Err e → Stopped (does effects) Fault a b sink sink_now
+    pub performed-stopped : (e : E) → result ≡ Err e → Stopped (does effects) Fault a c sink sink_now
     performed-stopped e is =
-        let done = rw is at wrote in
+        let done = rw is at told.wrote in
         record {
-          made = sent.made ++ lines_written effects.text ∷ [];
-          breaks = Breaks-does (does effects) tt _ a b (does-all sent.made sent.does);
+          made = made;
+          breaks = Breaks-does (does effects) tt made a c does-all;
           after = writing-last sent.made (lines_written effects.text) tt;
-          wrote = rw (said-all sent.made, ← sent.noted_is) done.0;
+          wrote = rw said-all done.0;
           writes = done.1;
+          trace = rw deeds-all (breaks-after a.trace b.trace c.trace _ _ sent.trace (rw is at told.trace));
         }
 
 -- ---- polls
 
-pub polled-ok : {E : Type 0} (face : Face) (buffer : List ℕ) (a b : OutsideTells) (sink : SinkTells) (result : Result (Option ℕ) E) (came : Option ℕ)
-    → result ≡ Ok came → PollsAtMost result buffer
-    → Does (polls face) (polled_in buffer result) (link_polled face (polled_in buffer result) ∷ []) a b
-    → Passed (PolledAs buffer came) (polls face) a b sink sink
-polled-ok face buffer a b sink result None is bound does = record {
-  value = empty;
-  shows = tt;
-  made = link_polled face empty ∷ [];
-  does = rw is at does;
-  whole = tt;
-  wrote = Gains-none sink.held;
-  writes = NoneFailed-same sink.calls;
-}
-polled-ok face buffer a b sink result (Some n) is bound does = record {
-  value = gave (take n buffer);
-  shows = (rw is at bound, refl);
-  made = link_polled face (gave (take n buffer)) ∷ [];
-  does = rw is at does;
-  whole = tt;
-  wrote = Gains-none sink.held;
-  writes = NoneFailed-same sink.calls;
-}
+module _ {E : Type 0} (face : Face) (buffer : List ℕ) (a b : OutsideTells) (result : Result (Option ℕ) E)
+    (told : LinkPolled face result buffer a b) where
+  poll-did : Does (polls face) (polled_in buffer result) (link_polled face (polled_in buffer result) ∷ []) a b
+  poll-did = polls-told a b buffer face result told
 
-pub polled-failed : {E : Type 0} (face : Face) (buffer : List ℕ) (a b : OutsideTells) (sink sink_now : SinkTells) (result : Result (Option ℕ) E) (e : E)
-    → result ≡ Err e → Does (polls face) (polled_in buffer result) (link_polled face (polled_in buffer result) ∷ []) a b
-    → {T F : Type 0} (written : Result T F) (x : T) → written ≡ Ok x → WroteText (link_line face false) sink sink_now written
-    → Passed (PolledAs buffer None) (polls face) a b sink sink_now
-polled-failed face buffer a b sink sink_now result e is does written x ok wrote =
-    let done = rw ok at wrote in
-    record {
-      value = failed;
-      shows = tt;
-      made = link_polled face failed ∷ [];
-      does = rw is at does;
-      whole = tt;
-      wrote = rw (append-nil (link_line face false)) done.0;
-      writes = done.1;
-    }
+  pub polled-ok : (sink : SinkTells) (came : Option ℕ) → result ≡ Ok came → PollsAtMost result buffer
+      → Passed (PolledAs buffer came) (polls face) a b sink sink
+  polled-ok sink None is bound = record {
+    value = empty;
+    shows = tt;
+    made = link_polled face empty ∷ [];
+    does = rw is at poll-did;
+    whole = tt;
+    wrote = Gains-none sink.held;
+    writes = NoneFailed-same sink.calls;
+    trace = rw is at told.trace;
+  }
+  polled-ok sink (Some n) is bound = record {
+    value = gave (take n buffer);
+    shows = (rw is at bound, refl);
+    made = link_polled face (gave (take n buffer)) ∷ [];
+    does = rw is at poll-did;
+    whole = tt;
+    wrote = Gains-none sink.held;
+    writes = NoneFailed-same sink.calls;
+    trace = rw is at told.trace;
+  }
 
-pub polled-stopped : {E : Type 0} (face : Face) (buffer : List ℕ) (a b : OutsideTells) (sink sink_now : SinkTells) (result : Result (Option ℕ) E) (e : E)
-    → result ≡ Err e → Does (polls face) (polled_in buffer result) (link_polled face (polled_in buffer result) ∷ []) a b
-    → {T F : Type 0} (written : Result T F) (f : F) → written ≡ Err f → WroteText (link_line face false) sink sink_now written
-    → Stopped (polls face) Fault a b sink sink_now
-polled-stopped face buffer a b sink sink_now result e is does written f err wrote =
-    let done = rw err at wrote in
-    record {
-      made = link_polled face failed ∷ [];
-      breaks = Breaks-does (polls face) failed (link_polled face failed ∷ []) a b (rw is at does);
-      after = tt;
-      wrote = rw (append-nil (link_line face false)) done.0;
-      writes = done.1;
-    }
+  module _ (e : E) (is : result ≡ Err e) {T F : Type 0} (c : OutsideTells) (sink sink_now : SinkTells) (noted : Result T F)
+      (wrote : TextWritten (link_line face false) noted b c sink sink_now) where
+    both : Does (polls face) failed (link_polled face failed ∷ []) a c
+    both = Does-before b c sink sink_now (link_line face false) noted wrote (polls face) failed (link_polled face failed ∷ []) a (rw is at poll-did)
+
+    deeds-both : deeds_of (link_polled face failed ∷ []) ≡ polled_link face failed ∷ [] ++ written (link_line face false)
+    deeds-both = ap (λ xs. polled_link face failed ∷ xs) (append-nil (written (link_line face false)))
+
+    pub polled-failed : (x : T) → noted ≡ Ok x → Passed (PolledAs buffer None) (polls face) a c sink sink_now
+    polled-failed x ok =
+        let done = rw ok at wrote.wrote in
+        record {
+          value = failed;
+          shows = tt;
+          made = link_polled face failed ∷ [];
+          does = both;
+          whole = tt;
+          wrote = rw (append-nil (link_line face false)) done.0;
+          writes = done.1;
+          trace = rw deeds-both (Gains-more a.trace b.trace c.trace (polled_link face failed ∷ []) _ (rw is at told.trace) (rw ok at wrote.trace));
+        }
+
+    pub polled-stopped : (f : F) → noted ≡ Err f → Stopped (polls face) Fault a c sink sink_now
+    polled-stopped f err =
+        let done = rw err at wrote.wrote in
+        record {
+          made = link_polled face failed ∷ [];
+          breaks = Breaks-does (polls face) failed (link_polled face failed ∷ []) a c both;
+          after = tt;
+          wrote = rw (append-nil (link_line face false)) done.0;
+          writes = done.1;
+          trace = rw deeds-both (breaks-after a.trace b.trace c.trace (polled_link face failed ∷ []) _ (rw is at told.trace) (rw err at wrote.trace));
+        }
 
 -- ---- steps
 
@@ -426,6 +495,7 @@ stopped-at-once act a sink = record {
   after = tt;
   wrote = Gains-none sink.held;
   writes = NoneFailed-same sink.calls;
+  trace = Gains-none a.trace;
 }
 
 -- what is shown of a value is shown where the act comes to it
@@ -439,6 +509,7 @@ goes-shown act a b sink sink_now (Ok t) goes P p = record {
   whole = goes.whole;
   wrote = goes.wrote;
   writes = goes.writes;
+  trace = goes.trace;
 }
 goes-shown act a b sink sink_now (Err stop) goes P p = record {
   made = goes.made;
@@ -446,6 +517,7 @@ goes-shown act a b sink sink_now (Err stop) goes P p = record {
   after = goes.after;
   wrote = goes.wrote;
   writes = goes.writes;
+  trace = goes.trace;
 }
 
 -- ---- what came is taken
@@ -462,6 +534,7 @@ passed-give Shows x a sink shows = record {
   whole = tt;
   wrote = Gains-none sink.held;
   writes = NoneFailed-same sink.calls;
+  trace = Gains-none a.trace;
 }
 
 -- an act, and then a value
@@ -477,6 +550,7 @@ then-give Shows act x a b sink sink_now (Ok t) goes shows = record {
   whole = goes.whole;
   wrote = goes.wrote;
   writes = goes.writes;
+  trace = goes.trace;
 }
 then-give Shows act x a b sink sink_now (Err stop) goes shows = record {
   made = goes.made;
@@ -484,6 +558,7 @@ then-give Shows act x a b sink sink_now (Err stop) goes shows = record {
   after = goes.after;
   wrote = goes.wrote;
   writes = goes.writes;
+  trace = goes.trace;
 }
 
 module _ {S : Type 0} (Shows : S → Type 0) (rules : TurnRules S) (face : Face) (now : ℕ) (buffer : List ℕ) (state : S) (a : OutsideTells) where
@@ -535,6 +610,8 @@ goes-last Shows act rest a b c sink sink_mid sink_now (Ok t) going goes = record
   wrote = rw (text-more going.made goes.made)
       (Gains-more sink.held sink_mid.held sink_now.held (text_of going.made) (text_of goes.made) going.wrote goes.wrote);
   writes = NoneFailed-more sink.calls sink_mid.calls sink_now.calls going.writes goes.writes;
+  trace = rw (deeds-more going.made goes.made going.whole)
+      (Gains-more a.trace b.trace c.trace (deeds_of going.made) (deeds_of goes.made) going.trace goes.trace);
 }
 goes-last Shows act rest a b c sink sink_mid sink_now (Err stop) going goes = record {
   made = going.made ++ goes.made;
@@ -549,6 +626,8 @@ goes-last Shows act rest a b c sink sink_mid sink_now (Err stop) going goes = re
   wrote = rw (text-more going.made goes.made)
       (wrote-until stop sink.held sink_mid.held sink_now.held (text_of going.made) (text_of goes.made) going.wrote goes.wrote);
   writes = stopped-writing stop sink sink_mid sink_now going.writes goes.writes;
+  trace = rw (deeds-more going.made goes.made going.whole)
+      (did-until stop a.trace b.trace c.trace (deeds_of going.made) (deeds_of goes.made) going.trace goes.trace);
 }
 
 module _ {S : Type 0} (rules : TurnRules S) (face : Face) (state : S) (now : ℕ) where
@@ -558,12 +637,12 @@ module _ {S : Type 0} (rules : TurnRules S) (face : Face) (state : S) (now : ℕ
   pub after-pass : Act S
   after-pass = polls face >>= after-poll
 
-  pub half-read : (a b : OutsideTells) (sink : SinkTells) → Does reads_clock now (clock_read now ∷ []) a b
-      → Going (half rules face state) (does (rules.tick now state).effects >>= (λ x. after-pass)) a b sink sink
+  pub half-read : (a b : OutsideTells) (sink sink_now : SinkTells) → ClockRead now a b → sink_now ≡ sink
+      → Going (half rules face state) (does (rules.tick now state).effects >>= (λ x. after-pass)) a b sink sink_now
   unfolding half after-pass after-poll
-  half-read a b sink read =
-      Going-silent (half rules face state) reads_clock (λ n. does (rules.tick n state).effects >>= (λ x. polls face >>= (λ came. answers rules face n came (rules.tick n state).state)))
-      now (clock_read now) a a b sink sink tt refl (Going-start (half rules face state) a sink) read
+  half-read a b sink sink_now told same =
+      rw same (Going-silent (half rules face state) reads_clock (λ n. does (rules.tick n state).effects >>= (λ x. polls face >>= (λ came. answers rules face n came (rules.tick n state).state)))
+      now (clock_read now) a a b sink sink tt refl (Going-start (half rules face state) a sink) (reads-told a b now told) told.trace)
 
   module _ (a b c : OutsideTells) (sink sink_mid sink_now : SinkTells) where
     pub polled-half : (Shows : Polled → Type 0) → Going (half rules face state) after-pass a b sink sink_mid
@@ -650,6 +729,7 @@ ran-stopped run stop a b sink sink_now stopped =
       links = stopped.breaks.links;
       wrote = stopped.wrote;
       writes = stopped.writes;
+      trace = stopped.trace;
     }
     by NoMemory stopped first told front = record {
       outside = first;
@@ -659,6 +739,7 @@ ran-stopped run stop a b sink sink_now stopped =
       links = stopped.breaks.links;
       wrote = stopped.wrote;
       writes = stopped.writes;
+      trace = stopped.trace;
     }
 
 pub ran-done : {S : Type 0} (rules : TurnRules S) (state : S) (run : Act S) (a b : OutsideTells) (sink sink_now : SinkTells)
@@ -676,6 +757,7 @@ ran-done rules state run a b sink sink_now going =
       links = going.leads.links;
       wrote = going.wrote;
       writes = going.writes;
+      trace = going.trace;
     }
 
 -- turns of which none were made yet

@@ -2,7 +2,10 @@
 use Rattle.std.proofs.Common.{◌≡◌, ℕ, zero, suc, Bool, true, false, List, [], ◌∷◌, ◌++◌, refl, sym, ◌∙◌, ap, subst, append_assoc}
 use Rattle.std.proofs.lemmas.List.{append-nil}
 use Rattle.std.proofs.lemmas.Grind.{flat_map-append}
+use Rattle.endpoint.specs.declared.name.Endpoint.{Endpoint}
 use Rattle.ltp_segment.specs.Reading.{segment_of}
+use Rattle.edge_traits.specs.Outcome.{SinkTells}
+use Rattle.edge_traits.specs.declared.status.Status.{Status}
 use Rattle.gate_cases.specs.declared.face.Face.{Face}
 use Rattle.gate_cases.specs.declared.face.Face.TheVariants.{Old, New}
 use Rattle.gateway_core.specs.declared.effects.Routed.{Routed}
@@ -10,8 +13,9 @@ use Rattle.gateway_core.specs.Gate.{GateSetup, GateEvent, a_datagram_at, a_momen
 use Rattle.gateway_core.specs.RedParts.{HandsUpRedParts, HandsUpEachOnce}
 use Rattle.serve_run.specs.Outside.{Outside, Polled, failed, empty, gave, polled, link_at, with_link, past_poll, past_send, past_reading}
 use Rattle.serve_run.specs.Turns.{Made, clock_read, link_polled, lines_written, StepEffects, Acted, Act, give, put_before, ◌>>=◌, ◌>>◌, tried, sends_all, does, polls, answers, half, turn, turns}
+use Rattle.serve_run.specs.Tells.{OutsideTells}
 use Rattle.serve_run.specs.Serve.{Serving, serving_rules, serving_from, setup_named, serve_turns}
-use Rattle.serve_run.specs.Events.{events_with, served_events, lines_in, step_lines, datagrams_in, step_datagrams, lines_with, datagrams_with, RunsKeepLaw}
+use Rattle.serve_run.specs.Events.{Served, events_with, served_events, lines_in, step_lines, datagrams_in, step_datagrams, lines_with, datagrams_with, RunsKeepLaw}
 
 -- ---- what a step does
 
@@ -234,3 +238,8 @@ keeps-law red_parts once gate count o =
       once = λ at. once s at (served_events run.made);
       red_parts = λ at n body later earlier event is. red_parts s at n earlier event body;
     }
+
+-- a run that went so, by equal tellings
+pub served-as : (gate : Endpoint) (count : ℕ) (status : Status) (before now later : OutsideTells) (sink sink_now sink_later : SinkTells)
+    → Served gate count status before now sink sink_now → later ≡ now → sink_later ≡ sink_now → Served gate count status before later sink sink_later
+served-as gate count status before now later sink sink_now sink_later served same sink_same = rw (same, sink_same) served

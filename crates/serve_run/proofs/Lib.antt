@@ -1,3 +1,4 @@
+pub mod DeedLemmas
 pub mod LinkLemmas
 pub mod ActLemmas
 pub mod ToldLemmas

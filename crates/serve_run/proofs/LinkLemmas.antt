@@ -1,14 +1,15 @@
 -- One call on a link, as the outside goes on before it and after it.
 use Rattle.std.proofs.Common.{◌≡◌, ℕ, Bool, List, [], ◌∷◌, map, take, Option, None, Some, IfSome, Result, Ok, Err, is_err, refl, sym, ◌∙◌, ap}
 use Rattle.edge_traits.specs.Content.{Gains}
-use Rattle.edge_traits.specs.Datagrams.{Polls, SendGains, Reads}
-use Rattle.edge_traits.specs.Faults.{fails_next, after_next, count_after, FailsAsTold}
+use Rattle.edge_traits.specs.Datagrams.{Polls, Reads}
+use Rattle.edge_traits.specs.Faults.{fails_next, after_next, FailsAsTold}
 use Rattle.edge_traits.proofs.ContentLemmas.{Gains-none}
 use Rattle.gate_cases.specs.declared.face.Face.{Face}
 use Rattle.gate_cases.specs.declared.face.Face.TheVariants.{Old, New}
 use Rattle.serve_run.specs.Outside.{LinkAhead, ClockAhead, given, after_given, polled, past_poll, past_send, past_reading, gave}
 use Rattle.serve_run.specs.Turns.{polls, sends, reads_clock, clock_read, link_polled}
-use Rattle.serve_run.specs.Tells.{LinkTells, LinkAgrees, ClockAgrees, LinkWent, LinksWent, Does, polled_in, made_by_send}
+use Rattle.serve_run.specs.Tells.{LinkTells, OutsideTells, LinkAgrees, ClockAgrees, LinkWent, LinksWent, Does, polled_in, made_by_send}
+use Rattle.serve_run.specs.Edges.{ClockRead, LinkPolled, DatagramSent}
 
 -- ---- which calls fail
 
@@ -73,49 +74,37 @@ kept before now same = rw same (Gains-none before)
 
 -- ---- a poll
 
-went-old : {E : Type 0} (before now other : LinkTells) (readings : Option (List ℕ)) (r : Result (Option ℕ) E) (buf : List ℕ)
-    → now.gone ≡ before.gone → now.faults ≡ count_after before.faults r
-    → LinksWent (link_polled Old (polled_in buf r) ∷ []) (record { old = before; new = other; readings = readings }) (record { old = now; new = other; readings = readings })
-went-old before now other readings (Ok None) buf same count = record { old = record { gone = kept before.gone now.gone same; count = count }; new = stays other }
-went-old before now other readings (Ok (Some n)) buf same count = record { old = record { gone = kept before.gone now.gone same; count = count }; new = stays other }
-went-old before now other readings (Err e) buf same count = record { old = record { gone = kept before.gone now.gone same; count = count }; new = stays other }
+module _ {E : Type 0} (before now : OutsideTells) (buf : List ℕ) where
+  went-old : (r : Result (Option ℕ) E) → LinkPolled Old r buf before now → LinksWent (link_polled Old (polled_in buf r) ∷ []) before now
+  went-old (Ok None) told = record { old = record { gone = kept before.old.gone now.old.gone told.gone; count = told.count }; new = rw told.beside (stays before.new) }
+  went-old (Ok (Some n)) told = record { old = record { gone = kept before.old.gone now.old.gone told.gone; count = told.count }; new = rw told.beside (stays before.new) }
+  went-old (Err e) told = record { old = record { gone = kept before.old.gone now.old.gone told.gone; count = told.count }; new = rw told.beside (stays before.new) }
 
-pub polls-old : {E : Type 0} (before now other : LinkTells) (readings : Option (List ℕ)) (result : Result (Option ℕ) E) (buf : List ℕ)
-    → Polls before.coming now.coming result buf → now.gone ≡ before.gone
-    → now.faults ≡ count_after before.faults result → FailsAsTold before.failing now.failing result
-    → Does (polls Old) (polled_in buf result) (link_polled Old (polled_in buf result) ∷ [])
-    (record { old = before; new = other; readings = readings }) (record { old = now; new = other; readings = readings })
-polls-old before now other readings result buf told same count fails = record {
-  back = λ later agrees.
-      let (first, is, poll, past) = poll-back before now result buf told fails later.old agrees.old in (
-        record { old = first; new = later.new; clock = later.clock },
-        record { old = is; new = agrees.new; clock = agrees.clock },
-        rw (poll, past) refl,
-      );
-  links = went-old before now other readings result buf same count;
-}
+  went-new : (r : Result (Option ℕ) E) → LinkPolled New r buf before now → LinksWent (link_polled New (polled_in buf r) ∷ []) before now
+  went-new (Ok None) told = record { new = record { gone = kept before.new.gone now.new.gone told.gone; count = told.count }; old = rw told.beside (stays before.old) }
+  went-new (Ok (Some n)) told = record { new = record { gone = kept before.new.gone now.new.gone told.gone; count = told.count }; old = rw told.beside (stays before.old) }
+  went-new (Err e) told = record { new = record { gone = kept before.new.gone now.new.gone told.gone; count = told.count }; old = rw told.beside (stays before.old) }
 
-went-new : {E : Type 0} (before now other : LinkTells) (readings : Option (List ℕ)) (r : Result (Option ℕ) E) (buf : List ℕ)
-    → now.gone ≡ before.gone → now.faults ≡ count_after before.faults r
-    → LinksWent (link_polled New (polled_in buf r) ∷ []) (record { new = before; old = other; readings = readings }) (record { new = now; old = other; readings = readings })
-went-new before now other readings (Ok None) buf same count = record { new = record { gone = kept before.gone now.gone same; count = count }; old = stays other }
-went-new before now other readings (Ok (Some n)) buf same count = record { new = record { gone = kept before.gone now.gone same; count = count }; old = stays other }
-went-new before now other readings (Err e) buf same count = record { new = record { gone = kept before.gone now.gone same; count = count }; old = stays other }
-
-pub polls-new : {E : Type 0} (before now other : LinkTells) (readings : Option (List ℕ)) (result : Result (Option ℕ) E) (buf : List ℕ)
-    → Polls before.coming now.coming result buf → now.gone ≡ before.gone
-    → now.faults ≡ count_after before.faults result → FailsAsTold before.failing now.failing result
-    → Does (polls New) (polled_in buf result) (link_polled New (polled_in buf result) ∷ [])
-    (record { old = other; new = before; readings = readings }) (record { old = other; new = now; readings = readings })
-polls-new before now other readings result buf told same count fails = record {
-  back = λ later agrees.
-      let (first, is, poll, past) = poll-back before now result buf told fails later.new agrees.new in (
-        record { old = later.old; new = first; clock = later.clock },
-        record { old = agrees.old; new = is; clock = agrees.clock },
-        rw (poll, past) refl,
-      );
-  links = went-new before now other readings result buf same count;
-}
+  pub polls-told : (face : Face) (result : Result (Option ℕ) E) → LinkPolled face result buf before now
+      → Does (polls face) (polled_in buf result) (link_polled face (polled_in buf result) ∷ []) before now
+  polls-told Old result told = record {
+    back = λ later agrees.
+        let (first, is, poll, past) = poll-back before.old now.old result buf told.datagram told.told later.old agrees.old in (
+          record { old = first; new = later.new; clock = later.clock },
+          record { old = is; new = rw told.beside at agrees.new; clock = rw told.readings at agrees.clock },
+          rw (poll, past) refl,
+        );
+    links = went-old result told;
+  }
+  polls-told New result told = record {
+    back = λ later agrees.
+        let (first, is, poll, past) = poll-back before.new now.new result buf told.datagram told.told later.new agrees.new in (
+          record { old = later.old; new = first; clock = later.clock },
+          record { old = rw told.beside at agrees.old; new = is; clock = rw told.readings at agrees.clock },
+          rw (poll, past) refl,
+        );
+    links = went-new result told;
+  }
 
 -- ---- a send
 
@@ -131,68 +120,35 @@ send-back before now result same fails later agrees =
       rw next refl,
     )
 
-module _ {E : Type 0} (datagram : List ℕ) (before now other : LinkTells) (readings : Option (List ℕ)) where
-  sends-old : (result : Result (Unit {0}) E)
-      → SendGains before.gone now.gone result datagram → now.coming ≡ before.coming
-      → now.faults ≡ count_after before.faults result → FailsAsTold before.failing now.failing result
-      → Does (sends (record { face = Old; datagram = datagram })) tt (made_by_send (record { face = Old; datagram = datagram }) result)
-      (record { old = before; new = other; readings = readings }) (record { old = now; new = other; readings = readings })
-  sends-old (Ok x) gone same count fails = record {
+module _ {E : Type 0} (before now : OutsideTells) (datagram : List ℕ) where
+  sent-old : (r : Result (Unit {0}) E) → DatagramSent Old r datagram before now → LinksWent (made_by_send (record { face = Old; datagram = datagram }) r) before now
+  sent-old (Ok x) told = record { old = record { gone = told.gone; count = told.count }; new = rw told.beside (stays before.new) }
+  sent-old (Err e) told = record { old = record { gone = kept before.old.gone now.old.gone told.gone; count = told.count }; new = rw told.beside (stays before.new) }
+
+  sent-new : (r : Result (Unit {0}) E) → DatagramSent New r datagram before now → LinksWent (made_by_send (record { face = New; datagram = datagram }) r) before now
+  sent-new (Ok x) told = record { new = record { gone = told.gone; count = told.count }; old = rw told.beside (stays before.old) }
+  sent-new (Err e) told = record { new = record { gone = kept before.new.gone now.new.gone told.gone; count = told.count }; old = rw told.beside (stays before.old) }
+
+  pub sends-told : (face : Face) (result : Result (Unit {0}) E) → DatagramSent face result datagram before now
+      → Does (sends (record { face = face; datagram = datagram })) tt (made_by_send (record { face = face; datagram = datagram }) result) before now
+  sends-told Old result told = record {
     back = λ later agrees.
-        let (first, is, failed, past) = send-back before now (Ok x) same fails later.old agrees.old in (
+        let (first, is, failed, past) = send-back before.old now.old result told.coming told.told later.old agrees.old in (
           record { old = first; new = later.new; clock = later.clock },
-          record { old = is; new = agrees.new; clock = agrees.clock },
+          record { old = is; new = rw told.beside at agrees.new; clock = rw told.readings at agrees.clock },
           rw (failed, past) refl,
         );
-    links = record { old = record { gone = gone; count = count }; new = stays other };
+    links = sent-old result told;
   }
-  sends-old (Err e) gone same count fails = record {
+  sends-told New result told = record {
     back = λ later agrees.
-        let (first, is, failed, past) = send-back before now (Err e) same fails later.old agrees.old in (
-          record { old = first; new = later.new; clock = later.clock },
-          record { old = is; new = agrees.new; clock = agrees.clock },
-          rw (failed, past) refl,
-        );
-    links = record { old = record { gone = kept before.gone now.gone gone; count = count }; new = stays other };
-  }
-
-  sends-new : (result : Result (Unit {0}) E)
-      → SendGains before.gone now.gone result datagram → now.coming ≡ before.coming
-      → now.faults ≡ count_after before.faults result → FailsAsTold before.failing now.failing result
-      → Does (sends (record { face = New; datagram = datagram })) tt (made_by_send (record { face = New; datagram = datagram }) result)
-      (record { old = other; new = before; readings = readings }) (record { old = other; new = now; readings = readings })
-  sends-new (Ok x) gone same count fails = record {
-    back = λ later agrees.
-        let (first, is, failed, past) = send-back before now (Ok x) same fails later.new agrees.new in (
+        let (first, is, failed, past) = send-back before.new now.new result told.coming told.told later.new agrees.new in (
           record { old = later.old; new = first; clock = later.clock },
-          record { old = agrees.old; new = is; clock = agrees.clock },
+          record { old = rw told.beside at agrees.old; new = is; clock = rw told.readings at agrees.clock },
           rw (failed, past) refl,
         );
-    links = record { new = record { gone = gone; count = count }; old = stays other };
+    links = sent-new result told;
   }
-  sends-new (Err e) gone same count fails = record {
-    back = λ later agrees.
-        let (first, is, failed, past) = send-back before now (Err e) same fails later.new agrees.new in (
-          record { old = later.old; new = first; clock = later.clock },
-          record { old = agrees.old; new = is; clock = agrees.clock },
-          rw (failed, past) refl,
-        );
-    links = record { new = record { gone = kept before.gone now.gone gone; count = count }; old = stays other };
-  }
-
-  pub sends-at-old : (face : Face) → face ≡ Old → (result : Result (Unit {0}) E)
-      → SendGains before.gone now.gone result datagram → now.coming ≡ before.coming
-      → now.faults ≡ count_after before.faults result → FailsAsTold before.failing now.failing result
-      → Does (sends (record { face = face; datagram = datagram })) tt (made_by_send (record { face = face; datagram = datagram }) result)
-      (record { old = before; new = other; readings = readings }) (record { old = now; new = other; readings = readings })
-  sends-at-old face is result gone same count fails = rw is (sends-old result gone same count fails)
-
-  pub sends-at-new : (face : Face) → face ≡ New → (result : Result (Unit {0}) E)
-      → SendGains before.gone now.gone result datagram → now.coming ≡ before.coming
-      → now.faults ≡ count_after before.faults result → FailsAsTold before.failing now.failing result
-      → Does (sends (record { face = face; datagram = datagram })) tt (made_by_send (record { face = face; datagram = datagram }) result)
-      (record { old = other; new = before; readings = readings }) (record { old = other; new = now; readings = readings })
-  sends-at-new face is result gone same count fails = rw is (sends-new result gone same count fails)
 
 -- ---- the clock
 
@@ -222,15 +178,13 @@ reading-back (Some (first ∷ second ∷ readings)) (Some (next ∷ more)) momen
       rw (agrees.0 ∙ next_is, agrees.1 ∙ more_is) refl,
     )
 
-pub reads : (old new : LinkTells) (before now : Option (List ℕ)) (moment : ℕ) → Reads before now moment
-    → Does reads_clock moment (clock_read moment ∷ [])
-    (record { old = old; new = new; readings = before }) (record { old = old; new = new; readings = now })
-reads old new before now moment told = record {
+pub reads-told : (before now : OutsideTells) (moment : ℕ) → ClockRead moment before now → Does reads_clock moment (clock_read moment ∷ []) before now
+reads-told before now moment told = record {
   back = λ later agrees.
-      let (first, is, shows, past) = reading-back before now moment told later.clock agrees.clock in (
+      let (first, is, shows, past) = reading-back before.readings now.readings moment told.reading later.clock agrees.clock in (
         record { old = later.old; new = later.new; clock = first },
-        record { old = agrees.old; new = agrees.new; clock = is },
+        record { old = rw told.old at agrees.old; new = rw told.new at agrees.new; clock = is },
         rw (past, shows) refl,
       );
-  links = record { old = stays old; new = stays new };
+  links = record { old = rw told.old (stays before.old); new = rw told.new (stays before.new) };
 }

@@ -19,4 +19,5 @@ told-exact gate count before now sink sink_now old new old_failing new_failing s
       wrote = rw made at ran.wrote;
       old = rw made at ran.links.old.gone;
       new = rw made at ran.links.new.gone;
+      trace = rw made at ran.trace;
     }

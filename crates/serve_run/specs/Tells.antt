@@ -1,6 +1,5 @@
--- What links and a clock tell, and how a run went over them, whatever they tell.
-use Rattle.std.specs.Prelude.{◌≤◌, length, take, Result, Ok, Err, is_err, ◌≡◌, ℕ, zero, suc, ◌+◌, Bool, true, false, codes, List, [], ◌∷◌, ◌++◌, map, Option, None, Some, IfSome}
-use Rattle.std.specs.List.{flat_map}
+-- What is told of the outside, and how a run went over it, whatever is told.
+use Rattle.std.specs.Prelude.{◌≤◌, length, take, Result, Ok, Err, is_err, ◌≡◌, ℕ, zero, suc, ◌+◌, Bool, List, [], ◌∷◌, ◌++◌, map, Option, None, Some, IfSome, IsSomeAnd}
 use Rattle.edge_traits.specs.Content.{Gains, GainsFront}
 use Rattle.edge_traits.specs.Faults.{one_more, Calls, NoneFailed, LastFailed}
 use Rattle.edge_traits.specs.Outcome.{SinkTells, WentWriting}
@@ -8,13 +7,12 @@ use Rattle.edge_traits.specs.declared.status.Status.{Status}
 use Rattle.edge_traits.specs.declared.status.Status.TheVariants.{Done, Refused, Usage, ReadFault, WriteFault, Limit, Memory}
 use Rattle.gate_cases.specs.declared.face.Face.{Face}
 use Rattle.gate_cases.specs.declared.face.Face.TheVariants.{Old, New}
-use Rattle.replay_script.specs.Words.{spaced}
-use Rattle.replay_script.specs.Lines.{side_word, call_word}
 use Rattle.serve_run.specs.Outside.{LinkAhead, ClockAhead, Outside, Polled, failed, empty, gave}
 use Rattle.gateway_core.specs.declared.effects.Routed.{Routed}
 use Rattle.gateway_core.specs.Gate.{if_same}
 use Rattle.serve_run.specs.declared.stop.Stop.{Stop}
 use Rattle.serve_run.specs.declared.stop.Stop.TheVariants.{Fault, NoMemory}
+use Rattle.serve_run.specs.Deeds.{Deed, write_failed, written, deeds_of, text_of}
 use Rattle.serve_run.specs.Turns.{Call, clock_read, link_polled, datagram_sent, datagram_lost, lines_written, Made, sent_on, IsWhole, EndsWriting, Act, Acted, put_before, tried, Stepped, StepEffects}
 
 -- ---- what is told
@@ -27,23 +25,26 @@ pub record LinkTells : Type 0 where
   pub failing : Option (List Bool)
   pub faults : ℕ
 
--- what both links tell, and the clock of its readings to come
+-- what both links tell, and the clock of its readings to come; and all that was done outside so far, in
+-- the order done
 pub record OutsideTells : Type 0 where
   pub old : LinkTells
   pub new : LinkTells
   pub readings : Option (List ℕ)
+  pub trace : Option (List Deed)
 
 -- what a link tells, by the four words of its kind
 abbrev pub link_tells : {L : Type 0} → (L → Option (List (List ℕ))) → (L → Option (List (List ℕ))) → (L → Option (List Bool)) → (L → ℕ) → L → LinkTells
 link_tells coming gone failing faults link =
     record { coming = coming link; gone = gone link; failing = failing link; faults = faults link }
 
--- what two links of a kind tell, and a clock
+-- what two links of a kind tell, and a clock, each by itself: so nothing of the order
 abbrev pub links_tell : {L : Type 0} → (L → Option (List (List ℕ))) → (L → Option (List (List ℕ))) → (L → Option (List Bool)) → (L → ℕ) → L → L → Option (List ℕ) → OutsideTells
 links_tell coming gone failing faults old new readings = record {
   old = link_tells coming gone failing faults old;
   new = link_tells coming gone failing faults new;
   readings = readings;
+  trace = None;
 }
 
 -- a link goes on as it tells
@@ -63,29 +64,6 @@ pub record Agrees (tells : OutsideTells) (o : Outside) : Type 0 where
   pub clock : ClockAgrees tells.readings o.clock
 
 -- ---- what was made
-
--- the line that says of a face's link that a call failed
-abbrev pub is_old : Face → Bool
-is_old Old = true
-is_old New = false
-
-unfoldable pub link_line : Face → Bool → List ℕ
-link_line face send =
-    spaced (codes "note" ∷ side_word (is_old face) ∷ call_word send ∷ []) ++ codes "\n"
-
--- the text that is written with a call: that it failed, or the lines of a step
-abbrev pub call_text : Call → List ℕ
-call_text (clock_read now) = []
-call_text (link_polled face failed) = link_line face false
-call_text (link_polled face empty) = []
-call_text (link_polled face (gave datagram)) = []
-call_text (datagram_sent face datagram) = []
-call_text (datagram_lost face datagram) = link_line face true
-call_text (lines_written text) = text
-
--- the text of calls
-abbrev pub text_of : Made → List ℕ
-text_of made = flat_map call_text made
 
 -- how many calls of a face's link failed
 abbrev pub failed_on : Face → Call → ℕ
@@ -143,6 +121,12 @@ pub record Breaks {X : Type 0} (act : Act X) (made : Made) (before now : Outside
 
 -- ---- how code went that does an act and writes what it says
 
+-- of what was due all was done but octets at its end, and then a write failed: nothing was done after it
+abbrev pub BreaksOff : Option (List Deed) → Option (List Deed) → List Deed → Type 0
+BreaksOff before now due = IfSome now (λ after. IsSomeAnd before (λ earlier.
+    (done : List Deed) × (lacking : List ℕ) × (due ≡ done ++ written lacking)
+    × (after ≡ earlier ++ (done ++ write_failed ∷ []))))
+
 -- it did the act, and wrote all that this says
 pub record Passed {X : Type 0} (Shows : X → Type 0) (act : Act X) (before now : OutsideTells) (sink sink_now : SinkTells) : Type 0 where
   pub value : X
@@ -152,6 +136,7 @@ pub record Passed {X : Type 0} (Shows : X → Type 0) (act : Act X) (before now 
   pub whole : IsWhole made
   pub wrote : Gains sink.held sink_now.held (text_of made)
   pub writes : NoneFailed sink.calls sink_now.calls
+  pub trace : Gains before.trace now.trace (deeds_of made)
 
 -- the last call of code that stopped: a write failed with it; where memory ran out, it was done, and so
 -- no step was broken off
@@ -163,6 +148,11 @@ StopsAfter NoMemory made = IsWhole made
 abbrev pub StopsWithin : Stop → Option (List ℕ) → Option (List ℕ) → List ℕ → Type 0
 StopsWithin Fault before now text = GainsFront before now text
 StopsWithin NoMemory before now text = Gains before now text
+
+-- what it did: all of it, or until a write failed
+abbrev pub StopsDoing : Stop → Option (List Deed) → Option (List Deed) → List Deed → Type 0
+StopsDoing Fault before now due = BreaksOff before now due
+StopsDoing NoMemory before now due = Gains before now due
 
 -- the writes of code that stopped
 abbrev pub StopsWriting : Stop → Calls → Calls → Type 0
@@ -176,6 +166,7 @@ pub record Stopped {X : Type 0} (act : Act X) (stop : Stop) (before now : Outsid
   pub after : StopsAfter stop made
   pub wrote : StopsWithin stop sink.held sink_now.held (text_of made)
   pub writes : StopsWriting stop sink.calls sink_now.calls
+  pub trace : StopsDoing stop before.trace now.trace (deeds_of made)
 
 -- it did the act, with a value that the answer stands for, or stopped
 abbrev pub Goes : {T X : Type 0} → (T → X → Type 0) → Act X → OutsideTells → OutsideTells → SinkTells → SinkTells → Result T Stop → Type 0
@@ -206,9 +197,20 @@ WroteMade made before now Usage = ⊥
 WroteMade made before now ReadFault = ⊥
 WroteMade made before now Limit = ⊥
 
+-- what was done outside of what was made, in order
+abbrev pub DidMade : Made → Option (List Deed) → Option (List Deed) → Status → Type 0
+DidMade made before now Done = Gains before now (deeds_of made)
+DidMade made before now WriteFault = BreaksOff before now (deeds_of made)
+DidMade made before now Memory = Gains before now (deeds_of made)
+DidMade made before now Refused = ⊥
+DidMade made before now Usage = ⊥
+DidMade made before now ReadFault = ⊥
+DidMade made before now Limit = ⊥
+
 -- How a run ended that links and a clock are driven by: as they go on, which is as they told before
 -- it, this was made of it; exactly these datagrams went, each count rose by exactly the calls that are
--- noted, and exactly that was written, or a front of it where a write failed.
+-- noted, and exactly that was written, or a front of it where a write failed. And exactly this was done,
+-- in this order, and nothing after a write that failed.
 pub record RanTurns {X : Type 0} (run : Act X) (status : Status) (before now : OutsideTells) (sink sink_now : SinkTells) : Type 0 where
   pub outside : Outside
   pub told : Agrees before outside
@@ -217,6 +219,7 @@ pub record RanTurns {X : Type 0} (run : Act X) (status : Status) (before now : O
   pub links : LinksWent made before now
   pub wrote : WroteMade made sink.held sink_now.held status
   pub writes : WentWriting status sink.calls sink_now.calls
+  pub trace : DidMade made before.trace now.trace status
 
 -- ---- what only ties code to these
 
@@ -244,11 +247,25 @@ abbrev pub WroteText : {T E : Type 0} → List ℕ → SinkTells → SinkTells �
 WroteText text sink now (Ok t) = Gains sink.held now.held text × NoneFailed sink.calls now.calls
 WroteText text sink now (Err e) = GainsFront sink.held now.held text × LastFailed sink.calls now.calls
 
+-- they are sends, made or failed
+abbrev pub IsSend : Call → Type 0
+IsSend (clock_read now) = ⊥
+IsSend (link_polled face polled) = ⊥
+IsSend (datagram_sent face datagram) = Unit {0}
+IsSend (datagram_lost face datagram) = Unit {0}
+IsSend (lines_written text) = ⊥
+
+abbrev pub AreSends : Made → Type 0
+AreSends [] = Unit {0}
+AreSends (call ∷ later) = IsSend call × AreSends later
+
 -- datagrams were sent, and lines about those that were lost were added to a text
 pub record Sent {X : Type 0} (act : Act X) (value : X) (text text_now : List ℕ) (before now : OutsideTells) : Type 0 where
   pub made : Made
   pub does : Does act value made before now
   pub noted_is : text_now ≡ text ++ text_of made
+  pub sends : AreSends made
+  pub trace : Gains before.trace now.trace (deeds_of made)
 
 -- a step of what is driven
 pub record StepsTo {S : Type 0} (Shows : S → Type 0) (stepped : Stepped S) (effects : StepEffects) : Type 0 where

@@ -1,6 +1,6 @@
 //! What is said of a link whose call failed. The lines are constant, so that they want no memory.
 ghost use Rattle.std.specs.Prelude.{◌≡◌, length};
-ghost use Rattle.serve_run.specs.Tells.{link_line};
+ghost use Rattle.serve_run.specs.Deeds.{link_line};
 
 use gate_cases::Face;
 
@@ -8,7 +8,7 @@ use gate_cases::Face;
 pub const NOTE_LENGTH: usize = 14;
 
 /// The line that says of the face's link that a call failed: a send, or else a poll.
-#[tactic(auto, unfolding(crate::specs::Tells::link_line))]
+#[tactic(auto, unfolding(crate::specs::Deeds::link_line))]
 pub fn link_line(face: Face, send: bool) -> &'static str
     ensures line { result.now ≡ link_line face send }
     ensures long { length result.now ≡ 14 }

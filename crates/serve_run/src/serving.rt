@@ -10,6 +10,8 @@ ghost use Rattle.serve_run.specs.Shows.{ShowsServing};
 ghost use Rattle.serve_run.specs.Tells.{links_tell, RanTurns, StepsTo};
 ghost use Rattle.serve_run.specs.WrittenLines.{step_text};
 
+use crate::apart::Apart;
+use crate::edges::Edges;
 use crate::laws::runs_keep_law;
 use crate::turn_step::{Effects, TurnStep};
 use crate::turning::drive_turns;
@@ -96,10 +98,27 @@ impl TurnStep for GateTurns {
     }
 }
 
-/// Serves for so many turns: a gateway of this name between the two links. Each step of a turn sends
-/// its datagrams and then writes its lines, at once; a poll or a send that fails is noted, and ends
-/// nothing. The run ends early where a write fails or memory runs out.
+/// Serves for so many turns over an outside that is one thing: a gateway of this name between its two
+/// links. Each step of a turn sends its datagrams and then writes its lines, at once; a poll or a send
+/// that fails is noted, and ends nothing. The run ends early where a write fails or memory runs out.
 #[tactic(auto, unfolding(crate::specs::Serve::serve_turns))]
+pub fn serve_over<E: Edges>(alloc: Global, name: Endpoint, count: u64, edges: &mut E) -> Status
+    requires named { name ≢ Null }
+    requires legal { IsEndpoint name }
+    // How the run went, over whatever is told of the outside, and of the order of what was done.
+    ensures ran { RanTurns (serve_turns name count) result
+        (E.outside edges.old) (E.outside edges.new) (E.sink edges.old) (E.sink edges.new) }
+
+    // It went as its events have it, and the receiver's law holds at each face.
+    ensures law { Served name count result
+        (E.outside edges.old) (E.outside edges.new) (E.sink edges.old) (E.sink edges.new) }
+    ensures lent { E.lent edges.new ≡ E.lent edges.old }
+{
+    runs_keep_law();
+    drive_turns(alloc, GateTurns::new(alloc, name), count, edges)
+}
+
+/// Serves for so many turns over two links, a clock and a sink, each by itself, as [`serve_over`] does.
 pub fn serve<K: Sink, L: Link, C: Clock>(
     alloc: Global,
     name: Endpoint,
@@ -123,14 +142,11 @@ pub fn serve<K: Sink, L: Link, C: Clock>(
         (links_tell L.coming L.gone L.failing L.faults old.new new.new (C.readings clock.new))
         (sink_tells K.held K.faults K.failing sink.old) (sink_tells K.held K.faults K.failing sink.new) }
 {
-    runs_keep_law();
-    drive_turns(
-        alloc,
-        GateTurns::new(alloc, name),
-        count,
-        sink,
+    let mut apart = Apart {
         old,
         new,
         clock,
-    )
+        sink,
+    };
+    serve_over(alloc, name, count, &mut apart)
 }

@@ -1,6 +1,5 @@
-use Rattle.edge_traits.specs.Outcome.{sink_tells}
+use Rattle.std.proofs.Common.{◌≡◌}
 use Rattle.serve_run.specs.Turns.{turns}
-use Rattle.serve_run.specs.Tells.{links_tell}
 use Rattle.serve_run.proofs.ActLemmas.{Going}
 use Rattle.serve_run.proofs.turning.drive_turns.Given as goal
 
@@ -9,10 +8,9 @@ invariant-turning g l = record {
   going : (state : g.T.TurnStep.State) → g.T.TurnStep.Shows l.fn.step state
       → (now : g.T.TurnStep.State) × g.T.TurnStep.Shows l.driven.step now
       × Going (turns g.T.TurnStep.rules l.count state) (turns g.T.TurnStep.rules l.left now)
-      (links_tell g.L.Link.coming g.L.Link.gone g.L.Link.failing g.L.Link.faults l.initial.old l.initial.new (g.C.Clock.readings l.initial.clock))
-      (links_tell g.L.Link.coming g.L.Link.gone g.L.Link.failing g.L.Link.faults l.old l.new (g.C.Clock.readings l.clock))
-      (sink_tells g.K.Sink.held g.K.Sink.faults g.K.Sink.failing l.initial.sink)
-      (sink_tells g.K.Sink.held g.K.Sink.faults g.K.Sink.failing l.sink);
+      (g.E.Edges.outside l.initial.edges) (g.E.Edges.outside l.edges)
+      (g.E.Edges.sink l.initial.edges) (g.E.Edges.sink l.edges);
+  lent : g.E.Edges.lent l.edges ≡ g.E.Edges.lent l.initial.edges;
 }
 
 abbrev pub decreases-turning : goal.decreases-turning

@@ -1,10 +1,10 @@
 use Rattle.serve_run.proofs.ActLemmas.{goes-shown, stopped-at-once}
 use Rattle.serve_run.proofs.turning.Driven.pass.Goals as goal
 
-pub returns-in-Ok : goal.returns-in-Ok
-returns-in-Ok g c = λ state readings shows.
+pub returns-in-Ok-clause-goes : goal.returns-in-Ok-clause-goes
+returns-in-Ok-clause-goes g c = λ state shows.
     let step = c.in-Ok.ensures.step state shows in
-    goes-shown _ _ _ _ _ c.perform.result (rw step.effects_are at c.perform.ensures.goes readings) _ step.shows
+    goes-shown _ _ _ _ _ c.perform.result (rw step.effects_are at c.perform.ensures.goes) _ step.shows
 
-pub returns-in-Err : goal.returns-in-Err
-returns-in-Err g c = λ state readings shows. stopped-at-once _ _ _
+pub returns-in-Err-clause-goes : goal.returns-in-Err-clause-goes
+returns-in-Err-clause-goes g c = λ state shows. stopped-at-once _ _ _

@@ -19,13 +19,13 @@ use Rattle.ltp_world.specs.Drain.{done_in}
 use Rattle.ltp_world.specs.Steps.{submission_at}
 use Rattle.ltp_world.proofs.DrainLemmas.{run-append}
 use Rattle.ltp_world.proofs.RestLemmas.{turns-world}
+use Rattle.node_run.proofs.PlainLemmas.{decimal-plain}
 use Rattle.link_run.specs.Law.{end_text, stop_text, IsPickedDrain}
 use Rattle.link_run.specs.Link.{LinkSetup, ats_of, no_moment}
 use Rattle.link_run.specs.Picks.{EndsTurns, turns_after}
 use Rattle.link_run.specs.WrittenLines.{at_line, end_line, steps_text, stop_line, timed_text}
 use Rattle.link_run.proofs.PicksMade.{turns-made}
 use Rattle.link_run.proofs.PickedLemmas.{goes-at}
-use Rattle.link_run.proofs.PlainLemmas.{decimal-plain}
 use Rattle.link_run.proofs.TellLemmas.{end-line-has, stop-line-has, with_ends, HasLines, Told, and_then, both-have, event-has, none-has, nothing, other-line, told-more, told-none, told_in}
 use Rattle.link_run.proofs.TellLemmas.{told-one}
 

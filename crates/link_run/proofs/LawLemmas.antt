@@ -26,12 +26,13 @@ use Rattle.replay_script.specs.declared.fault.LineFault.{LineFault}
 use Rattle.replay_script.specs.declared.fault.LineFault.TheVariants as faults
 use Rattle.replay_script.specs.declared.link.LinkEvent.{LinkEvent}
 use Rattle.replay_script.specs.declared.link.LinkEvent.TheVariants as events
+use Rattle.node_run.proofs.TextLineLemmas.{alone}
 use Rattle.link_run.specs.Law.{TellsEnd, stop_lines_in, EndsLawfully, LinksKeepLaw, PlaysNothing, PlaysScript, link_by, made_by, note_text, notes_of, script_events, up_text}
 use Rattle.link_run.specs.Link.{LinkStart, LinkState, first_said, link_parties, link_rules, link_setup, no_link, no_moment, planned, settles, start_in, start_said, start_turn}
 use Rattle.link_run.specs.WrittenLines.{refusal_line}
 use Rattle.link_run.proofs.SetupLemmas.{parties-are}
 use Rattle.link_run.proofs.StartLemmas.{SoundLink, sound_said}
-use Rattle.link_run.proofs.TellLemmas.{with_ends, HasLines, alone, and_then, told_at, none-has, nothing, refusal-has, told-more, told_in}
+use Rattle.link_run.proofs.TellLemmas.{with_ends, HasLines, and_then, told_at, none-has, nothing, refusal-has, told-more, told_in}
 use Rattle.link_run.proofs.PlansLemmas.{EndsLines, Plans, plans_from}
 use Rattle.link_run.proofs.SentLemmas.{AreSent, drain-quiet, first-sent, quiet-none, submissions-append}
 use Rattle.link_run.proofs.TimeLemmas.{Laws, completes}

@@ -26,6 +26,7 @@ use Rattle.replay_script.specs.declared.fault.LineFault.TheVariants as faults
 use Rattle.replay_script.specs.declared.link.LinkEvent.{LinkEvent}
 use Rattle.replay_script.specs.declared.link.LinkEvent.TheVariants as events
 use Rattle.replay_script.specs.declared.picks.PickWord.{PickWord}
+use Rattle.node_run.proofs.PlainLemmas.{submit-plain}
 use Rattle.window_world.specs.Made.{EndsBy}
 use Rattle.window_world.proofs.MadeLemmas.{drains-are-made}
 use Rattle.link_run.specs.Law.{DrainMakes, IsEvent, TellsEnd, TellsLast, end_text, stop_text, if_drain, made_by, makes, moment_after}
@@ -33,7 +34,6 @@ use Rattle.link_run.specs.Link.{LinkCourse, LinkSetup, LinkState, ats_of, delive
 use Rattle.link_run.specs.Picks.{said_picks, turns_after}
 use Rattle.link_run.specs.WrittenLines.{closed_refusal, deliver_refusal, end_line, octets_sent, octets_timed, refusal_line, send_refusal, told_text}
 use Rattle.link_run.proofs.FewLemmas.{few-picks}
-use Rattle.link_run.proofs.PlainLemmas.{submit-plain}
 use Rattle.link_run.proofs.TellLemmas.{with_ends, HasLines, both-have, closed-has, event-has, none-has, nothing, refusal-has, shut-plain, told-append, told-none, told_in, undelivered-has, unsent-has}
 use Rattle.link_run.proofs.DoneLemmas.{end-has, picked-drain, quiet-told, refused-stays, steps-has, stop-has, then-ends, timed-has}
 use Rattle.link_run.proofs.TellLemmas.{then-nothing, told-one}

@@ -8,8 +8,7 @@ use Rattle.std.specs.List.{flat_map, slice_get}
 use Rattle.std.specs.Fmt.{decimal}
 use Rattle.std.specs.Option.{option_map}
 use Rattle.hex.specs.Hex.{encode_lower}
-use Rattle.command_frame.specs.InputLines.{ended_part, lines_of}
-use Rattle.command_frame.proofs.InputLinesLemmas.{lines-line}
+use Rattle.command_frame.specs.InputLines.{ended_part}
 use Rattle.endpoint.specs.Endpoints.{begins}
 use Rattle.ltp_segment.specs.declared.session.Note.{Note}
 use Rattle.ltp_segment.specs.Notes.{note_name}
@@ -30,41 +29,11 @@ use Rattle.replay_script.specs.declared.fault.LineFault.{LineFault}
 use Rattle.replay_script.specs.Fault.{word_of}
 use Rattle.replay_script.specs.Lines.{route_word}
 use Rattle.replay_script.specs.Words.{spaced}
+use Rattle.node_run.proofs.PlainLemmas.{PlainWords, decimal-plain, details-plain, fault-plain, hex-plain, name-plain}
+use Rattle.node_run.proofs.TextLineLemmas.{Has, has-both, has-one, has-other}
 use Rattle.link_run.specs.WrittenLines.{closed_refusal, deliver_refusal, end_word, note_lines, out_lines, refusal_line, refused_line, route_of, send_refusal, sent_line, sent_lines, site_of, told_text, up_line, up_lines}
-use Rattle.link_run.specs.Law.{lines_with, note_text, notes_of, up_text}
-use Rattle.link_run.proofs.PlainLemmas.{PlainWords, decimal-plain, details-plain, end-plain, fault-plain, hex-plain, name-plain, plain-spaced, route-plain}
-
--- ---- the lines that begin so
-
--- those of a text that ends with a line feed, whatever follows it
-abbrev pub Has : List ℕ → List ℕ → List (List ℕ) → Type 0
-Has front text lines =
-    (rest : List ℕ) → lines_with front (lines_of (text ++ rest)) ≡ lines ++ lines_with front (lines_of rest)
-
-has-both : (front first more : List ℕ) (lines others : List (List ℕ)) → Has front first lines → Has front more others
-    → Has front (first ++ more) (lines ++ others)
-has-both front first more lines others has have = λ rest.
-    ap (λ (t : List ℕ). lines_with front (lines_of t)) (append_assoc first more rest)
-    ∙ (has (more ++ rest) ∙ (ap (λ ls. lines ++ ls) (have rest) ∙ sym (append_assoc lines others (lines_with front (lines_of rest)))))
-
--- what a text tells, wherever it stands alone
-pub alone : (front text : List ℕ) (lines : List (List ℕ)) → Has front text lines → lines_with front (lines_of text) ≡ lines
-unfolding lines_of lines_with
-alone front text lines has =
-    ap (λ (t : List ℕ). lines_with front (lines_of t)) (sym (append-nil text)) ∙ (has [] ∙ append-nil lines)
-
-line-lines : (words : List (List ℕ)) (rest : List ℕ) → PlainWords words → lines_of (line_of words ++ rest) ≡ spaced words ∷ lines_of rest
-line-lines words rest plain =
-    ap lines_of (append_assoc (spaced words) (codes "\n") rest) ∙ lines-line (spaced words) rest (plain-spaced words plain)
-
-module _ (front : List ℕ) (words : List (List ℕ)) (plain : PlainWords words) where
-  has-other : begins front (spaced words) ≡ false → Has front (line_of words) []
-  unfolding lines_with
-  has-other other = λ rest. ap (lines_with front) (line-lines words rest plain) ∙ rw other refl
-
-  has-one : begins front (spaced words) ≡ true → Has front (line_of words) (spaced words ∷ [])
-  unfolding lines_with
-  has-one is = λ rest. ap (lines_with front) (line-lines words rest plain) ∙ rw is refl
+use Rattle.link_run.specs.Law.{note_text, notes_of, up_text}
+use Rattle.link_run.proofs.PlainLemmas.{end-plain, route-plain}
 
 -- ---- the two kinds of lines that are told apart
 

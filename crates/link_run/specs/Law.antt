@@ -15,7 +15,6 @@ use Rattle.edge_traits.specs.declared.status.Status.TheVariants as statuses
 use Rattle.edge_traits.specs.Settled.{at_end}
 use Rattle.command_frame.specs.InputLines.{lines_of, lines_within}
 use Rattle.command_frame.specs.Within.{within}
-use Rattle.endpoint.specs.Endpoints.{begins}
 use Rattle.ltp_segment.specs.declared.session.Note.{Note}
 use Rattle.ltp_segment.specs.Notes.{note_name}
 use Rattle.ltp_session.specs.Engine.{Party}
@@ -39,6 +38,7 @@ use Rattle.replay_script.specs.declared.fault.LineFault.{LineFault}
 use Rattle.replay_script.specs.declared.link.LinkEvent.{LinkEvent}
 use Rattle.replay_script.specs.declared.link.LinkEvent.TheVariants as events
 use Rattle.replay_script.specs.Words.{spaced}
+use Rattle.node_run.specs.TextLines.{lines_with}
 use Rattle.window_world.specs.Made.{EndsBy}
 use Rattle.window_world.specs.Values.{later_of}
 use Rattle.link_run.specs.Link.{LinkSetup, LinkStart, end_named, later_said, link_setup, settles}
@@ -192,12 +192,6 @@ DrainCompletes s w (Some (events.Deliver k)) made = Unit {0}
 DrainCompletes s w (Some (events.Clock now)) made = Unit {0}
 
 -- ---- the lines of a text, by how they begin
-
--- those that begin so
-unfoldable pub lines_with : List ℕ → List (List ℕ) → List (List ℕ)
-lines_with front [] = []
-lines_with front (line ∷ lines) =
-    if begins front line then line ∷ lines_with front lines else lines_with front lines
 
 -- the lines that say that a red part was handed up; the notes; and those that say that a drain
 -- ended, or that the plan ended it

@@ -14,9 +14,9 @@ use Rattle.replay_script.specs.declared.picks.PickWord.{PickWord}
 use Rattle.replay_script.specs.Events.{hex_of, joined, number_line, number_word, or_fault, with_number}
 use Rattle.replay_script.specs.LinkEvents.{is_link_line, link_drain_line, link_event_by, link_event_of, link_line, link_numbers, link_send_line, link_send_words, link_words, pick_of, picks_of, two_words, window_line}
 use Rattle.replay_script.specs.Words.{is_word, words_of}
+use Rattle.replay_script.proofs.PathLemmas.{unless_fault}
 use Rattle.link_run.specs.Link.{later_said}
 use Rattle.link_run.specs.Picks.{said_pick, said_picks}
-use Rattle.link_run.proofs.StartLemmas.{unless_fault}
 
 -- ---- as many picks as words
 

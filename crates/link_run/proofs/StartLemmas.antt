@@ -1,39 +1,17 @@
 -- What the first line of a script says, where it sets up a link.
 
-use Rattle.std.proofs.Common.{◌≡◌, ℕ, ◌≤◌, ◌&&◌, nat_le, nat_lt, length, Bool, true, false, List, [], ◌∷◌, codes, Option, None, Some, Result, Ok, Err, inl, inr, refl, sym, arith, if◌then◌else◌}
-use Rattle.std.proofs.lemmas.Bool.Decides.{nat_tests}
+use Rattle.std.proofs.Common.{◌≡◌, ℕ, ◌≤◌, nat_lt, length, Bool, true, false, List, [], ◌∷◌, codes, Option, None, Some, Result, Ok, Err, inl, inr, refl, sym, if◌then◌else◌}
 use Rattle.endpoint.specs.Numeral.{number_of}
 use Rattle.replay_script.specs.declared.fault.LineFault.{LineFault}
 use Rattle.replay_script.specs.declared.fault.LineFault.TheVariants as faults
 use Rattle.replay_script.specs.declared.link.LinkEvent.{LinkEvent}
 use Rattle.replay_script.specs.declared.link.LinkEvent.TheVariants as events
 use Rattle.replay_script.specs.declared.picks.PickWord.{PickWord}
-use Rattle.replay_script.specs.Events.{Reads, hex_of, joined, number_in, number_line, number_word, or_fault, with_number, within}
+use Rattle.replay_script.specs.Events.{Reads, hex_of, joined, number_in, number_line, number_word, or_fault, with_number}
 use Rattle.replay_script.specs.LinkEvents.{LinkWords, is_link_line, link_drain_line, link_event, link_event_by, link_event_of, link_line, link_numbers, link_send_line, link_send_words, link_words, picks_of, two_words, window_line}
 use Rattle.replay_script.specs.Words.{is_word, words_of}
+use Rattle.replay_script.proofs.PathLemmas.{unless_fault, in_range}
 use Rattle.link_run.specs.Link.{first_said}
-
--- ---- values that are there
-
-pub unless_fault : {X Y : Type 0} (o : Option X) (fault : LineFault) (f : X → Result Y LineFault) (y : Y) → or_fault o fault f ≡ Ok y
-    → (x : X) × (o ≡ Some x) × (f x ≡ Ok y)
-unless_fault None fault f y is = absurd (cc)
-unless_fault (Some x) fault f y is = (x, refl, is)
-
-some_within : (least most n : ℕ) (said : Option ℕ) → within least most said ≡ Some n → (least ≤ n) × (n ≤ most)
-some_within least most n None is = absurd (cc)
-some_within least most n (Some m) is = by_test (nat_le least m) (nat_le m most) refl refl is
-  where
-    by_test : (a b : Bool) → nat_le least m ≡ a → nat_le m most ≡ b → (if a && b then Some m else None) ≡ Some n → (least ≤ n) × (n ≤ most)
-    by_test true true low high is =
-        let same : m ≡ n = cc in
-        rw (sym same) (grind (arith, nat_tests, low), grind (arith, nat_tests, high))
-    by_test true false low high is = absurd (cc)
-    by_test false b low high is = absurd (cc)
-
-in_range : (least most : ℕ) (word : List ℕ) (n : ℕ) → number_in least most word ≡ Some n → (least ≤ n) × (n ≤ most)
-unfolding number_in
-in_range least most word n is = some_within least most n (number_of word) is
 
 -- ---- a line of the word `link`
 

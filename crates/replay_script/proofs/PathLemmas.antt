@@ -18,7 +18,7 @@ use Rattle.replay_script.specs.Laws.{IsSoundPath, PathsAreSound}
 
 -- ---- values that are there
 
-unless_fault : {X Y : Type 0} (o : Option X) (fault : LineFault) (f : X → Result Y LineFault) (y : Y) → or_fault o fault f ≡ Ok y
+pub unless_fault : {X Y : Type 0} (o : Option X) (fault : LineFault) (f : X → Result Y LineFault) (y : Y) → or_fault o fault f ≡ Ok y
     → (x : X) × (o ≡ Some x) × (f x ≡ Ok y)
 unless_fault None fault f y is = absurd (cc)
 unless_fault (Some x) fault f y is = (x, refl, is)
@@ -34,7 +34,7 @@ some_within least most n (Some m) is = by_test (nat_le least m) (nat_le m most) 
     by_test true false low high is = absurd (cc)
     by_test false b low high is = absurd (cc)
 
-in_range : (least most : ℕ) (word : List ℕ) (n : ℕ) → number_in least most word ≡ Some n → (least ≤ n) × (n ≤ most)
+pub in_range : (least most : ℕ) (word : List ℕ) (n : ℕ) → number_in least most word ≡ Some n → (least ≤ n) × (n ≤ most)
 unfolding number_in
 in_range least most word n is = some_within least most n (number_of word) is
 

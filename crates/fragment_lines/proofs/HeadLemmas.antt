@@ -56,7 +56,7 @@ even-within f within =
 
 -- ---- a fragment as a whole
 
-head-sound : (full : Full) → IsSound full → is_report full.shared.content ≡ false → IsWhole (unfragmented full)
+pub head-sound : (full : Full) → IsSound full → is_report full.shared.content ≡ false → IsWhole (unfragmented full)
 head-sound full sound none =
     let valid = sound.valid in
     let shared = valid.shared in record {
@@ -91,7 +91,7 @@ head-sound full sound none =
       whole = refl;
     }
 
-payload-sound : (head : Full) (octets : List ℕ) → IsWhole head → length octets < 2 ^ 64 → IsSound (with_payload head octets)
+pub payload-sound : (head : Full) (octets : List ℕ) → IsWhole head → length octets < 2 ^ 64 → IsSound (with_payload head octets)
 payload-sound head octets is small =
     let valid = is.sound.valid in
     let shared = valid.shared in record {

@@ -1,6 +1,5 @@
 mod SentLemmas
 mod FragmentLemmas
-mod WholeLemmas
 mod RoomLemmas
 mod JoinLemmas
 mod StepLemmas

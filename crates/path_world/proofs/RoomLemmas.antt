@@ -21,8 +21,8 @@ use Rattle.gate_cases.specs.declared.face.Face.{Face}
 use Rattle.gate_cases.specs.declared.face.Face.TheVariants as faces
 use Rattle.gate_cases.specs.Faces.{fits_at}
 use Rattle.translate.specs.Sound.{IsSound}
+use Rattle.fragment_lines.proofs.HeadLemmas.{head-sound, payload-sound}
 use Rattle.path_world.specs.Ties.{IsTaken, HasRoom, BeginsWithRoom}
-use Rattle.path_world.proofs.WholeLemmas.{head-sound, payload-sound}
 
 -- ---- a fragment is no report
 

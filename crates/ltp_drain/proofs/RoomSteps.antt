@@ -1,10 +1,11 @@
 -- Clean steps leave the room that there was.
 
-use Rattle.std.proofs.Common.{◌≡◌, ◌≢◌, ℕ, ◌<◌, ◌≤◌, Bool, true, false, not, ◌==◌, ◌&&◌, List, []}
+use Rattle.std.proofs.Common.{◌≡◌, ◌≢◌, ℕ, ◌+◌, ◌<◌, ◌≤◌, Bool, true, false, not, ◌==◌, ◌&&◌, List}
 use Rattle.std.proofs.Common.{◌++◌, length, Option, None, Some, is_some, ◌⊎◌, inl, inr, refl, sym}
-use Rattle.std.proofs.Common.{◌∙◌, ap, arith, subst}
+use Rattle.std.proofs.Common.{[], ◌∙◌, ap, arith, subst}
 use Rattle.std.proofs.lemmas.Bool.{eqb-true, eqb-false}
-use Rattle.ltp_session.specs.Engine.{Engine, Party, is_closed, receiver_changes, receiver_ticks}
+use Rattle.ltp_session.specs.Engine.{Engine, Party, closed_runs, is_closed, receiver_changes}
+use Rattle.ltp_session.specs.Engine.{receiver_ticks}
 use Rattle.ltp_session.specs.Engine.{sender_changes, tick_engine, tick_out, with_receiver}
 use Rattle.ltp_session.specs.Engine.{with_sender}
 use Rattle.ltp_session.specs.Receiver.{Receiving}
@@ -27,6 +28,31 @@ use Rattle.ltp_drain.proofs.RoomLemmas.{many-without, runs-append, runs-more}
 
 pub coming-is : (e f : Engine) → how_many (λ entry. is_unknown e entry.0) f.senders ≡ coming e f
 coming-is e f = count-is (λ entry. is_unknown e entry.0) f.senders
+
+-- ---- room that is left
+
+-- engine e is e' after an event, and its peer f is f': it needs no more room
+pub record NoMore (e f e' f' : Engine) : Type 0 where
+  pub senders : length e'.senders ≤ length e.senders
+  pub receivers : length e'.receivers + coming e' f' ≤ length e.receivers + coming e f
+  pub numbers :
+      closed_runs e'.closed + length e'.receivers + coming e' f'
+      ≤ closed_runs e.closed + length e.receivers + coming e f
+
+pub same-need : (e f : Engine) → NoMore e f e f
+same-need e f = record {
+  senders = omega arith;
+  receivers = omega arith;
+  numbers = omega arith;
+}
+
+-- there is room after it where there was
+room-kept : (e f e' f' : Engine) → NoMore e f e' f' → HasRoom e f → HasRoom e' f'
+room-kept e f e' f' need room = record {
+  senders = omega (arith, room.senders, need.senders);
+  receivers = omega (arith, room.receivers, need.receivers);
+  numbers = omega (arith, room.numbers, need.numbers);
+}
 
 -- ---- a sender's step
 
@@ -51,20 +77,20 @@ length-settled n (keeps s') es ascending of =
     omega (arith, length-put n 0 of.0 s' es ascending of.1)
 length-settled n ends es ascending of = length-without n es
 
-pub room-sent : (e f : Engine) (n : ℕ) (c : Change Sending) → AreAscending 0 e.senders
-    → OfKept n e.senders c → HasRoom e f → HasRoom (with_sender e n c) f
-room-sent e f n c ascending of room = record {
-  senders = omega (arith, room.senders, length-settled n c e.senders ascending of);
-  receivers = room.receivers;
-  numbers = room.numbers;
+pub need-sent : (e f : Engine) (n : ℕ) (c : Change Sending) → AreAscending 0 e.senders
+    → OfKept n e.senders c → NoMore e f (with_sender e n c) f
+need-sent e f n c ascending of = record {
+  senders = length-settled n c e.senders ascending of;
+  receivers = omega arith;
+  numbers = omega arith;
 }
 
-pub room-sent_peer : (e f : Engine) (n : ℕ) (c : Change Sending) → AreAscending 0 e.senders
-    → OfKept n e.senders c → HasRoom f e → HasRoom f (with_sender e n c)
-room-sent_peer e f n c ascending of room = record {
-  senders = room.senders;
-  receivers = omega (arith, room.receivers, fewer);
-  numbers = omega (arith, room.numbers, fewer);
+pub need-sent_peer : (e f : Engine) (n : ℕ) (c : Change Sending) → AreAscending 0 e.senders
+    → OfKept n e.senders c → NoMore f e f (with_sender e n c)
+need-sent_peer e f n c ascending of = record {
+  senders = omega arith;
+  receivers = omega (arith, fewer);
+  numbers = omega (arith, fewer);
 }
   where
     fewer : coming f (with_sender e n c) ≤ coming f e
@@ -72,9 +98,18 @@ room-sent_peer e f n c ascending of room = record {
       arith,
       coming-is f (with_sender e n c),
       coming-is f e,
-      many-settled
-          (is_unknown f) n c e.senders ascending of,
+      many-settled (is_unknown f) n c e.senders ascending of,
     )
+
+pub room-sent : (e f : Engine) (n : ℕ) (c : Change Sending) → AreAscending 0 e.senders
+    → OfKept n e.senders c → HasRoom e f → HasRoom (with_sender e n c) f
+room-sent e f n c ascending of =
+    room-kept e f (with_sender e n c) f (need-sent e f n c ascending of)
+
+pub room-sent_peer : (e f : Engine) (n : ℕ) (c : Change Sending) → AreAscending 0 e.senders
+    → OfKept n e.senders c → HasRoom f e → HasRoom f (with_sender e n c)
+room-sent_peer e f n c ascending of =
+    room-kept f e f (with_sender e n c) (need-sent_peer e f n c ascending of)
 
 -- ---- a receiver's step
 
@@ -121,35 +156,38 @@ OfComing e f n stays = Unit {0}
 OfComing e f n (keeps r') = ((r : Receiving) × (find n e.receivers ≡ Some r)) ⊎ Comes_to e f n
 OfComing e f n ends = (r : Receiving) × (find n e.receivers ≡ Some r)
 
-pub room-received : (e f : Engine) (n : ℕ) (c : Change Receiving) → AreAscending 0 e.receivers
-    → OfComing e f n c → HasRoom e f → HasRoom (with_receiver e n c) f
+fewer-received : (e f : Engine) (n : ℕ) (c : Change Receiving)
+    → coming (with_receiver e n c) f ≤ coming e f
+fewer-received e f n c = omega (
+  arith,
+  coming-is (with_receiver e n c) f,
+  coming-is e f,
+  many-most (λ entry. is_unknown (with_receiver e n c) entry.0)
+      (λ entry. is_unknown e entry.0) f.senders
+      (λ entry. unknown-received e n c entry.0),
+)
+
+pub need-received : (e f : Engine) (n : ℕ) (c : Change Receiving) → AreAscending 0 e.receivers
+    → OfComing e f n c → NoMore e f (with_receiver e n c) f
 unfolding with_receiver
-room-received e f n stays ascending of room = room
-room-received e f n (keeps r') ascending (inl (r, kept)) room = record {
-  senders = room.senders;
+need-received e f n stays ascending of = same-need e f
+need-received e f n (keeps r') ascending (inl (r, kept)) = record {
+  senders = omega arith;
   receivers = omega (
     arith,
-    room.receivers,
-    fewer,
-    length-put n 0 r r' e.receivers ascending
-        kept,
+    fewer-received e f n (keeps r'),
+    length-put n 0 r r' e.receivers ascending kept,
   );
-  numbers = omega (arith, room.numbers, fewer, length-put n 0 r r' e.receivers ascending kept);
+  numbers = omega (
+    arith,
+    fewer-received e f n (keeps r'),
+    length-put n 0 r r' e.receivers ascending kept,
+  );
 }
-  where
-    fewer : coming (with_receiver e n (keeps r')) f ≤ coming e f
-    fewer = omega (
-      arith,
-      coming-is (with_receiver e n (keeps r')) f,
-      coming-is e f,
-      many-most (λ entry. is_unknown (with_receiver e n (keeps r')) entry.0)
-          (λ entry. is_unknown e entry.0) f.senders
-          (λ entry. unknown-received e n (keeps r') entry.0),
-    )
-room-received e f n (keeps r') ascending (inr comes) room = record {
-  senders = room.senders;
-  receivers = omega (arith, room.receivers, fewer, length-put_new n r' e.receivers);
-  numbers = omega (arith, room.numbers, fewer, length-put_new n r' e.receivers);
+need-received e f n (keeps r') ascending (inr comes) = record {
+  senders = omega arith;
+  receivers = omega (arith, fewer, length-put_new n r' e.receivers);
+  numbers = omega (arith, fewer, length-put_new n r' e.receivers);
 }
   where
     known : is_unknown (with_receiver e n (keeps r')) n ≡ false
@@ -165,40 +203,40 @@ room-received e f n (keeps r') ascending (inr comes) room = record {
           comes.sender
           (unknown-received e n (keeps r')) known comes.unknown comes.kept,
     )
-room-received e f n ends ascending (r, kept) room = record {
-  senders = room.senders;
-  receivers = omega (arith, room.receivers, fewer, less);
-  numbers = omega (arith, room.numbers, fewer, less, runs-more n e.closed);
+need-received e f n ends ascending (r, kept) = record {
+  senders = omega arith;
+  receivers = omega (arith, fewer-received e f n ends, less);
+  numbers = omega (arith, fewer-received e f n ends, less, runs-more n e.closed);
 }
   where
     less : length (without n e.receivers) < length e.receivers
     less = length-without_kept n e.receivers r kept
-
-    fewer : coming (with_receiver e n ends) f ≤ coming e f
-    fewer = omega (
-      arith,
-      coming-is (with_receiver e n ends) f,
-      coming-is e f,
-      many-most (λ entry. is_unknown (with_receiver e n ends) entry.0)
-          (λ entry. is_unknown e entry.0) f.senders
-          (λ entry. unknown-received e n ends entry.0),
-    )
 
 pub same-senders : (e f f' : Engine) → f'.senders ≡ f.senders → coming e f' ≡ coming e f
 same-senders e f f' same = sym (coming-is e f')
     ∙ ap (λ (es : List (ℕ × Sending)). how_many (λ entry. is_unknown e entry.0) es) same
     ∙ coming-is e f
 
-pub room-received_peer : (e f : Engine) (n : ℕ) (c : Change Receiving) → HasRoom f e
-    → HasRoom f (with_receiver e n c)
-room-received_peer e f n c room =
+pub need-received_peer : (e f : Engine) (n : ℕ) (c : Change Receiving)
+    → NoMore f e f (with_receiver e n c)
+need-received_peer e f n c =
     let same : coming f (with_receiver e n c) ≡ coming f e =
     same-senders f e (with_receiver e n c) (senders-with_receiver e n c) in
     record {
-      senders = room.senders;
-      receivers = omega (arith, room.receivers, same);
-      numbers = omega (arith, room.numbers, same);
+      senders = omega arith;
+      receivers = omega (arith, same);
+      numbers = omega (arith, same);
     }
+
+pub room-received : (e f : Engine) (n : ℕ) (c : Change Receiving) → AreAscending 0 e.receivers
+    → OfComing e f n c → HasRoom e f → HasRoom (with_receiver e n c) f
+room-received e f n c ascending of =
+    room-kept e f (with_receiver e n c) f (need-received e f n c ascending of)
+
+pub room-received_peer : (e f : Engine) (n : ℕ) (c : Change Receiving) → HasRoom f e
+    → HasRoom f (with_receiver e n c)
+room-received_peer e f n c =
+    room-kept f e f (with_receiver e n c) (need-received_peer e f n c)
 
 -- ---- ticks
 
@@ -233,21 +271,13 @@ unknown-ticked me you p q e f now both linked ascending m is = by_kept (find m e
         (subst (λ (b : Bool). unknown_of (find m (tick_engine p e now).receivers) b ≡ true) closed
         is))
 
-pub room-ticked : (me you : End) (p q : Party) (e f : Engine) (now : ℕ) → AreTwo me you
-    → Linked p q
-    → AreAscending 0 e.receivers → HasRoom e f → HasRoom (tick_engine p e now) f
-room-ticked me you p q e f now both linked ascending room = record {
-  senders = omega (arith, room.senders, length-ticked (sender_changes p now) e.senders);
-  receivers = omega (
-    arith,
-    room.receivers,
-    fewer,
-    length-ticked (receiver_changes p now)
-        e.receivers,
-  );
+pub need-ticked : (me you : End) (p q : Party) (e f : Engine) (now : ℕ) → AreTwo me you
+    → Linked p q → AreAscending 0 e.receivers → NoMore e f (tick_engine p e now) f
+need-ticked me you p q e f now both linked ascending = record {
+  senders = omega (arith, length-ticked (sender_changes p now) e.senders);
+  receivers = omega (arith, fewer, length-ticked (receiver_changes p now) e.receivers);
   numbers = omega (
     arith,
-    room.numbers,
     fewer,
     length-ticked (receiver_changes p now) e.receivers,
     runs-append (ended (receiver_changes p now) e.receivers) e.closed,
@@ -264,12 +294,11 @@ room-ticked me you p q e f now both linked ascending room = record {
           (λ entry. unknown-ticked me you p q e f now both linked ascending entry.0),
     )
 
-pub room-ticked_peer : (p : Party) (e f : Engine) (now : ℕ) → HasRoom f e
-    → HasRoom f (tick_engine p e now)
-room-ticked_peer p e f now room = record {
-  senders = room.senders;
-  receivers = omega (arith, room.receivers, fewer);
-  numbers = omega (arith, room.numbers, fewer);
+pub need-ticked_peer : (p : Party) (e f : Engine) (now : ℕ) → NoMore f e f (tick_engine p e now)
+need-ticked_peer p e f now = record {
+  senders = omega arith;
+  receivers = omega (arith, fewer);
+  numbers = omega (arith, fewer);
 }
   where
     fewer : coming f (tick_engine p e now) ≤ coming f e
@@ -279,3 +308,13 @@ room-ticked_peer p e f now room = record {
       coming-is f e,
       many-ticked (is_unknown f) (sender_changes p now) e.senders,
     )
+
+pub room-ticked : (me you : End) (p q : Party) (e f : Engine) (now : ℕ) → AreTwo me you
+    → Linked p q
+    → AreAscending 0 e.receivers → HasRoom e f → HasRoom (tick_engine p e now) f
+room-ticked me you p q e f now both linked ascending =
+    room-kept e f (tick_engine p e now) f (need-ticked me you p q e f now both linked ascending)
+
+pub room-ticked_peer : (p : Party) (e f : Engine) (now : ℕ) → HasRoom f e
+    → HasRoom f (tick_engine p e now)
+room-ticked_peer p e f now = room-kept f e f (tick_engine p e now) (need-ticked_peer p e f now)

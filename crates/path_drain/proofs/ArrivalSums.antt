@@ -15,12 +15,12 @@ use Rattle.ltp_laws.proofs.FrameLemmas.{find-with_receiver, senders-with_receive
 use Rattle.ltp_laws.proofs.FrameLemmas.{find-with_receiver_other}
 use Rattle.ltp_laws.proofs.TableLemmas.{find-put, find-put_other, find-without}
 use Rattle.ltp_laws.proofs.TableLemmas.{find-without_other, self_eqb}
+use Rattle.ltp_drain.proofs.RoomSteps.{NoMore, need-received, need-received_peer, need-sent}
+use Rattle.ltp_drain.proofs.RoomSteps.{need-sent_peer, same-need}
 use Rattle.path_drain.specs.OnTheWay.{is_handed_up, is_on_its_way, sum_on_way}
 use Rattle.path_drain.specs.RoomKept.{SendsRed}
 use Rattle.path_drain.proofs.Arrivals.{Arrived, IsAwaited, StaysUp, by_receiver, by_sender}
 use Rattle.path_drain.proofs.Arrivals.{kept-of, unheard}
-use Rattle.path_drain.proofs.CountSteps.{NoMore, need-received, need-received_peer, need-sent}
-use Rattle.path_drain.proofs.CountSteps.{need-sent_peer, same-need}
 use Rattle.path_drain.proofs.WayLemmas.{OfBlock, way-less, way-most, way-settled}
 
 -- the engine after a reply, or none

@@ -7,6 +7,7 @@ use Rattle.ltp_session.specs.Engine.{block_too_large}
 use Rattle.ltp_session.specs.Step.{StepValue}
 use Rattle.ltp_session.specs.Sender.{Sending}
 use Rattle.ltp_drain.specs.Hopeful.{Room}
+use Rattle.ltp_drain.proofs.RoomSteps.{NoMore, same-need}
 use Rattle.gate_cases.specs.declared.face.Face.{Face}
 use Rattle.gate_cases.specs.declared.face.Face.TheVariants as faces
 use Rattle.gateway_core.specs.Gate.{at_face, sends_at, sends_unless, submission_at, with_face}
@@ -17,7 +18,7 @@ use Rattle.path_drain.specs.OnTheWay.{gate_at, node_at, will_begin}
 use Rattle.path_drain.specs.PathRoom.{HasRoomFor, PathRoom}
 use Rattle.path_drain.specs.Owing.{OwedHavePlace, RoomOwing, RoomStarts, SubmitsAreOwed, none_owed}
 use Rattle.path_drain.specs.Owing.{one_at}
-use Rattle.path_drain.proofs.CountSteps.{NoMore, link-room, room-left, same-need}
+use Rattle.path_drain.proofs.CountSteps.{link-room, room-left}
 use Rattle.path_drain.proofs.SubmitSteps.{Submitted, is_accepted, is_refused, own-begun}
 use Rattle.path_drain.proofs.SubmitSteps.{peer-begun, submitted-is, with_begun}
 

@@ -13,6 +13,7 @@ use Rattle.ltp_laws.proofs.FrameLemmas.{next-with_receiver}
 use Rattle.ltp_laws.proofs.RunLemmas.{linked-at, two_ends}
 use Rattle.ltp_drain.specs.Draining.{Oldest, oldest}
 use Rattle.ltp_drain.proofs.RoomRuns.{room-roomy}
+use Rattle.ltp_drain.proofs.RoomSteps.{NoMore, same-need}
 use Rattle.gate_cases.specs.declared.face.Face.{Face}
 use Rattle.gate_cases.specs.declared.face.Face.TheVariants as faces
 use Rattle.gate_cases.specs.Faces.{other_of}
@@ -29,7 +30,6 @@ use Rattle.path_drain.proofs.Arrivals.{Arrived, LinkDrains, by_receiver, by_send
 use Rattle.path_drain.proofs.LinkArrivals.{arrival-form}
 use Rattle.path_drain.proofs.ArrivalSums.{Needs, arrived-needs, arrived-sent, arrived-way, counted}
 use Rattle.path_drain.proofs.ArrivalSums.{arrived-red, engine_after}
-use Rattle.path_drain.proofs.CountSteps.{NoMore, same-need}
 use Rattle.path_drain.proofs.GateSteps.{owing, owing-most, pieces_owed, ups-room}
 use Rattle.path_drain.proofs.RoomOwed.{room-on_link, room-step, with_gate, with_node}
 use Rattle.path_drain.proofs.RunFacts.{kept-unclosed}

@@ -25,12 +25,13 @@ use Rattle.ltp_drain.specs.Draining.{Draining}
 use Rattle.ltp_drain.specs.Standing.{DrainHolds, TickedTo}
 use Rattle.ltp_drain.proofs.DrainRun.{tick-holds, ticked-new, ticked-world}
 use Rattle.ltp_drain.proofs.StartLemmas.{session-gives}
+use Rattle.ltp_drain.proofs.RoomSteps.{NoMore, need-ticked, need-ticked_peer}
 use Rattle.path_drain.specs.OnTheWay.{is_handed_up, is_on_its_way, sum_on_way}
 use Rattle.path_drain.specs.RoomKept.{SendsRed}
 use Rattle.path_drain.proofs.Arrivals.{unclosed-in}
 use Rattle.path_drain.proofs.HandedLemmas.{handed-stays}
 use Rattle.path_drain.proofs.ArrivalSums.{found-in, not-true}
-use Rattle.path_drain.proofs.CountSteps.{NoMore, need-ticked, need-ticked_peer, then-need}
+use Rattle.path_drain.proofs.CountSteps.{then-need}
 use Rattle.path_drain.proofs.WayLemmas.{SameBlock, way-most, way-ticked}
 
 -- ---- room

@@ -10,5 +10,3 @@ pub mod WritingLemmas
 pub mod JudgeLemmas
 pub mod PassLemmas
 pub mod ReaderLemmas
-pub mod AnswerLemmas
-pub mod CuttingLemmas

@@ -9,8 +9,6 @@ pub mod PrimaryLaws
 pub mod BlockLaws
 pub mod JudgingLemmas
 pub mod ReaderLemmas
-pub mod AnswerLemmas
-pub mod CuttingLemmas
 pub mod KeepingLemmas
 pub mod PassLemmas
 pub mod SumLemmas

@@ -9,6 +9,7 @@ use Rattle.wire_fields.specs.Gives.{Judges}
 use Rattle.wire_fields.proofs.ResultLemmas.{found, stopped, stopped_is}
 use Rattle.wire_fields.proofs.ReadLemmas.{read-found, read-refused}
 use Rattle.wire_fields.proofs.StayLemmas.{refusal-within}
+use Rattle.wire_fields.proofs.StreamLemmas.{octets-nothing, part-of, takes-size, takes-open, refuses-part, begins-open, near-min}
 use Rattle.wire_fields.proofs.JudgeLemmas.{judged-ok}
 use Rattle.bundle7.specs.declared.fault.Cause7.{Cause7}
 use Rattle.bundle7.specs.declared.fault.Cause7.TheVariants as causes
@@ -22,11 +23,11 @@ use Rattle.bundle7.specs.Cause.{why, stop_of}
 use Rattle.bundle7.specs.Table.{bundle}
 use Rattle.bundle7.specs.Judging.{judged_start, judged_bundle, none_seen}
 use Rattle.bundle7.specs.Passing.{blocks_left}
-use Rattle.bundle7.specs.Streaming.{Stream, IsOpen, near, JudgesPiece}
+use Rattle.bundle7.specs.Streaming.{Stream, bundles, IsOpen, near, JudgesPiece}
 use Rattle.bundle7.specs.Holding.{IsRefused, IsWhole}
 use Rattle.bundle7.proofs.KeepingLemmas.{bundle-keeps}
 use Rattle.bundle7.proofs.PassLemmas.{start-fails, body-fails}
-use Rattle.bundle7.proofs.ReaderLemmas.{is-because, whole-text, octets-nothing, part-of, takes-size, takes-open, refuses, all-of, near-min}
+use Rattle.bundle7.proofs.ReaderLemmas.{is-because, judged-whole}
 use Rattle.bundle_judges.specs.declared.sum7.Sum.{Sum}
 use Rattle.bundle_judges.specs.declared.stand7.Small.{Small}
 use Rattle.bundle_judges.specs.declared.stand7.Small.TheVariants.{Block, Item, Check, Octets, End}
@@ -220,15 +221,6 @@ taken-start s come before = record { took = record { come = come; before = befor
 
 -- ---- the table with its values
 
-pub judged-whole : (text : List ℕ) (end : ℕ) → IsOctets text → Judges stop_of (Ok end) (read (bundle 64) text 0) → (b : Bundle7) × IsWhole text b end
-judged-whole text end fits judges = by (read (bundle 64) text 0) refl judges
-  where
-    by : (given : Result (Bundle7 × ℕ) (ℕ × Stop Cause7)) → read (bundle 64) text 0 ≡ given → Judges stop_of (Ok end) given → (b : Bundle7) × IsWhole text b end
-    by (Ok x) is ends =
-        let there = read-found (bundle 64) text 0 x.0 x.1 fits (omega arith) is in
-        (x.0, whole-text text x.0 end fits (omega (arith, ends, there.within)) (is ∙ ap (λ n. found x.0 n) (sym ends)))
-    by (Err s) is ends = absurd ends
-
 pub ended-whole : (text : List ℕ) (end : ℕ) → IsOctets text → HasEnded text end → (b : Bundle7) × IsWhole text b end
 ended-whole text end fits is = judged-whole text end fits (judged-ok stop_of _ _ tt end ((bundle-keeps 64).reads text 0 ∙ is))
 
@@ -392,26 +384,22 @@ module _ (longest : ℕ) (old : Stream) (piece part : List ℕ) (cut : Bool) (sm
       → JudgesOn longest old piece (Ok (record { used = used; whole = whole })) new
   judges-taken used (Some end) new (b, ends, late, took, come, before) = (
     record { before = old.before + end; kept = [] },
-    rw took (takes-size longest old piece part cut small is cuts b end (record { before = old.before + end; kept = [] }) ends late refl),
+    rw took (takes-size bundles longest old piece part cut small is cuts b end (record { before = old.before + end; kept = [] }) ends late refl),
     record { took = record { come = come; before = before }; small = omega arith; keeps = come-little [] new come },
   )
   judges-taken used None new (last, took, come, before) =
       let sizes = part-of (longest - length old.kept) piece part is in (
         record { before = old.before; kept = old.kept ++ part },
-        rw took (takes-open longest old piece part cut small is cuts (record { before = old.before; kept = old.kept ++ part }) last
+        rw took (takes-open bundles longest old piece part cut small is cuts (record { before = old.before; kept = old.kept ++ part }) last
             (come-open (old.kept ++ part) new come) refl),
         record { took = record { come = come; before = before }; small = omega (arith, length-append old.kept part, sizes.within, small); keeps = come-little (old.kept ++ part) new come },
       )
 
   pub part-judges : (result : Result Judged7 Fail7) (new : Stand) → JudgesPart old part cut result new → JudgesOn longest old piece result new
   part-judges (Ok judged) new taken = judges-taken judged.used judged.whole new taken
-  part-judges (Err (Refused at cause)) new turned = refuses longest old piece part cut small is cuts at cause turned.place turned.refused turned.spot
+  part-judges (Err (Refused at cause)) new turned = refuses-part bundles longest old piece part cut small is cuts at cause turned.place turned.refused turned.spot
   part-judges (Err Memory) new wants = (
-    λ none.
-        let begun = wants.begun none in
-        let all = all-of longest old piece part cut small is cuts begun.0 in
-        let sizes = part-of (longest - length old.kept) piece part is in
-        (omega (arith, ap length all, sizes.within), subst IsOpen all begun.1),
+    λ none. begins-open bundles longest old piece part cut small is cuts (wants.begun none),
     wants.primary,
   )
 

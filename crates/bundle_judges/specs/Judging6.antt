@@ -1,12 +1,12 @@
 -- A judge of a stream of bundles of version 6: what it is told, and what it answers.
 
-use Rattle.std.specs.Prelude.{◌≡◌, ℕ, ◌+◌, ◌<◌, ◌≤◌, Bool, true, false, List, length, Option, Some, None, Result, Ok, Err}
+use Rattle.std.specs.Prelude.{◌≡◌, ℕ, ◌+◌, ◌<◌, ◌≤◌, Bool, true, false, List, [], length, Option, Some, None, Result, Ok, Err}
 use Rattle.bundle6.specs.declared.fault.Refused6.{Refused6}
 use Rattle.bundle6.specs.declared.fault.Fail6.{Fail6}
 use Rattle.bundle6.specs.declared.fault.Fail6.TheVariants.{Refused, Memory}
 use Rattle.bundle6.specs.declared.reader.Judged6.{Judged6}
 use Rattle.bundle6.specs.Judging.{judged_primary}
-use Rattle.bundle6.specs.Streaming.{Stream, JudgesPiece}
+use Rattle.bundle6.specs.Streaming.{Stream, BeginsOpen, JudgesPiece}
 use Rattle.bundle_judges.specs.declared.stand6.Stand.{Stand}
 use Rattle.bundle_judges.specs.Field6.{IsCut}
 use Rattle.bundle_judges.specs.Stand6.{TookSo, IsOfPrimary}
@@ -38,14 +38,15 @@ abbrev pub taken_by : Stand → ℕ
 taken_by s = s.before + s.came
 
 -- What a piece gives is what it gives a reader that keeps all octets, of which no bundle is wanted; and
--- the judge took it. Memory is wanted only where the octets so far end inside the primary block.
+-- the judge took it. Memory is wanted only where the octets so far end inside the primary block; where
+-- none came before the piece, only where it begins a bundle and doesn't end it.
 abbrev pub JudgesOn : ℕ → Stream → List ℕ → Result Judged6 Fail6 → Stand → Type 0
 JudgesOn longest old piece (Ok judged) new =
     (after : Stream) × JudgesPiece longest old piece (Ok judged) after × HasTaken longest after new
 JudgesOn longest old piece (Err (Refused at cause)) new =
     JudgesPiece longest old piece (Err (Refused at cause)) old
 JudgesOn longest old piece (Err Memory) new =
-    JudgesPiece longest old piece (Err Memory) old × IsCut judged_primary old.kept
+    (old.kept ≡ [] → BeginsOpen longest piece) × IsCut judged_primary old.kept
 
 -- what a judge remembers of a failure: a refusal, or want of memory
 abbrev pub RemembersFail : Fail6 → Judging → Type 0

@@ -1,12 +1,12 @@
 -- A judge of a stream of bundles of version 7: what it is told, and what it answers.
 
-use Rattle.std.specs.Prelude.{◌≡◌, ℕ, ◌+◌, ◌≤◌, Bool, true, false, List, length, Option, Some, None, Result, Ok, Err}
+use Rattle.std.specs.Prelude.{◌≡◌, ℕ, ◌+◌, ◌≤◌, Bool, true, false, List, [], length, Option, Some, None, Result, Ok, Err}
 use Rattle.bundle7.specs.declared.fault.Refused7.{Refused7}
 use Rattle.bundle7.specs.declared.fault.Fail7.{Fail7}
 use Rattle.bundle7.specs.declared.fault.Fail7.TheVariants.{Refused, Memory}
 use Rattle.bundle7.specs.declared.reader.Judged7.{Judged7}
 use Rattle.bundle7.specs.Judging.{judged_start}
-use Rattle.bundle7.specs.Streaming.{Stream, JudgesPiece}
+use Rattle.bundle7.specs.Streaming.{Stream, BeginsOpen, JudgesPiece}
 use Rattle.bundle_judges.specs.declared.stand7.Stand.{Stand}
 use Rattle.bundle_judges.specs.Field7.{IsCut}
 use Rattle.bundle_judges.specs.Stand7.{TookSo}
@@ -38,14 +38,15 @@ abbrev pub taken_by : Stand → ℕ
 taken_by s = s.before + s.came
 
 -- What a piece gives is what it gives a reader that keeps all octets, of which no bundle is wanted; and
--- the judge took it. Memory is wanted only where the octets so far end inside the primary block.
+-- the judge took it. Memory is wanted only where the octets so far end inside the primary block; where
+-- none came before the piece, only where it begins a bundle and doesn't end it.
 abbrev pub JudgesOn : ℕ → Stream → List ℕ → Result Judged7 Fail7 → Stand → Type 0
 JudgesOn longest old piece (Ok judged) new =
     (after : Stream) × JudgesPiece longest old piece (Ok judged) after × HasTaken longest after new
 JudgesOn longest old piece (Err (Refused at cause)) new =
     JudgesPiece longest old piece (Err (Refused at cause)) old
 JudgesOn longest old piece (Err Memory) new =
-    JudgesPiece longest old piece (Err Memory) old × IsCut judged_start old.kept
+    (old.kept ≡ [] → BeginsOpen longest piece) × IsCut judged_start old.kept
 
 -- what a judge remembers of a failure: a refusal, or want of memory
 abbrev pub RemembersFail : Fail7 → Judging → Type 0

@@ -9,3 +9,6 @@ pub mod GroupLemmas
 pub mod KeepsLemmas
 pub mod JudgeLemmas
 pub mod ContinueLemmas
+pub mod StreamLemmas
+pub mod AnswerLemmas
+pub mod CuttingLemmas

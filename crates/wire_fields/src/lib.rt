@@ -17,6 +17,10 @@
 //! ([`laws::stays`]). The crate `waybill` has them at a small table, with all that a decoder can
 //! promise; `docs/formats.md` explains the notion by it.
 //!
+//! What a stream of a format's values gives in pieces is defined and proved for every format too, for
+//! the readers of streams in the crates above: what a reader answers to a piece, that this is one
+//! answer, and that cuts make no difference (`specs/Streaming.antt`, `specs/Cutting.antt`).
+//!
 //! Left out: writers, which need `Spells` alone, and what a field means to its format.
 #![tactic(auto)]
 

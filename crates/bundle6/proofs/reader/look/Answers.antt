@@ -5,8 +5,8 @@ use Rattle.bundle6.proofs.reader.look.Goals as goal
 
 pub returns-in_default-None : goal.returns-in_default-None
 returns-in_default-None c =
-    ended-whole c.args.text.now c.run.result.0 (λ i. omega (arith, c.type_inv.text i)) c.run.ensures.fits
-    c.run.ensures.stands (rw c.in_default-None.is-1 at c.run.ensures.comes)
+    ended-whole c.args.text.now c.run.result.0 (λ i. omega (arith, c.type_inv.text i)) c.run.ensures.stands
+    (rw c.in_default-None.is-1 at c.run.ensures.comes)
 
 pub returns-in-Truncated : goal.returns-in-Truncated
 returns-in-Truncated c =

@@ -5,8 +5,8 @@ use Rattle.bundle7.proofs.reader.look.Goals as goal
 
 pub returns-in-None : goal.returns-in-None
 returns-in-None c = (
-  ended-whole c.args.text.now c.run.new.self (λ i. omega (arith, c.type_inv.text i)) c.run.ensures.fits
-      c.run.ensures.stands c.in-None.ensures.comes,
+  ended-whole c.args.text.now c.run.new.self (λ i. omega (arith, c.type_inv.text i)) c.run.ensures.stands
+      c.in-None.ensures.comes,
   c.restart.ensures,
 )
 

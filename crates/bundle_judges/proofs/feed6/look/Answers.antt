@@ -1,6 +1,7 @@
 -- What a judge of whole bundles says.
 use Rattle.std.proofs.Common.{arith}
-use Rattle.bundle_judges.proofs.FeedLemmas6.{judged-whole, looked-refused}
+use Rattle.bundle6.proofs.ReaderLemmas.{judged-whole}
+use Rattle.bundle_judges.proofs.FeedLemmas6.{looked-refused}
 use Rattle.bundle_judges.proofs.feed6.look.Goals as goal
 
 pub returns-in-Ok : goal.returns-in-Ok

@@ -1,6 +1,7 @@
 -- Nothing is open.
 use Rattle.std.proofs.Common.{arith, refl}
-use Rattle.bundle6.proofs.ReaderLemmas.{open-nothing, octets-nothing}
+use Rattle.wire_fields.proofs.StreamLemmas.{octets-nothing}
+use Rattle.bundle6.proofs.ReaderLemmas.{open-nothing}
 use Rattle.bundle6.proofs.reader.Held.close.Goals as goal
 
 pub returns-clause-held : goal.returns-clause-held

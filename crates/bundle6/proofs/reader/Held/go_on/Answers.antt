@@ -13,6 +13,7 @@ returns-in-Ok-Whole c =
     let same : c.as_slice.result.now ≡ c.args.self.now.kept.items ++ c.args.piece.now =
     c.as_slice.ensures.value ∙ c.in_ok-extend_from_slice.ensures.items in
     let gains = subst (Gains_of c.as_slice.result.now c.args.cut) c.in-Ok-Whole.field-0-is c.in-Ok-Whole.ensures in
-    ended-late c.args.self.now c.args.piece.now c.in-Ok-Whole.end _ gains.0
+    ended-late c.args.self.now c.args.piece.now c.in-Ok-Whole.end
+    (record { before = c.args.self.now.before; kept = c.extend_from_slice.new.self; pass = c.args.self.now.pass }) gains.0
     (subst (λ t. IsWhole t gains.0 c.in-Ok-Whole.end) same gains.1)
     c.requires.held.begun c.requires.some c.in_ok-extend_from_slice.ensures.items refl refl

@@ -1,7 +1,8 @@
 -- What the pass tells of the octets kept and the piece.
 use Rattle.std.proofs.Common.{◌≡◌, ◌++◌, ◌∙◌, Ok, Err, refl, subst}
 use Rattle.bundle7.specs.Holding.{Gains}
-use Rattle.bundle7.proofs.ReaderLemmas.{take-front, passed-late, turned-late}
+use Rattle.wire_fields.proofs.StreamLemmas.{take-front}
+use Rattle.bundle7.proofs.ReaderLemmas.{passed-late, turned-late}
 use Rattle.bundle7.proofs.reader.Held.go_on.Goals as goal
 
 pub returns-in-Ok : goal.returns-in-Ok

@@ -1,6 +1,7 @@
 -- The part where it lies.
 use Rattle.std.proofs.Common.{true, arith}
-use Rattle.bundle_judges.proofs.FeedLemmas7.{judged-whole, looked-refused, part-whole, part-spread, part-turned}
+use Rattle.bundle7.proofs.ReaderLemmas.{judged-whole}
+use Rattle.bundle_judges.proofs.FeedLemmas7.{looked-refused, part-whole, part-spread, part-turned}
 use Rattle.bundle_judges.proofs.stand7.Stand.look.Goals as goal
 
 pub after-requires : goal.after-requires

@@ -12,3 +12,4 @@ pub mod CancelLemmas
 pub mod OverLemmas
 pub mod PlaceLemmas
 pub mod FitLemmas
+pub mod ReportLemmas

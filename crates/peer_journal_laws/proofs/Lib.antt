@@ -4,7 +4,6 @@ pub mod NumberLemmas
 pub mod StepLemmas
 pub mod PieceLemmas
 pub mod AgainLemmas
-pub mod ReportLemmas
 pub mod QuietLemmas
 pub mod ResumeLemmas
 pub mod MarkLemmas

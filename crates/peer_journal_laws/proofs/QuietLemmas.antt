@@ -20,6 +20,7 @@ use Rattle.piece_gathering.specs.declared.piece.Piece.{Piece}
 use Rattle.gate_records.specs.Happened.{Happened, reports_on}
 use Rattle.gate_records.specs.Records.{clear_records, mark_records, marks_after}
 use Rattle.gate_records.proofs.OverLemmas.{quiet-clears}
+use Rattle.gate_records.proofs.ReportLemmas.{other-reports}
 use Rattle.peer_sessions.specs.Keys.{FaceKeys}
 use Rattle.peer_sessions.specs.Sessions.{block_begins}
 use Rattle.peer_gateway.specs.Keys.{PeerSetup}
@@ -34,7 +35,6 @@ use Rattle.peer_half.specs.Steps.{happened_in, outboxes_in, step_of}
 use Rattle.peer_half.specs.Parts.{begin_of}
 use Rattle.peer_half.proofs.ResumeLemmas.{tried}
 use Rattle.peer_half.proofs.ToAddLemmas.{records-again}
-use Rattle.peer_journal_laws.proofs.ReportLemmas.{piece-reports}
 
 -- ---- what a block that begins sends
 
@@ -58,7 +58,7 @@ pieces-go k e block now face =
     let name : SessionName = record { originator = (k.party).own; number = e.next } in
     let segments = red_segments (k.party).policy block (length block) in
     let checkpoint : ℕ × List ℕ → PieceValue = checkpoint_at (length block) (length block) (first_serial e.next) 0 in
-    let piece : (q : PieceValue) → NoneOf name (a_piece q) = λ q. piece-reports (k.party).own e.next q in
+    let piece : (q : PieceValue) → NoneOf name (a_piece q) = λ q. other-reports (k.party).own e.next (a_piece q) tt in
     all-routed face name ((begin (k.party).policy e.next block (length block) now).out)
     (all-join (NoneOf name) _ _ (red-all (NoneOf name) piece checkpoint segments) (green-all (NoneOf name) piece (green_segments (k.party).policy block (length block))))
 

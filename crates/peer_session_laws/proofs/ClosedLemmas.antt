@@ -15,6 +15,7 @@ use Rattle.gateway_core.specs.declared.effects.Routed.{Routed}
 use Rattle.gateway_core.specs.Gate.{RoutedValue, at_face, if_same}
 use Rattle.gateway_core.specs.Effects.{routed_of}
 use Rattle.gate_records.specs.Happened.{reports_on}
+use Rattle.gate_records.proofs.ReportLemmas.{AreSmall, IfRead, IsOther, other-reports, small-read}
 use Rattle.journal_file.specs.declared.kept.Pending.{Pending}
 use Rattle.peer_sessions.specs.Keys.{FaceKeys}
 use Rattle.peer_sessions.specs.Runs as faces
@@ -39,7 +40,6 @@ use Rattle.peer_session_laws.proofs.OnceLemmas.{small-marked}
 use Rattle.peer_session_laws.proofs.OutLemmas.{IsOutOf}
 use Rattle.peer_session_laws.proofs.EndLemmas.{event-does}
 use Rattle.peer_session_laws.proofs.PassLemmas.{said}
-use Rattle.peer_session_laws.proofs.ReportLemmas.{AreSmall, IfRead, IsOther, other-reports, small-read}
 use Rattle.peer_session_laws.proofs.SaidLemmas.{AreQuiet, IsQuiet}
 use Rattle.peer_session_laws.proofs.QuietLemmas.{IsSmallEvent, quiet-event}
 

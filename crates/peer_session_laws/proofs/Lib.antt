@@ -14,7 +14,6 @@ pub mod OwnLemmas
 pub mod OwnRunLemmas
 pub mod MomentLemmas
 pub mod OnceLemmas
-pub mod ReportLemmas
 pub mod SaidLemmas
 pub mod QuietLemmas
 pub mod OutLemmas

@@ -10,7 +10,7 @@ use Rattle.gate_cases.specs.declared.face.Face.{Face}
 use Rattle.gate_cases.specs.declared.face.Face.TheVariants.{Old, New}
 use Rattle.gateway_core.specs.Gate.{if_same, RoutedValue}
 use Rattle.peer_gateway.specs.Gate.{routed_at}
-use Rattle.peer_session_laws.proofs.ReportLemmas.{IsOther}
+use Rattle.gate_records.proofs.ReportLemmas.{IsOther}
 use Rattle.peer_session_laws.proofs.SaidLemmas.{AllOther}
 
 -- it is no report

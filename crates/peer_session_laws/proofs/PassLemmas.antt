@@ -25,9 +25,9 @@ use Rattle.peer_gateway.specs.Gate.{PeerGate, PeerMoments, PeerStep, and_then, i
 use Rattle.peer_gateway.specs.Gate.{told_bundle, told_case, told_end, told_left, told_reported, told_unreported}
 use Rattle.peer_gateway.specs.Going.{adds, due, piece_at}
 use Rattle.peer_gateway.specs.Steps.{PeerEvent, a_datagram, a_kept_piece, a_tick, adds_all, adds_kept, answers, arrives_peer, arrives_with, decided_at, decides, does, does_at, due_if, has_ended, has_room_at, hears_at, kept_piece, next_if, passes, passes_came, passes_item, report_piece, reports, tells_left, ticks_peer}
+use Rattle.gate_records.proofs.ReportLemmas.{IsOther}
 use Rattle.peer_session_laws.specs.Own.{IsSomePiece}
 use Rattle.peer_session_laws.proofs.SomeLemmas.{IsSome, decided-some, report-some}
-use Rattle.peer_session_laws.proofs.ReportLemmas.{IsOther}
 use Rattle.peer_session_laws.proofs.OutLemmas.{IsOtherOut, IsOutOf, other-out, routed-out}
 use Rattle.peer_session_laws.proofs.GoLemmas.{GoOn, Goes, HasOctets, added-both, go-then, goes-adds, goes-all, goes-both, goes-not, goes-tells, goes-turn, old-passes}
 

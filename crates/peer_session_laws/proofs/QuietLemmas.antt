@@ -25,7 +25,7 @@ use Rattle.peer_sessions.proofs.MemoryLemmas.{LAST}
 use Rattle.peer_once.specs.Runs.{Face, TimedEvent, sessions_in}
 use Rattle.peer_once.proofs.MemoryLemmas.{for_good, lasts-remembered, start-marked}
 use Rattle.peer_once.proofs.TimeLemmas.{keeps-event, keeps-passes}
-use Rattle.peer_session_laws.proofs.ReportLemmas.{AreSmall, IfRead}
+use Rattle.gate_records.proofs.ReportLemmas.{AreSmall, IfRead}
 use Rattle.peer_session_laws.proofs.SaidLemmas.{AllOther, AreQuiet, IsQuiet, quiet-aparts, quiet-others, sender-says, tick-says}
 
 -- ---- sessions that are kept are others

@@ -16,7 +16,7 @@ use Rattle.ltp_laws.proofs.AckLemmas.{green-all, red-all}
 use Rattle.ltp_laws.proofs.KindLemmas.{kinds-keep}
 use Rattle.ltp_laws.proofs.ListLemmas.{all-append}
 use Rattle.gate_records.specs.Happened.{reports_on}
-use Rattle.peer_session_laws.proofs.ReportLemmas.{IsOther, other-reports, report-names}
+use Rattle.gate_records.proofs.ReportLemmas.{IsOther, other-reports, report-names}
 
 -- ---- what a sender says is no report
 

@@ -23,7 +23,7 @@ use Rattle.peer_records.specs.Keeping.{PeerKeeping}
 use Rattle.peer_records.specs.Records.{added_records, after_step, all_done, begun_records, done_records, end_done, end_leaves, ended_records, ids_of, pending_with, piece_records, step_records}
 use Rattle.peer_records.specs.Laws.{OnlyOverIsCleared, ReportIsMarked}
 use Rattle.peer_journal_laws.specs.Steps.{JournalStep, known_then, records_of}
-use Rattle.peer_journal_laws.specs.Marks.{IsMarkKept, IsOverIn, MarksAreKept, marks_made}
+use Rattle.peer_journal_laws.specs.Marks.{IsMarkKept, IsOverIn, MarksAreKept, made_after, marks_made, marks_at}
 use Rattle.peer_journal_laws.proofs.StepLemmas.{AreReserved, Chain, Moves, chain-after, keeping_of, known-run}
 
 -- ---- records that neither clear a mark nor make one
@@ -263,27 +263,39 @@ reach-chain law face session from to (step ∷ more) so =
 
 -- ---- within a step: what is kept once the mark of a report is made
 
-record Midst (face : Face) (session : ℕ) (step : JournalStep) (out : List Routed) : Type 0 where
-  kept : KeptValue
-  marks_are : kept.marks ≡ marks_after (marking step.happened) out ((step.keeping).kept).marks
-  reach : Reaches face session kept (known_then step).kept (step ∷ [])
+-- records that end marks make none
+made-clears : (face : Face) (h : Happened) (marks : List Mark) → made_marks face (clear_records h marks) ≡ 0
+unfolding clear_records made_marks
+made-clears face h [] = refl
+made-clears face h (m ∷ marks) = by (is_over h m.face m.session) (made-clears face h marks)
+  where
+    by : (t : Bool) → made_marks face (clear_records h marks) ≡ 0
+        → made_marks face (if t then a_clear m.face m.session ∷ clear_records h marks else clear_records h marks) ≡ 0
+    by true rest = omega (arith, rest)
+    by false rest = rest
 
-midst : OnlyOverIsCleared → (face : Face) (session : ℕ) (step : JournalStep) (out after : List Routed) → (step.happened).out ≡ out ++ after → Midst face session step out
+record Midst (face : Face) (session : ℕ) (step : JournalStep) (out after : List Routed) : Type 0 where
+  kept : KeptValue
+  marks_are : kept.marks ≡ marks_at step out
+  records : List RecordValue
+  to_is : (known_then step).kept ≡ kept_after kept records
+  clears : list_any (clears_mark face session) records ≡ true → IsOverIn face session (step ∷ [])
+  made : made_marks face records ≡ made_after face step out after
+
+midst : OnlyOverIsCleared → (face : Face) (session : ℕ) (step : JournalStep) (out after : List Routed) → (step.happened).out ≡ out ++ after → Midst face session step out after
 unfolding after_step step_records
 midst law face session step out after out_is = record {
   kept = kept_after k.kept front;
   marks_are = ap (λ (x : KeptValue). x.marks) (after-append k.kept ended (pieces ++ first) ∙ after-append (kept_after k.kept ended) pieces first)
       ∙ marks-are (marking h) out (kept_after (kept_after k.kept ended) pieces) marks
       (still-marks (kept_after k.kept ended) pieces (pieces-still h.again (k.kept).greatest h.added) ∙ still-marks k.kept ended (ended-still h.is_open (notes_in h.told) k.named));
-  reach = record {
-    records = rest;
-    to_is = ap (kept_after k.kept) split ∙ after-append k.kept front rest;
-    clears = λ is. inl (over-any (marking h) face session (step_records h k) (law h k)
-        (subst (λ rs. list_any (clears_mark face session) rs ≡ true) (sym split) (any-second face session front rest is)));
-    made =
-        let all : made_marks face (step_records h k) ≡ made_marks face (front ++ rest) = ap (made_marks face) split in
-        let both = made-join face front rest in omega (arith, all, both);
-  };
+  records = rest;
+  to_is = ap (kept_after k.kept) split ∙ after-append k.kept front rest;
+  clears = λ is. inl (over-any (marking h) face session (step_records h k) (law h k)
+      (subst (λ rs. list_any (clears_mark face session) rs ≡ true) (sym split) (any-second face session front rest is)));
+  made =
+      let both = made-join face second clears in
+      let none = made-clears face (marking h) (marks_after (marking h) h.out marks) in omega (arith, both, none);
 } where
   h : PeerHappened
   h = step.happened
@@ -328,7 +340,7 @@ marks-are-kept marks_law stays_law over_law r face came kept is earlier step lat
     out : List Routed
     out = before ++ routed ∷ []
 
-    now : Midst routed.face session step out
+    now : Midst routed.face session step out after
     now = midst over_law routed.face session step out after (out_is ∙ sym (append_assoc before (routed ∷ []) after))
 
     rest : Reaches routed.face session (known_then step).kept kept later
@@ -338,23 +350,31 @@ marks-are-kept marks_law stays_law over_law r face came kept is earlier step lat
         (reach-chain over_law routed.face session (known_then step) known.last later
         (chain-after (keeping_of known.first) known.last earlier step later (subst (λ xs. Chain (keeping_of known.first) xs known.last) steps_are known.chain)))
 
-    all : Reaches routed.face session now.kept kept (step ∷ later)
-    all = reach-join routed.face session now.kept (known_then step).kept kept (step ∷ []) later now.reach rest
+    all : List RecordValue
+    all = now.records ++ rest.records
+
+    all-is : kept ≡ kept_after now.kept all
+    all-is = rest.to_is ∙ (ap (λ (k : KeptValue). kept_after k rest.records) now.to_is ∙ sym (after-append now.kept now.records rest.records))
+
+    by_side : (list_any (clears_mark routed.face session) now.records ≡ true) ⊎ (list_any (clears_mark routed.face session) rest.records ≡ true)
+        → IsOverIn routed.face session (step ∷ later)
+    by_side (inl here) = over-first routed.face session (step ∷ []) later (now.clears here)
+    by_side (inr there) = inr (rest.clears there)
 
     marked : is_marked routed.face session now.kept.marks ≡ true
     marked = ap (is_marked routed.face session) now.marks_are ∙ marks_law step.happened ((step.keeping).kept).marks before routed session reports not_up
 
-    by_stays : (list_any (clears_mark routed.face session) all.records ≡ true) ⊎ (MARKS_MAX ≤ later_marks routed.face session now.kept.marks + made_marks routed.face all.records)
-        → IsMarkKept routed.face session out step later kept
-    by_stays (inl cleared) = inr (inl (all.clears cleared))
+    by_stays : (list_any (clears_mark routed.face session) all ≡ true) ⊎ (MARKS_MAX ≤ later_marks routed.face session now.kept.marks + made_marks routed.face all)
+        → IsMarkKept routed.face session out after step later kept
+    by_stays (inl cleared) = inr (inl (by_side (any-join routed.face session now.records rest.records cleared)))
     by_stays (inr many) =
         let same = ap (later_marks routed.face session) now.marks_are in
-        let made = all.made in inr (inr (within MARKS_MAX many same made))
+        inr (inr (within MARKS_MAX many same (made-join routed.face now.records rest.records) now.made rest.made))
       where
-        within : (most : ℕ) {a b c d : ℕ} → most ≤ a + c → a ≡ b → c ≤ d → most ≤ b + d
-        within most many same made = omega (arith, many, same, made)
+        within : (most : ℕ) {a b c d e f g : ℕ} → most ≤ a + c → a ≡ b → c ≡ d + e → d ≡ f → e ≤ g → most ≤ b + (f + g)
+        within most many same both made more = omega (arith, many, same, both, made, more)
 
-    by_marked : (t : Bool) → is_marked routed.face session kept.marks ≡ t → IsMarkKept routed.face session out step later kept
+    by_marked : (t : Bool) → is_marked routed.face session kept.marks ≡ t → IsMarkKept routed.face session out after step later kept
     by_marked true there = inl there
     by_marked false gone =
-        by_stays (stays_law now.kept all.records routed.face session marked (ap (λ (k : KeptValue). is_marked routed.face session k.marks) (sym all.to_is) ∙ gone))
+        by_stays (stays_law now.kept all routed.face session marked (ap (λ (k : KeptValue). is_marked routed.face session k.marks) (sym all-is) ∙ gone))

@@ -64,10 +64,10 @@ begins-kept r first is = by r.kept is (journal-begins r)
 
 -- ---- what is said is the same, but for the greatest id
 
-mark-same : (face : Face) (session : ℕ) (out : List Routed) (step : JournalStep) (later : List JournalStep) (known told : KeptValue) → known.marks ≡ told.marks
-    → IsMarkKept face session out step later known → IsMarkKept face session out step later told
-mark-same face session out step later known told same (inl there) = inl (subst (λ (ms : List Mark). is_marked face session ms ≡ true) same there)
-mark-same face session out step later known told same (inr rest) = inr rest
+mark-same : (face : Face) (session : ℕ) (out after : List Routed) (step : JournalStep) (later : List JournalStep) (known told : KeptValue) → known.marks ≡ told.marks
+    → IsMarkKept face session out after step later known → IsMarkKept face session out after step later told
+mark-same face session out after step later known told same (inl there) = inl (subst (λ (ms : List Mark). is_marked face session ms ≡ true) same there)
+mark-same face session out after step later known told same (inr rest) = inr rest
 
 has-same : (r : Run) (face : Face) (came : Came) (known told : KeptValue) → but_greatest told ≡ but_greatest known → HasAll r face came known → HasAll r face came told
 has-same r face came known told same has = record {
@@ -76,7 +76,7 @@ has-same r face came known told same has = record {
       record { piece = so.piece; stays = subst (λ (ps : List Pending). IsAmong (pending_with (so.piece).id a) ps ⊎ IsEnded (so.piece).id later) pending so.stays };
   earlier = λ p there. subst (λ (ps : List Pending). IsAmong p ps ⊎ IsEnded p.id (steps_of face came r)) pending (has.earlier p there);
   marks = λ earlier step later steps_are before routed after out session reports not_up.
-      mark-same routed.face session (before ++ routed ∷ []) step later known told marks (has.marks earlier step later steps_are before routed after out session reports not_up);
+      mark-same routed.face session (before ++ routed ∷ []) after step later known told marks (has.marks earlier step later steps_are before routed after out session reports not_up);
   numbers = λ few at. by at (has.numbers few at);
 }
   where

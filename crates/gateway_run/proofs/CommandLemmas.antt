@@ -35,6 +35,7 @@ use Rattle.make_run.specs.Runs.{WroteMade}
 use Rattle.serve_run.specs.Serve.{Serving, serve_turns}
 use Rattle.serve_run.specs.Turns.{Act}
 use Rattle.serve_run.specs.Tells.{OutsideTells, RanTurns}
+use Rattle.serve_run.specs.Events.{RunsKeepLaw}
 use Rattle.gateway_run.specs.declared.commands.command.Command.{Command}
 use Rattle.gateway_run.specs.declared.commands.command.Command.TheVariants as commands
 use Rattle.gateway_run.specs.Receive.{Limits, the_limits, receive_rules}
@@ -43,7 +44,7 @@ use Rattle.gateway_run.specs.KeepReceiving.{keep_receiving_rules, nothing_receiv
 use Rattle.gateway_run.specs.KeepReceiving as keep_receiving
 use Rattle.gateway_run.specs.ReceiverLaw.{KeepsReceiverLaw}
 use Rattle.gateway_run.specs.Rules.{Rules, reads, writes, acts}
-use Rattle.gateway_run.specs.Commands.{keeps, rules_of, limits_of, law_of}
+use Rattle.gateway_run.specs.Commands.{rules_of, limits_of}
 use Rattle.gateway_run.specs.Edge.{Edge, HasNoFault}
 use Rattle.gateway_run.specs.declared.commands.passed.Passed.{Passed}
 use Rattle.gateway_run.specs.declared.commands.passed.Passed.TheVariants as passed
@@ -123,19 +124,19 @@ module _ (settling : Settling) (decides : EarliestDecides settling) (input : Lis
   }
 
   whole_gains : (status : Status) (before now : Option (List ℕ)) → EndsAs (settling at_end input) status before now
-      → IsLawful (keeps Law) status before now
+      → IsLawful Law status before now
   whole_gains status before None ends = tt
   whole_gains status None (Some after) ends = absurd ends.1
   whole_gains status (Some held) (Some after) ends = whole_text status held after ends.0 ends.1
 
   front_gains : (status : Status) (before now : Option (List ℕ)) → (IsAnswer status → ⊥) → GainsFront before now (settling at_end input).text
-      → IsLawful (keeps Law) status before now
+      → IsLawful Law status before now
   front_gains status before None early gains = tt
   front_gains status None (Some after) early gains = absurd gains
   front_gains status (Some held) (Some after) early gains =
       let (written, rest, parts, gained) = gains in front_text status held after written rest early parts gained
 
-  lawful : (status : Status) (left before now : Option (List ℕ)) → Wrote settling status input left before now → IsLawful (keeps Law) status before now
+  lawful : (status : Status) (left before now : Option (List ℕ)) → Wrote settling status input left before now → IsLawful Law status before now
   lawful statuses.Done left before now wrote = whole_gains statuses.Done before now wrote
   lawful statuses.Refused left before now wrote = whole_gains statuses.Refused before now wrote
   lawful statuses.Limit left before now wrote = whole_gains statuses.Limit before now wrote
@@ -150,13 +151,9 @@ on-told : (told : Option (List ℕ)) (P Q : List ℕ → Type 0) → ((text : Li
 on-told None P Q step holds = tt
 on-told (Some text) P Q step holds = step text holds
 
-nothing-told : (told : Option (List ℕ)) → IfSome told (λ text. Unit {0})
-nothing-told None = tt
-nothing-told (Some text) = tt
-
 receive-keeps : (status : Status) (left before now : Option (List ℕ)) (input : List ℕ)
     → Wrote (within most_input (receive.settles the_limits)) status input left before now
-    → IsLawful (law_of commands.Receive input) status before now
+    → IsLawful (KeepsReceiverLaw the_limits most_input input) status before now
 receive-keeps status left before now input =
     let received = received-law the_limits most_input input in
     lawful (within most_input (receive.settles the_limits)) (receive-front the_limits most_input) input
@@ -164,7 +161,7 @@ receive-keeps status left before now input =
 
 node-keeps : AnswersEvents → (own peer : ℕ) (status : Status) (left before now : Option (List ℕ)) (input : List ℕ)
     → Wrote (within most_input (node.settles own peer)) status input left before now
-    → IsLawful (law_of (commands.Node own peer) input) status before now
+    → IsLawful (AnswersLines (node_party own peer) most_input input) status before now
 node-keeps answers own peer status left before now input =
     let answered = answers own peer most_input input in
     lawful (within most_input (node.settles own peer)) (node-front own peer) input
@@ -173,7 +170,7 @@ node-keeps answers own peer status left before now input =
 
 record-keeps : (own peer : ℕ) (status : Status) (left before now : Option (List ℕ)) (input : List ℕ)
     → Wrote (within most_input (recording.settles own peer)) status input left before now
-    → IsLawful (law_of (commands.Record own peer) input) status before now
+    → IsLawful (λ text ending. AreEngines own peer → WritesExchange own peer text) status before now
 record-keeps own peer status left before now input =
     let written = writes_exchange own peer most_input input in
     lawful (within most_input (recording.settles own peer)) (record-front own peer) input
@@ -181,41 +178,48 @@ record-keeps own peer status left before now input =
     status left before now
 
 world-keeps : WorldsKeepHeadline → (status : Status) (left before now : Option (List ℕ)) (input : List ℕ)
-    → Wrote (within most_input world.settles) status input left before now → IsLawful (law_of commands.World input) status before now
+    → Wrote (within most_input world.settles) status input left before now → IsLawful (KeepsHeadline most_input input) status before now
 world-keeps headline status left before now input =
     let played = headline most_input input in
     lawful (within most_input world.settles) world-front input (KeepsHeadline most_input input) played.ending played.ends played.law
     status left before now
 
 link-keeps : (status : Status) (left before now : Option (List ℕ)) (input : List ℕ)
-    → Wrote (within most_input link.settles) status input left before now → IsLawful (law_of commands.Link input) status before now
+    → Wrote (within most_input link.settles) status input left before now → IsLawful (KeepsLinkLaw most_input input) status before now
 link-keeps status left before now input =
     let played = links-keep-law most_input input in
     lawful (within most_input link.settles) link-front input (KeepsLinkLaw most_input input) played.ending played.ends played.law
     status left before now
 
-command-keeps : {S K L C : Type 0} → AnswersEvents → WorldsKeepHeadline → (command : Command) (status : Status) (before now : Edge S K L C)
-    → RanBy (rules_of command) status before now → KeepsLaw (Some command) status before now
-command-keeps answers headline commands.Receive status before now ran =
-    on-told before.reads.left _ _ (receive-keeps status now.reads.left before.writes.held now.writes.held) ran.ran.wrote
-command-keeps answers headline commands.KeepReceiving status before now ran = nothing-told before.reads.left
-command-keeps answers headline (commands.Bundles command) status before now ran = nothing-told before.reads.left
-command-keeps answers headline (commands.Node own peer) status before now ran =
-    on-told before.reads.left _ _ (node-keeps answers own peer status now.reads.left before.writes.held now.writes.held) ran.ran.wrote
-command-keeps answers headline (commands.Record own peer) status before now ran =
-    on-told before.reads.left _ _ (record-keeps own peer status now.reads.left before.writes.held now.writes.held) ran.ran.wrote
-command-keeps answers headline (commands.Audit own peer) status before now ran = nothing-told before.reads.left
-command-keeps answers headline commands.Link status before now ran =
-    on-told before.reads.left _ _ (link-keeps status now.reads.left before.writes.held now.writes.held) ran.ran.wrote
-command-keeps answers headline commands.World status before now ran =
-    on-told before.reads.left _ _ (world-keeps headline status now.reads.left before.writes.held now.writes.held) ran.ran.wrote
-command-keeps answers headline (commands.Make seed count) status before now ran = nothing-told before.reads.left
-command-keeps answers headline (commands.Serve gate count) status before now ran = nothing-told before.reads.left
+-- the laws that calls of empty bodies tell
+pub record LawsTold : Type 0 where
+  pub node : AnswersEvents
+  pub world : WorldsKeepHeadline
+  pub serve : RunsKeepLaw
 
-pub named-keeps : {S K L C : Type 0} → AnswersEvents → WorldsKeepHeadline → (named : Option Command) (status : Status) (before now : Edge S K L C)
+command-keeps : {S K L C : Type 0} → LawsTold → (command : Command) (status : Status) (before now : Edge S K L C)
+    → RanBy (rules_of command) status before now → KeepsLaw (Some command) status before now
+command-keeps told commands.Receive status before now ran =
+    on-told before.reads.left _ _ (receive-keeps status now.reads.left before.writes.held now.writes.held) ran.ran.wrote
+command-keeps told commands.KeepReceiving status before now ran = tt
+command-keeps told (commands.Bundles command) status before now ran = tt
+command-keeps told (commands.Node own peer) status before now ran =
+    on-told before.reads.left _ _ (node-keeps told.node own peer status now.reads.left before.writes.held now.writes.held) ran.ran.wrote
+command-keeps told (commands.Record own peer) status before now ran =
+    on-told before.reads.left _ _ (record-keeps own peer status now.reads.left before.writes.held now.writes.held) ran.ran.wrote
+command-keeps told (commands.Audit own peer) status before now ran = tt
+command-keeps told commands.Link status before now ran =
+    on-told before.reads.left _ _ (link-keeps status now.reads.left before.writes.held now.writes.held) ran.ran.wrote
+command-keeps told commands.World status before now ran =
+    on-told before.reads.left _ _ (world-keeps told.world status now.reads.left before.writes.held now.writes.held) ran.ran.wrote
+command-keeps told (commands.Make seed count) status before now ran = tt
+command-keeps told (commands.Serve gate count) status before now ran =
+    record { ran = ran.acted; law = told.serve gate count ran.acted.outside }
+
+pub named-keeps : {S K L C : Type 0} → LawsTold → (named : Option Command) (status : Status) (before now : Edge S K L C)
     → RanNamed named status before now → KeepsLaw named status before now
-named-keeps answers headline None status before now ran = tt
-named-keeps answers headline (Some command) status before now ran = command-keeps answers headline command status before now ran
+named-keeps told None status before now ran = tt
+named-keeps told (Some command) status before now ran = command-keeps told command status before now ran
 
 -- ---- how a run ends where nothing failed
 

@@ -3,6 +3,7 @@ use Rattle.std.specs.Prelude.{ℕ, ◌-◌, ◌^◌, ◌≤◌, ◌≢◌, Bool,
 use Rattle.std.specs.Cmp.Lexicographic.{pointwise}
 use Rattle.endpoint.specs.declared.name.Endpoint.{Endpoint}
 use Rattle.edge_traits.specs.Content.{most_input}
+use Rattle.edge_traits.specs.Outcome.{SinkTells}
 use Rattle.edge_traits.specs.declared.status.Status.{Status}
 use Rattle.command_frame.specs.Within.{within}
 use Rattle.command_frame.specs.Limits.{Limiting, limits_by_lines}
@@ -26,6 +27,8 @@ use Rattle.world_run.specs.World as world
 use Rattle.world_run.specs.Headline.{KeepsHeadline}
 use Rattle.make_run.specs.Making as make
 use Rattle.serve_run.specs.Serve.{serve_turns}
+use Rattle.serve_run.specs.Tells.{OutsideTells}
+use Rattle.serve_run.specs.Events.{Served}
 use Rattle.gateway_run.specs.declared.commands.command.Command.{Command}
 use Rattle.gateway_run.specs.declared.commands.command.Command.TheVariants as commands
 use Rattle.gateway_run.specs.Receive as receive
@@ -197,11 +200,13 @@ limit_of command input = limit_in (rules_of command) (limits_of command) input
 
 -- ---- the law of a command
 
--- what is said, beside its rules, of the text that a command writes of an input and of how its run
--- ends; or nothing is
+-- What is said of a run beside its rules: of the input, of the text that a command writes of it, and
+-- of how the run ends; or of how the run ends, and of what links, clock and sink tell before it and
+-- after it; or nothing is.
 pub data Law : Type 1 where
   no_law : Law
-  keeps : (List ℕ → Status → Type 0) → Law
+  keeps : (List ℕ → List ℕ → Status → Type 0) → Law
+  keeps_acting : (Status → OutsideTells → OutsideTells → SinkTells → SinkTells → Type 0) → Law
 
 -- Of `receive` the receiver's law. Of `node` that the events which its first lines say are
 -- answered, and that its `up` lines are exactly the red parts which become whole with these events, no
@@ -210,20 +215,20 @@ pub data Law : Type 1 where
 -- hopeful and has room completes the sessions in time, where neither the plan ends it nor an old
 -- datagram has somebody turned away. Of `world` that the events of its script are answered, and those of a drain; that its `up` lines are blocks that came whole, as
 -- they were sent, and once; and that a drain from a path that is hopeful and has room completes the
--- sessions.
-abbrev pub law_of : Command → List ℕ → Law
-law_of commands.Receive input = keeps (KeepsReceiverLaw the_limits most_input input)
-law_of commands.KeepReceiving input = no_law
-law_of (commands.Bundles command) input = no_law
-law_of (commands.Node own peer) input =
-    keeps (AnswersLines (node_party own peer) most_input input)
-law_of (commands.Record own peer) input =
-    keeps (λ text ending. AreEngines own peer → WritesExchange own peer text)
-law_of (commands.Audit own peer) input = no_law
-law_of commands.Link input = keeps (KeepsLinkLaw most_input input)
-law_of commands.World input = keeps (KeepsHeadline most_input input)
-law_of (commands.Make seed count) input = no_law
-law_of (commands.Serve gate count) input = no_law
+-- sessions. Of `serve` that its run goes as the events have it that its calls are, by which the
+-- receiver's law holds at each face.
+abbrev pub law_of : Command → Law
+law_of commands.Receive = keeps (KeepsReceiverLaw the_limits most_input)
+law_of commands.KeepReceiving = no_law
+law_of (commands.Bundles command) = no_law
+law_of (commands.Node own peer) = keeps (AnswersLines (node_party own peer) most_input)
+law_of (commands.Record own peer) =
+    keeps (λ input text ending. AreEngines own peer → WritesExchange own peer text)
+law_of (commands.Audit own peer) = no_law
+law_of commands.Link = keeps (KeepsLinkLaw most_input)
+law_of commands.World = keeps (KeepsHeadline most_input)
+law_of (commands.Make seed count) = no_law
+law_of (commands.Serve gate count) = keeps_acting (Served gate count)
 
 -- ---- what only ties code to these
 

@@ -17,7 +17,7 @@ use Rattle.gateway_run.specs.declared.commands.passed.Passed.{Passed}
 use Rattle.gateway_run.specs.declared.commands.passed.Passed.TheVariants as passed
 use Rattle.gateway_run.specs.Rules.{Rules, reads, writes, acts}
 use Rattle.gateway_run.specs.Passed.{named_by, NamesOnLines}
-use Rattle.gateway_run.specs.Commands.{Law, no_law, keeps, rules_of, law_of, limit_of}
+use Rattle.gateway_run.specs.Commands.{Law, no_law, keeps, keeps_acting, rules_of, law_of, limit_of}
 use Rattle.gateway_run.specs.Edge.{Edge, KeepsLinks, HasNoFault}
 
 -- ---- how a run went
@@ -80,15 +80,20 @@ pub record WritesLawfully (Law : List ℕ → Status → Type 0) (status : Statu
   pub whole : IsAnswer status → (rest ≡ []) × (ending ≡ status)
 
 -- what was written keeps the law; where a run ended early, it is a front of such a text
-abbrev pub IsLawful : Law → Status → Option (List ℕ) → Option (List ℕ) → Type 0
-IsLawful no_law status before now = Unit {0}
-IsLawful (keeps Law) status before now =
+abbrev pub IsLawful : (List ℕ → Status → Type 0) → Status → Option (List ℕ) → Option (List ℕ) → Type 0
+IsLawful Law status before now =
     IfSome now (λ after. IsSomeAnd before (λ held. WritesLawfully Law status held after))
 
--- the law of the command, where source and sink tell what they hold
+-- of a text, where source and sink tell what they hold; of a command that acts, whatever is told
+abbrev pub KeepsBy : {S K L C : Type 0} → Law → Status → Edge S K L C → Edge S K L C → Type 0
+KeepsBy no_law status before now = Unit {0}
+KeepsBy (keeps Law) status before now =
+    IfSome before.reads.left (λ input. IsLawful (Law input) status before.writes.held now.writes.held)
+KeepsBy (keeps_acting Law) status before now = Law status before.links now.links before.writes now.writes
+
+-- the law of the command
 abbrev pub KeepsLaw : {S K L C : Type 0} → Option Command → Status → Edge S K L C → Edge S K L C → Type 0
-KeepsLaw named status before now = IfSome named (λ command. IfSome before.reads.left (λ input.
-    IsLawful (law_of command input) status before.writes.held now.writes.held))
+KeepsLaw named status before now = IfSome named (λ command. KeepsBy (law_of command) status before now)
 
 -- ---- the earliest place decides
 

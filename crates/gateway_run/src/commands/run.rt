@@ -9,6 +9,7 @@ use crate::commands::passed::{Ended, Passed, ended_with};
 use crate::commands::word::Word;
 use edge_traits::{Clock, Link, Sink, Source, Status};
 use node_run::laws::answers_events;
+use serve_run::laws::runs_keep_law;
 use std::alloc::Global;
 use world_run::laws::worlds_keep_headline;
 
@@ -70,7 +71,9 @@ pub fn run_told<S: Source, K: Sink, L: Link, C: Clock>(
     // and each of its `up` lines is a block that came whole, as it was sent, and once: at either
     // end a piece of what becomes of one bundle that the other end sent, or a report on one that it
     // sent itself. From a path that is hopeful and has room a last line `drain` completes the
-    // sessions, in no more events than they cost.
+    // sessions, in no more events than they cost. `serve` goes as the events have it that its calls
+    // are: each reading of the clock, and each datagram that a poll gave. At each face of its gate
+    // exactly the red parts are handed up that become whole with these events.
     ensures keeps_law { KeepsLaw (command_of words.now) result.status
         (edge_of S.Source K.Sink L.Link C.Clock source.old sink.old old_link.old new_link.old clock.old)
         (edge_of S.Source K.Sink L.Link C.Clock source.new sink.new old_link.new new_link.new clock.new) }
@@ -81,6 +84,7 @@ pub fn run_told<S: Source, K: Sink, L: Link, C: Clock>(
 {
     answers_events();
     worlds_keep_headline();
+    runs_keep_law();
     match command_named(words) {
         Some(command) => { run_command(alloc, &command, source, sink, old_link, new_link, clock) }
         None => ended_with(Status::Usage, Passed::Size),

@@ -10,7 +10,7 @@ returns-in-Some-clause-complete g c =
 pub returns-in-Some-clause-keeps_law : goal.returns-in-Some-clause-keeps_law
 returns-in-Some-clause-keeps_law g c =
     rw (sym c.in-Some.ensures.exact)
-    (named-keeps c.answers_events.ensures c.worlds_keep_headline.ensures (Some c.in-Some.command) c.run_command.result.status _ _ c.run_command.ensures.ran)
+    (named-keeps (record { node = c.answers_events.ensures; world = c.worlds_keep_headline.ensures; serve = c.runs_keep_law.ensures }) (Some c.in-Some.command) c.run_command.result.status _ _ c.run_command.ensures.ran)
 
 pub returns-in-Some-clause-named : goal.returns-in-Some-clause-named
 returns-in-Some-clause-named g c =

@@ -27,6 +27,8 @@ mod script_end;
 #[cfg(test)]
 mod serving;
 #[cfg(test)]
+mod serving_order;
+#[cfg(test)]
 mod sockets;
 #[cfg(test)]
 mod world;

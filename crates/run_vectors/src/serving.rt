@@ -8,10 +8,10 @@ use std::alloc::{AllocError, Global};
 use std::test::Fail;
 
 /// Room for what a row writes and sends.
-const ROOM: usize = 8192;
+pub(crate) const ROOM: usize = 8192;
 
 /// A bundle of version 6 that expires after the moment 1,060,000, in session 1 of the old node.
-const COMES: &str = "0301010001001702000681100d02010101000000008768053c00010803616263";
+pub(crate) const COMES: &str = "0301010001001702000681100d02010101000000008768053c00010803616263";
 
 /// The gateway's report on it.
 const REPORT: &str = "0801010002021700010017";
@@ -113,7 +113,7 @@ const ROWS: &[Row] = &[
 ];
 
 /// The octets that a row writes in hex.
-fn octets(alloc: Global, text: &str) -> Result<Vec<u8>, Fail> {
+pub(crate) fn octets(alloc: Global, text: &str) -> Result<Vec<u8>, Fail> {
     match hex::decode(alloc, text.as_bytes()) {
         Ok(octets) => Ok(octets),
         Err(_) => Err(Fail::new("a row isn't hex")),
@@ -121,7 +121,7 @@ fn octets(alloc: Global, text: &str) -> Result<Vec<u8>, Fail> {
 }
 
 /// Has a datagram come on a link.
-fn put(link: &mut MemLink, datagram: &[u8]) -> Result<(), Fail> {
+pub(crate) fn put(link: &mut MemLink, datagram: &[u8]) -> Result<(), Fail> {
     if datagram.len() > LONGEST_DATAGRAM {
         return Err(Fail::new("a row is no datagram"));
     }

@@ -20,7 +20,7 @@ use Rattle.serve_run.specs.Deeds.{polled_link, written, deeds_of, call_text, tex
 use Rattle.serve_run.specs.Edges.{ClockRead, LinkPolled, DatagramSent, TextWritten}
 use Rattle.serve_run.proofs.DeedLemmas.{sends-more, deeds-sends, deeds-step, deeds-more, breaks-after, did-until}
 use Rattle.serve_run.proofs.LinkLemmas.{polls-told, sends-told, reads-told}
-use Rattle.serve_run.specs.Tells.{LinkTells, OutsideTells, LinkAgrees, ClockAgrees, RanTurns, status_of, Agrees, noted, failed_on, counted, LinkWent, LinksWent, Does, Leads, IsFrontOf, Breaks, Passed, Stopped, StopsAfter, StopsWithin, StopsWriting, Goes, PolledAs, StepsTo, polled_in, Sent, made_by_send, AreSends}
+use Rattle.serve_run.specs.Tells.{LinkTells, OutsideTells, LinkAgrees, ClockAgrees, RanTurns, status_of, Agrees, noted, failed_on, counted, LinkWent, LinksWent, Explains, Leads, IsFrontOf, Breaks, Passed, Stopped, StopsAfter, StopsWithin, StopsWriting, Goes, PolledAs, StepsTo, polled_in, Sent, made_by_send, AreSends}
 
 -- ---- what was made
 
@@ -96,7 +96,7 @@ module _ {X : Type 0} where
   Leads-start act t = record { back = λ later agrees. (later, agrees, refl); links = LinksWent-none t }
 
   pub Leads-more : {Y : Type 0} (act : Act X) (one : Act Y) (next : Y → Act X) (y : Y) (first second : Made) (a b c : OutsideTells)
-      → Leads act first (one >>= next) a b → Does one y second b c → Leads act (first ++ second) (next y) a c
+      → Leads act first (one >>= next) a b → Explains one y second b c → Leads act (first ++ second) (next y) a c
   Leads-more act one next y first second a b c leads does = record {
     back = λ later agrees.
         let (middle, middle_is, done) = does.back later agrees in
@@ -109,7 +109,7 @@ module _ {X : Type 0} where
     links = LinksWent-more first second a b c leads.links does.links;
   }
 
-  pub Leads-end : (act : Act X) (x : X) (made : Made) (a b : OutsideTells) → Leads act made (give x) a b → Does act x made a b
+  pub Leads-end : (act : Act X) (x : X) (made : Made) (a b : OutsideTells) → Leads act made (give x) a b → Explains act x made a b
   Leads-end act x made a b leads = record {
     back = λ later agrees.
         let (start, start_is, led) = leads.back later agrees in
@@ -196,7 +196,7 @@ module _ {X : Type 0} where
   -- a call with which nothing is written
   pub Going-silent : {Y : Type 0} (act : Act X) (one : Act Y) (next : Y → Act X) (y : Y) (call : Call) (a b c : OutsideTells) (sink sink_now : SinkTells)
       → IsNoSend call → call_text call ≡ []
-      → Going act (one >>= next) a b sink sink_now → Does one y (call ∷ []) b c → Gains b.trace c.trace (deeds_of (call ∷ []))
+      → Going act (one >>= next) a b sink sink_now → Explains one y (call ∷ []) b c → Gains b.trace c.trace (deeds_of (call ∷ []))
       → Going act (next y) a c sink sink_now
   Going-silent act one next y call a b c sink sink_now is silent going does traced = record {
     made = going.made ++ call ∷ [];
@@ -254,7 +254,7 @@ module _ {X : Type 0} where
 
 -- ---- sending
 
-pub Breaks-does : {X : Type 0} (act : Act X) (x : X) (made : Made) (a b : OutsideTells) → Does act x made a b → Breaks act made a b
+pub Breaks-does : {X : Type 0} (act : Act X) (x : X) (made : Made) (a b : OutsideTells) → Explains act x made a b → Breaks act made a b
 Breaks-does act x made a b does = record {
   back = λ later agrees.
       let (start, start_is, done) = does.back later agrees in
@@ -264,7 +264,7 @@ Breaks-does act x made a b does = record {
 
 module _ {E : Type 0} (routed : Routed) (text : List ℕ) (a b : OutsideTells) (result : Result (Unit {0}) E)
     (told : DatagramSent routed.face result routed.datagram a b) where
-  send-did : Does (sends routed) tt (made_by_send routed result) a b
+  send-did : Explains (sends routed) tt (made_by_send routed result) a b
   send-did = sends-told a b routed.datagram routed.face result told
 
   pub sent-ok : (x : Unit {0}) → result ≡ Ok x → Sent (sends routed) tt text text a b
@@ -337,9 +337,9 @@ sending-end out text text_now a b sending = record {
 
 -- ---- what a step does
 
-pub Does-then : {X Y : Type 0} (one : Act Y) (next : Y → Act X) (y : Y) (x : X) (first second : Made) (a b c : OutsideTells)
-    → Does one y first a b → Does (next y) x second b c → Does (one >>= next) x (first ++ second) a c
-Does-then one next y x first second a b c does then = record {
+pub Explains-then : {X Y : Type 0} (one : Act Y) (next : Y → Act X) (y : Y) (x : X) (first second : Made) (a b c : OutsideTells)
+    → Explains one y first a b → Explains (next y) x second b c → Explains (one >>= next) x (first ++ second) a c
+Explains-then one next y x first second a b c does then = record {
   back = λ later agrees.
       let (middle, middle_is, after) = then.back later agrees in
       let (start, start_is, done) = does.back middle middle_is in
@@ -357,8 +357,8 @@ module _ {T E : Type 0} (a b : OutsideTells) (sink sink_now : SinkTells) (text :
     clock = rw told.readings at agrees.clock;
   }
 
-  Does-says : (said : List ℕ) → Does (says said) tt (lines_written said ∷ []) a b
-  Does-says said = record {
+  Explains-says : (said : List ℕ) → Explains (says said) tt (lines_written said ∷ []) a b
+  Explains-says said = record {
     back = λ later agrees. (later, agrees-before later agrees, refl);
     links = record {
       old = rw told.old (record { gone = Gains-none a.old.gone; count = refl });
@@ -367,8 +367,8 @@ module _ {T E : Type 0} (a b : OutsideTells) (sink sink_now : SinkTells) (text :
   }
 
   -- what was done before it
-  Does-before : {X : Type 0} (act : Act X) (x : X) (made : Made) (first : OutsideTells) → Does act x made first a → Does act x made first b
-  Does-before act x made first does = record {
+  Explains-before : {X : Type 0} (act : Act X) (x : X) (made : Made) (first : OutsideTells) → Explains act x made first a → Explains act x made first b
+  Explains-before act x made first does = record {
     back = λ later agrees. does.back later (agrees-before later agrees);
     links = record { old = rw told.old does.links.old; new = rw told.new does.links.new };
   }
@@ -379,11 +379,11 @@ module _ (effects : StepEffects) (a b c : OutsideTells) (sink sink_now : SinkTel
     abbrev made : Made
     made = sent.made ++ lines_written effects.text ∷ []
 
-    does-all : Does (does effects) tt made a c
+    does-all : Explains (does effects) tt made a c
     unfolding does
     does-all =
-        Does-then (sends_all effects.out) (λ x. says effects.text) tt tt sent.made (lines_written effects.text ∷ []) a b c sent.does
-        (Does-says b c sink sink_now (notes ++ effects.text) result told effects.text)
+        Explains-then (sends_all effects.out) (λ x. says effects.text) tt tt sent.made (lines_written effects.text ∷ []) a b c sent.does
+        (Explains-says b c sink sink_now (notes ++ effects.text) result told effects.text)
 
     said-all : text_of made ≡ notes ++ effects.text
     said-all =
@@ -425,7 +425,7 @@ module _ (effects : StepEffects) (a b c : OutsideTells) (sink sink_now : SinkTel
 
 module _ {E : Type 0} (face : Face) (buffer : List ℕ) (a b : OutsideTells) (result : Result (Option ℕ) E)
     (told : LinkPolled face result buffer a b) where
-  poll-did : Does (polls face) (polled_in buffer result) (link_polled face (polled_in buffer result) ∷ []) a b
+  poll-did : Explains (polls face) (polled_in buffer result) (link_polled face (polled_in buffer result) ∷ []) a b
   poll-did = polls-told a b buffer face result told
 
   pub polled-ok : (sink : SinkTells) (came : Option ℕ) → result ≡ Ok came → PollsAtMost result buffer
@@ -453,8 +453,8 @@ module _ {E : Type 0} (face : Face) (buffer : List ℕ) (a b : OutsideTells) (re
 
   module _ (e : E) (is : result ≡ Err e) {T F : Type 0} (c : OutsideTells) (sink sink_now : SinkTells) (noted : Result T F)
       (wrote : TextWritten (link_line face false) noted b c sink sink_now) where
-    both : Does (polls face) failed (link_polled face failed ∷ []) a c
-    both = Does-before b c sink sink_now (link_line face false) noted wrote (polls face) failed (link_polled face failed ∷ []) a (rw is at poll-did)
+    both : Explains (polls face) failed (link_polled face failed ∷ []) a c
+    both = Explains-before b c sink sink_now (link_line face false) noted wrote (polls face) failed (link_polled face failed ∷ []) a (rw is at poll-did)
 
     deeds-both : deeds_of (link_polled face failed ∷ []) ≡ polled_link face failed ∷ [] ++ written (link_line face false)
     deeds-both = ap (λ xs. polled_link face failed ∷ xs) (append-nil (written (link_line face false)))
@@ -522,15 +522,15 @@ goes-shown act a b sink sink_now (Err stop) goes P p = record {
 
 -- ---- what came is taken
 
-Does-give : {X : Type 0} (x : X) (a : OutsideTells) → Does (give x) x [] a a
-Does-give x a = record { back = λ later agrees. (later, agrees, refl); links = LinksWent-none a }
+Explains-give : {X : Type 0} (x : X) (a : OutsideTells) → Explains (give x) x [] a a
+Explains-give x a = record { back = λ later agrees. (later, agrees, refl); links = LinksWent-none a }
 
 passed-give : {X : Type 0} (Shows : X → Type 0) (x : X) (a : OutsideTells) (sink : SinkTells) → Shows x → Passed Shows (give x) a a sink sink
 passed-give Shows x a sink shows = record {
   value = x;
   shows = shows;
   made = [];
-  does = Does-give x a;
+  does = Explains-give x a;
   whole = tt;
   wrote = Gains-none sink.held;
   writes = NoneFailed-same sink.calls;
@@ -545,8 +545,8 @@ then-give Shows act x a b sink sink_now (Ok t) goes shows = record {
   value = x;
   shows = shows;
   made = goes.made;
-  does = subst (λ m. Does (act >>= (λ y. give x)) x m a b) (append-nil goes.made)
-      (Does-then act (λ y. give x) goes.value x goes.made [] a b b goes.does (Does-give x b));
+  does = subst (λ m. Explains (act >>= (λ y. give x)) x m a b) (append-nil goes.made)
+      (Explains-then act (λ y. give x) goes.value x goes.made [] a b b goes.does (Explains-give x b));
   whole = goes.whole;
   wrote = goes.wrote;
   writes = goes.writes;

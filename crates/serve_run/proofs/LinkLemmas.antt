@@ -8,7 +8,7 @@ use Rattle.gate_cases.specs.declared.face.Face.{Face}
 use Rattle.gate_cases.specs.declared.face.Face.TheVariants.{Old, New}
 use Rattle.serve_run.specs.Outside.{LinkAhead, ClockAhead, given, after_given, polled, past_poll, past_send, past_reading, gave}
 use Rattle.serve_run.specs.Turns.{polls, sends, reads_clock, clock_read, link_polled}
-use Rattle.serve_run.specs.Tells.{LinkTells, OutsideTells, LinkAgrees, ClockAgrees, LinkWent, LinksWent, Does, polled_in, made_by_send}
+use Rattle.serve_run.specs.Tells.{LinkTells, OutsideTells, LinkAgrees, ClockAgrees, LinkWent, LinksWent, Explains, polled_in, made_by_send}
 use Rattle.serve_run.specs.Edges.{ClockRead, LinkPolled, DatagramSent}
 
 -- ---- which calls fail
@@ -86,7 +86,7 @@ module _ {E : Type 0} (before now : OutsideTells) (buf : List ℕ) where
   went-new (Err e) told = record { new = record { gone = kept before.new.gone now.new.gone told.gone; count = told.count }; old = rw told.beside (stays before.old) }
 
   pub polls-told : (face : Face) (result : Result (Option ℕ) E) → LinkPolled face result buf before now
-      → Does (polls face) (polled_in buf result) (link_polled face (polled_in buf result) ∷ []) before now
+      → Explains (polls face) (polled_in buf result) (link_polled face (polled_in buf result) ∷ []) before now
   polls-told Old result told = record {
     back = λ later agrees.
         let (first, is, poll, past) = poll-back before.old now.old result buf told.datagram told.told later.old agrees.old in (
@@ -130,7 +130,7 @@ module _ {E : Type 0} (before now : OutsideTells) (datagram : List ℕ) where
   sent-new (Err e) told = record { new = record { gone = kept before.new.gone now.new.gone told.gone; count = told.count }; old = rw told.beside (stays before.old) }
 
   pub sends-told : (face : Face) (result : Result (Unit {0}) E) → DatagramSent face result datagram before now
-      → Does (sends (record { face = face; datagram = datagram })) tt (made_by_send (record { face = face; datagram = datagram }) result) before now
+      → Explains (sends (record { face = face; datagram = datagram })) tt (made_by_send (record { face = face; datagram = datagram }) result) before now
   sends-told Old result told = record {
     back = λ later agrees.
         let (first, is, failed, past) = send-back before.old now.old result told.coming told.told later.old agrees.old in (
@@ -178,7 +178,7 @@ reading-back (Some (first ∷ second ∷ readings)) (Some (next ∷ more)) momen
       rw (agrees.0 ∙ next_is, agrees.1 ∙ more_is) refl,
     )
 
-pub reads-told : (before now : OutsideTells) (moment : ℕ) → ClockRead moment before now → Does reads_clock moment (clock_read moment ∷ []) before now
+pub reads-told : (before now : OutsideTells) (moment : ℕ) → ClockRead moment before now → Explains reads_clock moment (clock_read moment ∷ []) before now
 reads-told before now moment told = record {
   back = λ later agrees.
       let (first, is, shows, past) = reading-back before.readings now.readings moment told.reading later.clock agrees.clock in (

@@ -96,14 +96,16 @@ pub record LinksWent (made : Made) (before now : OutsideTells) : Type 0 where
 
 -- ---- how an act went
 
--- However links and clock go on as they tell now, it is as if they had gone on so before that an act
--- comes to this value and makes this.
-pub record Does {X : Type 0} (act : Act X) (value : X) (made : Made) (before now : OutsideTells) : Type 0 where
+-- For every future that agrees with what links and clock tell now there is a past that agrees with what
+-- they told before, and the act leads from that past to that future, with this value and these calls; and
+-- the calls are counted.
+pub record Explains {X : Type 0} (act : Act X) (value : X) (made : Made) (before now : OutsideTells) : Type 0 where
   pub back : (later : Outside) → Agrees now later → (first : Outside) × Agrees before first
       × (act first ≡ record { value = value; outside = later; made = made })
   pub links : LinksWent made before now
 
--- the same of an act of which a front is done, and the rest is this act
+-- The same of an act of which a front is done: from that past these calls lead to that future, and the rest
+-- is this act.
 pub record Leads {X : Type 0} (act : Act X) (made : Made) (rest : Act X) (before now : OutsideTells) : Type 0 where
   pub back : (later : Outside) → Agrees now later → (first : Outside) × Agrees before first
       × (act first ≡ put_before made (rest later))
@@ -113,7 +115,7 @@ pub record Leads {X : Type 0} (act : Act X) (made : Made) (rest : Act X) (before
 abbrev pub IsFrontOf : Made → Made → Type 0
 IsFrontOf made whole = (rest : Made) × (whole ≡ made ++ rest)
 
--- the same of an act that was broken off: what was made is a front of what it would make
+-- The same of an act that was broken off: from that past these calls are a front of those that the act makes.
 pub record Breaks {X : Type 0} (act : Act X) (made : Made) (before now : OutsideTells) : Type 0 where
   pub back : (later : Outside) → Agrees now later → (first : Outside) × Agrees before first
       × IsFrontOf made (act first).made
@@ -132,7 +134,7 @@ pub record Passed {X : Type 0} (Shows : X → Type 0) (act : Act X) (before now 
   pub value : X
   pub shows : Shows value
   pub made : Made
-  pub does : Does act value made before now
+  pub does : Explains act value made before now
   pub whole : IsWhole made
   pub wrote : Gains sink.held sink_now.held (text_of made)
   pub writes : NoneFailed sink.calls sink_now.calls
@@ -262,7 +264,7 @@ AreSends (call ∷ later) = IsSend call × AreSends later
 -- datagrams were sent, and lines about those that were lost were added to a text
 pub record Sent {X : Type 0} (act : Act X) (value : X) (text text_now : List ℕ) (before now : OutsideTells) : Type 0 where
   pub made : Made
-  pub does : Does act value made before now
+  pub does : Explains act value made before now
   pub noted_is : text_now ≡ text ++ text_of made
   pub sends : AreSends made
   pub trace : Gains before.trace now.trace (deeds_of made)

@@ -38,11 +38,12 @@ use Rattle.serve_run.specs.Tells.{OutsideTells, RanTurns}
 use Rattle.serve_run.specs.Events.{RunsKeepLaw}
 use Rattle.gateway_run.specs.declared.commands.command.Command.{Command}
 use Rattle.gateway_run.specs.declared.commands.command.Command.TheVariants as commands
-use Rattle.gateway_run.specs.Receive.{Limits, the_limits, receive_rules}
-use Rattle.gateway_run.specs.Receive as receive
-use Rattle.gateway_run.specs.KeepReceiving.{keep_receiving_rules, nothing_received}
-use Rattle.gateway_run.specs.KeepReceiving as keep_receiving
-use Rattle.gateway_run.specs.ReceiverLaw.{KeepsReceiverLaw}
+use Rattle.gateway_run.specs.declared.commands.decoding.Decoding.TheVariants as decodings
+use Rattle.receive_run.specs.Receive.{Limits, the_limits, receive_rules}
+use Rattle.receive_run.specs.Receive as receive
+use Rattle.receive_run.specs.KeepReceiving.{keep_receiving_rules, nothing_received}
+use Rattle.receive_run.specs.KeepReceiving as keep_receiving
+use Rattle.receive_run.specs.ReceiverLaw.{KeepsReceiverLaw}
 use Rattle.gateway_run.specs.Rules.{Rules, reads, writes, acts}
 use Rattle.gateway_run.specs.Commands.{rules_of, limits_of}
 use Rattle.gateway_run.specs.Edge.{Edge, HasNoFault}
@@ -50,7 +51,7 @@ use Rattle.gateway_run.specs.declared.commands.passed.Passed.{Passed}
 use Rattle.gateway_run.specs.declared.commands.passed.Passed.TheVariants as passed
 use Rattle.gateway_run.specs.Passed.{passed_on_lines, input_limit, NamesOnLines}
 use Rattle.gateway_run.specs.Runs.{RanReading, RanBy, RanNamed, EndsDue, CompletesBy, Completes, KeepsLaw, WritesLawfully, IsLawful, DecidesEarliest, NamesPassed, NamesBy}
-use Rattle.gateway_run.proofs.TranscriptLemmas.{received-law}
+use Rattle.receive_run.proofs.TranscriptLemmas.{received-law}
 use Rattle.gateway_run.proofs.NamedLemmas.{names-passed, names-none, reads-named, lines-pass, keep_receiving-free, link-free, world-free, bundles-pass, script-passes, acting-limit}
 
 -- ---- fronts
@@ -81,9 +82,9 @@ world-front : EarliestDecides (within most_input world.settles)
 world-front = within-front most_input world.settles (lines_from-front world_rules 1 no_path)
 
 pub command-front : (command : Command) → DecidesEarliest (rules_of command)
-command-front commands.Receive = λ ends taken more octets. receive-front the_limits most_input ends taken more
-command-front commands.KeepReceiving = λ ends taken more octets. keep_receiving-front ends taken more
-command-front (commands.Bundles command) = earliest_decides command
+command-front (commands.Decodes decodings.Receive) = λ ends taken more octets. receive-front the_limits most_input ends taken more
+command-front (commands.Decodes decodings.KeepReceiving) = λ ends taken more octets. keep_receiving-front ends taken more
+command-front (commands.Decodes (decodings.Bundles command)) = earliest_decides command
 command-front (commands.Node own peer) = λ ends taken more octets. node-front own peer ends taken more
 command-front (commands.Record own peer) = λ ends taken more octets. record-front own peer ends taken more
 command-front (commands.Audit own peer) = λ ends taken more octets. audit-front own peer ends taken more
@@ -199,10 +200,10 @@ pub record LawsTold : Type 0 where
 
 command-keeps : {S K L C : Type 0} → LawsTold → (command : Command) (status : Status) (before now : Edge S K L C)
     → RanBy (rules_of command) status before now → KeepsLaw (Some command) status before now
-command-keeps told commands.Receive status before now ran =
+command-keeps told (commands.Decodes decodings.Receive) status before now ran =
     on-told before.reads.left _ _ (receive-keeps status now.reads.left before.writes.held now.writes.held) ran.ran.wrote
-command-keeps told commands.KeepReceiving status before now ran = tt
-command-keeps told (commands.Bundles command) status before now ran = tt
+command-keeps told (commands.Decodes decodings.KeepReceiving) status before now ran = tt
+command-keeps told (commands.Decodes (decodings.Bundles command)) status before now ran = tt
 command-keeps told (commands.Node own peer) status before now ran =
     on-told before.reads.left _ _ (node-keeps told.node own peer status now.reads.left before.writes.held now.writes.held) ran.ran.wrote
 command-keeps told (commands.Record own peer) status before now ran =
@@ -308,14 +309,14 @@ module _ {S K L C : Type 0} (status : Status) (before now : Edge S K L C) (named
 
   command-names : (command : Command) → RanBy (rules_of command) status before now
       → NamesBy (rules_of command) (limits_of command) before.reads.left status named → NamesPassed (Some command) before.reads.left status named
-  command-names commands.Receive ran names =
-      reads-named commands.Receive _ refl before.reads.left status named names
+  command-names (commands.Decodes decodings.Receive) ran names =
+      reads-named (commands.Decodes decodings.Receive) _ refl before.reads.left status named names
       (lines-names (receive_rules the_limits) (λ kept is. cc) [] ran names)
-  command-names commands.KeepReceiving ran names =
-      reads-named commands.KeepReceiving _ refl before.reads.left status named names
+  command-names (commands.Decodes decodings.KeepReceiving) ran names =
+      reads-named (commands.Decodes decodings.KeepReceiving) _ refl before.reads.left status named names
       (lines-names (keep_receiving_rules the_limits) keep_receiving-free nothing_received ran names)
-  command-names (commands.Bundles command) ran names =
-      reads-named (commands.Bundles command) _ refl before.reads.left status named names
+  command-names (commands.Decodes (decodings.Bundles command)) ran names =
+      reads-named (commands.Decodes (decodings.Bundles command)) _ refl before.reads.left status named names
       (bundles-pass most_input command before.reads now.reads before.writes now.writes status ran.ran names.lines_pass names.by_input)
   command-names (commands.Node own peer) ran names =
       reads-named (commands.Node own peer) _ refl before.reads.left status named names

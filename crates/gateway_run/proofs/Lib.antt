@@ -1,9 +1,3 @@
-pub mod LawLemmas
-pub mod TableLemmas
-pub mod CountLemmas
-pub mod TranscriptLemmas
-pub mod SessionsLemmas
 pub mod WordLemmas
 pub mod NamedLemmas
 pub mod CommandLemmas
-pub mod KeepReceivingLemmas

@@ -29,8 +29,8 @@ use Rattle.serve_run.specs.Tells.{OutsideTells, RanTurns}
 use Rattle.gateway_run.specs.declared.commands.command.Command.{Command}
 use Rattle.gateway_run.specs.declared.commands.passed.Passed.{Passed}
 use Rattle.gateway_run.specs.declared.commands.passed.Passed.TheVariants as passed
-use Rattle.gateway_run.specs.Receive.{the_limits}
-use Rattle.gateway_run.specs.KeepReceiving.{Receiving, keep_receiving_rules, last_status}
+use Rattle.receive_run.specs.Receive.{the_limits}
+use Rattle.receive_run.specs.KeepReceiving.{Receiving, keep_receiving_rules, last_status}
 use Rattle.gateway_run.specs.Rules.{reads}
 use Rattle.gateway_run.specs.Commands.{rules_of, limits_of, limit_of}
 use Rattle.gateway_run.specs.Passed.{is_limit, named_by, passed_on_lines, limit_by, input_limit, no_limits, script_limit, NamesOnLines}

@@ -5,6 +5,7 @@ use Rattle.endpoint.specs.declared.name.Endpoint.{Endpoint}
 use Rattle.edge_traits.specs.Content.{most_input}
 use Rattle.edge_traits.specs.Outcome.{SinkTells}
 use Rattle.edge_traits.specs.declared.status.Status.{Status}
+use Rattle.command_frame.specs.Task.{Settling}
 use Rattle.command_frame.specs.Within.{within}
 use Rattle.command_frame.specs.Limits.{Limiting, limits_by_lines}
 use Rattle.replay_script.specs.Events.{gate_of, number_in}
@@ -31,11 +32,13 @@ use Rattle.serve_run.specs.Tells.{OutsideTells}
 use Rattle.serve_run.specs.Events.{Served}
 use Rattle.gateway_run.specs.declared.commands.command.Command.{Command}
 use Rattle.gateway_run.specs.declared.commands.command.Command.TheVariants as commands
-use Rattle.gateway_run.specs.Receive as receive
-use Rattle.gateway_run.specs.Receive.{the_limits, receive_rules}
-use Rattle.gateway_run.specs.KeepReceiving.{keep_receiving_rules, nothing_received}
-use Rattle.gateway_run.specs.KeepReceiving as keep_receiving
-use Rattle.gateway_run.specs.ReceiverLaw.{KeepsReceiverLaw}
+use Rattle.gateway_run.specs.declared.commands.decoding.Decoding.{Decoding}
+use Rattle.gateway_run.specs.declared.commands.decoding.Decoding.TheVariants as decodings
+use Rattle.receive_run.specs.Receive as receive
+use Rattle.receive_run.specs.Receive.{the_limits, receive_rules}
+use Rattle.receive_run.specs.KeepReceiving.{keep_receiving_rules, nothing_received}
+use Rattle.receive_run.specs.KeepReceiving as keep_receiving
+use Rattle.receive_run.specs.ReceiverLaw.{KeepsReceiverLaw}
 use Rattle.gateway_run.specs.Rules.{Rules, reads, writes, acts}
 use Rattle.gateway_run.specs.declared.commands.passed.Passed.{Passed}
 use Rattle.gateway_run.specs.Passed.{no_limits, input_limit, script_limit}
@@ -45,14 +48,18 @@ use Rattle.gateway_run.specs.Passed.{no_limits, input_limit, script_limit}
 abbrev pub is_word : List ℕ → List ℕ → Bool
 is_word word text = pointwise nat_eq word text
 
+-- a command on bundles
+abbrev pub of_bundles : bundle_commands.Command → Command
+of_bundles command = commands.Decodes (decodings.Bundles command)
+
 -- the command of a single word
 abbrev pub one_word : List ℕ → Option Command
 one_word word =
-    if is_word word (codes "receive") then Some commands.Receive
-    else if is_word word (codes "check") then Some (commands.Bundles Check)
-    else if is_word word (codes "show") then Some (commands.Bundles Show)
-    else if is_word word (codes "convert") then Some (commands.Bundles Convert)
-    else if is_word word (codes "join") then Some (commands.Bundles Join)
+    if is_word word (codes "receive") then Some (commands.Decodes decodings.Receive)
+    else if is_word word (codes "check") then Some (of_bundles Check)
+    else if is_word word (codes "show") then Some (of_bundles Show)
+    else if is_word word (codes "convert") then Some (of_bundles Convert)
+    else if is_word word (codes "join") then Some (of_bundles Join)
     else if is_word word (codes "link") then Some commands.Link
     else if is_word word (codes "world") then Some commands.World
     else None
@@ -64,16 +71,16 @@ is_keep_going word = is_word word (codes "--keep-going")
 
 abbrev pub keeping_of : List ℕ → Option Command
 keeping_of word =
-    if is_word word (codes "receive") then Some commands.KeepReceiving
-    else if is_word word (codes "show") then Some (commands.Bundles Show)
-    else if is_word word (codes "convert") then Some (commands.Bundles KeepConverting)
-    else if is_word word (codes "join") then Some (commands.Bundles KeepJoining)
+    if is_word word (codes "receive") then Some (commands.Decodes decodings.KeepReceiving)
+    else if is_word word (codes "show") then Some (of_bundles Show)
+    else if is_word word (codes "convert") then Some (of_bundles KeepConverting)
+    else if is_word word (codes "join") then Some (of_bundles KeepJoining)
     else None
 
 -- the sizes of the pieces of `cut` are from 1 to 4,194,304
 abbrev pub pieces_of : (ℕ → bundle_commands.Command) → Option ℕ → Option Command
 pieces_of cut None = None
-pieces_of cut (Some size) = Some (commands.Bundles (cut size))
+pieces_of cut (Some size) = Some (of_bundles (cut size))
 
 abbrev pub cut_of : (size : List ℕ) → Option Command
 cut_of size = pieces_of Cut (number_in 1 4194304 size)
@@ -157,12 +164,27 @@ command_of (word ∷ a ∷ b ∷ c ∷ d ∷ e ∷ []) = None
 command_of (word ∷ a ∷ b ∷ c ∷ d ∷ e ∷ f ∷ []) = seven_words word a b c d e f
 command_of (word ∷ a ∷ b ∷ c ∷ d ∷ e ∷ f ∷ more ∷ words) = None
 
+-- the command decodes what it reads, and this is how
+abbrev pub decoding_of : Command → Option Decoding
+decoding_of (commands.Decodes decoding) = Some decoding
+decoding_of (commands.Node own peer) = None
+decoding_of (commands.Record own peer) = None
+decoding_of (commands.Audit own peer) = None
+decoding_of commands.Link = None
+decoding_of commands.World = None
+decoding_of (commands.Make seed count) = None
+decoding_of (commands.Serve gate count) = None
+
 -- ---- what a command does
 
+-- what the octets settle of a command that decodes
+abbrev pub decodes : Decoding → Settling
+decodes decodings.Receive = within most_input (receive.settles the_limits)
+decodes decodings.KeepReceiving = within most_input (keep_receiving.settles the_limits)
+decodes (decodings.Bundles command) = bundles.settles command
+
 abbrev pub rules_of : Command → Rules
-rules_of commands.Receive = reads (within most_input (receive.settles the_limits))
-rules_of commands.KeepReceiving = reads (within most_input (keep_receiving.settles the_limits))
-rules_of (commands.Bundles command) = reads (bundles.settles command)
+rules_of (commands.Decodes decoding) = reads (decodes decoding)
 rules_of (commands.Node own peer) = reads (within most_input (node.settles own peer))
 rules_of (commands.Record own peer) = reads (within most_input (recording.settles own peer))
 rules_of (commands.Audit own peer) = reads (within most_input (audit.settles own peer))
@@ -173,12 +195,16 @@ rules_of (commands.Serve gate count) = acts (serve_turns gate count)
 
 -- ---- the limits of a command
 
--- which limit on lines the octets pass that a command reads; where they are bundles, or where it
--- reads none, there is no such limit
+-- which limit on lines the octets pass that a command decodes; where they are bundles, there is no such
+-- limit
+abbrev pub decoding_limits : Decoding → Limiting
+decoding_limits decodings.Receive = limits_by_lines (receive_rules the_limits) []
+decoding_limits decodings.KeepReceiving = limits_by_lines (keep_receiving_rules the_limits) nothing_received
+decoding_limits (decodings.Bundles command) = no_limits
+
+-- the same of any command; where it reads nothing, there is no such limit
 abbrev pub limits_of : Command → Limiting
-limits_of commands.Receive = limits_by_lines (receive_rules the_limits) []
-limits_of commands.KeepReceiving = limits_by_lines (keep_receiving_rules the_limits) nothing_received
-limits_of (commands.Bundles command) = no_limits
+limits_of (commands.Decodes decoding) = decoding_limits decoding
 limits_of (commands.Node own peer) = limits_by_lines node_rules (begins (node_party own peer))
 limits_of (commands.Record own peer) = limits_by_lines record_rules (begins (node_party own peer))
 limits_of (commands.Audit own peer) = limits_by_lines audit_rules (audit.begins own peer)
@@ -218,9 +244,9 @@ pub data Law : Type 1 where
 -- sessions. Of `serve` that its run goes as the events have it that its calls are, by which the
 -- receiver's law holds at each face.
 abbrev pub law_of : Command → Law
-law_of commands.Receive = keeps (KeepsReceiverLaw the_limits most_input)
-law_of commands.KeepReceiving = no_law
-law_of (commands.Bundles command) = no_law
+law_of (commands.Decodes decodings.Receive) = keeps (KeepsReceiverLaw the_limits most_input)
+law_of (commands.Decodes decodings.KeepReceiving) = no_law
+law_of (commands.Decodes (decodings.Bundles command)) = no_law
 law_of (commands.Node own peer) = keeps (AnswersLines (node_party own peer) most_input)
 law_of (commands.Record own peer) =
     keeps (λ input text ending. AreEngines own peer → WritesExchange own peer text)
@@ -234,9 +260,7 @@ law_of (commands.Serve gate count) = keeps_acting (Served gate count)
 
 -- what the words leave of the ranges of numbers, and of a name
 abbrev pub IsSound : Command → Type 0
-IsSound commands.Receive = Unit {0}
-IsSound commands.KeepReceiving = Unit {0}
-IsSound (commands.Bundles command) = Unit {0}
+IsSound (commands.Decodes decoding) = Unit {0}
 IsSound (commands.Node own peer) = own ≢ peer
 IsSound (commands.Record own peer) = own ≢ peer
 IsSound (commands.Audit own peer) = own ≢ peer

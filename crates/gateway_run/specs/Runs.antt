@@ -4,7 +4,7 @@ use Rattle.std.specs.Prelude.{ℕ, List, [], ◌++◌, Bool, true, false, Option
 use Rattle.edge_traits.specs.declared.status.Status.{Status}
 use Rattle.edge_traits.specs.declared.status.Status.TheVariants as statuses
 use Rattle.edge_traits.specs.Settled.{at_end, Settled}
-use Rattle.edge_traits.specs.Outcome.{IsAnswer, Ran}
+use Rattle.edge_traits.specs.Outcome.{IsAnswer, Ran, SourceTells, SinkTells}
 use Rattle.command_frame.specs.Task.{Settling}
 use Rattle.command_frame.specs.Limits.{Limiting}
 use Rattle.bundle_runs.specs.Laws.{EarliestOctetDecides}
@@ -13,11 +13,13 @@ use Rattle.serve_run.specs.Serve.{Serving}
 use Rattle.serve_run.specs.Turns.{Act}
 use Rattle.serve_run.specs.Tells.{RanTurns}
 use Rattle.gateway_run.specs.declared.commands.command.Command.{Command}
+use Rattle.gateway_run.specs.declared.commands.decoding.Decoding.{Decoding}
+use Rattle.gateway_run.specs.declared.commands.passed.Ended.{Ended}
 use Rattle.gateway_run.specs.declared.commands.passed.Passed.{Passed}
 use Rattle.gateway_run.specs.declared.commands.passed.Passed.TheVariants as passed
 use Rattle.gateway_run.specs.Rules.{Rules, reads, writes, acts}
 use Rattle.gateway_run.specs.Passed.{named_by, NamesOnLines}
-use Rattle.gateway_run.specs.Commands.{Law, no_law, keeps, keeps_acting, rules_of, law_of, limit_of}
+use Rattle.gateway_run.specs.Commands.{Law, no_law, keeps, keeps_acting, decoding_of, decodes, decoding_limits, rules_of, law_of, limit_of}
 use Rattle.gateway_run.specs.Edge.{Edge, KeepsLinks, HasNoFault}
 
 -- ---- how a run went
@@ -48,6 +50,23 @@ RanBy (acts act) status before now = RanActing act status before now
 abbrev pub RanNamed : {S K L C : Type 0} → Option Command → Status → Edge S K L C → Edge S K L C → Type 0
 RanNamed None status before now = (status ≡ statuses.Usage) × (now ≡ before)
 RanNamed (Some command) status before now = RanBy (rules_of command) status before now
+
+-- the words name a command that decodes
+abbrev pub decoding_named : Option Command → Option Decoding
+decoding_named None = None
+decoding_named (Some command) = decoding_of command
+
+-- of one that decodes, as its octets settle, and with the limit that they pass
+pub record Decoded (decoding : Decoding) (ended : Ended) (source source_now : SourceTells) (sink sink_now : SinkTells) : Type 0 where
+  pub ran : Ran (decodes decoding) ended.status source source_now sink sink_now
+  pub named : NamesOnLines (decoding_limits decoding) source.left ended.status ended.passed
+
+-- where the words name one that decodes it is run, and else nothing is
+abbrev pub DecodedNamed : Option Decoding → Option Ended → (source source_now : SourceTells) (sink sink_now : SinkTells) → Type 0
+DecodedNamed None None source source_now sink sink_now = Unit {0}
+DecodedNamed None (Some ended) source source_now sink sink_now = ⊥
+DecodedNamed (Some decoding) None source source_now sink sink_now = ⊥
+DecodedNamed (Some decoding) (Some ended) source source_now sink sink_now = Decoded decoding ended source source_now sink sink_now
 
 -- ---- how it ends where nothing failed
 

@@ -2,17 +2,15 @@
 ghost use Rattle.std.specs.Prelude.{◌≡◌, Some, IfSome};
 ghost use Rattle.gateway_run.specs.Edge.{edge_of};
 ghost use Rattle.gateway_run.specs.Runs.{RanNamed, NamesBy};
-ghost use Rattle.gateway_run.specs.Commands.{command_of, one_word, two_words, three_words, keeping_of, cut_of, keep_cutting_of, node_of, record_of, audit_of, make_of, serve_of, is_address, rules_of, limits_of, IsSound};
+ghost use Rattle.gateway_run.specs.Commands.{command_of, one_word, two_words, three_words, keeping_of, cut_of, keep_cutting_of, node_of, record_of, audit_of, make_of, serve_of, is_address, rules_of, limits_of, decoding_of, IsSound};
 
+use crate::commands::decoding::{Decoding, decode};
 use crate::commands::gate_name::GateName;
-use crate::commands::keep_receiving::KeepReceiving;
 use crate::commands::lines::{run_lines, run_part_lines};
 use crate::commands::passed::{Ended, Passed, ended_with};
-use crate::commands::receive::Receive;
 use crate::commands::serve::run_serve;
 use crate::commands::word::Word;
 use audit_run::AuditLines;
-use bundle_runs::bundles;
 use edge_traits::{Clock, Link, Sink, Source};
 use make_run::make;
 use node_run::Node;
@@ -24,12 +22,8 @@ use world_run::World;
 /// A command of the program.
 #[derive(Debug, Drop)]
 pub enum Command<'w> {
-    /// `receive`: hands up the red parts of recorded datagrams.
-    Receive,
-    /// `receive --keep-going`: the same, and goes on after a line that it refuses.
-    KeepReceiving,
-    /// `check`, `show`, `convert`, `cut SIZE` and `join`: what is said of recorded bundles.
-    Bundles(bundle_runs::Command),
+    /// `receive`, `check`, `show`, `convert`, `cut SIZE` and `join`: what is said of recorded datagrams or bundles.
+    Decodes(Decoding),
     /// `node OWN PEER`: one end of a link, by the numbers of its engine and of its peer's.
     Node { own: u64, peer: u64 },
     /// `record OWN PEER`: one end of a link, whose exchange is recorded.
@@ -45,6 +39,24 @@ pub enum Command<'w> {
     /// `serve GATE OLD_BIND OLD_PEER NEW_BIND NEW_PEER TURNS`: a gateway of this name between two
     /// links, for so many turns. Its addresses are those of the links that a run is given.
     Serve { gate: GateName<'w>, count: u64 },
+}
+
+impl Command<'_> {
+    /// What it decodes, where it is one of those that decode.
+    pub fn decoding(&self) -> Option<Decoding>
+        ensures { result ≡ decoding_of self.now }
+    {
+        match self {
+            Command::Decodes(decoding) => Some(*decoding),
+            Command::Node { .. }
+            | Command::Record { .. }
+            | Command::Audit { .. }
+            | Command::Link
+            | Command::World
+            | Command::Make { .. }
+            | Command::Serve { .. } => None,
+        }
+    }
 }
 
 /// The most octets of a piece that words name.
@@ -101,11 +113,7 @@ pub fn run_command<S: Source, K: Sink, L: Link, C: Clock>(
     ensures names { NamesBy (rules_of command.now) (limits_of command.now) (S.left source.old) result.status result.passed }
 {
     match command {
-        Command::Receive => run_lines(alloc, Receive::new(alloc), source, sink),
-        Command::KeepReceiving => run_lines(alloc, KeepReceiving::new(alloc), source, sink),
-        Command::Bundles(command) => {
-            ended_with(bundles(alloc, *command, source, sink), Passed::Size)
-        }
+        Command::Decodes(decoding) => decode(alloc, *decoding, source, sink),
         Command::Node { own, peer } => {
             run_lines(alloc, Node::new(alloc, *own, *peer), source, sink)
         }
@@ -132,11 +140,19 @@ fn one_word<'w>(word: &[u8]) -> Option<Command<'w>>
     ensures sound { IfSome result IsSound }
 {
     match word {
-        _ if word == b"receive".as_slice() => Some(Command::Receive),
-        _ if word == b"check".as_slice() => Some(Command::Bundles(bundle_runs::Command::Check)),
-        _ if word == b"show".as_slice() => Some(Command::Bundles(bundle_runs::Command::Show)),
-        _ if word == b"convert".as_slice() => Some(Command::Bundles(bundle_runs::Command::Convert)),
-        _ if word == b"join".as_slice() => Some(Command::Bundles(bundle_runs::Command::Join)),
+        _ if word == b"receive".as_slice() => Some(Command::Decodes(Decoding::Receive)),
+        _ if word == b"check".as_slice() => Some(Command::Decodes(Decoding::Bundles(
+            bundle_runs::Command::Check,
+        ))),
+        _ if word == b"show".as_slice() => Some(Command::Decodes(Decoding::Bundles(
+            bundle_runs::Command::Show,
+        ))),
+        _ if word == b"convert".as_slice() => Some(Command::Decodes(Decoding::Bundles(
+            bundle_runs::Command::Convert,
+        ))),
+        _ if word == b"join".as_slice() => Some(Command::Decodes(Decoding::Bundles(
+            bundle_runs::Command::Join,
+        ))),
         _ if word == b"link".as_slice() => Some(Command::Link),
         _ if word == b"world".as_slice() => Some(Command::World),
         _ => None,
@@ -161,14 +177,16 @@ fn keeping_named<'w>(word: &[u8]) -> Option<Command<'w>>
     ensures sound { IfSome result IsSound }
 {
     match word {
-        _ if word == b"receive".as_slice() => Some(Command::KeepReceiving),
-        _ if word == b"show".as_slice() => Some(Command::Bundles(bundle_runs::Command::Show)),
-        _ if word == b"convert".as_slice() => {
-            Some(Command::Bundles(bundle_runs::Command::KeepConverting))
-        }
-        _ if word == b"join".as_slice() => {
-            Some(Command::Bundles(bundle_runs::Command::KeepJoining))
-        }
+        _ if word == b"receive".as_slice() => Some(Command::Decodes(Decoding::KeepReceiving)),
+        _ if word == b"show".as_slice() => Some(Command::Decodes(Decoding::Bundles(
+            bundle_runs::Command::Show,
+        ))),
+        _ if word == b"convert".as_slice() => Some(Command::Decodes(Decoding::Bundles(
+            bundle_runs::Command::KeepConverting,
+        ))),
+        _ if word == b"join".as_slice() => Some(Command::Decodes(Decoding::Bundles(
+            bundle_runs::Command::KeepJoining,
+        ))),
         _ => None,
     }
 }
@@ -194,7 +212,7 @@ fn cut_named<'w>(size: &[u8]) -> Option<Command<'w>>
     ensures sound { IfSome result IsSound }
 {
     let size = number_in(1, MOST_SIZE, size)?;
-    Some(Command::Bundles(bundle_runs::Command::Cut(size)))
+    Some(Command::Decodes(Decoding::Bundles(bundle_runs::Command::Cut(size))))
 }
 
 /// The pieces of this size, where the last word is that the run keeps going.
@@ -206,7 +224,7 @@ fn keep_cutting_named<'w>(size: &[u8], last: &[u8]) -> Option<Command<'w>>
         return None;
     }
     let size = number_in(1, MOST_SIZE, size)?;
-    Some(Command::Bundles(bundle_runs::Command::KeepCutting(size)))
+    Some(Command::Decodes(Decoding::Bundles(bundle_runs::Command::KeepCutting(size))))
 }
 
 /// The end of a link that has these numbers: they are different.

@@ -1,6 +1,0 @@
-use Rattle.std.proofs.Common.{refl}
-use Rattle.gateway_run.proofs.SessionsLemmas.{puts_of}
-use Rattle.gateway_run.proofs.sessions.put.Goals as goal
-
-pub returns : goal.returns
-returns c = puts_of _ _ _ c.args.standing c.in_ok-insert.ensures.updates.0 refl

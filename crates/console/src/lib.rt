@@ -27,6 +27,6 @@ mod words;
 pub use advising::slip_of;
 pub use ending::end;
 pub use hint::Hint;
-pub use running::{run_alone, run_over};
+pub use running::{run_alone, run_decoder, run_over};
 pub use slip::Slip;
 pub use words::words_of;

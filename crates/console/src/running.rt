@@ -5,8 +5,8 @@ use crate::ending::{end, end_of_print};
 use crate::help::{VERSION, print_help};
 use crate::remembering::{Ending, Remembering};
 use crate::unused::Unused;
-use edge_traits::{Clock, Link, Reading, Writing};
-use gateway_run::{Word, run_told};
+use edge_traits::{Clock, Link, Reading, Status, Writing};
+use gateway_run::{Ended, Word, run_decoding, run_told};
 use std::io;
 use std::process::ExitCode;
 
@@ -33,6 +33,23 @@ pub fn run_over<L: Link, C: Clock>(
 pub fn run_alone(rt: &HostRuntime, words: &[Word]) -> ExitCode {
     let (mut old, mut new, mut clock) = (Unused, Unused, Unused);
     run_over(rt, words, &mut old, &mut new, &mut clock)
+}
+
+/// The same of a command that decodes what it reads, and does no more. Of other words it says that they name
+/// none.
+pub fn run_decoder(rt: &HostRuntime, words: &[Word]) -> ExitCode {
+    let reads = reads_of(words);
+    let mut source = Remembering::new(Reading::new(rt.reader()), are_lines(reads));
+    let mut sink = Ending::new(Writing::new(io::writer(rt)));
+    let ended = match run_decoding(rt.alloc(), words, &mut source, &mut sink) {
+        Some(ended) => ended,
+        None => Ended {
+            status: Status::Usage,
+            passed: None,
+        },
+    };
+    let hint = hint_of_run(reads, ended.status, source.given(), sink.tail());
+    end(rt, words, ended, sink.sink().is_reader_gone(), hint)
 }
 
 /// Runs a command, or says that the words name none.

@@ -14,10 +14,13 @@ from concurrent.futures import ThreadPoolExecutor
 from machine import free_memory, processors
 from rows import ROOT, departs
 
-# The program, and that without sockets; what compiling each takes, and a row, in seconds of a processor.
-WHOLE, STREAMS = (os.path.join(ROOT, "crates", name) for name in ("bundle_cli", "stream_cli"))
-COMPILED, EACH = {WHOLE: 220, STREAMS: 60}, 0.4
+# The program, that without sockets, and that with the commands that decode alone; what compiling each takes, and a
+# row, in seconds of a processor.
+WHOLE, STREAMS, DECODERS = (
+    os.path.join(ROOT, "crates", name) for name in ("bundle_cli", "stream_cli", "decoding_cli"))
+COMPILED, EACH = {WHOLE: 220, STREAMS: 75, DECODERS: 30}, 0.4
 WITH_SOCKETS = (b"serve", b"gate")
+DECODES = (b"receive", b"check", b"show", b"convert", b"cut", b"join")
 FEWEST = 3                 # processors; with fewer the program with sockets would be most of the wait
 MOST_SIDE_BY_SIDE = 4
 MEMORY = 2_500_000_000     # of one `rt try`, most of it while the program is compiled
@@ -32,6 +35,13 @@ CASE = re.compile(rb"case=(\w+) ")
 def needs_sockets(row):
     """Whether the program without sockets has no answer to a row."""
     return row.words[:1] and row.words[0] in WITH_SOCKETS
+
+
+def programs_of(row):
+    """The programs that have an answer to a row."""
+    if needs_sockets(row):
+        return (WHOLE,)
+    return (STREAMS, DECODERS) if row.words[:1] and row.words[0] in DECODES else (STREAMS,)
 
 
 def reason(row):
@@ -113,18 +123,25 @@ def tried(crate, folder, rows, runs, ran):
             yield row, ["    it wasn't run:", *last]
 
 
+def lanes_of(rows, count):
+    """The programs that are compiled, one for each of so many runs of `rt try`: those that some row needs, and
+    where there is room the small one, once or more."""
+    needed = {WHOLE for row in rows if needs_sockets(row)}
+    if any(programs_of(row) != (WHOLE,) for row in rows):
+        needed.add(STREAMS)
+    return [*needed, *[DECODERS] * max(0, count - len(needed))]
+
+
 def shares_of(rows, count):
-    """The rows in shares, by their names, each with the crate that runs it: each row that needs no
-    sockets goes to the share that would be through first."""
-    whole = [row for row in rows if needs_sockets(row)]
-    shares = [(STREAMS, []) for _ in range(max(1, count - bool(whole)))]
-    shares += [(WHOLE, whole)] if whole else []
-    ends = [COMPILED[crate] + EACH * len(part) for crate, part in shares]
-    for row in rows:
-        if row not in whole:
-            at = ends.index(min(ends))
-            shares[at][1].append(row)
-            ends[at] += EACH
+    """The rows in shares, by their names, each with the crate that runs it: each row goes to the share that would be
+    through first of those that have an answer to it, and those with one such share come first."""
+    shares = [(crate, []) for crate in lanes_of(rows, count)]
+    ends = [COMPILED[crate] for crate, _ in shares]
+    for row in sorted(rows, key=lambda it: len(programs_of(it))):
+        able = [at for at, (crate, _) in enumerate(shares) if crate in programs_of(row)]
+        at = min(able, key=ends.__getitem__)
+        shares[at][1].append(row)
+        ends[at] += EACH
     return [(crate, {f"row{at:05}": row for at, row in enumerate(part)})
             for crate, part in shares if part]
 

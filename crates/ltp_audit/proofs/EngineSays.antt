@@ -15,9 +15,9 @@ use Rattle.ltp_session.specs.declared.name.SessionName.{SessionName}
 use Rattle.ltp_session.specs.Table.{find, ticked}
 use Rattle.ltp_session.specs.Step.{Change, stays, keeps, ends, after, StepValue}
 use Rattle.ltp_session.specs.Sender.{Sending, begin, sender_answers}
-use Rattle.ltp_session.specs.Receiver.{Receiving, Place, receiver_answers}
+use Rattle.ltp_session.specs.Receiver.{Receiving, Admission, receiver_answers}
 use Rattle.ltp_segment.specs.declared.session.Note.TheVariants as notes
-use Rattle.ltp_session.specs.Engine.{Party, Engine, Reply, EngineStep, sender_replies, receiver_replies, replied_or_stranger, noted, place_of, is_used, to_sender, to_receiver, arrives, datagram_step, begun, replied, submits, submit_step, submits_unless, block_empty, block_too_large, numbers_spent, senders_busy, SubmitFault, tick_step, tick_out, tick_segments, sender_ticks, receiver_ticks, sender_changes, receiver_changes}
+use Rattle.ltp_session.specs.Engine.{Party, Engine, Reply, EngineStep, sender_replies, receiver_replies, replied_or_stranger, noted, admission_of, is_used, to_sender, to_receiver, arrives, datagram_step, begun, replied, submits, submit_step, submits_unless, block_empty, block_too_large, numbers_spent, senders_busy, SubmitFault, tick_step, tick_out, tick_segments, sender_ticks, receiver_ticks, sender_changes, receiver_changes}
 use Rattle.ltp_laws.specs.Kept.{IfKept, IfKeeps}
 use Rattle.ltp_laws.proofs.TableLemmas.{self_eqb, find-settled_other, ascending-settled, ascending-ticked, find-ticked, after_tick}
 use Rattle.ltp_audit.specs.declared.entry.Entry.{Entry}
@@ -52,7 +52,7 @@ answers-side policy kept (a_report_ack n) now t hears = absurd (cc)
 answers-side policy kept (a_sender_cancel n) now t hears = absurd (cc)
 answers-side policy kept a_receiver_cancel_ack now t hears = absurd (cc)
 
-hears-side : (policy : PolicyValue) (place : Place) (kept : Option Receiving) (content : ContentValue) (now : ℕ) (t : StepValue Receiving)
+hears-side : (policy : PolicyValue) (place : Admission) (kept : Option Receiving) (content : ContentValue) (now : ℕ) (t : StepValue Receiving)
     → receiver_answers policy place kept content now ≡ Some t → is_of_sender content ≡ true
 unfolding receiver_answers
 hears-side policy place kept (a_piece q) now t hears = refl
@@ -96,19 +96,19 @@ module _ (p : Party) (party : IsParty p) (e : Engine) (datagram : List ℕ) (his
       })
 
   peer-well : s.originator ≡ p.peer → (o : Option (StepValue Receiving))
-      → receiver_answers p.policy (place_of p e s.session) (find s.session e.receivers) s.content now ≡ o
+      → receiver_answers p.policy (admission_of p e s.session) (find s.session e.receivers) s.content now ≡ o
       → GoesWell p (came datagram ∷ history)
       (replied_or_stranger e (record { originator = s.originator; number = s.session }) (receiver_replies p e s.session o))
   peer-well peer None answers = record { rules = tt; knows = knows-came p e datagram history knows }
   peer-well peer (Some t) answers =
-      let by_sender = hears-side p.policy (place_of p e s.session) (find s.session e.receivers) s.content now t answers in
+      let by_sender = hears-side p.policy (admission_of p e s.session) (find s.session e.receivers) s.content now t answers in
       let same = eq-eqb s.originator p.peer peer in
       let apart : (s.originator == p.own) ≡ false = ne_eqb s.originator p.own (λ h. party.apart (sym h ∙ peer)) in
       let side : is_on_its_side p.own p.peer false s ≡ true = rw (by_sender, apart, same) refl in
       let more = said-here p.own p.peer (came datagram) history s p.peer s.session (on-side-in p.own p.peer datagram s is side)
       (rw (same, self_eqb s.session) refl) in
       let before = knows-came p e datagram history knows in
-      let replies = receiver-hears p party s.session few (came datagram ∷ history) p.policy (place_of p e s.session) (find s.session e.receivers)
+      let replies = receiver-hears p party s.session few (came datagram ∷ history) p.policy (admission_of p e s.session) (find s.session e.receivers)
       s.content now t (said_in p.own p.peer history p.peer s.session) more (before.receivers s.session) told answers in
       subst (λ (o : ℕ). GoesWell p (came datagram ∷ history)
       (replied_or_stranger e (record { originator = o; number = s.session }) (receiver_replies p e s.session (Some t)))) (sym peer)

@@ -15,7 +15,7 @@ use Rattle.ltp_segment.specs.Values.{a_receiver_cancel, a_receiver_cancel_ack}
 use Rattle.ltp_session.specs.Cells.{cell, filled, filled_places, octet_in, length_after}
 use Rattle.ltp_session.specs.Claims.{claims_below, upper_of, report_on, is_whole_claim}
 use Rattle.ltp_session.specs.RedPart.{RedPiece, first_octet, or_else}
-use Rattle.ltp_session.specs.Receiver.{Receiving, ReceivingPhase, receiver_open, receiver_cancelling, Place, fresh}
+use Rattle.ltp_session.specs.Receiver.{Receiving, ReceivingPhase, receiver_open, receiver_cancelling, Admission, fresh}
 use Rattle.ltp_session.specs.Receiver.{piece_stop, with_red as filled_by, with_handed_up, red_part, bound_of, report_of, rejects, reports}
 use Rattle.ltp_session.specs.Receiver.{takes_checkpoint, takes_red, takes_green, is_outside, is_miscoloured, piece_step}
 use Rattle.ltp_session.specs.Receiver.{is_cancelling, piece_for, on_piece, acknowledged_in, acknowledged, receiver_answers, receiver_tick}
@@ -299,7 +299,7 @@ not-empty size stop most offset is part = by (size == 0) refl (nat_lt most stop)
   by true is_none past both = absurd (cc)
   by false is_none past both = grind (arith, nat_tests)
 
-on-piece-goes : (policy : PolicyValue) (place : Place) (kept : Option Receiving) (q : PieceValue) (now : ℕ) (said : List ContentValue)
+on-piece-goes : (policy : PolicyValue) (place : Admission) (kept : Option Receiving) (q : PieceValue) (now : ℕ) (said : List ContentValue)
     → IfKept (ReceiverKnown (a_piece q ∷ said)) kept → IsTold (a_piece q)
     → ReceiverGoes (a_piece q ∷ said) (on_piece policy place kept q now)
 on-piece-goes policy place kept q now said known told =
@@ -329,7 +329,7 @@ acknowledged-goes r serial said known = by_phase r.phase
         (tt, known)
     by_phase (receiver_cancelling reason timer) = (tt, known)
 
-pub answers-receiver : (policy : PolicyValue) (place : Place) (kept : Option Receiving) (content : ContentValue) (now : ℕ)
+pub answers-receiver : (policy : PolicyValue) (place : Admission) (kept : Option Receiving) (content : ContentValue) (now : ℕ)
     (t : StepValue Receiving) (said : List ContentValue) → IfKept (ReceiverKnown (content ∷ said)) kept → IsTold content
     → receiver_answers policy place kept content now ≡ Some t → ReceiverGoes (content ∷ said) t
 unfolding receiver_answers

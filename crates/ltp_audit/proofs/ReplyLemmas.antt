@@ -12,7 +12,7 @@ use Rattle.ltp_session.specs.declared.name.SessionName.{SessionName}
 use Rattle.ltp_session.specs.Table.{find, AreAscending}
 use Rattle.ltp_session.specs.Step.{Change, stays, keeps, ends, after, StepValue}
 use Rattle.ltp_session.specs.Sender.{Sending, sender_answers}
-use Rattle.ltp_session.specs.Receiver.{Receiving, Place, receiver_answers}
+use Rattle.ltp_session.specs.Receiver.{Receiving, Admission, receiver_answers}
 use Rattle.ltp_session.specs.Engine.{Party, Engine, with_sender, with_receiver, evicted_by, without_evicted}
 use Rattle.ltp_laws.specs.Kept.{IfKept, IfKeeps}
 use Rattle.ltp_laws.proofs.ListLemmas.{answered}
@@ -171,7 +171,7 @@ module _ (p : Party) (party : IsParty p) (n : ℕ) (few : n < 2 ^ 64) (history :
     known = after-receives _ kept t.next (later-known _ t.out kept known) (later-keeps _ t.out t.next goes.1);
   }
 
-  pub receiver-hears : (policy : PolicyValue) (place : Place) (kept : Option Receiving) (content : ContentValue) (now : ℕ) (t : StepValue Receiving)
+  pub receiver-hears : (policy : PolicyValue) (place : Admission) (kept : Option Receiving) (content : ContentValue) (now : ℕ) (t : StepValue Receiving)
       (earlier : List ContentValue) → said_in p.own p.peer history p.peer n ≡ content ∷ earlier
       → IfKept (Receives n (said_in p.own p.peer history p.peer n)) kept → IsTold content
       → receiver_answers policy place kept content now ≡ Some t

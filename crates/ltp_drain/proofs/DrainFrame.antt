@@ -10,9 +10,9 @@ use Rattle.ltp_segment.specs.Values.{ContentValue, SegmentValue}
 use Rattle.ltp_segment.specs.declared.session.Note.TheVariants as notes
 use Rattle.ltp_session.specs.Engine.{closed_runs, evicted_by, list_of, notes_of, evicted_of}
 use Rattle.ltp_session.specs.Engine.{without_evicted, Engine, Party, Reply, arrives, is_used}
-use Rattle.ltp_session.specs.Engine.{place_of, receiver_replies, sender_replies, with_receiver}
+use Rattle.ltp_session.specs.Engine.{admission_of, receiver_replies, sender_replies, with_receiver}
 use Rattle.ltp_session.specs.Engine.{with_sender}
-use Rattle.ltp_session.specs.Receiver.{Place, Receiving, receiver_answers}
+use Rattle.ltp_session.specs.Receiver.{Admission, Receiving, receiver_answers}
 use Rattle.ltp_session.specs.Sender.{Sending, sender_answers}
 use Rattle.ltp_session.specs.Step.{NoteValue, note_sent, Change, StepValue, ends, keeps, stays}
 use Rattle.ltp_session.specs.Table.{find}
@@ -143,7 +143,7 @@ sender-unheard F p q n v e now new_s new_r m hears stands =
         st.drains)
 
 receiver-lower : (F : List ℕ → ℕ → View → Type 0) → Gives F
-    → (p q : Party) (place : Place) (v : View) (e : ContentValue) (now : ℕ)
+    → (p q : Party) (place : Admission) (v : View) (e : ContentValue) (now : ℕ)
     (new_s new_r : List ContentValue) (m : ℕ) (t : StepValue Receiving)
     → place.closed ≡ v.closed → (IsComing v → place.full ≡ false) → AreFit place.most v.by_sender
     → receiver_answers q.policy place v.receiver e now ≡ Some t
@@ -163,7 +163,7 @@ receiver-lower F gives p q place v e now new_s new_r m t closed roomy fit hears 
         new_s new_r m t (gives.gives st.block st.red place.most v fit st.facts) refl closed
         roomy st.drains hears)
 
-receiver-unheard : (F : List ℕ → ℕ → View → Type 0) (p q : Party) (place : Place) (v : View)
+receiver-unheard : (F : List ℕ → ℕ → View → Type 0) (p q : Party) (place : Admission) (v : View)
     (e : ContentValue) (now : ℕ) (new_s new_r : List ContentValue) (m : ℕ)
     → receiver_answers q.policy place v.receiver e now ≡ None
     → Stands F (setting_by p q place.session) v (e ∷ new_s) new_r m
@@ -345,9 +345,9 @@ peer-touches : (F : List ℕ → ℕ → View → Type 0) → Gives F
     → (IsComing (view_by you me q f e sent (o.first.segment).session)
     → length e.receivers < p.sessions)
     → (IsComing (view_by you me q f e sent (o.first.segment).session)
-    → (place_of p e (o.first.segment).session).full ≡ false)
+    → (admission_of p e (o.first.segment).session).full ≡ false)
     → AreFit p.most (view_by you me q f e sent (o.first.segment).session).by_sender
-    → receiver_answers p.policy (place_of p e (o.first.segment).session)
+    → receiver_answers p.policy (admission_of p e (o.first.segment).session)
     (find (o.first.segment).session e.receivers) (o.first.segment).content now ≡ Some t
     → Touches F me you p q e f rank_p rank_q (with_receiver
     (opening p e (find (o.first.segment).session e.receivers) t.next) (o.first.segment).session
@@ -362,7 +362,7 @@ peer-touches F gives me you p q e f sent new rank_p rank_q o now t both linked a
     (said me q.own n o.others ++ t.out) _ _ (rank_q n)
     here (new-none you q.own n sent o.others added (ap (λ (v : View). v.by_sender) here))
     (new-said me q.own n sent o.others added t.out (ap (λ (v : View). v.by_receiver) here))
-    (receiver-lower F gives q p (place_of p e n) v (o.first.segment).content now
+    (receiver-lower F gives q p (admission_of p e n) v (o.first.segment).content now
     (said you q.own n o.others) (said me q.own n o.others) (rank_q n) t refl roomy fit hears
     (stands-so F (setting_by q p n) v v (said you q.own n new) (said me q.own n new) _ _
     (rank_q n) refl (sym ((short n).here origin refl)) (sym (short n).mine) (all.peer n))))
@@ -423,7 +423,7 @@ peer-touches F gives me you p q e f sent new rank_p rank_q o now t both linked a
             (let empty : (o.first.segment).content ∷ said you q.own (o.first.segment).session
             o.others ≡ [] = idle.none_s in cc)
         go (was_begun used st) = receiver-opens (setting_by q p n st.red) st.block p.policy
-            (place_of p e n) (view_by you me q f e sent n) (o.first.segment).content now
+            (admission_of p e n) (view_by you me q f e sent n) (o.first.segment).content now
             (said you q.own n o.others) (said me q.own n o.others) (rank_q n) t r' refl st.drains
             hears none next
 
@@ -484,13 +484,13 @@ peer-nothing : (F : List ℕ → ℕ → View → Type 0) (me you : End) (p q : 
     (sent new : List Sent) (rank_p rank_q : ℕ → ℕ) (o : Oldest) (now : ℕ)
     → AreTwo me you → Linked p q → AllStand F me you p q e f sent new rank_p rank_q
     → oldest you new ≡ Some o → (o.first.segment).originator ≡ q.own
-    → receiver_answers p.policy (place_of p e (o.first.segment).session)
+    → receiver_answers p.policy (admission_of p e (o.first.segment).session)
     (find (o.first.segment).session e.receivers) (o.first.segment).content now ≡ None
     → Touches F me you p q e f rank_p rank_q e sent o.others (o.first.segment).originator
     (o.first.segment).session
 peer-nothing F me you p q e f sent new rank_p rank_q o now both linked all is origin hears =
     peer_session n origin refl
-    (receiver-unheard F q p (place_of p e n) (view_by you me q f e sent n)
+    (receiver-unheard F q p (admission_of p e n) (view_by you me q f e sent n)
     (o.first.segment).content now (said you q.own n o.others) (said me q.own n o.others)
     (rank_q n) hears
     (stands-so F (setting_by q p n) v v (said you q.own n new) (said me q.own n new) _ _
@@ -549,7 +549,7 @@ arrival-touches F gives me you p q e f sent new rank_p rank_q o now both linked 
     (λ unused. absurd (not_new (eqb-true s.originator p.own own) unused)))
     (λ not_own. by_arms To (s.originator == p.peer) _ _
     (λ peer. peer_hears (eqb-true s.originator p.peer peer ∙ linked.knows)
-    (receiver_answers p.policy (place_of p e s.session) (find s.session e.receivers) s.content
+    (receiver_answers p.policy (admission_of p e s.session) (find s.session e.receivers) s.content
     now) refl)
     (λ not_peer. absurd (by_known known (eqb-false s.originator p.own not_own)
     (eqb-false s.originator p.peer not_peer))))
@@ -590,14 +590,14 @@ arrival-touches F gives me you p q e f sent new rank_p rank_q o now both linked 
         all is own
         (fit_own s.session) hears)
 
-    roomy : IsComing (view_by you me q f e sent s.session) → (place_of p e s.session).full ≡ false
+    roomy : IsComing (view_by you me q f e sent s.session) → (admission_of p e s.session).full ≡ false
     roomy coming = has_place (closed_runs e.closed + length e.receivers) (room s.session coming).1
       where
         has_place : (k : ℕ) → k < p.history → nat_le p.history k ≡ false
         has_place k low = grind (arith, nat_tests)
 
     peer_hears : s.originator ≡ q.own → (x : Option (StepValue Receiving))
-        → receiver_answers p.policy (place_of p e s.session) (find s.session e.receivers)
+        → receiver_answers p.policy (admission_of p e s.session) (find s.session e.receivers)
         s.content now ≡ x → To (receiver_replies p e s.session x)
     peer_hears peer None hears = peer-nothing F me you p q e f sent new rank_p rank_q o now both
         linked all is peer hears
@@ -733,7 +733,7 @@ own-advances F gives me you p q e f sent new rank_p rank_q o now t r both linked
 peer-advances : (me you : End) (p q : Party) (e f : Engine) (sent : List Sent) (n : ℕ)
     (content : ContentValue) (now : ℕ) (t : StepValue Receiving) (r : Reply)
     → AreTwo me you → Linked p q
-    → receiver_answers p.policy (place_of p e n) (find n e.receivers) content now ≡ Some t
+    → receiver_answers p.policy (admission_of p e n) (find n e.receivers) content now ≡ Some t
     → receiver_replies p e n (Some t) ≡ Some r
     → AdvancesOn me you p q e f sent q.own n r
 peer-advances me you p q e f sent n content now t r both linked hears is_r = record {
@@ -769,7 +769,7 @@ peer-advances me you p q e f sent n content now t r both linked hears is_r = rec
     here = record {
       sender = λ is_open. inl (subst (λ (v : View). IsOpen v.sender)
           (sym (receiver-here me you q p f e sent n t both)) is_open);
-      receiver = λ handed. by_up (hands-up-now p.policy (place_of p e n) (find n e.receivers)
+      receiver = λ handed. by_up (hands-up-now p.policy (admission_of p e n) (find n e.receivers)
           content now t hears
           (subst (λ (v : View). IsHanded v.receiver) (receiver-here me you q p f e sent n t both)
           handed));
@@ -808,7 +808,7 @@ arrival-advances F gives me you p q e f sent new rank_p rank_q o now both linked
     (sender_answers p.policy (find s.session e.senders) s.content now) refl) (λ unused. tt))
     (λ not_own. by_arms To (s.originator == p.peer) _ _
     (λ peer. peer_hears (eqb-true s.originator p.peer peer ∙ linked.knows)
-    (receiver_answers p.policy (place_of p e s.session) (find s.session e.receivers) s.content
+    (receiver_answers p.policy (admission_of p e s.session) (find s.session e.receivers) s.content
     now) refl) (λ not_peer. tt))
   where
     s : SegmentValue
@@ -833,7 +833,7 @@ arrival-advances F gives me you p q e f sent new rank_p rank_q o now both linked
     own_hears own (Some t) hears = by_own own t hears (sender_replies e s.session (Some t)) refl
 
     by_peer : s.originator ≡ q.own → (t : StepValue Receiving)
-        → receiver_answers p.policy (place_of p e s.session) (find s.session e.receivers)
+        → receiver_answers p.policy (admission_of p e s.session) (find s.session e.receivers)
         s.content now ≡ Some t
         → (x : Option Reply) → receiver_replies p e s.session (Some t) ≡ x → To x
     by_peer peer t hears None is_r = tt
@@ -842,7 +842,7 @@ arrival-advances F gives me you p q e f sent new rank_p rank_q o now both linked
         (peer-advances me you p q e f sent s.session s.content now t r both linked hears is_r)
 
     peer_hears : s.originator ≡ q.own → (x : Option (StepValue Receiving))
-        → receiver_answers p.policy (place_of p e s.session) (find s.session e.receivers)
+        → receiver_answers p.policy (admission_of p e s.session) (find s.session e.receivers)
         s.content now ≡ x → To (receiver_replies p e s.session x)
     peer_hears peer None hears = tt
     peer_hears peer (Some t) hears = by_peer peer t hears (receiver_replies p e s.session (Some t))

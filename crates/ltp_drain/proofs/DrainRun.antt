@@ -12,7 +12,7 @@ use Rattle.ltp_segment.specs.declared.session.Note.TheVariants as notes
 use Rattle.ltp_session.specs.Engine.{UpValue, datagram_step, list_of, replied}
 use Rattle.ltp_session.specs.Engine.{replied_or_stranger, sender_changes, receiver_changes}
 use Rattle.ltp_session.specs.Engine.{Engine, Party, Reply, arrives, closed_runs, is_used}
-use Rattle.ltp_session.specs.Engine.{place_of, receiver_replies, receiver_ticks, sender_replies}
+use Rattle.ltp_session.specs.Engine.{admission_of, receiver_replies, receiver_ticks, sender_replies}
 use Rattle.ltp_session.specs.Engine.{sender_ticks, tick_engine, tick_out, tick_segments}
 use Rattle.ltp_session.specs.Receiver.{Pending, Receiving, receiver_answers}
 use Rattle.ltp_session.specs.Sender.{Sending, sender_answers, sending_timer}
@@ -66,7 +66,7 @@ arrives-kept p e s now =
     (both_arms (ReplyKept e) (is_used p e s.session) _ _
     (own (sender_answers p.policy (find s.session e.senders) s.content now)) tt)
     (both_arms (ReplyKept e) (s.originator == p.peer) _ _
-    (peer (receiver_answers p.policy (place_of p e s.session) (find s.session e.receivers)
+    (peer (receiver_answers p.policy (admission_of p e s.session) (find s.session e.receivers)
     s.content now)) tt)
   where
     own : (x : Option (StepValue Sending)) → ReplyKept e (sender_replies e s.session x)

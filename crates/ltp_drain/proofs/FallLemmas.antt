@@ -13,7 +13,7 @@ use Rattle.ltp_session.specs.Table.{find, put, without, settled, AreAscending}
 use Rattle.ltp_session.specs.Timer.{is_past_serials}
 use Rattle.ltp_session.specs.Claims.{with_claims, is_whole_claim}
 use Rattle.ltp_session.specs.Sender.{Sending, SendingPhase, sender_open, sender_cancelling, segments_from, red_segments, red_pieces, checkpoint_at, unclaimed, is_claimed, is_all_claimed, with_report, sends_again, takes_report, report_step, ends_cancelling, sender_answers}
-use Rattle.ltp_session.specs.Receiver.{Receiving, ReceivingPhase, receiver_open, receiver_cancelling, Place, acknowledged_in, acknowledged, is_cancelling, receiver_answers, fresh}
+use Rattle.ltp_session.specs.Receiver.{Receiving, ReceivingPhase, receiver_open, receiver_cancelling, Admission, acknowledged_in, acknowledged, is_cancelling, receiver_answers, fresh}
 use Rattle.ltp_laws.proofs.ListLemmas.{both_arms, answered}
 use Rattle.ltp_laws.proofs.TableLemmas.{find_below}
 use Rattle.ltp_laws.proofs.WalkLemmas.{OnPiece, OnSegment, walk-segment}
@@ -149,7 +149,7 @@ piece-lighter policy r q now = record {
   reported = λ _ _ _. omega arith;
 }
 
-heavy-lighter : (policy : PolicyValue) (place : Place) (kept : Option Receiving) (content : ContentValue) (now came : ℕ) → 2 ≤ came
+heavy-lighter : (policy : PolicyValue) (place : Admission) (kept : Option Receiving) (content : ContentValue) (now came : ℕ) → 2 ≤ came
     → ((q : PieceValue) → content ≡ a_piece q → came ≡ 3) → OnSegment policy place kept content now (Lighter came)
 unfolding contents_burden
 heavy-lighter policy place kept content now came two three = record {
@@ -166,7 +166,7 @@ heavy-lighter policy place kept content now came two three = record {
   answered_off = λ r _ _. omega (arith, two);
 }
 
-pub receiver-lighter : (policy : PolicyValue) (place : Place) (kept : Option Receiving) (content : ContentValue) (now : ℕ) (t : StepValue Receiving)
+pub receiver-lighter : (policy : PolicyValue) (place : Admission) (kept : Option Receiving) (content : ContentValue) (now : ℕ) (t : StepValue Receiving)
     → receiver_answers policy place kept content now ≡ Some t → contents_burden t.out < burden content
 unfolding receiver_answers contents_burden acknowledged
 receiver-lighter policy place kept (a_piece q) now t hears =

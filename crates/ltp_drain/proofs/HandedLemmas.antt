@@ -4,7 +4,7 @@ use Rattle.std.proofs.Common.{◌≡◌, ℕ, Bool, true, false, ◌||◌, Optio
 use Rattle.std.proofs.Common.{inr, refl, sym, subst}
 use Rattle.ltp_segment.specs.Policy.{PolicyValue}
 use Rattle.ltp_segment.specs.Values.{ContentValue, PieceValue}
-use Rattle.ltp_session.specs.Receiver.{Place, Receiving, fresh, receiver_answers}
+use Rattle.ltp_session.specs.Receiver.{Admission, Receiving, fresh, receiver_answers}
 use Rattle.ltp_session.specs.Step.{StepValue, after}
 use Rattle.ltp_laws.proofs.WalkLemmas.{OnPiece, walk-segment}
 use Rattle.ltp_drain.specs.Hopeful.{IsHanded}
@@ -35,7 +35,7 @@ piece-hands policy kept r q now was = record {
   reported = λ red_kind asks more is. by_either r.handed_up _ was is;
 }
 
-pub hands-up-now : (policy : PolicyValue) (place : Place) (kept : Option Receiving)
+pub hands-up-now : (policy : PolicyValue) (place : Admission) (kept : Option Receiving)
     (content : ContentValue) (now : ℕ) (t : StepValue Receiving)
     → receiver_answers policy place kept content now ≡ Some t → HandsUpNow kept t
 hands-up-now policy place kept content now t hears =

@@ -16,7 +16,7 @@ use Rattle.ltp_session.specs.Table.{find, AreAscending}
 use Rattle.ltp_session.specs.Views.{headed_all}
 use Rattle.ltp_session.specs.Sender.{Sending, SendingPhase, sender_open, sender_cancelling, sender_answers, sender_deadline}
 use Rattle.ltp_session.specs.Receiver.{Receiving, ReceivingPhase, receiver_open, receiver_cancelling, receiver_answers, receiver_deadline, receiving_timer}
-use Rattle.ltp_session.specs.Engine.{Party, Engine, Reply, sender_replies, receiver_replies, with_receiver, without_evicted, evicted_by, arrives, to_sender, to_receiver, is_used, place_of, earlier, least_deadline, next_deadline}
+use Rattle.ltp_session.specs.Engine.{Party, Engine, Reply, sender_replies, receiver_replies, with_receiver, without_evicted, evicted_by, arrives, to_sender, to_receiver, is_used, admission_of, earlier, least_deadline, next_deadline}
 use Rattle.ltp_session.specs.World.{End, first_end, second_end, other, at_end, Sent, World, Event, sent_by, replies, delivered, run, starts_world, ArePeers}
 use Rattle.ltp_laws.specs.Checkpoints.{IsCurrent, HasAsked}
 use Rattle.ltp_laws.specs.Deadlines.{Waits, SenderAhead, ReceiverAhead, PhaseAhead}
@@ -62,13 +62,13 @@ senders-without_evicted e None = refl
 senders-without_evicted e (Some n) = senders-with_receiver e n ends
 
 receiver-replies : (p : Party) (e : Engine) (s : SegmentValue) (now : ℕ) → AnswerFalls e (burden s.content) (to_receiver p e s now)
-receiver-replies p e s now = by_step (receiver_answers p.policy (place_of p e s.session) (find s.session e.receivers) s.content now) refl
+receiver-replies p e s now = by_step (receiver_answers p.policy (admission_of p e s.session) (find s.session e.receivers) s.content now) refl
   where
-    by_step : (o : Option (StepValue Receiving)) → receiver_answers p.policy (place_of p e s.session) (find s.session e.receivers) s.content now ≡ o
+    by_step : (o : Option (StepValue Receiving)) → receiver_answers p.policy (admission_of p e s.session) (find s.session e.receivers) s.content now ≡ o
         → AnswerFalls e (burden s.content) (receiver_replies p e s.session o)
     by_step None is = tt
     by_step (Some t) is =
-        let lighter = receiver-lighter p.policy (place_of p e s.session) (find s.session e.receivers) s.content now t is in
+        let lighter = receiver-lighter p.policy (admission_of p e s.session) (find s.session e.receivers) s.content now t is in
         let gone : Option ℕ = evicted_by p e (find s.session e.receivers) t.next in
         let same : senders_left (with_receiver (without_evicted e gone) s.session t.next).senders ≡ senders_left e.senders =
         ap senders_left (senders-with_receiver (without_evicted e gone) s.session t.next ∙ senders-without_evicted e gone) in

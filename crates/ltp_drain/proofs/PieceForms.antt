@@ -15,7 +15,7 @@ use Rattle.ltp_segment.specs.declared.segment.PieceKind.{PieceKind}
 use Rattle.ltp_segment.specs.declared.segment.PieceKind.TheVariants as kinds
 use Rattle.ltp_session.specs.Cells.{is_misplaced, reach_of, cell, filled}
 use Rattle.ltp_session.specs.Cells.{is_another, is_below, is_past, octet_in}
-use Rattle.ltp_session.specs.Receiver.{bound_of, Place, Receiving, fresh, is_cancelling}
+use Rattle.ltp_session.specs.Receiver.{bound_of, Admission, Receiving, fresh, is_cancelling}
 use Rattle.ltp_session.specs.Receiver.{is_miscoloured, is_outside, on_piece, piece_for}
 use Rattle.ltp_session.specs.Receiver.{piece_step, piece_stop, report_of, with_red}
 use Rattle.ltp_session.specs.RedPart.{or_else}
@@ -211,14 +211,14 @@ piece-takes block red policy r q now is of listening serials =
 -- ---- a piece comes
 
 -- nothing is kept of it, or the session takes it
-pub data Comes (place : Place) (kept : Option Receiving) (q : PieceValue)
+pub data Comes (place : Admission) (kept : Option Receiving) (q : PieceValue)
     (t : StepValue Receiving) : Type 0 where
   passes : t.next ≡ stays → t.out ≡ [] → kept ≡ None → (is_red q.kind ≡ false)
       ⊎ (place.closed ≡ true) → Comes place kept q t
   takes : (kept ≡ None → (place.closed ≡ false) × (is_red q.kind ≡ true))
       → Takes (met place.session kept) q t → Comes place kept q t
 
-pub piece-comes : (block : List ℕ) (red : ℕ) (policy : PolicyValue) (place : Place)
+pub piece-comes : (block : List ℕ) (red : ℕ) (policy : PolicyValue) (place : Admission)
     (kept : Option Receiving) (q : PieceValue) (now : ℕ)
     → IfKept (IsReceiverOf block red) kept → IsPieceOf block red q → 1 ≤ length q.body
     → piece_stop q ≤ place.most → (kept ≡ None → place.closed ≡ false → is_red q.kind ≡ true

@@ -9,7 +9,7 @@ use Rattle.ltp_segment.specs.Policy.{PolicyValue}
 use Rattle.ltp_segment.specs.Values.{PieceValue, ContentValue, a_piece, a_report, a_report_ack}
 use Rattle.ltp_segment.specs.Values.{a_sender_cancel, a_sender_cancel_ack, a_receiver_cancel}
 use Rattle.ltp_segment.specs.Values.{a_receiver_cancel_ack}
-use Rattle.ltp_session.specs.Receiver.{on_report_ack, Place, Receiving, is_cancelling, on_piece}
+use Rattle.ltp_session.specs.Receiver.{on_report_ack, Admission, Receiving, is_cancelling, on_piece}
 use Rattle.ltp_session.specs.Receiver.{piece_stop, receiver_answers}
 use Rattle.ltp_session.specs.Sender.{Sending}
 use Rattle.ltp_session.specs.Step.{Change, StepValue, after, ends, keeps, stays}
@@ -191,7 +191,7 @@ none-goes session v t next out none unclosed = record {
     never r' kept = let here : v.receiver ≡ Some r' =
         subst (λ ch. after ch v.receiver ≡ Some r') next kept in cc
 
-comes-goes : (place : Place) (v : View) (q : PieceValue) (t : StepValue Receiving)
+comes-goes : (place : Admission) (v : View) (q : PieceValue) (t : StepValue Receiving)
     → ((s : Sending) → v.sender ≡ Some s → v.closed ≡ false)
     → Comes place v.receiver q t → Goes place.session v t
 comes-goes place v q t unclosed (passes next out none why) = none-goes place.session v t next
@@ -204,7 +204,7 @@ comes-goes place v q t unclosed (takes opens (answers r' timer asks next out gro
     kept-goes place.session v t r' next (no_cancels-one _ t.out refl out) unclosed grows.listening
     (λ was. grows.handed (handed-met place.session v.receiver was)) (omega (arith, serial))
 
-comes-weight : (place : Place) (o : Option Receiving) (q : PieceValue) (t : StepValue Receiving)
+comes-weight : (place : Admission) (o : Option Receiving) (q : PieceValue) (t : StepValue Receiving)
     → Comes place o q t → weights t.out < weight (a_piece q)
 unfolding weights
 comes-weight place o q t (passes next out none why) = by_kind (is_checkpoint q.kind)
@@ -275,7 +275,7 @@ is-coming v q (inl is_open) none unclosed = (is_open, none, unclosed)
 is-coming v q (inr (inl closed)) none unclosed = absurd (cc)
 is-coming v q (inr (inr handed)) none unclosed = absurd (subst IsHanded none handed)
 
-pub receiver-falls : (at : Setting) (block : List ℕ) (policy : PolicyValue) (place : Place)
+pub receiver-falls : (at : Setting) (block : List ℕ) (policy : PolicyValue) (place : Admission)
     (v : View) (e : ContentValue) (now : ℕ) (new_s new_r : List ContentValue) (n : ℕ)
     (t : StepValue Receiving)
     → Given block at.red place.most v → place.session ≡ at.session → place.closed ≡ v.closed
@@ -344,7 +344,7 @@ receiver-falls at block policy place v a_sender_cancel_ack now new_s new_r n t g
     closed roomy drains hears = absurd (cc)
 
 -- a piece that opens a session is red, and the number open
-opening-piece : (policy : PolicyValue) (place : Place) (q : PieceValue) (now : ℕ) (r' : Receiving)
+opening-piece : (policy : PolicyValue) (place : Admission) (q : PieceValue) (now : ℕ) (r' : Receiving)
     → (on_piece policy place None q now).next ≡ keeps r' → (is_red q.kind ≡ true)
     × (place.closed ≡ false)
 opening-piece policy place q now r' =
@@ -363,7 +363,7 @@ opening-piece policy place q now r' =
     is_true false h = absurd (cc)
 
 -- a session that opens was coming
-pub receiver-opens : (at : Setting) (block : List ℕ) (policy : PolicyValue) (place : Place)
+pub receiver-opens : (at : Setting) (block : List ℕ) (policy : PolicyValue) (place : Admission)
     (v : View) (e : ContentValue) (now : ℕ) (new_s new_r : List ContentValue) (n : ℕ)
     (t : StepValue Receiving) (r' : Receiving)
     → place.closed ≡ v.closed → Drains at v (e ∷ new_s) new_r n

@@ -9,7 +9,7 @@ use Rattle.ltp_segment.specs.Values.{PieceValue, ReportValue, ContentValue, a_pi
 use Rattle.ltp_segment.specs.Values.{a_report_ack}
 use Rattle.ltp_session.specs.Cells.{cell, filled, length_after}
 use Rattle.ltp_session.specs.Claims.{is_whole_claim}
-use Rattle.ltp_session.specs.Receiver.{Pending, Place, Receiving, ReceivingPhase, acknowledged}
+use Rattle.ltp_session.specs.Receiver.{Pending, Admission, Receiving, ReceivingPhase, acknowledged}
 use Rattle.ltp_session.specs.Receiver.{acknowledged_in, is_cancelling, piece_stop}
 use Rattle.ltp_session.specs.Receiver.{receiver_cancelling, receiver_open, report_of, with_red}
 use Rattle.ltp_session.specs.Sender.{Sending, sender_open}
@@ -159,7 +159,7 @@ was-pending v session new_s new_r new_s' new_r' p waits still = by_kept v.receiv
     by_kept None is waits = absurd (cc)
     by_kept (Some r) is waits = record { r = r; kept = is; waited = waits; still = still }
 
-pub piece-onward : (block : List ℕ) (red : ℕ) (place : Place) (v : View) (q : PieceValue)
+pub piece-onward : (block : List ℕ) (red : ℕ) (place : Admission) (v : View) (q : PieceValue)
     (new_s new_r : List ContentValue) (t : StepValue Receiving)
     → Given block red place.most v → place.closed ≡ v.closed
     → ((s : Sending) → v.sender ≡ Some s → v.closed ≡ false) → IsIn (a_piece q) v.by_sender

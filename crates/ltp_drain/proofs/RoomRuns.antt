@@ -8,9 +8,9 @@ use Rattle.ltp_segment.specs.Values.{ContentValue, SegmentValue, a_piece, a_rece
 use Rattle.ltp_segment.specs.Values.{a_receiver_cancel_ack, a_report, a_report_ack}
 use Rattle.ltp_segment.specs.Values.{a_sender_cancel, a_sender_cancel_ack}
 use Rattle.ltp_session.specs.Engine.{Engine, Party, Reply, arrives, closed_runs, is_used}
-use Rattle.ltp_session.specs.Engine.{place_of, receiver_replies, sender_replies, tick_engine}
+use Rattle.ltp_session.specs.Engine.{admission_of, receiver_replies, sender_replies, tick_engine}
 use Rattle.ltp_session.specs.Engine.{with_receiver}
-use Rattle.ltp_session.specs.Receiver.{Place, Receiving, fresh, receiver_answers}
+use Rattle.ltp_session.specs.Receiver.{Admission, Receiving, fresh, receiver_answers}
 use Rattle.ltp_session.specs.Sender.{Sending, sender_answers}
 use Rattle.ltp_session.specs.Step.{Change, StepValue, stays, keeps, ends}
 use Rattle.ltp_session.specs.Table.{AreAscending, find}
@@ -81,7 +81,7 @@ piece-never policy r q now = record {
   reported = λ red_kind asks more is. cc;
 }
 
-unkept-never : (policy : PolicyValue) (place : Place) (content : ContentValue) (now : ℕ)
+unkept-never : (policy : PolicyValue) (place : Admission) (content : ContentValue) (now : ℕ)
     (t : StepValue Receiving)
     → receiver_answers policy place None content now ≡ Some t → NeverEnds t
 unkept-never policy place content now t hears =
@@ -119,7 +119,7 @@ some-come e f n c = omega (
       c.kept,
 )
 
-pub received-of : (policy : PolicyValue) (place : Place) (e f : Engine) (n : ℕ)
+pub received-of : (policy : PolicyValue) (place : Admission) (e f : Engine) (n : ℕ)
     (content : ContentValue) (now : ℕ) (t : StepValue Receiving)
     → receiver_answers policy place (find n e.receivers) content now ≡ Some t
     → ((r' : Receiving) → find n e.receivers ≡ None → t.next ≡ keeps r' → Comes_to e f n)
@@ -163,7 +163,7 @@ arrival-room F me you p q e f sent new rank_p rank_q o now both linked all is am
     refl) (λ unused. tt))
     (λ not_own. by_arms To (s.originator == p.peer) _ _
     (λ peer. peer_hears (eqb-true s.originator p.peer peer ∙ linked.knows)
-    (receiver_answers p.policy (place_of p e s.session) (find s.session e.receivers) s.content
+    (receiver_answers p.policy (admission_of p e s.session) (find s.session e.receivers) s.content
     now) refl) (λ not_peer. tt))
   where
     s : SegmentValue
@@ -184,7 +184,7 @@ arrival-room F me you p q e f sent new rank_p rank_q o now both linked all is am
         )
 
     opens : s.originator ≡ q.own → (t : StepValue Receiving)
-        → receiver_answers p.policy (place_of p e s.session) (find s.session e.receivers)
+        → receiver_answers p.policy (admission_of p e s.session) (find s.session e.receivers)
         s.content now ≡ Some t
         → (r' : Receiving) → find s.session e.receivers ≡ None → t.next ≡ keeps r'
         → Comes_to e f s.session
@@ -209,14 +209,14 @@ arrival-room F me you p q e f sent new rank_p rank_q o now both linked all is am
             (let empty : (o.first.segment).content ∷ said you q.own (o.first.segment).session
             o.others ≡ [] = idle.none_s in cc)
         go (was_begun used st) = receiver-opens (setting_by q p (o.first.segment).session st.red)
-            st.block p.policy (place_of p e (o.first.segment).session)
+            st.block p.policy (admission_of p e (o.first.segment).session)
             (view_by you me q f e sent (o.first.segment).session) (o.first.segment).content now
             (said you q.own (o.first.segment).session o.others)
             (said me q.own (o.first.segment).session o.others) (rank_q (o.first.segment).session)
             t r' refl st.drains hears none next
 
     peer_hears : s.originator ≡ q.own → (x : Option (StepValue Receiving))
-        → receiver_answers p.policy (place_of p e s.session) (find s.session e.receivers)
+        → receiver_answers p.policy (admission_of p e s.session) (find s.session e.receivers)
         s.content now ≡ x → To (receiver_replies p e s.session x)
     peer_hears peer None hears = tt
     peer_hears peer (Some t) hears =
@@ -232,7 +232,7 @@ arrival-room F me you p q e f sent new rank_p rank_q o now both linked all is am
         subst (λ (g : Engine). HasRoom (with_receiver g s.session t.next) f
         × HasRoom f (with_receiver g s.session t.next)) (sym same) (
           room-received e f s.session t.next receivers
-              (received-of p.policy (place_of p e s.session) e f s.session s.content now t hears
+              (received-of p.policy (admission_of p e s.session) e f s.session s.content now t hears
               (opens peer t hears)) room,
           room-received_peer e f s.session t.next room_peer,
         )

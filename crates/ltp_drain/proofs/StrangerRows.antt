@@ -7,7 +7,7 @@ use Rattle.ltp_segment.specs.Policy.{PolicyValue}
 use Rattle.ltp_segment.specs.Values.{PieceValue, ReportValue, ContentValue, a_piece, a_report}
 use Rattle.ltp_segment.specs.Values.{a_report_ack, a_sender_cancel, a_sender_cancel_ack}
 use Rattle.ltp_segment.specs.Values.{a_receiver_cancel, a_receiver_cancel_ack}
-use Rattle.ltp_session.specs.Receiver.{Place, receiver_answers}
+use Rattle.ltp_session.specs.Receiver.{Admission, receiver_answers}
 use Rattle.ltp_session.specs.Sender.{sender_answers}
 use Rattle.ltp_laws.specs.View.{View}
 use Rattle.ltp_drain.specs.Calm.{Drains, Falls, HasSerials, Onward, Setting}
@@ -196,7 +196,7 @@ unheard-by_sender at policy v (a_receiver_cancel m) now new_s new_r n hears drai
 unheard-by_sender at policy v a_receiver_cancel_ack now new_s new_r n hears drains =
     from_receiver-falls at v a_receiver_cancel_ack new_s new_r n (λ x h. cc) drains
 
-pub unheard-by_receiver : (at : Setting) (policy : PolicyValue) (place : Place) (v : View)
+pub unheard-by_receiver : (at : Setting) (policy : PolicyValue) (place : Admission) (v : View)
     (e : ContentValue) (now : ℕ) (new_s new_r : List ContentValue) (n : ℕ)
     → receiver_answers policy place v.receiver e now ≡ None → Drains at v (e ∷ new_s) new_r n
     → Falls at v new_s new_r n

@@ -8,7 +8,7 @@ use Rattle.ltp_segment.specs.Policy.{PolicyValue}
 use Rattle.ltp_segment.specs.Values.{ContentValue, PieceValue, ReportValue, a_piece, a_report, a_report_ack, a_sender_cancel, a_sender_cancel_ack, a_receiver_cancel, a_receiver_cancel_ack}
 use Rattle.ltp_session.specs.Cells.{filled}
 use Rattle.ltp_session.specs.Claims.{with_claims}
-use Rattle.ltp_session.specs.Receiver.{Receiving, Place, piece_stop, receiver_answers, receiver_tick}
+use Rattle.ltp_session.specs.Receiver.{Receiving, Admission, piece_stop, receiver_answers, receiver_tick}
 use Rattle.ltp_session.specs.Sender.{Sending, SendingPhase, sender_open, sender_cancelling, begin, opened, last_segment, red_segments, checkpoint_at, sends_again, takes_report, report_step, sender_due, sender_tick, sending_timer, ends_cancelling, sender_answers, is_all_claimed}
 use Rattle.ltp_session.specs.Step.{Change, stays, keeps, ends, StepValue}
 use Rattle.ltp_session.specs.Table.{find, put, without, settled, ticked, then_kept}
@@ -135,7 +135,7 @@ within-of most n stop is = by_test (n == 0) is where
   by_test true is = absurd (cc)
   by_test false is = grind (arith, nat_tests)
 
-piece-within : (policy : PolicyValue) (place : Place) (kept : Option Receiving) (content : ContentValue) (q : PieceValue) (now : ℕ) (t : StepValue Receiving)
+piece-within : (policy : PolicyValue) (place : Admission) (kept : Option Receiving) (content : ContentValue) (q : PieceValue) (now : ℕ) (t : StepValue Receiving)
     → content ≡ a_piece q → receiver_answers policy place kept content now ≡ Some t → (t.next ≡ stays) ⊎ (piece_stop q ≤ place.most)
 unfolding receiver_answers
 piece-within policy place kept content q now t is hears = answered Within _ t (ap (λ c. receiver_answers policy place kept c now) (sym is) ∙ hears)
@@ -164,7 +164,7 @@ form-within most n content r t (fills q r' is_piece red_kind next filling none) 
 form-within most n content r t (reports_on q r' is_piece red_kind checkpoint next reporting out) fits within =
     subst (λ c. IfKeeps (λ s. ReceivesAtMost most (n, s)) c) (sym next) (filled-within most n r r' q t.next next reporting.cells (fits q is_piece) within)
 
-pub receiver-within : (n : ℕ) (policy : PolicyValue) (place : Place) (kept : Option Receiving) (content : ContentValue) (now : ℕ) (t : StepValue Receiving)
+pub receiver-within : (n : ℕ) (policy : PolicyValue) (place : Admission) (kept : Option Receiving) (content : ContentValue) (now : ℕ) (t : StepValue Receiving)
     → receiver_answers policy place kept content now ≡ Some t → IfKept (λ r. ReceivesAtMost place.most (n, r)) kept → IfKeeps (λ r. ReceivesAtMost place.most (n, r)) t.next
 receiver-within n policy place kept content now t hears within =
     form-within place.most n content (met place.session kept) t (hears-form policy place kept content now t hears).form

@@ -14,7 +14,7 @@ use Rattle.ltp_session.specs.Step.{Change, stays, keeps, ends, StepValue, sendin
 use Rattle.ltp_session.specs.Cells.{is_no_part}
 use Rattle.ltp_session.specs.Timer.{is_past_serials}
 use Rattle.ltp_session.specs.Sender.{Sending, SendingPhase, sender_open, sender_cancelling, sender_answers, report_step, takes_report, next_round, gives_up, sends_again, with_report, is_all_claimed, red_segments, unclaimed, checkpoint_at, last_segment, ends_cancelling, on_sender_cancel_ack}
-use Rattle.ltp_session.specs.Receiver.{Receiving, Place, receiver_answers, on_piece, piece_for, first_piece, piece_step, fresh, hands_up_green}
+use Rattle.ltp_session.specs.Receiver.{Receiving, Admission, receiver_answers, on_piece, piece_for, first_piece, piece_step, fresh, hands_up_green}
 use Rattle.ltp_session.specs.Table.{find, put, settled, AreAscending}
 use Rattle.ltp_session.specs.Engine.{Party, Engine, EngineStep, UpValue, is_used, sender_replies, receiver_replies, arrives, datagram_step, replied_or_stranger, noted, evicted_by, without_evicted, with_receiver, list_of}
 use Rattle.ltp_session.specs.Engine.{to_sender}
@@ -33,7 +33,7 @@ use Rattle.ltp_engine.specs.declared.inbound.Inbound.{Inbound}
 use Rattle.ltp_engine.specs.Values.{InboundValue, EngineValue}
 use Rattle.ltp_engine.specs.Bounds.{IsInboundSound, SendsAtMost, ReceivesAtMost}
 use Rattle.ltp_engine.specs.Tables.{table_of}
-use Rattle.ltp_engine.specs.Inbound.{inbound_of, settled_in, with_room, place_in}
+use Rattle.ltp_engine.specs.Inbound.{inbound_of, settled_in, with_room, admission_in}
 use Rattle.ltp_engine.specs.Sides.{SenderDoes, ReceiverDoes}
 use Rattle.ltp_engine.specs.Effects.{effects_of, up_of, only_noted}
 use Rattle.ltp_engine.specs.Shows.{Shows, ShowsInbound}
@@ -206,7 +206,7 @@ own-steps p next n now content senders senders' inbound told effects low below d
 
 -- ---- a segment of a session that the peer began
 
-first-may : (p : PolicyValue) (place : Place) (piece : PieceValue) (now : ℕ) → MayOpen place (first_piece p place piece now).next
+first-may : (p : PolicyValue) (place : Admission) (piece : PieceValue) (now : ℕ) → MayOpen place (first_piece p place piece now).next
 first-may p place piece now = by_red (is_red piece.kind) where
   by_full : (full : Bool) → place.closed ≡ false → place.full ≡ full → MayOpen place (if full then noting stays [] note_history_full else piece_step p (fresh place.session) piece now).next
   by_full true open_is is = tt
@@ -224,7 +224,7 @@ first-may p place piece now = by_red (is_red piece.kind) where
   by_red false = tt
   by_red true = by_closed place.closed refl
 
-piece-may : (p : PolicyValue) (place : Place) (piece : PieceValue) (now : ℕ) → MayOpen place (on_piece p place None piece now).next
+piece-may : (p : PolicyValue) (place : Admission) (piece : PieceValue) (now : ℕ) → MayOpen place (on_piece p place None piece now).next
 piece-may p place piece now = by_served (piece.service == 1) where
   by_part : (none : Bool) → MayOpen place (if none then noting stays [] note_bad_bounds else first_piece p place piece now).next
   by_part true = tt
@@ -235,7 +235,7 @@ piece-may p place piece now = by_served (piece.service == 1) where
   by_served false = tt
   by_served true = by_part (is_no_part place.most piece.offset piece.body)
 
-pub receiver-may : (p : PolicyValue) (place : Place) (content : ContentValue) (now : ℕ) (step : StepValue Receiving)
+pub receiver-may : (p : PolicyValue) (place : Admission) (content : ContentValue) (now : ℕ) (step : StepValue Receiving)
     → receiver_answers p place None content now ≡ Some step → MayOpen place step.next
 unfolding receiver_answers
 receiver-may p place (a_piece piece) now step is = some-is (λ s. MayOpen place s.next) _ step is (piece-may p place piece now)
@@ -252,10 +252,10 @@ all-room most i (Some m) all = all-settled (ReceivesAtMost most) m ends i.receiv
 
 pub peer-whole : (p : Party) (next n now : ℕ) (content : ContentValue) (senders : List (ℕ × SessionValue Sending)) (old new : Inbound) (told : Option (Option ℕ × Step))
     → p.most ≡ BLOCK_MAX → n ≤ LAST → AreWhole p next senders old
-    → ReceiverDoes p.peer p.policy p.sessions n (receiver_answers p.policy (place_in (inbound_of old) BLOCK_MAX p.history n) (find n (inbound_of old).receivers) content now) old new told
+    → ReceiverDoes p.peer p.policy p.sessions n (receiver_answers p.policy (admission_in (inbound_of old) BLOCK_MAX p.history n) (find n (inbound_of old).receivers) content now) old new told
     → AreWhole p next senders new
-peer-whole p next n now content senders old new told greatest most whole does = by_answer (receiver_answers p.policy (place_in (inbound_of old) BLOCK_MAX p.history n) (find n (inbound_of old).receivers) content now) refl told does where
-  by_answer : (answer : Option (StepValue Receiving)) → receiver_answers p.policy (place_in (inbound_of old) BLOCK_MAX p.history n) (find n (inbound_of old).receivers) content now ≡ answer
+peer-whole p next n now content senders old new told greatest most whole does = by_answer (receiver_answers p.policy (admission_in (inbound_of old) BLOCK_MAX p.history n) (find n (inbound_of old).receivers) content now) refl told does where
+  by_answer : (answer : Option (StepValue Receiving)) → receiver_answers p.policy (admission_in (inbound_of old) BLOCK_MAX p.history n) (find n (inbound_of old).receivers) content now ≡ answer
       → (told : Option (Option ℕ × Step)) → ReceiverDoes p.peer p.policy p.sessions n answer old new told → AreWhole p next senders new
   by_answer None is None does = subst (λ i. AreWhole p next senders i) (sym does) whole
   by_answer None is (Some t) does = absurd does
@@ -274,13 +274,13 @@ peer-whole p next n now content senders old new told greatest most whole does = 
           ascending = whole.sound.ascending;
           inbound = subst (IsInboundSound p) (sym does.next.is)
               (sound-step p (inbound_of old) n BLOCK_MAX t.0 step.next most whole.sound.some (in-order p.peer p.policy old whole.others) whole.sound.inbound does.gone
-              (λ absent. receiver-may p.policy (place_in (inbound_of old) BLOCK_MAX p.history n) content now step (ap (λ kept. receiver_answers p.policy (place_in (inbound_of old) BLOCK_MAX p.history n) kept content now) (sym absent) ∙ is)));
+              (λ absent. receiver-may p.policy (admission_in (inbound_of old) BLOCK_MAX p.history n) content now step (ap (λ kept. receiver_answers p.policy (admission_in (inbound_of old) BLOCK_MAX p.history n) kept content now) (sym absent) ∙ is)));
           sent = whole.sound.sent;
           received = subst (λ i. AllByRecursion (ReceivesAtMost p.most) i.receivers) (sym does.next.is)
               (all-settled (ReceivesAtMost p.most) n step.next (with_room (inbound_of old) t.0).receivers
               (all-room p.most (inbound_of old) t.0 whole.sound.received)
               (subst (λ m. IfKeeps (λ r. ReceivesAtMost m (n, r)) step.next) (sym greatest)
-              (receiver-within n p.policy (place_in (inbound_of old) BLOCK_MAX p.history n) (find n (inbound_of old).receivers) content now step is
+              (receiver-within n p.policy (admission_in (inbound_of old) BLOCK_MAX p.history n) (find n (inbound_of old).receivers) content now step is
               (subst (λ m. IfKept (λ r. ReceivesAtMost m (n, r)) (find n (inbound_of old).receivers)) greatest (all-find (ReceivesAtMost p.most) n (inbound_of old).receivers whole.sound.received)))));
         };
       }
@@ -292,28 +292,28 @@ ups-same n None = refl
 ups-same n (Some body) = refl
 
 pub peer-reply : (p : Party) (next n now : ℕ) (content : ContentValue) (senders : List (ℕ × SessionValue Sending)) (old : Inbound) (answer : Option (StepValue Receiving)) (e : Engine)
-    → p.most ≡ BLOCK_MAX → receiver_answers p.policy (place_in (inbound_of old) BLOCK_MAX p.history n) (find n (inbound_of old).receivers) content now ≡ answer
+    → p.most ≡ BLOCK_MAX → receiver_answers p.policy (admission_in (inbound_of old) BLOCK_MAX p.history n) (find n (inbound_of old).receivers) content now ≡ answer
     → Shows (made_of false p next senders old) e
     → peer_step p e n content now ≡ replied_or_stranger e (record { originator = p.peer; number = n }) (receiver_replies p e n answer)
 peer-reply p next n now content senders old answer e greatest is shows =
     ap (λ x. replied_or_stranger e (record { originator = p.peer; number = n }) (receiver_replies p e n (receiver_answers p.policy x (find n e.receivers) content now)))
-    (same-place p (inbound_of old) e n shows.inbound ∙ ap (λ m. place_in (inbound_of old) m p.history n) greatest)
-    ∙ (ap (λ t. replied_or_stranger e (record { originator = p.peer; number = n }) (receiver_replies p e n (receiver_answers p.policy (place_in (inbound_of old) BLOCK_MAX p.history n) (find n t) content now))) shows.inbound.receivers
+    (same-place p (inbound_of old) e n shows.inbound ∙ ap (λ m. admission_in (inbound_of old) m p.history n) greatest)
+    ∙ (ap (λ t. replied_or_stranger e (record { originator = p.peer; number = n }) (receiver_replies p e n (receiver_answers p.policy (admission_in (inbound_of old) BLOCK_MAX p.history n) (find n t) content now))) shows.inbound.receivers
     ∙ ap (λ a. replied_or_stranger e (record { originator = p.peer; number = n }) (receiver_replies p e n a)) is)
 
 pub peer-steps : (p : Party) (next n now : ℕ) (content : ContentValue) (senders : List (ℕ × SessionValue Sending)) (old new : Inbound) (told : Option (Option ℕ × Step)) (effects : Effects)
     → p.most ≡ BLOCK_MAX → n ≤ LAST → AreWhole p next senders old
-    → ReceiverDoes p.peer p.policy p.sessions n (receiver_answers p.policy (place_in (inbound_of old) BLOCK_MAX p.history n) (find n (inbound_of old).receivers) content now) old new told
+    → ReceiverDoes p.peer p.policy p.sessions n (receiver_answers p.policy (admission_in (inbound_of old) BLOCK_MAX p.history n) (find n (inbound_of old).receivers) content now) old new told
     → effects ≡ handed_of n told
     → Steps (made_of false p next senders old) (made_of false p next senders new) (λ e. peer_step p e n content now) effects
 peer-steps p next n now content senders old new told effects greatest most whole does says =
-    by_answer (receiver_answers p.policy (place_in (inbound_of old) BLOCK_MAX p.history n) (find n (inbound_of old).receivers) content now) refl told does says where
-      reply : (answer : Option (StepValue Receiving)) → receiver_answers p.policy (place_in (inbound_of old) BLOCK_MAX p.history n) (find n (inbound_of old).receivers) content now ≡ answer
+    by_answer (receiver_answers p.policy (admission_in (inbound_of old) BLOCK_MAX p.history n) (find n (inbound_of old).receivers) content now) refl told does says where
+      reply : (answer : Option (StepValue Receiving)) → receiver_answers p.policy (admission_in (inbound_of old) BLOCK_MAX p.history n) (find n (inbound_of old).receivers) content now ≡ answer
           → (e : Engine) → Shows (made_of false p next senders old) e
           → replied_or_stranger e (record { originator = p.peer; number = n }) (receiver_replies p e n answer) ≡ peer_step p e n content now
       reply answer is e shows = sym (peer-reply p next n now content senders old answer e greatest is shows)
 
-      by_answer : (answer : Option (StepValue Receiving)) → receiver_answers p.policy (place_in (inbound_of old) BLOCK_MAX p.history n) (find n (inbound_of old).receivers) content now ≡ answer
+      by_answer : (answer : Option (StepValue Receiving)) → receiver_answers p.policy (admission_in (inbound_of old) BLOCK_MAX p.history n) (find n (inbound_of old).receivers) content now ≡ answer
           → (told : Option (Option ℕ × Step)) → ReceiverDoes p.peer p.policy p.sessions n answer old new told → effects ≡ handed_of n told
           → Steps (made_of false p next senders old) (made_of false p next senders new) (λ e. peer_step p e n content now) effects
       by_answer None is (Some t) does says = absurd does
@@ -351,7 +351,7 @@ peer-steps p next n now content senders old new told effects greatest most whole
         moves : (e : Engine) → Shows (made_of false p next senders old) e
             → StepsIn (inbound_of old) (settled_in (with_room (inbound_of old) t.0) n step.next) e (with_receiver (without_evicted e (gone_of e)) n step.next) t.0 (gone_of e)
         moves e shows = shows-step p (inbound_of old) e n BLOCK_MAX t.0 step.next most whole.sound.inbound shows.inbound does.gone
-            (λ absent. receiver-may p.policy (place_in (inbound_of old) BLOCK_MAX p.history n) content now step (ap (λ kept. receiver_answers p.policy (place_in (inbound_of old) BLOCK_MAX p.history n) kept content now) (sym absent) ∙ is))
+            (λ absent. receiver-may p.policy (admission_in (inbound_of old) BLOCK_MAX p.history n) content now step (ap (λ kept. receiver_answers p.policy (admission_in (inbound_of old) BLOCK_MAX p.history n) kept content now) (sym absent) ∙ is))
 
 -- ---- a segment of either side, or a stranger's
 

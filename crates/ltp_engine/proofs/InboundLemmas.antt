@@ -31,7 +31,7 @@ use Rattle.std.proofs.Common.{length, slice_get, remove, suc, nat_eq, nat_le, na
 use Rattle.std.proofs.lemmas.Bool.Decides.{nat_tests}
 use Rattle.ltp_engine.specs.Closed.{also_closed}
 use Rattle.ltp_engine.specs.Tables.{table_of, by_number, live, live_entry, live_all, AreLive}
-use Rattle.ltp_engine.specs.Inbound.{inbound_of, Keeps, settled_in, Receives, evicted_in, evicted_for, with_room, Takes, TakesKept, TakesNext, kept_piece, place_in}
+use Rattle.ltp_engine.specs.Inbound.{inbound_of, Keeps, settled_in, Receives, evicted_in, evicted_for, with_room, Takes, TakesKept, TakesNext, kept_piece, admission_in}
 use Rattle.ltp_engine.specs.declared.inbound.Inbound.{Inbound}
 use Rattle.ltp_engine.proofs.TableLemmas.{found-live, lookup-live_all}
 use Rattle.ltp_engine.proofs.OrderLemmas.{looked-up, found-first, find-by_number, by_number-last, keys-last, removed-absent, length-by_number, first-removed}
@@ -415,20 +415,20 @@ pub record Held (o : ℕ) (p : PolicyValue) (sessions n : ℕ) (step : StepValue
 
 pub takes-first : (o : ℕ) (p : PolicyValue) (sessions n : ℕ) (piece : PieceValue) (now most history : ℕ) (old mid new : Inbound) (told : Option ℕ × Step)
     → (piece.service == 1) ≡ true → is_no_part most piece.offset piece.body ≡ false
-    → TakesNext o p n piece now old mid None → Takes o p sessions n (first_piece p (place_in (inbound_of mid) most history n) piece now) mid new told
-    → Takes o p sessions n (on_piece p (place_in (inbound_of old) most history n) (find n (inbound_of old).receivers) piece now) old new told
+    → TakesNext o p n piece now old mid None → Takes o p sessions n (first_piece p (admission_in (inbound_of mid) most history n) piece now) mid new told
+    → Takes o p sessions n (on_piece p (admission_in (inbound_of old) most history n) (find n (inbound_of old).receivers) piece now) old new told
 takes-first o p sessions n piece now most history old mid new told served fits takes does =
     let (absent, keep) = absent-next o p n piece now old mid takes in
-    let held = subst (λ i. Held o p sessions n (first_piece p (place_in i most history n) piece now) new told i) keep.is (record { gone = does.gone; next = does.next; says = does.says }) in
-    rw (served, fits) (subst (λ kept. Takes o p sessions n (piece_for p (place_in (inbound_of old) most history n) kept piece now) old new told) (sym absent)
+    let held = subst (λ i. Held o p sessions n (first_piece p (admission_in i most history n) piece now) new told i) keep.is (record { gone = does.gone; next = does.next; says = does.says }) in
+    rw (served, fits) (subst (λ kept. Takes o p sessions n (piece_for p (admission_in (inbound_of old) most history n) kept piece now) old new told) (sym absent)
     (record { gone = held.gone; next = held.next; says = held.says }))
 
 pub takes-kept : (o : ℕ) (p : PolicyValue) (sessions n : ℕ) (piece : PieceValue) (now most history : ℕ) (old new : Inbound) (told : Step)
     → (piece.service == 1) ≡ true → is_no_part most piece.offset piece.body ≡ false → TakesNext o p n piece now old new (Some told)
-    → Takes o p sessions n (on_piece p (place_in (inbound_of old) most history n) (find n (inbound_of old).receivers) piece now) old new (None, told)
+    → Takes o p sessions n (on_piece p (admission_in (inbound_of old) most history n) (find n (inbound_of old).receivers) piece now) old new (None, told)
 takes-kept o p sessions n piece now most history old new told served fits takes = rw (served, fits) (go (find n (inbound_of old).receivers) refl takes) where
   go : (kept : Option Receiving) → find n (inbound_of old).receivers ≡ kept → TakesKept o p n piece now old new kept (Some told)
-      → Takes o p sessions n (piece_for p (place_in (inbound_of old) most history n) kept piece now) old new (None, told)
+      → Takes o p sessions n (piece_for p (admission_in (inbound_of old) most history n) kept piece now) old new (None, told)
   go None is takes = absurd takes
   go (Some r) is takes = record { gone = rw is refl; next = takes.next; says = takes.says }
 

@@ -6,7 +6,7 @@ use Rattle.std.specs.Option.{option_map}
 use Rattle.std.proofs.lemmas.Bool.{eqb-true, ne_eqb, eq-eqb}
 use Rattle.std.proofs.lemmas.Bool.Decides.{nat_tests}
 use Rattle.ltp_session.specs.Step.{Change, stays, keeps, ends, after}
-use Rattle.ltp_session.specs.Receiver.{Receiving, Place}
+use Rattle.ltp_session.specs.Receiver.{Receiving, Admission}
 use Rattle.ltp_session.specs.Table.{find, put, without, AreAscending, ticked, ended, then_kept, then_ended}
 use Rattle.ltp_session.specs.Engine.{Party, is_closed, untouched_all, longest_untouched}
 use Rattle.ltp_laws.proofs.TableLemmas.{self_eqb, find_below, find-put_other, find-without, find-without_other, find-ticked, after_tick, ascending-put, ascending-without, ascending-ticked}
@@ -14,7 +14,7 @@ use Rattle.ltp_engine.specs.declared.closed.TheConstants.{LAST}
 use Rattle.ltp_engine.specs.Closed.{ClosedValue, is_among, also_closed, all_closed}
 use Rattle.ltp_engine.specs.Values.{InboundValue}
 use Rattle.ltp_engine.specs.Bounds.{IsInboundSound}
-use Rattle.ltp_engine.specs.Inbound.{settled_in, with_room, evicted_in, evicted_for, place_in}
+use Rattle.ltp_engine.specs.Inbound.{settled_in, with_room, evicted_in, evicted_for, admission_in}
 use Rattle.ltp_engine.proofs.ClosedLemmas.{runs-grow}
 use Rattle.ltp_engine.proofs.SoundLemmas.{among-also}
 use Rattle.ltp_engine.proofs.RunsLemmas.{length-also, among-all, ended-least}
@@ -190,19 +190,19 @@ sound-opens p i n r most room =
     sound-put p i n r room.sound most room.open_is (omega (arith, more, room.few)) (omega (arith, more, room.room))
 
 -- what a step may be of a session that isn't kept
-abbrev pub MayOpen : Place → Change Receiving → Type 0
+abbrev pub MayOpen : Admission → Change Receiving → Type 0
 MayOpen place stays = Unit {0}
 MayOpen place (keeps r) = (place.closed ≡ false) × (place.full ≡ false)
 MayOpen place ends = ⊥
 
 pub sound-step : (p : Party) (i : InboundValue) (n most : ℕ) (gone : Option ℕ) (change : Change Receiving) → n ≤ LAST → 1 ≤ p.sessions → IsInOrder i → IsInboundSound p i
-    → gone ≡ evicted_for p.sessions i (find n i.receivers) change → (find n i.receivers ≡ None → MayOpen (place_in i most p.history n) change)
+    → gone ≡ evicted_for p.sessions i (find n i.receivers) change → (find n i.receivers ≡ None → MayOpen (admission_in i most p.history n) change)
     → IsInboundSound p (settled_in (with_room i gone) n change)
 sound-step p i n most gone change least some order sound is may = subst (λ g. IsInboundSound p (settled_in (with_room i g) n change)) (sym is) (by_kept (find n i.receivers) refl) where
   by_kept : (kept : Option Receiving) → find n i.receivers ≡ kept → IsInboundSound p (settled_in (with_room i (evicted_for p.sessions i kept change)) n change)
   by_kept (Some r) found = sound-kept p i n change sound (ap (λ x. is_some x) found)
   by_kept None absent = by_change change (may absent) where
-    by_change : (c : Change Receiving) → MayOpen (place_in i most p.history n) c → IsInboundSound p (settled_in (with_room i (evicted_for p.sessions i None c)) n c)
+    by_change : (c : Change Receiving) → MayOpen (admission_in i most p.history n) c → IsInboundSound p (settled_in (with_room i (evicted_for p.sessions i None c)) n c)
     by_change stays opens = sound
     by_change (keeps r) opens = sound-opens p (with_room i (evicted_in p.sessions i)) n r least (room-for p i n some order sound absent opens.0 opens.1)
     by_change ends opens = absurd opens

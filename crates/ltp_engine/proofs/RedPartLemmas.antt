@@ -10,12 +10,12 @@ use Rattle.ltp_segment.specs.Values.{ContentValue, PieceValue, SegmentValue, a_p
 use Rattle.ltp_session.specs.Cells.{is_no_part}
 use Rattle.ltp_session.specs.RedPart.{RedPiece, is_whole, IsRedPart}
 use Rattle.ltp_session.proofs.RedPartLemmas.{red_part-whole, whole-stays}
-use Rattle.ltp_session.specs.Receiver.{Receiving, Place, fresh, is_cancelling, is_outside, is_miscoloured, piece_step, hands_up_green, first_piece, piece_for, on_piece, receiver_answers, receiver_tick}
+use Rattle.ltp_session.specs.Receiver.{Receiving, Admission, fresh, is_cancelling, is_outside, is_miscoloured, piece_step, hands_up_green, first_piece, piece_for, on_piece, receiver_answers, receiver_tick}
 use Rattle.ltp_session.specs.Sender.{Sending, sender_answers}
 use Rattle.ltp_session.specs.Step.{StepValue, Change, after, stays, keeps, ends, noting, note_refused, note_bad_bounds, note_closed, note_history_full}
 use Rattle.ltp_session.specs.Table.{find, ended, AreAscending}
 use Rattle.ltp_session.specs.Timer.{is_past_serials}
-use Rattle.ltp_session.specs.Engine.{Party, Engine, Reply, SubmitFault, UpValue, is_used, is_closed, list_of, with_receiver, evicted_by, without_evicted, place_of, sender_replies, receiver_replies, arrives, submits, submits_unless, submit_fault, submit_step, replied_or_stranger, datagram_step, tick_step, receiver_changes}
+use Rattle.ltp_session.specs.Engine.{Party, Engine, Reply, SubmitFault, UpValue, is_used, is_closed, list_of, with_receiver, evicted_by, without_evicted, admission_of, sender_replies, receiver_replies, arrives, submits, submits_unless, submit_fault, submit_step, replied_or_stranger, datagram_step, tick_step, receiver_changes}
 use Rattle.ltp_session.specs.World.{first_end, second_end}
 use Rattle.ltp_receiver.specs.RedPart.{is_taken, red_piece}
 use Rattle.ltp_receiver.proofs.LawLemmas.{Stands, Told, ByLaw, piece-law, ack-law, tick-law, nothing-stands}
@@ -115,7 +115,7 @@ fresh-lawful policy n q now pieces none = by_outside (is_outside (fresh n) q) re
 
 -- ---- a content comes
 
-first-lawful : (policy : PolicyValue) (place : Place) (q : PieceValue) (now : ℕ) (pieces : List RedPiece) → Known None place.closed pieces
+first-lawful : (policy : PolicyValue) (place : Admission) (q : PieceValue) (now : ℕ) (pieces : List RedPiece) → Known None place.closed pieces
     → Lawful (first_piece policy place q now) None place.closed pieces (if is_taken_by (meets place None q) q then red_piece q ∷ pieces else pieces)
 first-lawful policy place q now pieces known = by_tests (is_red q.kind) place.closed place.full known where
   by_tests : (red closed full : Bool) → Known None closed pieces
@@ -127,7 +127,7 @@ first-lawful policy place q now pieces known = by_tests (is_red q.kind) place.cl
   by_tests true false true known = rests _ None false pieces refl refl known
   by_tests true false false known = fresh-lawful policy place.session q now pieces known
 
-kept-lawful : (policy : PolicyValue) (place : Place) (kept : Option Receiving) (q : PieceValue) (now : ℕ) (pieces : List RedPiece) → Known kept place.closed pieces
+kept-lawful : (policy : PolicyValue) (place : Admission) (kept : Option Receiving) (q : PieceValue) (now : ℕ) (pieces : List RedPiece) → Known kept place.closed pieces
     → Lawful (piece_for policy place kept q now) kept place.closed pieces (if is_taken_by (meets place kept q) q then red_piece q ∷ pieces else pieces)
 kept-lawful policy place None q now pieces known = first-lawful policy place q now pieces known
 kept-lawful policy place (Some r) q now pieces stands = by_test (is_cancelling r.phase) refl where
@@ -138,7 +138,7 @@ kept-lawful policy place (Some r) q now pieces stands = by_test (is_cancelling r
       rw is (by-law _ r place.closed pieces _
       (piece-law policy r q now pieces stands is (is_red q.kind) (is_outside r q) (is_miscoloured r q) refl refl refl))
 
-piece-lawful : (policy : PolicyValue) (place : Place) (kept : Option Receiving) (q : PieceValue) (now : ℕ) (pieces : List RedPiece) → Known kept place.closed pieces
+piece-lawful : (policy : PolicyValue) (place : Admission) (kept : Option Receiving) (q : PieceValue) (now : ℕ) (pieces : List RedPiece) → Known kept place.closed pieces
     → Lawful (on_piece policy place kept q now) kept place.closed pieces (if counts place kept q then red_piece q ∷ pieces else pieces)
 piece-lawful policy place kept q now pieces known = by_tests (q.service == 1) (is_no_part place.most q.offset q.body) where
   by_tests : (served none : Bool)
@@ -148,7 +148,7 @@ piece-lawful policy place kept q now pieces known = by_tests (q.service == 1) (i
   by_tests true true = rests _ kept place.closed pieces refl refl known
   by_tests true false = kept-lawful policy place kept q now pieces known
 
-content-lawful : (policy : PolicyValue) (place : Place) (kept : Option Receiving) (content : ContentValue) (now : ℕ) (t : StepValue Receiving) (pieces : List RedPiece)
+content-lawful : (policy : PolicyValue) (place : Admission) (kept : Option Receiving) (content : ContentValue) (now : ℕ) (t : StepValue Receiving) (pieces : List RedPiece)
     → receiver_answers policy place kept content now ≡ Some t → Known kept place.closed pieces
     → Lawful t kept place.closed pieces (with_content place kept content pieces)
 unfolding receiver_answers
@@ -173,7 +173,7 @@ content-lawful policy place kept a_sender_cancel_ack now t pieces hears known = 
 content-lawful policy place kept (a_receiver_cancel reason) now t pieces hears known = absurd (cc)
 
 -- what has no answer counts for nothing
-unanswered : (policy : PolicyValue) (place : Place) (kept : Option Receiving) (content : ContentValue) (now : ℕ) (pieces : List RedPiece)
+unanswered : (policy : PolicyValue) (place : Admission) (kept : Option Receiving) (content : ContentValue) (now : ℕ) (pieces : List RedPiece)
     → receiver_answers policy place kept content now ≡ None → with_content place kept content pieces ≡ pieces
 unfolding receiver_answers
 unanswered policy place kept (a_piece q) now pieces is = absurd (cc)
@@ -258,28 +258,28 @@ stepped-elsewhere p e n m t pieces apart known = by_left _ _ (receiver-others fi
   by_left v v' (closed_for_room r kept is) was = subst (λ (x : View). Known x.receiver x.closed pieces) (sym is) tt
 
 peer-law : (p : Party) (e : Engine) (n : ℕ) (s : SegmentValue) (now : ℕ) (pieces : List RedPiece) → IsKnown n e pieces → (answer : Option (StepValue Receiving))
-    → receiver_answers p.policy (place_of p e s.session) (find s.session e.receivers) s.content now ≡ answer
+    → receiver_answers p.policy (admission_of p e s.session) (find s.session e.receivers) s.content now ≡ answer
     → EngineLaw n (replied_or_stranger e (record { originator = s.originator; number = s.session }) (receiver_replies p e s.session answer)).engine
     (replied_or_stranger e (record { originator = s.originator; number = s.session }) (receiver_replies p e s.session answer)).effects.ups
-    pieces (if s.session == n then with_content (place_of p e n) (find n e.receivers) s.content pieces else pieces)
+    pieces (if s.session == n then with_content (admission_of p e n) (find n e.receivers) s.content pieces else pieces)
 peer-law p e n s now pieces known answer is = by_same (s.session == n) refl where
   by_same : (same : Bool) → (s.session == n) ≡ same
       → EngineLaw n (replied_or_stranger e (record { originator = s.originator; number = s.session }) (receiver_replies p e s.session answer)).engine
       (replied_or_stranger e (record { originator = s.originator; number = s.session }) (receiver_replies p e s.session answer)).effects.ups
-      pieces (if same then with_content (place_of p e n) (find n e.receivers) s.content pieces else pieces)
+      pieces (if same then with_content (admission_of p e n) (find n e.receivers) s.content pieces else pieces)
   by_same true same = let here : s.session ≡ n = eqb-true s.session n same in at_it s.session here answer is where
-    at_it : (m : ℕ) → m ≡ n → (answer : Option (StepValue Receiving)) → receiver_answers p.policy (place_of p e m) (find m e.receivers) s.content now ≡ answer
+    at_it : (m : ℕ) → m ≡ n → (answer : Option (StepValue Receiving)) → receiver_answers p.policy (admission_of p e m) (find m e.receivers) s.content now ≡ answer
         → EngineLaw n (replied_or_stranger e (record { originator = s.originator; number = m }) (receiver_replies p e m answer)).engine
         (replied_or_stranger e (record { originator = s.originator; number = m }) (receiver_replies p e m answer)).effects.ups
-        pieces (with_content (place_of p e n) (find n e.receivers) s.content pieces)
+        pieces (with_content (admission_of p e n) (find n e.receivers) s.content pieces)
     at_it m here None is =
-        rw (unanswered p.policy (place_of p e n) (find n e.receivers) s.content now pieces (subst (λ k. receiver_answers p.policy (place_of p e k) (find k e.receivers) s.content now ≡ None) here is))
+        rw (unanswered p.policy (admission_of p e n) (find n e.receivers) s.content now pieces (subst (λ k. receiver_answers p.policy (admission_of p e k) (find k e.receivers) s.content now ≡ None) here is))
         (silent n e pieces known)
     at_it m here (Some t) is =
-        subst (λ k. EngineLaw n (stepped p e k t) (list_of (option_map (λ body. up_in k body) t.up)) pieces (with_content (place_of p e n) (find n e.receivers) s.content pieces)) (sym here)
+        subst (λ k. EngineLaw n (stepped p e k t) (list_of (option_map (λ body. up_in k body) t.up)) pieces (with_content (admission_of p e n) (find n e.receivers) s.content pieces)) (sym here)
         (here-law n e (stepped p e n t) t pieces _ ((roomy-received p e n t.next).receivers known.ascending) (stepped-here p e n t).0 (stepped-here p e n t).1
-        (content-lawful p.policy (place_of p e n) (find n e.receivers) s.content now t pieces
-        (subst (λ k. receiver_answers p.policy (place_of p e k) (find k e.receivers) s.content now ≡ Some t) here is) known.known))
+        (content-lawful p.policy (admission_of p e n) (find n e.receivers) s.content now t pieces
+        (subst (λ k. receiver_answers p.policy (admission_of p e k) (find k e.receivers) s.content now ≡ Some t) here is) known.known))
   by_same false other = elsewhere answer where
     elsewhere : (answer : Option (StepValue Receiving))
         → EngineLaw n (replied_or_stranger e (record { originator = s.originator; number = s.session }) (receiver_replies p e s.session answer)).engine
@@ -291,7 +291,7 @@ peer-law p e n s now pieces known answer is = by_same (s.session == n) refl wher
 segment-law : (p : Party) (e : Engine) (n : ℕ) (s : SegmentValue) (now : ℕ) (pieces : List RedPiece) → IsKnown n e pieces
     → EngineLaw n (replied_or_stranger e (record { originator = s.originator; number = s.session }) (arrives p e s now)).engine
     (replied_or_stranger e (record { originator = s.originator; number = s.session }) (arrives p e s now)).effects.ups
-    pieces (if is_of_peer p n s then with_content (place_of p e n) (find n e.receivers) s.content pieces else pieces)
+    pieces (if is_of_peer p n s then with_content (admission_of p e n) (find n e.receivers) s.content pieces else pieces)
 unfolding arrives
 segment-law p e n s now pieces known = by_tests (s.originator == p.own) (s.originator == p.peer) (is_used p e s.session) where
   Law : Option Reply → List RedPiece → Type 0
@@ -304,8 +304,8 @@ segment-law p e n s now pieces known = by_tests (s.originator == p.own) (s.origi
 
   by_tests : (own peer used : Bool)
       → Law (if own then (if used then sender_replies e s.session (sender_answers p.policy (find s.session e.senders) s.content now) else None)
-      else if peer then receiver_replies p e s.session (receiver_answers p.policy (place_of p e s.session) (find s.session e.receivers) s.content now) else None)
-      (if not own && (peer && (s.session == n)) then with_content (place_of p e n) (find n e.receivers) s.content pieces else pieces)
+      else if peer then receiver_replies p e s.session (receiver_answers p.policy (admission_of p e s.session) (find s.session e.receivers) s.content now) else None)
+      (if not own && (peer && (s.session == n)) then with_content (admission_of p e n) (find n e.receivers) s.content pieces else pieces)
   by_tests true peer true = own_law _
   by_tests true peer false = silent n e pieces known
   by_tests false true used = peer-law p e n s now pieces known _ refl
@@ -377,7 +377,7 @@ hands_up_red_parts p n earlier coming body = (
 
 -- ---- at most once
 
-with_content-whole : (place : Place) (kept : Option Receiving) (content : ContentValue) (pieces : List RedPiece) → is_whole pieces ≡ true → is_whole (with_content place kept content pieces) ≡ true
+with_content-whole : (place : Admission) (kept : Option Receiving) (content : ContentValue) (pieces : List RedPiece) → is_whole pieces ≡ true → is_whole (with_content place kept content pieces) ≡ true
 with_content-whole place kept (a_piece q) pieces whole =
     both_arms (λ (now : List RedPiece). is_whole now ≡ true) (counts place kept q) _ _ (whole-stays pieces (red_piece q) whole) whole
 with_content-whole place kept (a_report x) pieces whole = whole
@@ -392,7 +392,7 @@ with_coming-whole p e n (a_block_comes block red now) pieces whole = whole
 with_coming-whole p e n (a_datagram_comes (Err refusal) now) pieces whole = whole
 with_coming-whole p e n (a_datagram_comes (Ok s) now) pieces whole =
     both_arms (λ (now : List RedPiece). is_whole now ≡ true) (is_of_peer p n s) _ _
-    (with_content-whole (place_of p e n) (find n e.receivers) s.content pieces whole) whole
+    (with_content-whole (admission_of p e n) (find n e.receivers) s.content pieces whole) whole
 with_coming-whole p e n (a_moment_comes now) pieces whole = whole
 
 among-either : {X : Type 0} (x : X) (xs ys : List X) → IsIn x (xs ++ ys) → IsIn x xs ⊎ IsIn x ys

@@ -6,13 +6,13 @@ use Rattle.ltp_session.specs.Step.{Change, stays, keeps, ends}
 use Rattle.ltp_session.specs.Receiver.{Receiving}
 use Rattle.ltp_session.specs.Table.{find, ticked, ended}
 use Rattle.spans.proofs.PlaceLaws.{nothing_is_covered}
-use Rattle.ltp_session.specs.Engine.{Party, Engine, starts, is_closed, closed_runs, with_receiver, longest_untouched, evicted_of, evicted_by, without_evicted, place_of, untouched_all}
+use Rattle.ltp_session.specs.Engine.{Party, Engine, starts, is_closed, closed_runs, with_receiver, longest_untouched, evicted_of, evicted_by, without_evicted, admission_of, untouched_all}
 use Rattle.ltp_engine.specs.declared.closed.TheConstants.{LAST}
 use Rattle.ltp_engine.specs.Closed.{all_closed, none_closed}
 use Rattle.ltp_engine.specs.Values.{InboundValue, nothing_received}
 use Rattle.ltp_engine.specs.Bounds.{IsInboundSound}
 use Rattle.ltp_engine.specs.Shows.{ShowsClosed, ShowsInbound, Shows}
-use Rattle.ltp_engine.specs.Inbound.{settled_in, with_room, evicted_in, evicted_for, place_in}
+use Rattle.ltp_engine.specs.Inbound.{settled_in, with_room, evicted_in, evicted_for, admission_in}
 use Rattle.ltp_engine.proofs.RunsLemmas.{AllShown, shows-closed, shows-all, distinct-ended, ended-least}
 use Rattle.ltp_engine.proofs.KeepLemmas.{MayOpen, ticked_by}
 
@@ -86,7 +86,7 @@ pub record StepsIn (i j : InboundValue) (e f : Engine) (gone : Option ℕ) (evic
   pub same : gone ≡ evicted
 
 pub shows-step : (p : Party) (i : InboundValue) (e : Engine) (n most : ℕ) (gone : Option ℕ) (change : Change Receiving) → n ≤ LAST → IsInboundSound p i → ShowsInbound i e
-    → gone ≡ evicted_for p.sessions i (find n i.receivers) change → (find n i.receivers ≡ None → MayOpen (place_in i most p.history n) change)
+    → gone ≡ evicted_for p.sessions i (find n i.receivers) change → (find n i.receivers ≡ None → MayOpen (admission_in i most p.history n) change)
     → StepsIn i (settled_in (with_room i gone) n change) e (with_receiver (without_evicted e (evicted_by p e (find n e.receivers) change)) n change) gone (evicted_by p e (find n e.receivers) change)
 unfolding with_receiver
 shows-step p i e n most gone change least sound shows is may =
@@ -106,7 +106,7 @@ shows-step p i e n most gone change least sound shows is may =
           → ShowsInbound (settled_in (with_room i (evicted_for p.sessions i kept change)) n change) (with_receiver (without_evicted e (evicted_for p.sessions i kept change)) n change)
       by_kept (Some r) found = shows-change i e n change shows least sound.limit (λ same. shows.closed.each n ∙ sound.unclosed n (ap (λ x. is_some x) found))
       by_kept None absent = by_change change (may absent) where
-        by_change : (c : Change Receiving) → MayOpen (place_in i most p.history n) c
+        by_change : (c : Change Receiving) → MayOpen (admission_in i most p.history n) c
             → ShowsInbound (settled_in (with_room i (evicted_for p.sessions i None c)) n c) (with_receiver (without_evicted e (evicted_for p.sessions i None c)) n c)
         by_change stays opens = shows-change i e n stays shows least sound.limit (λ same. absurd (cc))
         by_change (keeps r) opens = kept_room (evicted_in p.sessions i) refl where
@@ -135,5 +135,5 @@ shows-ticked p change i e f sound shows receivers touched closed = record {
 
 -- ---- what a receiving session knows of its engine
 
-pub same-place : (p : Party) (i : InboundValue) (e : Engine) (n : ℕ) → ShowsInbound i e → place_of p e n ≡ place_in i p.most p.history n
+pub same-place : (p : Party) (i : InboundValue) (e : Engine) (n : ℕ) → ShowsInbound i e → admission_of p e n ≡ admission_in i p.most p.history n
 same-place p i e n shows = rw (shows.closed.each n, shows.closed.runs, shows.receivers) refl

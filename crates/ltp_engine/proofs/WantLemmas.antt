@@ -15,7 +15,7 @@ use Rattle.ltp_session.specs.declared.name.SessionName.{SessionName}
 use Rattle.ltp_session.specs.Cells.{is_no_part}
 use Rattle.ltp_session.specs.Step.{Change, stays, keeps, ends, after, StepValue, Sends, noting, note_refused, unreachable}
 use Rattle.ltp_session.specs.Sender.{Sending, sender_answers, on_receiver_cancel}
-use Rattle.ltp_session.specs.Receiver.{Receiving, Place, receiver_answers, piece_step, first_piece, on_piece, on_sender_cancel, fresh, hands_up_green}
+use Rattle.ltp_session.specs.Receiver.{Receiving, Admission, receiver_answers, piece_step, first_piece, on_piece, on_sender_cancel, fresh, hands_up_green}
 use Rattle.ltp_session.specs.Table.{find}
 use Rattle.ltp_session.specs.Engine.{Party, Engine, EngineStep, replied_or_stranger, sender_replies, receiver_replies, with_receiver, without_evicted, evicted_by, list_of}
 use Rattle.ltp_session.specs.Views.{SessionValue, changed, headed, green_view}
@@ -24,7 +24,7 @@ use Rattle.ltp_receiver.specs.Quiet.{kept_cells, IsQuietStep}
 use Rattle.ltp_engine.specs.declared.inbound.Inbound.{Inbound}
 use Rattle.ltp_engine.specs.Values.{InboundValue, EngineValue}
 use Rattle.ltp_engine.specs.Tables.{table_of, AreLive, is_ended}
-use Rattle.ltp_engine.specs.Inbound.{inbound_of, place_in, evicted_for, kept_piece, TakesNext}
+use Rattle.ltp_engine.specs.Inbound.{inbound_of, admission_in, evicted_for, kept_piece, TakesNext}
 use Rattle.ltp_engine.specs.Sides.{SenderDoes, ReceiverDoes}
 use Rattle.ltp_engine.specs.Shows.{Shows}
 use Rattle.ltp_engine.specs.Quiet.{cells_at, IsQuiet, IsNeverQuiet}
@@ -69,13 +69,13 @@ cancel-loud (Some r) reason quiet = let h = quiet.out in absurd (cc)
 
 -- ---- a piece
 
-pub first-loud : (p : PolicyValue) (place : Place) (piece : PieceValue) (now : ℕ) → is_red piece.kind ≡ true → place.closed ≡ false → place.full ≡ false
+pub first-loud : (p : PolicyValue) (place : Admission) (piece : PieceValue) (now : ℕ) → is_red piece.kind ≡ true → place.closed ≡ false → place.full ≡ false
     → IsQuietStep None (first_piece p place piece now) → ⊥
 first-loud p place piece now red open_is room quiet =
     let step : first_piece p place piece now ≡ piece_step p (fresh place.session) piece now = rw (red, open_is, room) refl in
     opens-loud place.session p piece now (subst (λ s. IsQuietStep None s) step quiet)
 
-pub green-loud : (p : PolicyValue) (place : Place) (piece : PieceValue) (now : ℕ) → is_red piece.kind ≡ false
+pub green-loud : (p : PolicyValue) (place : Admission) (piece : PieceValue) (now : ℕ) → is_red piece.kind ≡ false
     → IsQuietStep None (first_piece p place piece now) → ⊥
 green-loud p place piece now green quiet =
     let step : first_piece p place piece now ≡ hands_up_green stays piece = rw green refl in
@@ -83,7 +83,7 @@ green-loud p place piece now green quiet =
       some-none : {X : Type 0} {x : X} → Some x ≡ None → ⊥
       some-none is = cc
 
-pub refused-loud : (p : PolicyValue) (place : Place) (kept : Option Receiving) (piece : PieceValue) (now : ℕ) → (piece.service == 1) ≡ false
+pub refused-loud : (p : PolicyValue) (place : Admission) (kept : Option Receiving) (piece : PieceValue) (now : ℕ) → (piece.service == 1) ≡ false
     → IsQuietStep kept (on_piece p place kept piece now) → ⊥
 refused-loud p place kept piece now other quiet =
     let step : on_piece p place kept piece now ≡ noting stays (a_receiver_cancel unreachable ∷ []) (note_refused piece.service) = rw other refl in
@@ -91,7 +91,7 @@ refused-loud p place kept piece now other quiet =
       some-none : {X : Type 0} {x : X} {xs : List X} → x ∷ xs ≡ [] → ⊥
       some-none is = cc
 
-pub next-loud : (p : PolicyValue) (place : Place) (kept : Option Receiving) (piece : PieceValue) (now : ℕ) → (piece.service == 1) ≡ true
+pub next-loud : (p : PolicyValue) (place : Admission) (kept : Option Receiving) (piece : PieceValue) (now : ℕ) → (piece.service == 1) ≡ true
     → is_no_part place.most piece.offset piece.body ≡ false → WantsNext p piece now kept
     → IsQuietStep kept (on_piece p place kept piece now) → ⊥
 next-loud p place None piece now served fits wants quiet = wants
@@ -101,14 +101,14 @@ next-loud p place (Some r) piece now served fits wants quiet =
 
 pub absent-loud : (o : ℕ) (p : PolicyValue) (n : ℕ) (piece : PieceValue) (now most history : ℕ) (old mid : Inbound)
     → (piece.service == 1) ≡ true → is_no_part most piece.offset piece.body ≡ false → TakesNext o p n piece now old mid None
-    → (IsQuietStep None (first_piece p (place_in (inbound_of mid) most history n) piece now) → ⊥)
-    → IsQuietStep (find n (inbound_of old).receivers) (on_piece p (place_in (inbound_of old) most history n) (find n (inbound_of old).receivers) piece now) → ⊥
+    → (IsQuietStep None (first_piece p (admission_in (inbound_of mid) most history n) piece now) → ⊥)
+    → IsQuietStep (find n (inbound_of old).receivers) (on_piece p (admission_in (inbound_of old) most history n) (find n (inbound_of old).receivers) piece now) → ⊥
 absent-loud o p n piece now most history old mid served fits takes loud quiet =
     let (absent, keep) = absent-next o p n piece now old mid takes in
-    let step : on_piece p (place_in (inbound_of old) most history n) None piece now ≡ first_piece p (place_in (inbound_of old) most history n) piece now = rw (served, fits) refl in
-    loud (subst (λ i. IsQuietStep None (first_piece p (place_in i most history n) piece now)) (sym keep.is)
+    let step : on_piece p (admission_in (inbound_of old) most history n) None piece now ≡ first_piece p (admission_in (inbound_of old) most history n) piece now = rw (served, fits) refl in
+    loud (subst (λ i. IsQuietStep None (first_piece p (admission_in i most history n) piece now)) (sym keep.is)
     (subst (λ s. IsQuietStep None s) step
-    (subst (λ kept. IsQuietStep kept (on_piece p (place_in (inbound_of old) most history n) kept piece now)) absent quiet)))
+    (subst (λ kept. IsQuietStep kept (on_piece p (admission_in (inbound_of old) most history n) kept piece now)) absent quiet)))
 
 -- a session that is kept wants what its step is for
 pub kept-loud : (o : ℕ) (p : PolicyValue) (n : ℕ) (piece : PieceValue) (now : ℕ) (old : Inbound) (v : SessionValue Receiving)
@@ -210,7 +210,7 @@ own-hands p n now content senders senders' told does = by_answer (sender_answers
 -- ---- a segment of a session that the peer began
 
 never-peer : (p : Party) (next n now : ℕ) (content : ContentValue) (senders : List (ℕ × SessionValue Sending)) (old : Inbound) (step : StepValue Receiving) (e : Engine)
-    → p.most ≡ BLOCK_MAX → receiver_answers p.policy (place_in (inbound_of old) BLOCK_MAX p.history n) (find n (inbound_of old).receivers) content now ≡ Some step
+    → p.most ≡ BLOCK_MAX → receiver_answers p.policy (admission_in (inbound_of old) BLOCK_MAX p.history n) (find n (inbound_of old).receivers) content now ≡ Some step
     → Shows (made_of false p next senders old) e → IsQuiet e (peer_step p e n content now) → IsQuietStep (find n (inbound_of old).receivers) step
 never-peer p next n now content senders old step e greatest is shows quiet =
     subst (λ kept. IsQuietStep kept step) (ap (λ t. find n t) shows.inbound.receivers)
@@ -218,11 +218,11 @@ never-peer p next n now content senders old step e greatest is shows quiet =
 
 pub peer-wants : (p : Party) (next n now : ℕ) (content : ContentValue) (senders : List (ℕ × SessionValue Sending)) (old : Inbound)
     → p.most ≡ BLOCK_MAX
-    → WantsReceived (find n (inbound_of old).receivers) (receiver_answers p.policy (place_in (inbound_of old) BLOCK_MAX p.history n) (find n (inbound_of old).receivers) content now)
+    → WantsReceived (find n (inbound_of old).receivers) (receiver_answers p.policy (admission_in (inbound_of old) BLOCK_MAX p.history n) (find n (inbound_of old).receivers) content now)
     → IsNeverQuiet (made_of false p next senders old) (λ e. peer_step p e n content now)
 peer-wants p next n now content senders old greatest wants e shows quiet =
-    by_answer (receiver_answers p.policy (place_in (inbound_of old) BLOCK_MAX p.history n) (find n (inbound_of old).receivers) content now) refl wants where
-      by_answer : (answer : Option (StepValue Receiving)) → receiver_answers p.policy (place_in (inbound_of old) BLOCK_MAX p.history n) (find n (inbound_of old).receivers) content now ≡ answer
+    by_answer (receiver_answers p.policy (admission_in (inbound_of old) BLOCK_MAX p.history n) (find n (inbound_of old).receivers) content now) refl wants where
+      by_answer : (answer : Option (StepValue Receiving)) → receiver_answers p.policy (admission_in (inbound_of old) BLOCK_MAX p.history n) (find n (inbound_of old).receivers) content now ≡ answer
           → WantsReceived (find n (inbound_of old).receivers) answer → ⊥
       by_answer None is wants = wants
       by_answer (Some step) is wants = wants (never-peer p next n now content senders old step e greatest is shows quiet)
@@ -239,12 +239,12 @@ none-evicted sessions i None step quiet = by_change step.next quiet.octets where
 
 pub peer-hands : (p : Party) (next n now : ℕ) (content : ContentValue) (senders : List (ℕ × SessionValue Sending)) (old new : Inbound) (told : Option (Option ℕ × Step))
     → p.most ≡ BLOCK_MAX
-    → ReceiverDoes p.peer p.policy p.sessions n (receiver_answers p.policy (place_in (inbound_of old) BLOCK_MAX p.history n) (find n (inbound_of old).receivers) content now) old new told
+    → ReceiverDoes p.peer p.policy p.sessions n (receiver_answers p.policy (admission_in (inbound_of old) BLOCK_MAX p.history n) (find n (inbound_of old).receivers) content now) old new told
     → IsSomeAnd told (λ t. (is_some t.0 || (is_some t.1.up || is_some t.1.green)) ≡ true)
     → IsNeverQuiet (made_of false p next senders old) (λ e. peer_step p e n content now)
 peer-hands p next n now content senders old new told greatest does some e shows quiet =
-    by_answer (receiver_answers p.policy (place_in (inbound_of old) BLOCK_MAX p.history n) (find n (inbound_of old).receivers) content now) refl told does some where
-      by_answer : (answer : Option (StepValue Receiving)) → receiver_answers p.policy (place_in (inbound_of old) BLOCK_MAX p.history n) (find n (inbound_of old).receivers) content now ≡ answer
+    by_answer (receiver_answers p.policy (admission_in (inbound_of old) BLOCK_MAX p.history n) (find n (inbound_of old).receivers) content now) refl told does some where
+      by_answer : (answer : Option (StepValue Receiving)) → receiver_answers p.policy (admission_in (inbound_of old) BLOCK_MAX p.history n) (find n (inbound_of old).receivers) content now ≡ answer
           → (told : Option (Option ℕ × Step)) → ReceiverDoes p.peer p.policy p.sessions n answer old new told
           → IsSomeAnd told (λ t. (is_some t.0 || (is_some t.1.up || is_some t.1.green)) ≡ true) → ⊥
       by_answer None is None does some = some

@@ -7,7 +7,7 @@ use Rattle.ltp_segment.specs.declared.session.Step.{Step}
 use Rattle.ltp_segment.specs.Policy.{PolicyValue}
 use Rattle.ltp_segment.specs.Values.{PieceValue}
 use Rattle.ltp_session.specs.Step.{Change, stays, keeps, ends, StepValue, noting, note_closed}
-use Rattle.ltp_session.specs.Receiver.{Receiving, Place, is_cancelling, piece_step}
+use Rattle.ltp_session.specs.Receiver.{Receiving, Admission, is_cancelling, piece_step}
 use Rattle.ltp_session.specs.Table.{find, settled, ticked, ended}
 use Rattle.ltp_session.specs.Engine.{untouched, untouched_all, longest_untouched}
 use Rattle.ltp_session.specs.Views.{SessionValue, answer_of}
@@ -66,8 +66,8 @@ evicted_for sessions i kept change = None
 
 -- what a receiving session has to know of its engine, where blocks of so many octets at most are
 -- taken, and so many runs of closed numbers are remembered
-abbrev pub place_in : InboundValue → ℕ → ℕ → ℕ → Place
-place_in i most history n = record {
+abbrev pub admission_in : InboundValue → ℕ → ℕ → ℕ → Admission
+admission_in i most history n = record {
   session = n;
   most = most;
   closed = is_among i.closed n;

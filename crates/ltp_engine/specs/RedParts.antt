@@ -12,10 +12,10 @@ use Rattle.ltp_segment.specs.Values.{a_report_ack, a_sender_cancel, a_sender_can
 use Rattle.ltp_segment.specs.Values.{a_receiver_cancel, a_receiver_cancel_ack}
 use Rattle.ltp_session.specs.Cells.{is_no_part}
 use Rattle.ltp_session.specs.RedPart.{RedPiece, BecomesWhole}
-use Rattle.ltp_session.specs.Receiver.{Receiving, Place, fresh}
+use Rattle.ltp_session.specs.Receiver.{Receiving, Admission, fresh}
 use Rattle.ltp_session.specs.Table.{find}
 use Rattle.ltp_session.specs.Engine.{Party, Engine, EngineStep, SubmitFault, UpValue, starts}
-use Rattle.ltp_session.specs.Engine.{place_of, submits, submit_step, datagram_step, tick_step}
+use Rattle.ltp_session.specs.Engine.{admission_of, submits, submit_step, datagram_step, tick_step}
 use Rattle.ltp_receiver.specs.RedPart.{is_taken, red_piece}
 use Rattle.ltp_laws.specs.View.{IsIn}
 
@@ -59,34 +59,34 @@ ups_of p (coming ∷ earlier) =
 
 -- the session that a piece meets: the kept one; or a new one, where the piece is red, the number
 -- isn't closed and there is room for it
-abbrev pub meets : Place → Option Receiving → PieceValue → Option Receiving
-meets place (Some r) piece = Some r
-meets place None piece =
+abbrev pub meets : Admission → Option Receiving → PieceValue → Option Receiving
+meets admission (Some r) piece = Some r
+meets admission None piece =
     if not (is_red piece.kind) then None
-    else if place.closed then None
-    else if place.full then None
-    else Some (fresh place.session)
+    else if admission.closed then None
+    else if admission.full then None
+    else Some (fresh admission.session)
 
 -- a piece for client service 1, which can be one of a block, is taken by the session that it meets
 abbrev pub is_taken_by : Option Receiving → PieceValue → Bool
 is_taken_by None piece = false
 is_taken_by (Some r) piece = is_taken r piece
 
-abbrev pub counts : Place → Option Receiving → PieceValue → Bool
-counts place kept piece =
-    (piece.service == 1) && (not (is_no_part place.most piece.offset piece.body)
-    && is_taken_by (meets place kept piece) piece)
+abbrev pub counts : Admission → Option Receiving → PieceValue → Bool
+counts admission kept piece =
+    (piece.service == 1) && (not (is_no_part admission.most piece.offset piece.body)
+    && is_taken_by (meets admission kept piece) piece)
 
 abbrev pub with_content :
-    Place → Option Receiving → ContentValue → List RedPiece → List RedPiece
-with_content place kept (a_piece piece) pieces =
-    if counts place kept piece then red_piece piece ∷ pieces else pieces
-with_content place kept (a_report report) pieces = pieces
-with_content place kept (a_report_ack serial) pieces = pieces
-with_content place kept (a_sender_cancel reason) pieces = pieces
-with_content place kept a_sender_cancel_ack pieces = pieces
-with_content place kept (a_receiver_cancel reason) pieces = pieces
-with_content place kept a_receiver_cancel_ack pieces = pieces
+    Admission → Option Receiving → ContentValue → List RedPiece → List RedPiece
+with_content admission kept (a_piece piece) pieces =
+    if counts admission kept piece then red_piece piece ∷ pieces else pieces
+with_content admission kept (a_report report) pieces = pieces
+with_content admission kept (a_report_ack serial) pieces = pieces
+with_content admission kept (a_sender_cancel reason) pieces = pieces
+with_content admission kept a_sender_cancel_ack pieces = pieces
+with_content admission kept (a_receiver_cancel reason) pieces = pieces
+with_content admission kept a_receiver_cancel_ack pieces = pieces
 
 -- a segment is of session n of the peer
 abbrev pub is_of_peer : Party → ℕ → SegmentValue → Bool
@@ -97,7 +97,7 @@ abbrev pub with_coming : Party → Engine → ℕ → Coming → List RedPiece �
 with_coming p e n (a_block_comes block red now) pieces = pieces
 with_coming p e n (a_datagram_comes (Err refusal) now) pieces = pieces
 with_coming p e n (a_datagram_comes (Ok s) now) pieces =
-    if is_of_peer p n s then with_content (place_of p e n) (find n e.receivers) s.content pieces
+    if is_of_peer p n s then with_content (admission_of p e n) (find n e.receivers) s.content pieces
     else pieces
 with_coming p e n (a_moment_comes now) pieces = pieces
 

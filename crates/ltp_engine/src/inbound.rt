@@ -61,7 +61,7 @@ pub(crate) struct Inbound {
 impl Inbound {
     ghost use Rattle.ltp_engine.specs.Values.{nothing_received};
     ghost use Rattle.ltp_engine.specs.Inbound.{inbound_of, Keeps, closed_if, Receives};
-    ghost use Rattle.ltp_engine.specs.Inbound.{Takes, TakesNext, evicted_in, with_room, place_in};
+    ghost use Rattle.ltp_engine.specs.Inbound.{Takes, TakesNext, evicted_in, with_room, admission_in};
     ghost use Rattle.ltp_engine.specs.Inbound.{ticked_in};
     ghost use Rattle.ltp_engine.specs.Elsewhere.{released};
 
@@ -341,11 +341,11 @@ impl Inbound {
         requires absent { find n (inbound_of self.old).receivers ≡ None }
         ensures takes { IfOk result (Takes terms.originator (policy_value terms.policy) terms.sessions n
             (first_piece (policy_value terms.policy)
-            (place_in (inbound_of self.old) BLOCK_MAX terms.history n)
+            (admission_in (inbound_of self.old) BLOCK_MAX terms.history n)
             (piece_value piece.now) now) self.old self.new) }
         ensures wanted { OnErr result (IsQuietStep None
             (first_piece (policy_value terms.policy)
-            (place_in (inbound_of self.old) BLOCK_MAX terms.history n)
+            (admission_in (inbound_of self.old) BLOCK_MAX terms.history n)
             (piece_value piece.now) now) → ⊥) }
     {
         let alloc = terms.alloc;
@@ -415,12 +415,12 @@ impl Inbound {
         requires moment { now < 2 ^ 62 }
         ensures takes { IfOk result (Takes terms.originator (policy_value terms.policy) terms.sessions n
             (on_piece (policy_value terms.policy)
-            (place_in (inbound_of self.old) BLOCK_MAX terms.history n)
+            (admission_in (inbound_of self.old) BLOCK_MAX terms.history n)
             (find n (inbound_of self.old).receivers) (piece_value piece.now) now)
             self.old self.new) }
         ensures wanted { OnErr result (IsQuietStep (find n (inbound_of self.old).receivers)
             (on_piece (policy_value terms.policy)
-            (place_in (inbound_of self.old) BLOCK_MAX terms.history n)
+            (admission_in (inbound_of self.old) BLOCK_MAX terms.history n)
             (find n (inbound_of self.old).receivers) (piece_value piece.now) now) → ⊥) }
     {
         let alloc = terms.alloc;

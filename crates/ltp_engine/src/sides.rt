@@ -9,7 +9,7 @@ ghost use Rattle.ltp_session.specs.Sender.{sender_answers};
 ghost use Rattle.ltp_session.specs.Receiver.{receiver_answers};
 ghost use Rattle.ltp_engine.specs.Tables.{table_of, AreLive};
 ghost use Rattle.ltp_engine.specs.Sides.{SenderDoes, ReceiverDoes, IsFit};
-ghost use Rattle.ltp_engine.specs.Inbound.{inbound_of, place_in};
+ghost use Rattle.ltp_engine.specs.Inbound.{inbound_of, admission_in};
 ghost use Rattle.ltp_engine.specs.Wants.{WantsSent, WantsReceived};
 
 use crate::inbound::Inbound;
@@ -77,12 +77,12 @@ pub(crate) fn to_receiver(
     requires moment { now < 2 ^ 62 }
     ensures does { IfOk result (ReceiverDoes terms.originator (policy_value terms.policy)
         terms.sessions n (receiver_answers (policy_value terms.policy)
-        (place_in (inbound_of inbound.old) BLOCK_MAX terms.history n)
+        (admission_in (inbound_of inbound.old) BLOCK_MAX terms.history n)
         (find n (inbound_of inbound.old).receivers) (content_value content.entry) now)
         inbound.old inbound.new) }
     ensures wanted { OnErr result (WantsReceived (find n (inbound_of inbound.old).receivers)
         (receiver_answers (policy_value terms.policy)
-        (place_in (inbound_of inbound.old) BLOCK_MAX terms.history n)
+        (admission_in (inbound_of inbound.old) BLOCK_MAX terms.history n)
         (find n (inbound_of inbound.old).receivers) (content_value content.entry) now)) }
 {
     match content {

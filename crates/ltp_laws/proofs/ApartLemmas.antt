@@ -6,7 +6,7 @@ use Rattle.std.specs.Prelude.{slice_get}
 use Rattle.std.proofs.lemmas.Bool.{eqb-true}
 use Rattle.ltp_segment.specs.Values.{SegmentValue}
 use Rattle.ltp_session.specs.Engine.{Party, Engine, Reply, is_used, with_sender, with_receiver}
-use Rattle.ltp_session.specs.Engine.{place_of, sender_replies, receiver_replies, arrives, begun}
+use Rattle.ltp_session.specs.Engine.{admission_of, sender_replies, receiver_replies, arrives, begun}
 use Rattle.ltp_session.specs.Engine.{SubmitFault, submit_fault, submits_unless, submits}
 use Rattle.ltp_session.specs.Receiver.{Receiving, receiver_answers}
 use Rattle.ltp_session.specs.Sender.{Sending, begin, sender_answers}
@@ -80,7 +80,7 @@ arrives-leaves me you p q e f sent s now both linked =
     (sender_answers p.policy (find s.session e.senders) s.content now)) tt)
     (λ not_own. by_arms Leaves (s.originator == p.peer) _ _
     (λ peer. peer_leaves (eqb-true s.originator p.peer peer ∙ linked.knows)
-    (receiver_answers p.policy (place_of p e s.session) (find s.session e.receivers) s.content
+    (receiver_answers p.policy (admission_of p e s.session) (find s.session e.receivers) s.content
     now))
     (λ stranger. tt))
   where

@@ -6,7 +6,7 @@ use Rattle.std.specs.List.{AllByRecursion}
 use Rattle.std.proofs.lemmas.Bool.{eq-eqb}
 use Rattle.ltp_segment.specs.Policy.{PolicyValue}
 use Rattle.ltp_segment.specs.Values.{PieceValue, ContentValue, a_piece, a_receiver_cancel}
-use Rattle.ltp_session.specs.Receiver.{Receiving, receiver_open, Pending, Place, fresh}
+use Rattle.ltp_session.specs.Receiver.{Receiving, receiver_open, Pending, Admission, fresh}
 use Rattle.ltp_session.specs.Receiver.{receiver_tick, is_cancelling}
 use Rattle.ltp_session.specs.Step.{StepValue, Change, after, stays, keeps, ends, sending}
 use Rattle.ltp_laws.specs.Blocks.{BlockFacts}
@@ -49,7 +49,7 @@ never : (r : Receiving) (p : Option Pending) → r.phase ≡ receiver_open p
     → is_cancelling r.phase ≡ false
 never r p is = ap is_cancelling is
 
-segment-refuses : (policy : PolicyValue) (place : Place) (kept : Option Receiving)
+segment-refuses : (policy : PolicyValue) (place : Admission) (kept : Option Receiving)
     (content : ContentValue) (now : ℕ) → ((q : PieceValue) → content ≡ a_piece q → q.service ≡ 1)
     → OnSegment policy place kept content now (Refuses (met place.session kept))
 segment-refuses policy place kept content now service = record {

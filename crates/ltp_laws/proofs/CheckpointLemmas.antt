@@ -15,7 +15,7 @@ use Rattle.ltp_segment.specs.Values.{PieceValue, ReportValue, ContentValue, a_pi
 use Rattle.ltp_segment.specs.Values.{a_report_ack, a_sender_cancel_ack}
 use Rattle.ltp_session.specs.Cells.{length_after}
 use Rattle.ltp_session.specs.Claims.{report_on, with_range, with_claims}
-use Rattle.ltp_session.specs.Receiver.{Receiving, Pending, Place, fresh, piece_stop, with_red}
+use Rattle.ltp_session.specs.Receiver.{Receiving, Pending, Admission, fresh, piece_stop, with_red}
 use Rattle.ltp_session.specs.Receiver.{report_of, receiver_tick}
 use Rattle.ltp_session.specs.Sender.{Sending, sender_open, segments_of, segments_from, piece_at}
 use Rattle.ltp_session.specs.Sender.{checkpoint_at, red_pieces, green_pieces, last_segment, opened}
@@ -680,7 +680,7 @@ receiver-moved block red v t facts on = record {
     kept (keeps r) is some change = change
     kept ends is some change = tt
 
-hears-answers : (block : List ℕ) (red : ℕ) (v : View) (place : Place) (content : ContentValue)
+hears-answers : (block : List ℕ) (red : ℕ) (v : View) (place : Admission) (content : ContentValue)
     (t : StepValue Receiving) → place.closed ≡ v.closed → IsIn content v.by_sender
     → BlockFacts block red v → SerialFacts block red v → CheckpointFacts block red v
     → Hears content place v.receiver t → AnswersOn v.by_sender v.by_receiver red t

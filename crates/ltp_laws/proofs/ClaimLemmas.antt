@@ -12,7 +12,7 @@ use Rattle.ltp_segment.specs.Values.{PieceValue, ReportValue, ContentValue, a_re
 use Rattle.ltp_segment.specs.Values.{a_sender_cancel_ack}
 use Rattle.ltp_session.specs.Cells.{cell, filled, filled_places}
 use Rattle.ltp_session.specs.Claims.{report_within, claim_of, claims_below, report_on}
-use Rattle.ltp_session.specs.Receiver.{Receiving, Place, fresh, piece_stop, bound_of, with_red}
+use Rattle.ltp_session.specs.Receiver.{Receiving, Admission, fresh, piece_stop, bound_of, with_red}
 use Rattle.ltp_session.specs.Receiver.{report_of, receiver_tick}
 use Rattle.ltp_session.specs.Step.{StepValue, Change, after, stays, keeps, ends}
 use Rattle.ltp_laws.specs.Blocks.{IfKnown, IsInPart, IsPieceOf, IsContentOf, IsReceiverOf}
@@ -546,7 +546,7 @@ met-claims v session None is facts filled opens =
 met-claims v session (Some r) is facts filled opens =
     (subst (IfKept (HasReported v.by_receiver)) is facts.kept, filled)
 
-hears-claims : (block : List ℕ) (red : ℕ) (v : View) (place : Place) (content : ContentValue)
+hears-claims : (block : List ℕ) (red : ℕ) (v : View) (place : Admission) (content : ContentValue)
     (t : StepValue Receiving) → place.closed ≡ v.closed
     → BlockFacts block red v → SerialFacts block red v → IsContentOf block red content
     → ClaimFacts block red v → Hears content place v.receiver t → ClaimsOn red v.by_receiver t

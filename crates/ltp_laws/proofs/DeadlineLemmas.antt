@@ -13,7 +13,7 @@ use Rattle.ltp_session.specs.Claims.{with_claims}
 use Rattle.ltp_session.specs.Engine.{Party, Reply, sender_ticks, receiver_ticks, sender_changes}
 use Rattle.ltp_session.specs.Engine.{receiver_changes}
 use Rattle.ltp_session.specs.Receiver.{Receiving, ReceivingPhase, receiver_open}
-use Rattle.ltp_session.specs.Receiver.{receiver_cancelling, Place, fresh, receiver_due}
+use Rattle.ltp_session.specs.Receiver.{receiver_cancelling, Admission, fresh, receiver_due}
 use Rattle.ltp_session.specs.Receiver.{receiver_tick, receiver_answers}
 use Rattle.ltp_session.specs.Sender.{Sending, SendingPhase, sender_open, sender_cancelling}
 use Rattle.ltp_session.specs.Sender.{checkpoint_at, opened, begin, sends_again, takes_report}
@@ -151,7 +151,7 @@ piece-ahead policy c r q now waits low ahead =
       reported = λ _ _ _. fresh_one;
     }
 
-segment-ahead : (policy : PolicyValue) (place : Place) (c : ℕ) (kept : Option Receiving)
+segment-ahead : (policy : PolicyValue) (place : Admission) (c : ℕ) (kept : Option Receiving)
     (content : ContentValue) (now : ℕ) → Waits policy → c ≤ now → IfKept (ReceiverAhead c) kept
     → OnSegment policy place kept content now (NextAhead c)
 segment-ahead policy place c kept content now waits low ahead = record {
@@ -170,7 +170,7 @@ segment-ahead policy place c kept content now waits low ahead = record {
   answered_off = λ r _ _. tt;
 }
 
-pub receiver-ahead : (policy : PolicyValue) (place : Place) (c : ℕ) (kept : Option Receiving)
+pub receiver-ahead : (policy : PolicyValue) (place : Admission) (c : ℕ) (kept : Option Receiving)
     (content : ContentValue) (now : ℕ) (t : StepValue Receiving) → Waits policy → c ≤ now
     → IfKept (ReceiverAhead c) kept
     → receiver_answers policy place kept content now ≡ Some t → IfKeeps (ReceiverAhead c) t.next

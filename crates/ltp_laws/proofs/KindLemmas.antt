@@ -8,7 +8,7 @@ use Rattle.ltp_segment.specs.Values.{PieceValue, ReportValue, ContentValue, a_pi
 use Rattle.ltp_segment.specs.Values.{a_report_ack, a_sender_cancel, a_sender_cancel_ack}
 use Rattle.ltp_segment.specs.Values.{a_receiver_cancel, a_receiver_cancel_ack}
 use Rattle.ltp_session.specs.Claims.{with_claims}
-use Rattle.ltp_session.specs.Receiver.{Receiving, Place, fresh}
+use Rattle.ltp_session.specs.Receiver.{Receiving, Admission, fresh}
 use Rattle.ltp_session.specs.Sender.{Sending, SendingPhase, sender_open, sender_cancelling}
 use Rattle.ltp_session.specs.Sender.{checkpoint_at, begin, sends_again, takes_report, report_step}
 use Rattle.ltp_session.specs.Sender.{sender_due, sender_tick, sending_timer, ends_cancelling}
@@ -100,7 +100,7 @@ piece-answers policy r q now = record {
   reported = λ _ _ _. (tt, tt);
 }
 
-segment-answers : (policy : PolicyValue) (place : Place) (kept : Option Receiving)
+segment-answers : (policy : PolicyValue) (place : Admission) (kept : Option Receiving)
     (content : ContentValue) (now : ℕ) → OnSegment policy place kept content now Answers
 segment-answers policy place kept content now = record {
   rests = λ note. tt;

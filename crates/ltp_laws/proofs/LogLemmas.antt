@@ -11,7 +11,7 @@ use Rattle.std.proofs.lemmas.Bool.Decides.{nat_tests}
 use Rattle.std.proofs.lemmas.List.{get_or-take, length-take}
 use Rattle.ltp_segment.specs.Values.{ContentValue, a_piece, a_sender_cancel_ack, SegmentValue}
 use Rattle.ltp_session.specs.Cells.{cell, all_octets, whole_part}
-use Rattle.ltp_session.specs.Engine.{Party, Engine, Reply, is_used, is_closed, place_of}
+use Rattle.ltp_session.specs.Engine.{Party, Engine, Reply, is_used, is_closed, admission_of}
 use Rattle.ltp_session.specs.Engine.{with_receiver, sender_replies, receiver_replies, arrives}
 use Rattle.ltp_session.specs.Engine.{begun, submits, list_of, notes_of, evicted_by, SubmitFault}
 use Rattle.ltp_session.specs.Engine.{submit_fault, submits_unless}
@@ -129,7 +129,7 @@ arrival-past p q e s now peer =
     (λ body is. absurd (cc)))
     (by_arms (UpsRightly q e s) (s.originator == p.peer) _ _
     (λ is_peer. by_peer (eqb-true s.originator p.peer is_peer ∙ peer) (receiver_answers p.policy
-    (place_of p e s.session) (find s.session e.receivers) s.content now) refl)
+    (admission_of p e s.session) (find s.session e.receivers) s.content now) refl)
     (λ stranger body is. absurd (cc)))
   where
     by_own : (o : Option (StepValue Sending)) → UpsRightly q e s (sender_replies e s.session o)
@@ -137,7 +137,7 @@ arrival-past p q e s now peer =
     by_own (Some t) body is = absurd (cc)
 
     by_peer : s.originator ≡ q.own → (o : Option (StepValue Receiving))
-        → receiver_answers p.policy (place_of p e s.session) (find s.session e.receivers)
+        → receiver_answers p.policy (admission_of p e s.session) (find s.session e.receivers)
         s.content now ≡ o
         → UpsRightly q e s (receiver_replies p e s.session o)
     by_peer own None hears body is = absurd (cc)
@@ -157,13 +157,13 @@ arrival-past p q e s now peer =
       t = t;
       hands = hands;
       before = before (find s.session e.receivers) hands.before
-          (hears-form p.policy (place_of p e s.session) (find s.session e.receivers) s.content now
+          (hears-form p.policy (admission_of p e s.session) (find s.session e.receivers) s.content now
           t hears).opens;
       past = past;
     }
       where
         hands : HandsUp s.content (met s.session (find s.session e.receivers)) t body
-        hands = hears-ups p.policy (place_of p e s.session) (find s.session e.receivers) s.content
+        hands = hears-ups p.policy (admission_of p e s.session) (find s.session e.receivers) s.content
             now t hears body is
 
         before : (kept : Option Receiving) → (met s.session kept).handed_up ≡ false

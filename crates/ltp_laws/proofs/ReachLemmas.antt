@@ -12,7 +12,7 @@ use Rattle.ltp_segment.specs.Values.{PieceValue, ReportValue, ContentValue, a_pi
 use Rattle.ltp_segment.specs.Values.{a_sender_cancel_ack}
 use Rattle.ltp_session.specs.Cells.{cell, filled, length_after}
 use Rattle.ltp_session.specs.Claims.{is_whole_claim}
-use Rattle.ltp_session.specs.Receiver.{Receiving, receiver_open, Pending, Place, fresh, piece_stop}
+use Rattle.ltp_session.specs.Receiver.{Receiving, receiver_open, Pending, Admission, fresh, piece_stop}
 use Rattle.ltp_session.specs.Receiver.{bound_of, with_red, report_of, receiver_tick, is_cancelling}
 use Rattle.ltp_session.specs.Receiver.{receiver_answers}
 use Rattle.ltp_session.specs.Step.{StepValue, after, stays, keeps}
@@ -247,7 +247,7 @@ step-made said content r t tells claims (reports_on q r' is_piece red_kind check
       out = out;
     })
 
-hears-made : (block : List ℕ) (red : ℕ) (v : View) (place : Place) (content : ContentValue)
+hears-made : (block : List ℕ) (red : ℕ) (v : View) (place : Admission) (content : ContentValue)
     (t : StepValue Receiving) → place.closed ≡ v.closed → SerialFacts block red v
     → ClaimFacts block red v
     → Hears content place v.receiver t → Old v.by_receiver t.out ⊎ Made v.by_receiver content t
@@ -456,7 +456,7 @@ waits-whole red r pending is (inr (p, waits, whole)) =
     let same : p ≡ pending = cc (sym waits ∙ ap pending_of is) in
     subst (λ (w : Pending). IsWhole red w.report) same whole
 
-segment-done : (policy : PolicyValue) (place : Place) (red : ℕ) (r : Receiving)
+segment-done : (policy : PolicyValue) (place : Admission) (red : ℕ) (r : Receiving)
     (content : ContentValue) (now : ℕ) → r.length ≡ Some red
     → ((q : PieceValue) → IsWhole red (report_of (with_red r q) q)) → IsDone red r
     → OnSegment policy place (Some r) content now (NextDone red)

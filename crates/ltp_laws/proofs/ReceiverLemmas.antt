@@ -13,7 +13,7 @@ use Rattle.ltp_segment.specs.Values.{a_receiver_cancel_ack}
 use Rattle.ltp_session.specs.Cells.{filled, cell, octet_in, length_after}
 use Rattle.ltp_session.specs.Claims.{is_whole_claim}
 use Rattle.ltp_session.specs.Receiver.{Receiving, ReceivingPhase, receiver_open}
-use Rattle.ltp_session.specs.Receiver.{receiver_cancelling, Place, fresh, piece_stop, is_outside}
+use Rattle.ltp_session.specs.Receiver.{receiver_cancelling, Admission, fresh, piece_stop, is_outside}
 use Rattle.ltp_session.specs.Receiver.{is_miscoloured, rejects, lowest, with_red, with_handed_up}
 use Rattle.ltp_session.specs.Receiver.{takes_red, piece_step, acknowledged_in, acknowledged}
 use Rattle.ltp_session.specs.Receiver.{receiver_due, receiver_tick, is_cancelling, piece_for}
@@ -169,7 +169,7 @@ fresh-is block red session =
     no_cell : (k : ℕ) {octet : ℕ} → cell [] k ≡ Some octet → ⊥
     no_cell k h = cc
 
-on_piece-keeps : (block : List ℕ) (red : ℕ) (policy : PolicyValue) (place : Place)
+on_piece-keeps : (block : List ℕ) (red : ℕ) (policy : PolicyValue) (place : Admission)
     (kept : Option Receiving) (p : PieceValue) (now : ℕ)
     → IfKept (IsReceiverOf block red) kept → IsPieceOf block red p
     → KeepsTo block red (IsReceiverOf block red) (on_piece policy place kept p now)
@@ -238,7 +238,7 @@ receiver_tick-keeps block red policy now r is = by_phase r.phase
         (record { next = tt; out = tt })
 
 -- whatever it is told
-pub receiver-keeps : (block : List ℕ) (red : ℕ) (policy : PolicyValue) (place : Place)
+pub receiver-keeps : (block : List ℕ) (red : ℕ) (policy : PolicyValue) (place : Admission)
     (kept : Option Receiving) (content : ContentValue) (now : ℕ) (t : StepValue Receiving)
     → IfKept (IsReceiverOf block red) kept → IsContentOf block red content
     → receiver_answers policy place kept content now ≡ Some t

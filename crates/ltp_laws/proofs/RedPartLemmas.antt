@@ -12,10 +12,10 @@ use Rattle.ltp_segment.specs.Values.{a_sender_cancel, a_sender_cancel_ack, a_rec
 use Rattle.ltp_segment.specs.Values.{a_receiver_cancel_ack, SegmentValue}
 use Rattle.ltp_session.specs.Cells.{cell, octet_in, filled, all_octets, length_after, whole_part}
 use Rattle.ltp_session.specs.Claims.{is_whole_claim}
-use Rattle.ltp_session.specs.Engine.{Party, Engine, Reply, is_used, place_of, sender_replies}
+use Rattle.ltp_session.specs.Engine.{Party, Engine, Reply, is_used, admission_of, sender_replies}
 use Rattle.ltp_session.specs.Engine.{receiver_replies, arrives}
 use Rattle.ltp_session.specs.Receiver.{Receiving, ReceivingPhase, receiver_open}
-use Rattle.ltp_session.specs.Receiver.{receiver_cancelling, Place, fresh, piece_stop, is_outside}
+use Rattle.ltp_session.specs.Receiver.{receiver_cancelling, Admission, fresh, piece_stop, is_outside}
 use Rattle.ltp_session.specs.Receiver.{is_miscoloured, with_red, red_part, with_handed_up}
 use Rattle.ltp_session.specs.Receiver.{piece_step, acknowledged_in, acknowledged, is_cancelling}
 use Rattle.ltp_session.specs.Receiver.{piece_for, receiver_answers, receiver_tick}
@@ -229,7 +229,7 @@ acknowledged-ups r serial = by_phase r.phase
         (no-up _ _ _ refl)
     by_phase (receiver_cancelling reason timer) = no-up _ _ _ refl
 
-pub hears-ups : (policy : PolicyValue) (place : Place) (kept : Option Receiving)
+pub hears-ups : (policy : PolicyValue) (place : Admission) (kept : Option Receiving)
     (content : ContentValue) (now : ℕ) (t : StepValue Receiving)
     → receiver_answers policy place kept content now ≡ Some t
     → Ups content (met place.session kept) t
@@ -288,7 +288,7 @@ whole-is said cells (Some end) body is holds = by_test (end == length cells) ref
     by_test false same is = absurd (cc)
 
 -- what a session hands up was sent
-pub hands-up : (said : List ContentValue) (policy : PolicyValue) (place : Place)
+pub hands-up : (said : List ContentValue) (policy : PolicyValue) (place : Admission)
     (kept : Option Receiving) (content : ContentValue) (now : ℕ) (t : StepValue Receiving)
     (body : List ℕ)
     → IsIn content said → IfKept (HeldBy said) kept → receiver_answers policy place kept content
@@ -317,7 +317,7 @@ arrival-up me you p q e f sent s now peer among held =
     (λ body is. absurd (cc)))
     (by_arms (UpIsSent (said you s.originator s.session sent)) (s.originator == p.peer) _ _
     (λ is_peer. by_peer (eqb-true s.originator p.peer is_peer ∙ peer) (receiver_answers p.policy
-    (place_of p e s.session) (find s.session e.receivers) s.content now) refl)
+    (admission_of p e s.session) (find s.session e.receivers) s.content now) refl)
     (λ stranger body is. absurd (cc)))
   where
     by_own : (o : Option (StepValue Sending)) → UpIsSent (said you s.originator s.session sent)
@@ -326,12 +326,12 @@ arrival-up me you p q e f sent s now peer among held =
     by_own (Some t) body is = absurd (cc)
 
     by_peer : s.originator ≡ q.own → (o : Option (StepValue Receiving))
-        → receiver_answers p.policy (place_of p e s.session) (find s.session e.receivers)
+        → receiver_answers p.policy (admission_of p e s.session) (find s.session e.receivers)
         s.content now ≡ o
         → UpIsSent (said you s.originator s.session sent) (receiver_replies p e s.session o)
     by_peer own None hears body is = absurd (cc)
     by_peer own (Some t) hears body is =
-        hands-up (said you s.originator s.session sent) p.policy (place_of p e s.session)
+        hands-up (said you s.originator s.session sent) p.policy (admission_of p e s.session)
         (find s.session e.receivers) s.content now t body among
         (subst (λ o. IfKept (HeldBy (said you o s.session sent)) (find s.session e.receivers))
         (sym own) held) hears is

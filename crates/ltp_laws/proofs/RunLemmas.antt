@@ -10,7 +10,7 @@ use Rattle.ltp_segment.specs.Policy.{PolicyValue}
 use Rattle.ltp_segment.specs.Values.{ContentValue, SegmentValue}
 use Rattle.ltp_session.specs.Engine.{sender_changes, receiver_changes, SubmitFault, submit_fault}
 use Rattle.ltp_session.specs.Engine.{submits_unless, Party, Engine, Reply, is_used, with_sender}
-use Rattle.ltp_session.specs.Engine.{with_receiver, place_of, sender_replies, receiver_replies}
+use Rattle.ltp_session.specs.Engine.{with_receiver, admission_of, sender_replies, receiver_replies}
 use Rattle.ltp_session.specs.Engine.{arrives, begun, submits, sender_ticks, receiver_ticks}
 use Rattle.ltp_session.specs.Engine.{tick_engine, tick_out, starts}
 use Rattle.ltp_session.specs.Receiver.{Receiving, receiver_answers, receiver_tick}
@@ -179,7 +179,7 @@ receiver-arrival : (A : PolicyValue → ℕ → Type 0) (B : End → ℕ → Lis
     (P : End → ℕ → View → Type 0) → IsInvariant A B P → (me you : End) (p q : Party) (e f : Engine)
     (sent : List Sent) (n : ℕ) (content : ContentValue) (now : ℕ) (t : StepValue Receiving)
     → AreTwo me you → A p.policy now → q.own ≢ p.own → IsIn content (said you q.own n sent)
-    → receiver_answers p.policy (place_of p e n) (find n e.receivers) content now ≡ Some t
+    → receiver_answers p.policy (admission_of p e n) (find n e.receivers) content now ≡ Some t
     → KeepsAll P P me you p q e f sent (with_receiver (opening p e (find n e.receivers) t.next) n
     t.next) (sent ++ sent_by me (headed_all (session_of q.own n) t.out))
 receiver-arrival A B P inv me you p q e f sent n content now t both ok apart among hears = record {
@@ -202,7 +202,7 @@ receiver-arrival A B P inv me you p q e f sent n content now t both ok apart amo
         let here : n ≡ m = eqb-true n m is_same in
         let mine : P you n (view_by you me q f e sent n) = rw here good in
         rw (← here) (subst (P you n) (sym (receiver-here me you q p f e sent n t both))
-        (inv.receiver you n p.policy (place_of p e n) (view_by you me q f e sent n) content now t
+        (inv.receiver you n p.policy (admission_of p e n) (view_by you me q f e sent n) content now t
         ok refl among hears mine))
     peer m good false is_same =
         left-holds A B P inv you m (view_by you me q f e sent m) _
@@ -238,7 +238,7 @@ arrives-keeps A B P inv me you p q e f sent s now both ok linked among =
     (find s.session e.senders) s.content now) refl) (λ unused. tt))
     (λ not_own. by_arms Keeps (s.originator == p.peer) _ _
     (λ peer. peer_keeps (eqb-true s.originator p.peer peer ∙ linked.knows)
-    (receiver_answers p.policy (place_of p e s.session) (find s.session e.receivers) s.content now)
+    (receiver_answers p.policy (admission_of p e s.session) (find s.session e.receivers) s.content now)
     refl) (λ stranger. tt))
   where
     Keeps : Option Reply → Type 0
@@ -255,7 +255,7 @@ arrives-keeps A B P inv me you p q e f sent s now both ok linked among =
         linked.apart (subst (λ o. IsIn s.content (said you o s.session sent)) own among) hears)
 
     peer_keeps : s.originator ≡ q.own → (o : Option (StepValue Receiving))
-        → receiver_answers p.policy (place_of p e s.session) (find s.session e.receivers)
+        → receiver_answers p.policy (admission_of p e s.session) (find s.session e.receivers)
         s.content now ≡ o
         → Keeps (receiver_replies p e s.session o)
     peer_keeps peer None hears = tt

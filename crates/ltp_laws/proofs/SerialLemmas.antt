@@ -11,7 +11,7 @@ use Rattle.ltp_segment.specs.Values.{a_report_ack, a_sender_cancel, a_sender_can
 use Rattle.ltp_segment.specs.Values.{a_receiver_cancel, a_receiver_cancel_ack}
 use Rattle.ltp_session.specs.Claims.{report_on, is_whole_claim}
 use Rattle.ltp_session.specs.Receiver.{Receiving, ReceivingPhase, receiver_open}
-use Rattle.ltp_session.specs.Receiver.{receiver_cancelling, Pending, Place, fresh, piece_stop}
+use Rattle.ltp_session.specs.Receiver.{receiver_cancelling, Pending, Admission, fresh, piece_stop}
 use Rattle.ltp_session.specs.Receiver.{is_outside, is_miscoloured, rejects, with_red, red_part}
 use Rattle.ltp_session.specs.Receiver.{with_handed_up, report_of, takes_red, piece_step}
 use Rattle.ltp_session.specs.Receiver.{acknowledged_in, acknowledged, receiver_due, receiver_tick}
@@ -333,7 +333,7 @@ pub fresh-tells : (said : List ContentValue) (session : ℕ) → NoReports said
 fresh-tells said session none =
     record { pending = no_pending said; below = λ x among. absurd (none x among) }
 
-on_piece-tells : (said : List ContentValue) (policy : PolicyValue) (place : Place)
+on_piece-tells : (said : List ContentValue) (policy : PolicyValue) (place : Admission)
     (kept : Option Receiving) (p : PieceValue) (now : ℕ)
     → IfKept (HasReported said) kept → (kept ≡ None → place.closed ≡ false → NoReports said)
     → AreNumbered said → ReportsOn said (on_piece policy place kept p now)
@@ -367,7 +367,7 @@ on_piece-tells said policy place kept p now tells unknown once =
         both_arms (ReportsOn said) (is_cancelling r.phase) _ _ quiet
         (piece-tells said policy r p now tells once)
 
-hears-tells : (said : List ContentValue) (policy : PolicyValue) (place : Place)
+hears-tells : (said : List ContentValue) (policy : PolicyValue) (place : Admission)
     (kept : Option Receiving) (content : ContentValue) (now : ℕ) (t : StepValue Receiving)
     → IfKept (HasReported said) kept → (kept ≡ None → place.closed ≡ false → NoReports said)
     → AreNumbered said

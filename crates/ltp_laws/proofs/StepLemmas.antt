@@ -9,7 +9,7 @@ use Rattle.ltp_segment.specs.Values.{a_sender_cancel, a_sender_cancel_ack, a_rec
 use Rattle.ltp_segment.specs.Values.{a_receiver_cancel_ack}
 use Rattle.ltp_session.specs.Claims.{is_whole_claim}
 use Rattle.ltp_session.specs.Receiver.{Receiving, ReceivingPhase, receiver_open}
-use Rattle.ltp_session.specs.Receiver.{receiver_cancelling, Place, fresh, piece_stop, is_outside}
+use Rattle.ltp_session.specs.Receiver.{receiver_cancelling, Admission, fresh, piece_stop, is_outside}
 use Rattle.ltp_session.specs.Receiver.{is_miscoloured, with_red, takes_red, piece_step}
 use Rattle.ltp_session.specs.Receiver.{acknowledged_in, acknowledged, receiver_due, receiver_tick}
 use Rattle.ltp_session.specs.Receiver.{is_cancelling, piece_for, on_piece, receiver_answers}
@@ -155,16 +155,16 @@ met session None = fresh session
 met session (Some r) = r
 
 -- a segment that a session of which nothing is kept only opens with an open number
-pub record Hears (content : ContentValue) (place : Place) (kept : Option Receiving)
+pub record Hears (content : ContentValue) (place : Admission) (kept : Option Receiving)
     (t : StepValue Receiving) : Type 0 where
   pub form : ReceiverStep content (met place.session kept) t
   pub opens : kept ≡ None → (t.next ≡ stays) ⊎ (place.closed ≡ false)
 
-hears-idle : (content : ContentValue) (place : Place) (kept : Option Receiving)
+hears-idle : (content : ContentValue) (place : Admission) (kept : Option Receiving)
     (t : StepValue Receiving) → t.next ≡ stays → NoReports t.out → Hears content place kept t
 hears-idle content place kept t is none = record { form = idle is none; opens = λ h. inl is }
 
-on_piece-form : (policy : PolicyValue) (place : Place) (kept : Option Receiving) (q : PieceValue)
+on_piece-form : (policy : PolicyValue) (place : Admission) (kept : Option Receiving) (q : PieceValue)
     (now : ℕ) → Hears (a_piece q) place kept (on_piece policy place kept q now)
 on_piece-form policy place kept q now =
     both_arms (Hears (a_piece q) place kept) (not (q.service == 1)) _ _
@@ -191,7 +191,7 @@ on_piece-form policy place kept q now =
         (hears-idle (a_piece q) place (Some r) _ refl none-none)
         (record { form = piece-form policy r q now; opens = λ h. absurd (cc) })
 
-pub hears-form : (policy : PolicyValue) (place : Place) (kept : Option Receiving)
+pub hears-form : (policy : PolicyValue) (place : Admission) (kept : Option Receiving)
     (content : ContentValue) (now : ℕ) (t : StepValue Receiving)
     → receiver_answers policy place kept content now ≡ Some t → Hears content place kept t
 unfolding receiver_answers

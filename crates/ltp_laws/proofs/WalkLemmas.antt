@@ -10,7 +10,7 @@ use Rattle.ltp_segment.specs.Values.{a_sender_cancel, a_sender_cancel_ack, a_rec
 use Rattle.ltp_segment.specs.Values.{a_receiver_cancel_ack}
 use Rattle.ltp_session.specs.Claims.{is_whole_claim}
 use Rattle.ltp_session.specs.Receiver.{Receiving, ReceivingPhase, receiver_open}
-use Rattle.ltp_session.specs.Receiver.{receiver_cancelling, Pending, Place, fresh, piece_stop}
+use Rattle.ltp_session.specs.Receiver.{receiver_cancelling, Pending, Admission, fresh, piece_stop}
 use Rattle.ltp_session.specs.Receiver.{is_outside, is_miscoloured, rejects, takes_green, with_red}
 use Rattle.ltp_session.specs.Receiver.{red_part, with_handed_up, report_of, reports, piece_step}
 use Rattle.ltp_session.specs.Receiver.{acknowledged_in, acknowledged, receiver_due, receiver_tick}
@@ -54,7 +54,7 @@ walk-piece policy r q now P on =
     (λ green_kind. on.greener green_kind)))
 
 -- ... of all that a segment does in a session, whose kept receiver, if there is one, is r
-pub record OnSegment (policy : PolicyValue) (place : Place) (kept : Option Receiving)
+pub record OnSegment (policy : PolicyValue) (place : Admission) (kept : Option Receiving)
     (content : ContentValue) (now : ℕ) (P : StepValue Receiving → Type 0) : Type 0 where
   pub rests : (note : Option NoteValue)
       → P (record { next = stays; out = []; up = None; green = None; note = note })
@@ -85,7 +85,7 @@ not_false : (b : Bool) → not b ≡ true → b ≡ false
 not_false true is = absurd (cc)
 not_false false is = refl
 
-walk-comes : (policy : PolicyValue) (place : Place) (kept : Option Receiving) (q : PieceValue)
+walk-comes : (policy : PolicyValue) (place : Admission) (kept : Option Receiving) (q : PieceValue)
     (now : ℕ) (P : StepValue Receiving → Type 0) → OnSegment policy place kept (a_piece q) now P
     → P (on_piece policy place kept q now)
 walk-comes policy place kept q now P on =
@@ -104,7 +104,7 @@ walk-comes policy place kept q now P on =
         by_arms P (is_cancelling r.phase) _ _ (λ rejecting. on.rests _)
         (λ listening. walk-piece policy r q now P (on.came q r refl is listening))
 
-walk-acknowledged : (policy : PolicyValue) (place : Place) (r : Receiving) (serial now : ℕ)
+walk-acknowledged : (policy : PolicyValue) (place : Admission) (r : Receiving) (serial now : ℕ)
     (P : StepValue Receiving → Type 0) → OnSegment policy place (Some r) (a_report_ack serial) now
     P → P (acknowledged r serial)
 unfolding acknowledged
@@ -120,7 +120,7 @@ walk-acknowledged policy place r serial now P on = by_phase r.phase refl
         (λ another. on.unmoved r refl)
     by_phase (receiver_cancelling reason timer) is = on.unmoved r refl
 
-pub walk-segment : (policy : PolicyValue) (place : Place) (kept : Option Receiving)
+pub walk-segment : (policy : PolicyValue) (place : Admission) (kept : Option Receiving)
     (content : ContentValue) (now : ℕ) (t : StepValue Receiving) (P : StepValue Receiving → Type 0)
     → receiver_answers policy place kept content now ≡ Some t
     → OnSegment policy place kept content now P → P t

@@ -21,7 +21,7 @@ use Rattle.ltp_session.specs.Claims.{with_claims, report_on}
 use Rattle.ltp_session.specs.Engine.{Party, Engine, Reply, submits}
 use Rattle.ltp_session.specs.Engine.{submits_unless, block_empty, block_too_large}
 use Rattle.ltp_session.specs.Engine.{numbers_spent, senders_busy}
-use Rattle.ltp_session.specs.Receiver.{Place, Receiving, fresh, receiver_tick}
+use Rattle.ltp_session.specs.Receiver.{Admission, Receiving, fresh, receiver_tick}
 use Rattle.ltp_session.specs.Receiver.{receiver_open, report_of}
 use Rattle.ltp_session.specs.Sender.{Sending, SendingPhase, sender_open, sender_cancelling, begin}
 use Rattle.ltp_session.specs.Sender.{checkpoint_at, checkpoint_kind, segments_from}
@@ -309,7 +309,7 @@ small-fresh n = record {
   phase = tt;
 }
 
-small-segment : (policy : PolicyValue) (place : Place) (kept : Option Receiving)
+small-segment : (policy : PolicyValue) (place : Admission) (kept : Option Receiving)
     (content : ContentValue) (now : ℕ) → IfKept IsSmallReceiver kept
     → OnSegment policy place kept content now ReceiverSmall
 small-segment policy place kept content now small = record {

@@ -5,7 +5,7 @@ use Rattle.std.specs.List.{AllByRecursion}
 use Rattle.ltp_segment.specs.Policy.{PolicyValue}
 use Rattle.ltp_segment.specs.Values.{ContentValue}
 use Rattle.ltp_session.specs.Engine.{Party}
-use Rattle.ltp_session.specs.Receiver.{Place, Receiving, receiver_answers, receiver_tick}
+use Rattle.ltp_session.specs.Receiver.{Admission, Receiving, receiver_answers, receiver_tick}
 use Rattle.ltp_session.specs.Sender.{Sending, begin, sender_answers, sender_tick}
 use Rattle.ltp_session.specs.Step.{StepValue}
 use Rattle.ltp_session.specs.Table.{AreAscending}
@@ -44,10 +44,10 @@ pub record IsInvariant
       → Allowed policy now → IsIn content v.by_receiver
       → sender_answers policy v.sender content now ≡ Some t → P o n v → P o n (sender_moves v t)
   pub receiver :
-      (o : End) (n : ℕ) (policy : PolicyValue) (place : Place) (v : View)
+      (o : End) (n : ℕ) (policy : PolicyValue) (admission : Admission) (v : View)
       (content : ContentValue) (now : ℕ) (t : StepValue Receiving)
-      → Allowed policy now → place.closed ≡ v.closed → IsIn content v.by_sender
-      → receiver_answers policy place v.receiver content now ≡ Some t
+      → Allowed policy now → admission.closed ≡ v.closed → IsIn content v.by_sender
+      → receiver_answers policy admission v.receiver content now ≡ Some t
       → P o n v → P o n (receiver_moves v t)
   pub sender_tick :
       (o : End) (n : ℕ) (policy : PolicyValue) (now : ℕ) (v : View) (s : Sending)
@@ -105,10 +105,10 @@ pub record KeepsUnder (F G : List ℕ → ℕ → View → Type 0) : Type 0 wher
       → F block red v → F block red (sender_moves v t)
       → G block red v → G block red (sender_moves v t)
   pub receiver :
-      (block : List ℕ) (red : ℕ) (policy : PolicyValue) (place : Place) (v : View)
+      (block : List ℕ) (red : ℕ) (policy : PolicyValue) (admission : Admission) (v : View)
       (content : ContentValue) (now : ℕ) (t : StepValue Receiving)
-      → place.closed ≡ v.closed → IsIn content v.by_sender
-      → receiver_answers policy place v.receiver content now ≡ Some t
+      → admission.closed ≡ v.closed → IsIn content v.by_sender
+      → receiver_answers policy admission v.receiver content now ≡ Some t
       → F block red v → F block red (receiver_moves v t)
       → G block red v → G block red (receiver_moves v t)
   pub sender_tick :

@@ -10,7 +10,7 @@ use Rattle.ltp_segment.specs.Values.{SegmentValue}
 use Rattle.ltp_segment.specs.declared.session.Note.{Note}
 use Rattle.ltp_segment.specs.declared.session.Note.TheVariants as notes
 use Rattle.ltp_session.specs.Engine.{Engine, Party, Reply, UpValue, arrives, datagram_step}
-use Rattle.ltp_session.specs.Engine.{evicted_by, is_used, list_of, notes_of, place_of}
+use Rattle.ltp_session.specs.Engine.{evicted_by, is_used, list_of, notes_of, admission_of}
 use Rattle.ltp_session.specs.Engine.{receiver_replies, replied, replied_or_stranger}
 use Rattle.ltp_session.specs.Engine.{sender_replies, with_receiver, with_sender, without_evicted}
 use Rattle.ltp_session.specs.Receiver.{Receiving, receiver_answers}
@@ -66,11 +66,11 @@ pub data PeerMoves (me : End) (p q : Party) (e : Engine) (s : SegmentValue) (now
   peer_apart : (s.originator ≡ q.own → s.session ≡ n → ⊥) → v' ≡ v
       → PeerMoves me p q e s now es v n v'
   peer_deaf : s.originator ≡ q.own → s.session ≡ n
-      → receiver_answers p.policy (place_of p e n) v.receiver s.content now ≡ None → v' ≡ v
+      → receiver_answers p.policy (admission_of p e n) v.receiver s.content now ≡ None → v' ≡ v
       → PeerMoves me p q e s now es v n v'
   peer_hears : s.originator ≡ q.own → s.session ≡ n → (t : StepValue Receiving)
-      → receiver_answers p.policy (place_of p e n) v.receiver s.content now ≡ Some t
-      → v' ≡ receiver_moves v t → (place_of p e n).closed ≡ v.closed
+      → receiver_answers p.policy (admission_of p e n) v.receiver s.content now ≡ Some t
+      → v' ≡ receiver_moves v t → (admission_of p e n).closed ≡ v.closed
       → (t.note ≡ Some note_history_full → IsNoted es me (notes.HistoryFull n))
       → (is_some t.up ≡ true → IsHandedUp es me n)
       → PeerMoves me p q e s now es v n v'
@@ -169,7 +169,7 @@ peer-moved : (me you : End) (p q : Party) (e f : Engine) (s : SegmentValue) (now
     (es : List EndEffects) (V : End → ℕ → View) (sent : List Sent) (t : StepValue Receiving)
     → AreTwo me you → Linked p q → s.originator ≡ q.own
     → ((n : ℕ) → view_by you me q f e sent n ≡ V you n)
-    → receiver_answers p.policy (place_of p e s.session) (find s.session e.receivers) s.content
+    → receiver_answers p.policy (admission_of p e s.session) (find s.session e.receivers) s.content
     now ≡ Some t
     → evicted_by p e (find s.session e.receivers) t.next ≡ None
     → (t.note ≡ Some note_history_full → IsNoted es me (notes.HistoryFull s.session))
@@ -225,7 +225,7 @@ peer-moved me you p q e f s now es V sent t both linked peer was hears spared fu
         subst (λ (m : ℕ). P' you m (view_by you me q f e' (sent' s.originator) m))
         (eqb-true s.session m same)
         (on_peer s.session _ (peer_hears peer refl t
-        (subst (λ (v : View). receiver_answers p.policy (place_of p e s.session) v.receiver
+        (subst (λ (v : View). receiver_answers p.policy (admission_of p e s.session) v.receiver
         s.content now ≡ Some t) (was s.session) hears) here
         (ap (λ (v : View). v.closed) (was s.session)) full handed))
     by_number m false same is =
@@ -292,7 +292,7 @@ arrival-moves parties w me s P' peers formed known places each =
     (λ unused. unused_it (eqb-true s.originator p.own own) unused))
     (λ not_own. by_arms To (s.originator == p.peer) _ _
     (λ peer. peer_hears_it (eqb-true s.originator p.peer peer ∙ linked.knows)
-    (receiver_answers p.policy (place_of p e s.session) (find s.session e.receivers) s.content
+    (receiver_answers p.policy (admission_of p e s.session) (find s.session e.receivers) s.content
     w.now) refl)
     (λ not_peer. absurd (by_known known (eqb-false s.originator p.own not_own)
     (eqb-false s.originator p.peer not_peer))))
@@ -396,14 +396,14 @@ arrival-moves parties w me s P' peers formed known places each =
         (notes.Sent s.session) (note-there s.session t note_sent is)) P' each.0 each.1)
 
     peer_hears_it : s.originator ≡ q.own → (x : Option (StepValue Receiving))
-        → receiver_answers p.policy (place_of p e s.session) (find s.session e.receivers)
+        → receiver_answers p.policy (admission_of p e s.session) (find s.session e.receivers)
         s.content w.now ≡ x → To (receiver_replies p e s.session x)
     peer_hears_it peer None hears places each = nothing
         (λ n. each.0 n _ (own_apart (λ h k. linked.apart (sym h ∙ peer)) refl))
         (λ n. by_same s.session n (λ is. each.1 n _ (peer_deaf peer is
-        (subst (λ (v : View). receiver_answers p.policy (place_of p e n) v.receiver s.content w.now
+        (subst (λ (v : View). receiver_answers p.policy (admission_of p e n) v.receiver s.content w.now
         ≡ None) (view-peer parties w me n)
-        (subst (λ (n : ℕ). receiver_answers p.policy (place_of p e n) (find n e.receivers)
+        (subst (λ (n : ℕ). receiver_answers p.policy (admission_of p e n) (find n e.receivers)
         s.content w.now ≡ None) is hears)) refl))
         (λ not_is. each.1 n _ (peer_apart (λ h k. not_is k) refl)))
     peer_hears_it peer (Some t) hears places each =

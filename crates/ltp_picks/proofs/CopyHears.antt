@@ -12,7 +12,7 @@ use Rattle.ltp_segment.specs.Values.{ContentValue, PieceValue, a_piece, a_report
 use Rattle.ltp_segment.specs.Values.{a_report_ack, a_sender_cancel, a_sender_cancel_ack}
 use Rattle.ltp_segment.specs.Values.{a_receiver_cancel, a_receiver_cancel_ack}
 use Rattle.ltp_session.specs.Engine.{Party}
-use Rattle.ltp_session.specs.Receiver.{Place, Receiving, is_cancelling, on_piece}
+use Rattle.ltp_session.specs.Receiver.{Admission, Receiving, is_cancelling, on_piece}
 use Rattle.ltp_session.specs.Receiver.{on_receiver_cancel_ack, on_sender_cancel}
 use Rattle.ltp_session.specs.Receiver.{piece_stop, receiver_answers}
 use Rattle.ltp_session.specs.Sender.{Sending, ends_cancelling, on_receiver_cancel}
@@ -210,7 +210,7 @@ sender-ends p q n red block v a_receiver_cancel_ack now new_s new_r m t cuts fac
 -- ---- to the receiver
 
 -- a red piece of a session that isn't known, where there is no room, is noted as such
-full-noted : (policy : PolicyValue) (place : Place) (q : PieceValue) (now : ℕ)
+full-noted : (policy : PolicyValue) (place : Admission) (q : PieceValue) (now : ℕ)
     → q.service ≡ 1 → 1 ≤ length q.body → piece_stop q ≤ place.most → is_red q.kind ≡ true
     → place.closed ≡ false → place.full ≡ true
     → (on_piece policy place None q now).note ≡ Some note_history_full
@@ -362,7 +362,7 @@ over-receiver p q n red block v t e new_s new_r m front more next out quiet fewe
           by_receiver = v.by_receiver ++ t.out;
         }) (sym next)
 
-pub receiver-heard : (p q : Party) (n red : ℕ) (block : List ℕ) (place : Place) (v : View)
+pub receiver-heard : (p q : Party) (n red : ℕ) (block : List ℕ) (place : Admission) (v : View)
     (e : ContentValue) (now : ℕ) (new_s new_r : List ContentValue) (m : ℕ)
     (t : StepValue Receiving) → place.session ≡ n → place.closed ≡ v.closed → place.most ≡ q.most
     → (t.note ≡ Some note_history_full → ⊥)

@@ -8,8 +8,8 @@ use Rattle.ltp_segment.specs.Values.{ContentValue, SegmentValue, a_piece, a_repo
 use Rattle.ltp_segment.specs.Values.{a_report_ack, a_sender_cancel, a_sender_cancel_ack}
 use Rattle.ltp_segment.specs.Values.{a_receiver_cancel, a_receiver_cancel_ack}
 use Rattle.ltp_segment.specs.declared.session.Note.TheVariants as notes
-use Rattle.ltp_session.specs.Engine.{Party, place_of}
-use Rattle.ltp_session.specs.Receiver.{Place, Receiving, receiver_answers}
+use Rattle.ltp_session.specs.Engine.{Party, admission_of}
+use Rattle.ltp_session.specs.Receiver.{Admission, Receiving, receiver_answers}
 use Rattle.ltp_session.specs.Sender.{Sending, sender_answers}
 use Rattle.ltp_session.specs.Step.{StepValue, note_history_full, note_sent}
 use Rattle.ltp_session.specs.World.{ArePeers, End, Sent, World, at_end, other}
@@ -66,7 +66,7 @@ sender-deaf policy kept a_sender_cancel_ack now is deaf = cc
 sender-deaf policy kept (a_receiver_cancel reason) now is deaf = cc
 sender-deaf policy kept a_receiver_cancel_ack now is deaf = is
 
-receiver-deaf : (policy : PolicyValue) (place : Place) (kept : Option Receiving) (c : ContentValue)
+receiver-deaf : (policy : PolicyValue) (place : Admission) (kept : Option Receiving) (c : ContentValue)
     (now : ℕ) → IsSenders c → receiver_answers policy place kept c now ≡ None → ⊥
 unfolding receiver_answers
 receiver-deaf policy place kept (a_piece q) now is deaf = cc
@@ -294,8 +294,8 @@ peer-after parties w w' me s k k' n m Old Old' es new new' o is_me adds places k
     v : View
     v = view parties w o n
 
-    place : Place
-    place = place_of (at_end parties me) (at_end w.engines me) n
+    place : Admission
+    place = admission_of (at_end parties me) (at_end w.engines me) n
 
     -- what is new of it
     new_s : List ContentValue
@@ -322,10 +322,10 @@ peer-after parties w w' me s k k' n m Old Old' es new new' o is_me adds places k
         (plain (said (other o) (at_end parties o).own n new)) keeps.left) (t : StepValue Receiving)
         → (view parties w o n).used ≡ true
         → receiver_answers (at_end parties me).policy
-        (place_of (at_end parties me) (at_end w.engines me) n) (view parties w o n).receiver
+        (admission_of (at_end parties me) (at_end w.engines me) n) (view parties w o n).receiver
         s.content w.now ≡ Some t
         → view parties w' o n ≡ receiver_moves (view parties w o n) t
-        → (place_of (at_end parties me) (at_end w.engines me) n).closed
+        → (admission_of (at_end parties me) (at_end w.engines me) n).closed
         ≡ (view parties w o n).closed
         → (t.note ≡ Some note_history_full → ⊥)
         → (is_some t.up ≡ true → IsHandedUp es me n) → To

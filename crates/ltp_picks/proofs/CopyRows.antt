@@ -8,7 +8,7 @@ use Rattle.ltp_segment.specs.Kinds.{is_checkpoint, is_red}
 use Rattle.ltp_segment.specs.Policy.{PolicyValue}
 use Rattle.ltp_segment.specs.Values.{ContentValue, PieceValue, ReportValue, a_piece}
 use Rattle.ltp_segment.specs.Values.{a_report}
-use Rattle.ltp_session.specs.Receiver.{Pending, Place, Receiving, is_cancelling}
+use Rattle.ltp_session.specs.Receiver.{Pending, Admission, Receiving, is_cancelling}
 use Rattle.ltp_session.specs.Receiver.{receiver_answers}
 use Rattle.ltp_session.specs.Sender.{Sending, sender_open}
 use Rattle.ltp_session.specs.Step.{StepValue, after, keeps}
@@ -200,7 +200,7 @@ light-checkpoint q out x asks is =
     subst (λ (b : Bool). weights out < (if b then 3 else 1)) (sym asks)
     (omega (arith, ap weights is))
 
-comes-stays : (place : Place) (v : View) (q : PieceValue) (t : StepValue Receiving)
+comes-stays : (place : Admission) (v : View) (q : PieceValue) (t : StepValue Receiving)
     → Comes place v.receiver q t → Stays v t q
 comes-stays place v q t (passes next out none why) = record {
   listening = λ r' kept. absurd (let here : v.receiver ≡ Some r' =
@@ -227,7 +227,7 @@ fewer-serials session v n m low serials = record {
 }
 
 -- the rank falls
-pub piece-falls : (at : Setting) (block : List ℕ) (policy : PolicyValue) (place : Place)
+pub piece-falls : (at : Setting) (block : List ℕ) (policy : PolicyValue) (place : Admission)
     (v : View) (q : PieceValue) (now : ℕ) (new_s new_r : List ContentValue) (n : ℕ)
     (t : StepValue Receiving)
     → Given block at.red place.most v → place.session ≡ at.session → place.closed ≡ v.closed

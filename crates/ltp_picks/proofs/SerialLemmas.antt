@@ -4,7 +4,7 @@ use Rattle.std.proofs.Common.{◌≡◌, ℕ, ◌+◌, ◌<◌, ◌≤◌, ◌^�
 use Rattle.std.proofs.Common.{ap, arith, subst}
 use Rattle.ltp_segment.specs.Policy.{PolicyValue}
 use Rattle.ltp_segment.specs.Values.{ContentValue, PieceValue}
-use Rattle.ltp_session.specs.Receiver.{Place, Receiving, receiver_answers}
+use Rattle.ltp_session.specs.Receiver.{Admission, Receiving, receiver_answers}
 use Rattle.ltp_session.specs.Sender.{Sending, sender_answers, sender_open}
 use Rattle.ltp_session.specs.Step.{StepValue, after}
 use Rattle.ltp_session.specs.declared.timer.Timer.{Timer}
@@ -51,7 +51,7 @@ step-serial content session o t r' (reports_on q r1 is_piece red_kind asks next 
     subst (λ (r : Receiving). r.serial ≤ (met session o).serial + 1) one
     (omega (arith, reporting.serial))
 
-pub receiver-serials : (policy : PolicyValue) (place : Place) (v : View) (content : ContentValue)
+pub receiver-serials : (policy : PolicyValue) (place : Admission) (v : View) (content : ContentValue)
     (now : ℕ) (t : StepValue Receiving) (n : ℕ)
     → receiver_answers policy place v.receiver content now ≡ Some t
     → HasSerials place.session v (n + 1) → HasSerials place.session (receiver_moves v t) n

@@ -14,7 +14,7 @@ use Rattle.ltp_session.specs.declared.name.SessionName.{SessionName}
 use Rattle.ltp_session.specs.Step.{Change, stays, keeps, ends, StepValue, GreenValue}
 use Rattle.ltp_session.specs.Views.{headed_all, note_of, green_view}
 use Rattle.ltp_session.specs.Sender.{Sending, begin, sender_answers, sender_tick, sender_deadline}
-use Rattle.ltp_session.specs.Receiver.{Receiving, Place, receiver_answers, receiver_tick, receiver_deadline}
+use Rattle.ltp_session.specs.Receiver.{Receiving, Admission, receiver_answers, receiver_tick, receiver_deadline}
 use Rattle.ltp_session.specs.Table.{find, put, without, settled, ticked, ended}
 
 -- what never changes: the engine's number and its peer's, its first session's number, how it sends,
@@ -139,8 +139,8 @@ receiver_replies p e n (Some step) =
 
 -- what a receiving session has to know of its engine: the record of closed numbers is full where
 -- its runs and the kept receiving sessions together are as many as are remembered, or more
-abbrev pub place_of : Party → Engine → ℕ → Place
-place_of p e n = record {
+abbrev pub admission_of : Party → Engine → ℕ → Admission
+admission_of p e n = record {
   session = n;
   most = p.most;
   closed = is_closed n e.closed;
@@ -159,7 +159,7 @@ to_sender p e s now =
 abbrev pub to_receiver : Party → Engine → SegmentValue → ℕ → Option Reply
 to_receiver p e s now =
     receiver_replies p e s.session
-    (receiver_answers p.policy (place_of p e s.session) (find s.session e.receivers) s.content now)
+    (receiver_answers p.policy (admission_of p e s.session) (find s.session e.receivers) s.content now)
 
 -- a segment has no reply where it is neither an answer to a session that this engine began, nor what
 -- the sender of a session of its peer sends

@@ -231,7 +231,7 @@ receiver_tick policy r now = receiver_due policy r r.phase now
 -- What its engine knows besides, which decides whether a piece may open the session: the session's
 -- number, the greatest length of a block, whether the number is closed, and whether the record of
 -- closed numbers has no room for a new session.
-pub record Place : Type 0 where
+pub record Admission : Type 0 where
   pub session : ℕ
   pub most : ℕ
   pub closed : Bool
@@ -239,30 +239,30 @@ pub record Place : Type 0 where
 
 -- A piece of a session that isn't kept: green data is handed up, and nothing is remembered of it.
 -- Red data opens the session, unless its number is closed or the record of closed numbers is full.
-abbrev pub first_piece : PolicyValue → Place → PieceValue → ℕ → StepValue Receiving
-first_piece policy place piece now =
+abbrev pub first_piece : PolicyValue → Admission → PieceValue → ℕ → StepValue Receiving
+first_piece policy admission piece now =
     if not (is_red piece.kind) then hands_up_green stays piece
-    else if place.closed then noting stays [] note_closed
-    else if place.full then noting stays [] note_history_full
-    else piece_step policy (fresh place.session) piece now
+    else if admission.closed then noting stays [] note_closed
+    else if admission.full then noting stays [] note_history_full
+    else piece_step policy (fresh admission.session) piece now
 
 -- a piece for a cancelling session is noted, and no more
 abbrev pub piece_for :
-    PolicyValue → Place → Option Receiving → PieceValue → ℕ → StepValue Receiving
-piece_for policy place None piece now = first_piece policy place piece now
-piece_for policy place (Some r) piece now =
+    PolicyValue → Admission → Option Receiving → PieceValue → ℕ → StepValue Receiving
+piece_for policy admission None piece now = first_piece policy admission piece now
+piece_for policy admission (Some r) piece now =
     if is_cancelling r.phase then noting stays [] note_closed else piece_step policy r piece now
 
 -- First of all: a piece for another client service is answered by a cancel, and nothing is kept of
 -- it (own rule); one that is empty, or stops past the greatest block, is noted, and no more (own
 -- rule).
 abbrev pub on_piece :
-    PolicyValue → Place → Option Receiving → PieceValue → ℕ → StepValue Receiving
-on_piece policy place kept piece now =
+    PolicyValue → Admission → Option Receiving → PieceValue → ℕ → StepValue Receiving
+on_piece policy admission kept piece now =
     if not (piece.service == 1)
     then noting stays (a_receiver_cancel unreachable ∷ []) (note_refused piece.service)
-    else if is_no_part place.most piece.offset piece.body then noting stays [] note_bad_bounds
-    else piece_for policy place kept piece now
+    else if is_no_part admission.most piece.offset piece.body then noting stays [] note_bad_bounds
+    else piece_for policy admission kept piece now
 
 abbrev pub on_report_ack : Option Receiving → ℕ → StepValue Receiving
 on_report_ack None serial = sending stays []
@@ -287,13 +287,13 @@ on_receiver_tick policy (Some r) now = receiver_tick policy r now
 
 -- a content that isn't for a receiver has no answer
 unfoldable pub receiver_answers :
-    PolicyValue → Place → Option Receiving → ContentValue → ℕ → Option (StepValue Receiving)
-receiver_answers policy place kept (a_piece piece) now =
-    Some (on_piece policy place kept piece now)
-receiver_answers policy place kept (a_report report) now = None
-receiver_answers policy place kept (a_report_ack serial) now = Some (on_report_ack kept serial)
-receiver_answers policy place kept (a_sender_cancel reason) now =
+    PolicyValue → Admission → Option Receiving → ContentValue → ℕ → Option (StepValue Receiving)
+receiver_answers policy admission kept (a_piece piece) now =
+    Some (on_piece policy admission kept piece now)
+receiver_answers policy admission kept (a_report report) now = None
+receiver_answers policy admission kept (a_report_ack serial) now = Some (on_report_ack kept serial)
+receiver_answers policy admission kept (a_sender_cancel reason) now =
     Some (on_sender_cancel kept reason)
-receiver_answers policy place kept a_sender_cancel_ack now = None
-receiver_answers policy place kept (a_receiver_cancel reason) now = None
-receiver_answers policy place kept a_receiver_cancel_ack now = Some (on_receiver_cancel_ack kept)
+receiver_answers policy admission kept a_sender_cancel_ack now = None
+receiver_answers policy admission kept (a_receiver_cancel reason) now = None
+receiver_answers policy admission kept a_receiver_cancel_ack now = Some (on_receiver_cancel_ack kept)

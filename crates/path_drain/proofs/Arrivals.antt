@@ -9,9 +9,9 @@ use Rattle.ltp_segment.specs.Kinds.{is_red}
 use Rattle.ltp_segment.specs.Policy.{PolicyValue}
 use Rattle.ltp_segment.specs.Values.{ContentValue, PieceValue, SegmentValue, a_piece}
 use Rattle.ltp_session.specs.Engine.{Engine, Party, Reply, arrives, closed_runs, evicted_by}
-use Rattle.ltp_session.specs.Engine.{evicted_of, is_closed, is_used, notes_of, place_of}
+use Rattle.ltp_session.specs.Engine.{evicted_of, is_closed, is_used, notes_of, admission_of}
 use Rattle.ltp_session.specs.Engine.{receiver_replies, sender_replies, with_receiver}
-use Rattle.ltp_session.specs.Receiver.{Place, Receiving, receiver_answers}
+use Rattle.ltp_session.specs.Receiver.{Admission, Receiving, receiver_answers}
 use Rattle.ltp_session.specs.Sender.{Sending, sender_answers}
 use Rattle.ltp_session.specs.Step.{Change, StepValue, after, ends, keeps, stays}
 use Rattle.ltp_session.specs.Table.{find}
@@ -216,7 +216,7 @@ awaited-comes me you p q e f sent n limit_s limit_r content new_s new_r calm x i
 
 -- a block that is handed up is that of the sender, which is kept
 handed-up : (me you : End) (p q : Party) (e f : Engine) (sent : List Sent) (n block_red : ℕ)
-    (block : List ℕ) (limit_s limit_r : ℕ) (policy : PolicyValue) (place : Place)
+    (block : List ℕ) (limit_s limit_r : ℕ) (policy : PolicyValue) (place : Admission)
     (content : ContentValue) (now : ℕ) (new_s new_r : List ContentValue) (t : StepValue Receiving)
     (body : List ℕ)
     → Calm limit_s limit_r (view_by you me q f e sent n) (content ∷ new_s) new_r
@@ -324,7 +324,7 @@ peer-form : (me you : End) (p q : Party) (e f : Engine) (sent new : List Sent)
     (rank_p rank_q : ℕ → ℕ) (o : Oldest) (now : ℕ) (t : StepValue Receiving)
     → Meets me you p q e f sent new rank_p rank_q o
     → (o.first.segment).originator ≡ q.own
-    → receiver_answers p.policy (place_of p e (o.first.segment).session)
+    → receiver_answers p.policy (admission_of p e (o.first.segment).session)
     (find (o.first.segment).session e.receivers) (o.first.segment).content now ≡ Some t
     → (t.next ≡ ends → find (o.first.segment).session f.senders ≡ None)
     → Arrived e f (o.first.segment).session
@@ -353,7 +353,7 @@ peer-form me you p q e f sent new rank_p rank_q o now t meets peer hears gone =
             → t.next ≡ keeps r' → Comes_to e f (o.first.segment).session
         opens r' none next = comes me you q e f sent (o.first.segment).session
             (receiver-opens (setting_by q p (o.first.segment).session st.red) st.block p.policy
-            (place_of p e (o.first.segment).session)
+            (admission_of p e (o.first.segment).session)
             (view_by you me q f e sent (o.first.segment).session) (o.first.segment).content now
             (said you q.own (o.first.segment).session o.others)
             (said me q.own (o.first.segment).session o.others) (rank_q (o.first.segment).session)
@@ -364,30 +364,30 @@ peer-form me you p q e f sent new rank_p rank_q o now t meets peer hears gone =
             (λ none r' next. (meets.room (o.first.segment).session (opens r' none next)).0)
 
         of_coming : OfComing e f (o.first.segment).session t.next
-        of_coming = received-of p.policy (place_of p e (o.first.segment).session) e f
+        of_coming = received-of p.policy (admission_of p e (o.first.segment).session) e f
             (o.first.segment).session (o.first.segment).content now t hears opens
 
         stays_up : StaysUp e f (o.first.segment).session t.next
         stays_up s kept was = handed-after (o.first.segment).content (o.first.segment).session
             (find (o.first.segment).session e.receivers) t
-            ((hears-form p.policy (place_of p e (o.first.segment).session)
+            ((hears-form p.policy (admission_of p e (o.first.segment).session)
             (find (o.first.segment).session e.receivers) (o.first.segment).content now t hears).form)
             (λ is up. absurd (let none = gone is in cc)) was
 
         ups : (body : List ℕ) → t.up ≡ Some body
             → IsAwaited e f (o.first.segment).session t body
         ups body up = handed-up me you p q e f sent (o.first.segment).session st.red st.block _ _
-            p.policy (place_of p e (o.first.segment).session) (o.first.segment).content now
+            p.policy (admission_of p e (o.first.segment).session) (o.first.segment).content now
             (said you q.own (o.first.segment).session o.others)
             (said me q.own (o.first.segment).session o.others) t body
             (st.drains).calm (st.facts).basic
             (meets.unclosed (o.first.segment).session) refl hears gone up
 
         not_full : NotFull t
-        not_full = receiver-not_full p.policy (place_of p e (o.first.segment).session)
+        not_full = receiver-not_full p.policy (admission_of p e (o.first.segment).session)
             (find (o.first.segment).session e.receivers) (o.first.segment).content now t finds hears
           where
-            finds : FindsRoom (place_of p e (o.first.segment).session)
+            finds : FindsRoom (admission_of p e (o.first.segment).session)
                 (find (o.first.segment).session e.receivers) (o.first.segment).content
             finds x is_piece red none unclosed =
                 let few = (meets.room (o.first.segment).session
@@ -423,7 +423,7 @@ arrives-form me you p q e f sent new rank_p rank_q o now meets gone =
         own-form me you p q e f sent new rank_p rank_q o now t meets hears
 
     peer_hears : (o.first.segment).originator ≡ q.own → (x : Option (StepValue Receiving))
-        → receiver_answers p.policy (place_of p e (o.first.segment).session)
+        → receiver_answers p.policy (admission_of p e (o.first.segment).session)
         (find (o.first.segment).session e.receivers) (o.first.segment).content now ≡ x
         → ((t : StepValue Receiving)
         → receiver_replies p e (o.first.segment).session x
@@ -441,7 +441,7 @@ arrives-form me you p q e f sent new rank_p rank_q o now meets gone =
         (sender_answers p.policy (find (o.first.segment).session e.senders)
         (o.first.segment).content now) else None)
         else if peer then receiver_replies p e (o.first.segment).session
-        (receiver_answers p.policy (place_of p e (o.first.segment).session)
+        (receiver_answers p.policy (admission_of p e (o.first.segment).session)
         (find (o.first.segment).session e.receivers) (o.first.segment).content now) else None)
         ≡ receiver_replies p e (o.first.segment).session (Some t)
         → t.next ≡ ends → find (o.first.segment).session f.senders ≡ None)
@@ -449,7 +449,7 @@ arrives-form me you p q e f sent new rank_p rank_q o now meets gone =
         (sender_answers p.policy (find (o.first.segment).session e.senders)
         (o.first.segment).content now) else None)
         else if peer then receiver_replies p e (o.first.segment).session
-        (receiver_answers p.policy (place_of p e (o.first.segment).session)
+        (receiver_answers p.policy (admission_of p e (o.first.segment).session)
         (find (o.first.segment).session e.receivers) (o.first.segment).content now) else None)
     by_tests true is true peer is_peer gone = own_hears _ refl
     by_tests true is false peer is_peer gone = unheard refl

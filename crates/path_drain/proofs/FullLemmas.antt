@@ -8,7 +8,7 @@ use Rattle.ltp_segment.specs.Values.{ContentValue, PieceValue, ReportValue, a_pi
 use Rattle.ltp_segment.specs.Values.{a_receiver_cancel, a_receiver_cancel_ack, a_report}
 use Rattle.ltp_segment.specs.Values.{a_report_ack, a_sender_cancel, a_sender_cancel_ack}
 use Rattle.ltp_session.specs.Claims.{is_whole_claim}
-use Rattle.ltp_session.specs.Receiver.{Place, Receiving, ReceivingPhase, acknowledged}
+use Rattle.ltp_session.specs.Receiver.{Admission, Receiving, ReceivingPhase, acknowledged}
 use Rattle.ltp_session.specs.Receiver.{acknowledged_in, fresh, is_cancelling, is_miscoloured}
 use Rattle.ltp_session.specs.Receiver.{is_outside, on_piece, piece_for, piece_step, piece_stop}
 use Rattle.ltp_session.specs.Receiver.{receiver_answers, receiver_cancelling, receiver_open}
@@ -84,11 +84,11 @@ piece-not_full policy r q now =
     (λ h. absurd (cc))) (λ h. absurd (cc))))
 
 -- a red piece of a number of which nothing is kept, and that isn't closed, finds room
-abbrev pub FindsRoom : Place → Option Receiving → ContentValue → Type 0
+abbrev pub FindsRoom : Admission → Option Receiving → ContentValue → Type 0
 FindsRoom place kept content = (q : PieceValue) → content ≡ a_piece q → is_red q.kind ≡ true
     → kept ≡ None → place.closed ≡ false → place.full ≡ false
 
-comes-not_full : (policy : PolicyValue) (place : Place) (kept : Option Receiving) (q : PieceValue)
+comes-not_full : (policy : PolicyValue) (place : Admission) (kept : Option Receiving) (q : PieceValue)
     (now : ℕ) → FindsRoom place kept (a_piece q) → NotFull (on_piece policy place kept q now)
 comes-not_full policy place kept q now finds =
     both_arms NotFull (not (q.service == 1)) _ _ (λ h. absurd (cc))
@@ -123,7 +123,7 @@ acknowledged-not_full r serial = by_phase r.phase
         (λ h. absurd (cc))) (λ h. absurd (cc))
     by_phase (receiver_cancelling reason timer) = λ h. absurd (cc)
 
-pub receiver-not_full : (policy : PolicyValue) (place : Place) (kept : Option Receiving)
+pub receiver-not_full : (policy : PolicyValue) (place : Admission) (kept : Option Receiving)
     (content : ContentValue) (now : ℕ) (t : StepValue Receiving) → FindsRoom place kept content
     → receiver_answers policy place kept content now ≡ Some t → NotFull t
 unfolding receiver_answers

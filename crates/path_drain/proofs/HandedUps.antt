@@ -7,7 +7,7 @@ use Rattle.std.specs.List.{slice_get}
 use Rattle.std.proofs.lemmas.Bool.{eqb-false, eqb-true}
 use Rattle.ltp_segment.specs.Values.{SegmentValue, a_sender_cancel_ack}
 use Rattle.ltp_session.specs.declared.name.SessionName.{SessionName}
-use Rattle.ltp_session.specs.Engine.{Engine, Party, Reply, SubmitFault, arrives, is_used, place_of}
+use Rattle.ltp_session.specs.Engine.{Engine, Party, Reply, SubmitFault, arrives, is_used, admission_of}
 use Rattle.ltp_session.specs.Engine.{receiver_replies, receiver_ticks, sender_replies}
 use Rattle.ltp_session.specs.Engine.{submit_fault, submits, submits_unless, tick_engine, tick_out}
 use Rattle.ltp_session.specs.Engine.{with_receiver}
@@ -120,7 +120,7 @@ arrives-rightly me you p q e f sent s now n both =
     (both-ways Rightly (is_used p e s.session) _ _
     (by_own (sender_answers p.policy (find s.session e.senders) s.content now)) tt)
     (both-ways Rightly (s.originator == p.peer) _ _
-    (by_peer (receiver_answers p.policy (place_of p e s.session) (find s.session e.receivers)
+    (by_peer (receiver_answers p.policy (admission_of p e s.session) (find s.session e.receivers)
     s.content now) refl) tt)
   where
     Rightly : Option Reply → Type 0
@@ -131,13 +131,13 @@ arrives-rightly me you p q e f sent s now n both =
     by_own (Some t) = λ handed. inl handed
 
     by_peer : (o : Option (StepValue Receiving))
-        → receiver_answers p.policy (place_of p e s.session) (find s.session e.receivers)
+        → receiver_answers p.policy (admission_of p e s.session) (find s.session e.receivers)
         s.content now ≡ o
         → Rightly (receiver_replies p e s.session o)
     by_peer None hears = tt
     by_peer (Some t) hears = λ handed.
         moves-rightly me you p q e f sent s.session n t both
-        (hands-up-now p.policy (place_of p e s.session) (find s.session e.receivers) s.content now
+        (hands-up-now p.policy (admission_of p e s.session) (find s.session e.receivers) s.content now
         t hears) (s.session == n) refl handed
 
 -- ---- a link

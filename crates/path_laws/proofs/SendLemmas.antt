@@ -11,7 +11,7 @@ use Rattle.ltp_session.specs.Step.{ends as over}
 use Rattle.ltp_session.specs.Sender.{Sending, sender_answers}
 use Rattle.ltp_session.specs.Receiver.{Receiving, receiver_answers}
 use Rattle.ltp_session.specs.Table.{find}
-use Rattle.ltp_session.specs.Engine.{Party, Engine, EngineStep, Reply, SubmitFault, UpValue, submit_fault, submits_unless, submits, submit_step, is_used, sender_replies, evicted_by, without_evicted, receiver_replies, place_of, to_sender, to_receiver, arrives, replied_or_stranger, datagram_step, tick_step}
+use Rattle.ltp_session.specs.Engine.{Party, Engine, EngineStep, Reply, SubmitFault, UpValue, submit_fault, submits_unless, submits, submit_step, is_used, sender_replies, evicted_by, without_evicted, receiver_replies, admission_of, to_sender, to_receiver, arrives, replied_or_stranger, datagram_step, tick_step}
 use Rattle.ltp_laws.specs.View.{IsIn}
 use Rattle.ltp_laws.proofs.FrameLemmas.{next-with_receiver}
 use Rattle.ltp_laws.proofs.ListLemmas.{both_arms}
@@ -96,7 +96,7 @@ hearing-keeps p e (Ok s) now =
     both_arms (Keeps e name) (s.originator == p.own) (if is_used p e s.session then to_sender p e s now else None) (if s.originator == p.peer then to_receiver p e s now else None)
     (both_arms (Keeps e name) (is_used p e s.session) (to_sender p e s now) None (sender-keeps e name s.session (sender_answers p.policy (find s.session e.senders) s.content now)) refl)
     (both_arms (Keeps e name) (s.originator == p.peer) (to_receiver p e s now) None
-    (receiver-keeps p e name s.session (receiver_answers p.policy (place_of p e s.session) (find s.session e.receivers) s.content now)) refl)
+    (receiver-keeps p e name s.session (receiver_answers p.policy (admission_of p e s.session) (find s.session e.receivers) s.content now)) refl)
   where
     name : SessionName
     name = record { originator = s.originator; number = s.session }

@@ -10,7 +10,7 @@ use Rattle.ltp_session.specs.Cells.{is_no_part}
 use Rattle.ltp_session.specs.RedPart.{RedPiece, is_whole, IsRedPart}
 use Rattle.ltp_session.proofs.RedPartLemmas.{red_part-whole}
 use Rattle.ltp_session.specs.Step.{Change, stays, keeps, ends, after, StepValue, noting, sending, note_refused, note_bad_bounds, note_closed, unreachable}
-use Rattle.ltp_session.specs.Receiver.{Receiving, Place, fresh, is_cancelling, is_outside, is_miscoloured, hands_up_green, piece_step, piece_for, on_piece, receiver_answers}
+use Rattle.ltp_session.specs.Receiver.{Receiving, Admission, fresh, is_cancelling, is_outside, is_miscoloured, hands_up_green, piece_step, piece_for, on_piece, receiver_answers}
 use Rattle.ltp_session.specs.Sender.{Sending}
 use Rattle.ltp_session.specs.Table.{find, without, AreAscending}
 use Rattle.ltp_session.specs.Engine.{Party, Engine, Reply, EngineStep, UpValue, is_used, list_of, with_receiver, without_evicted, to_sender, sender_replies, replied_or_stranger, tick_step, receiver_changes}
@@ -21,7 +21,7 @@ use Rattle.ltp_laws.proofs.TableLemmas.{find-without, find-without_other, find-t
 use Rattle.ltp_engine.specs.RedParts.{meets, is_taken_by, with_content}
 use Rattle.session_memory.specs.Memory.{passed, is_remembered}
 use Rattle.peer_sessions.specs.Keys.{FaceKeys}
-use Rattle.peer_sessions.specs.Sessions.{Sessions, left_by, closes, stale, passes, place_in, makes_room, is_opened, peer_replies, answer_to, replies, answers, answered, to_trim, hears, ticks}
+use Rattle.peer_sessions.specs.Sessions.{Sessions, left_by, closes, stale, passes, admission_in, makes_room, is_opened, peer_replies, answer_to, replies, answers, answered, to_trim, hears, ticks}
 use Rattle.peer_sessions.specs.Runs.{SessionsEvent, a_datagram, a_tick, a_block, sessions_then}
 use Rattle.peer_sessions.proofs.AnswerLemmas.{place}
 use Rattle.peer_once.specs.Runs.{Face, TimedEvent, sessions_in, sessions_at, is_kept}
@@ -113,7 +113,7 @@ content-law policy n most over (Some r) a_receiver_cancel_ack now step pieces is
   by false = rests _ (Some r) pieces refl refl told
 
 -- what has no answer counts for nothing
-unanswered : (policy : PolicyValue) (p : Place) (kept : Option Receiving) (content : ContentValue) (now : ℕ) (pieces : List RedPiece) → receiver_answers policy p kept content now ≡ None → with_content p kept content pieces ≡ pieces
+unanswered : (policy : PolicyValue) (p : Admission) (kept : Option Receiving) (content : ContentValue) (now : ℕ) (pieces : List RedPiece) → receiver_answers policy p kept content now ≡ None → with_content p kept content pieces ≡ pieces
 unfolding receiver_answers
 unanswered policy p kept (a_piece piece) now pieces is = absurd (cc (is))
 unanswered policy p kept (a_report report) now pieces is = refl
@@ -177,16 +177,16 @@ up_in n body = record { session = n; body = body }
 
 here : (k : FaceKeys) (s : Sessions) (segment : SegmentValue) (now : ℕ) (pieces : List RedPiece) (answer : Option (StepValue Receiving)) → answer_to k s segment now ≡ answer
     → IsTold segment.session s.engine pieces → (find segment.session (s.engine).receivers ≡ None → pieces ≡ [])
-    → IsLawful segment.session (answered_by k s segment answer) pieces (with_content (place_in k s segment.session) (find segment.session (s.engine).receivers) segment.content pieces)
+    → IsLawful segment.session (answered_by k s segment answer) pieces (with_content (admission_in k s segment.session) (find segment.session (s.engine).receivers) segment.content pieces)
 here k s segment now pieces None is told none =
-    subst (λ ps. IsLawful segment.session (answered_by k s segment None) pieces ps) (sym (unanswered (k.party).policy (place_in k s segment.session) (find segment.session (s.engine).receivers) segment.content now pieces is))
+    subst (λ ps. IsLawful segment.session (answered_by k s segment None) pieces ps) (sym (unanswered (k.party).policy (admission_in k s segment.session) (find segment.session (s.engine).receivers) segment.content now pieces is))
     (silent s segment.session (answered_by k s segment None) pieces refl refl told)
 here k s segment now pieces (Some t) is told none = record {
-  told = subst (λ kept. Told kept (with_content (place_in k s segment.session) (find segment.session (s.engine).receivers) segment.content pieces)) (sym (found-after k s.engine segment.session t.next)) law.told;
+  told = subst (λ kept. Told kept (with_content (admission_in k s segment.session) (find segment.session (s.engine).receivers) segment.content pieces)) (sym (found-after k s.engine segment.session t.next)) law.told;
   hands = λ body among. law.hands body (is_up t.up body among);
   handed = λ body unfinished part. subst (λ u. IsIn (up_in segment.session body) (list_of (option_map (λ b. up_in segment.session b) u))) (sym (law.handed body unfinished part)) (inl refl);
 } where
-  law : ByLaw t (find segment.session (s.engine).receivers) pieces (with_content (place_in k s segment.session) (find segment.session (s.engine).receivers) segment.content pieces)
+  law : ByLaw t (find segment.session (s.engine).receivers) pieces (with_content (admission_in k s segment.session) (find segment.session (s.engine).receivers) segment.content pieces)
   law = content-law (k.party).policy segment.session (k.party).most (is_remembered s.memory segment.session) (find segment.session (s.engine).receivers) segment.content now t pieces is told none
 
   is_up : (up : Option (List ℕ)) (body : List ℕ) → IsIn (up_in segment.session body) (list_of (option_map (λ b. up_in segment.session b) up)) → up ≡ Some body
@@ -223,16 +223,16 @@ segment-lawful k s segment now n pieces told none = by (segment.originator == (k
   own true (Some t) = silent s n _ pieces refl refl told
 
   peer : (same : Bool) → (segment.session == n) ≡ same
-      → IsLawful n (answered_by k s segment (answer_to k s segment now)) pieces (if same then with_content (place_in k s n) (find n (s.engine).receivers) segment.content pieces else pieces)
+      → IsLawful n (answered_by k s segment (answer_to k s segment now)) pieces (if same then with_content (admission_in k s n) (find n (s.engine).receivers) segment.content pieces else pieces)
   peer false other = elsewhere k s segment n pieces (answer_to k s segment now) other told
   peer true same =
       let at : segment.session ≡ n = eqb-true segment.session n same in
-      subst (λ j. IsLawful j (answered_by k s segment (answer_to k s segment now)) pieces (with_content (place_in k s j) (find j (s.engine).receivers) segment.content pieces)) at
+      subst (λ j. IsLawful j (answered_by k s segment (answer_to k s segment now)) pieces (with_content (admission_in k s j) (find j (s.engine).receivers) segment.content pieces)) at
       (here k s segment now pieces (answer_to k s segment now) refl (subst (λ j. IsTold j s.engine pieces) (sym at) told) (subst (λ j. find j (s.engine).receivers ≡ None → pieces ≡ []) (sym at) none))
 
   by : (is_own is_peer : Bool) → IsLawful n
       (step (if is_own then (if is_used k.party s.engine segment.session then to_sender k.party s.engine segment now else None) else if is_peer then peer_replies k s.engine segment.session (answer_to k s segment now) else None)) pieces
-      (if (is_peer && not is_own) && (segment.session == n) then with_content (place_in k s n) (find n (s.engine).receivers) segment.content pieces else pieces)
+      (if (is_peer && not is_own) && (segment.session == n) then with_content (admission_in k s n) (find n (s.engine).receivers) segment.content pieces else pieces)
   by true true = own (is_used k.party s.engine segment.session) _
   by true false = own (is_used k.party s.engine segment.session) _
   by false true = peer (segment.session == n) refl

@@ -10,12 +10,12 @@ use Rattle.ltp_segment.specs.Values.{ContentValue, SegmentValue, PieceValue, a_p
 use Rattle.ltp_session.specs.Cells.{is_no_part}
 use Rattle.ltp_session.specs.RedPart.{RedPiece, red_stop, or_else, red_length, IsRedPart, BecomesWhole, IsOfBlock}
 use Rattle.ltp_session.proofs.RedPartLemmas.{all_fronts}
-use Rattle.ltp_session.specs.Receiver.{Receiving, Place, is_cancelling, is_outside, is_miscoloured}
+use Rattle.ltp_session.specs.Receiver.{Receiving, Admission, is_cancelling, is_outside, is_miscoloured}
 use Rattle.ltp_session.specs.Table.{find}
 use Rattle.ltp_receiver.specs.RedPart.{red_piece}
 use Rattle.ltp_engine.specs.RedParts.{meets, is_taken_by, counts, with_content}
 use Rattle.peer_sessions.specs.Keys.{FaceKeys}
-use Rattle.peer_sessions.specs.Sessions.{Sessions, passes, place_in}
+use Rattle.peer_sessions.specs.Sessions.{Sessions, passes, admission_in}
 use Rattle.peer_sessions.specs.Runs.{SessionsEvent, a_datagram, a_tick, a_block}
 use Rattle.peer_once.specs.Runs.{Face, TimedEvent, sessions_in, sessions_at, AreInOrder, SomeOf, is_kept, brings}
 use Rattle.peer_once.specs.Pieces.{while_kept, pieces_heard, pieces_with, pieces_of, pieces_at}
@@ -39,7 +39,7 @@ of-while red true pieces all = all
 of-while red false pieces all = tt
 
 -- a piece that counts is red
-red-counts : (p : Place) (kept : Option Receiving) (piece : PieceValue) → counts p kept piece ≡ true → is_red piece.kind ≡ true
+red-counts : (p : Admission) (kept : Option Receiving) (piece : PieceValue) → counts p kept piece ≡ true → is_red piece.kind ≡ true
 red-counts p kept piece is = by_met (meets p kept piece) (third (piece.service == 1) (not (is_no_part p.most piece.offset piece.body)) (is_taken_by (meets p kept piece) piece) is) where
   third : (a b c : Bool) → (a && (b && c)) ≡ true → c ≡ true
   third true true c is = is
@@ -55,7 +55,7 @@ red-counts p kept piece is = by_met (meets p kept piece) (third (piece.service =
   by_met None is = absurd (cc (is))
   by_met (Some r) is = second (not (is_cancelling r.phase)) (is_red piece.kind) (not (is_outside r piece) && not (is_miscoloured r piece)) is
 
-of-content : (red : List ℕ) (p : Place) (kept : Option Receiving) (content : ContentValue) (pieces : List RedPiece) → IsContentOf red content → AreOf red pieces → AreOf red (with_content p kept content pieces)
+of-content : (red : List ℕ) (p : Admission) (kept : Option Receiving) (content : ContentValue) (pieces : List RedPiece) → IsContentOf red content → AreOf red pieces → AreOf red (with_content p kept content pieces)
 of-content red p kept (a_piece piece) pieces is all = by (counts p kept piece) refl where
   by : (count : Bool) → counts p kept piece ≡ count → AreOf red (if count then red_piece piece ∷ pieces else pieces)
   by true counted = (is (red-counts p kept piece counted), all)
@@ -72,7 +72,7 @@ of-with : (red : List ℕ) (k : FaceKeys) (n now : ℕ) (event : SessionsEvent) 
     → AreOf red (while_kept (is_kept n (passes k now s)) pieces) → AreOf red (pieces_with k n now event s pieces)
 of-with red k n now (a_datagram (Err refusal)) s pieces there is all = all
 of-with red k n now (a_datagram (Ok segment)) s pieces there is all =
-    rw there (of-content red (place_in k (passes k now s) n) (find n ((passes k now s).engine).receivers) segment.content (while_kept (is_kept n (passes k now s)) pieces) is all)
+    rw there (of-content red (admission_in k (passes k now s) n) (find n ((passes k now s).engine).receivers) segment.content (while_kept (is_kept n (passes k now s)) pieces) is all)
 of-with red k n now a_tick s pieces there is all = absurd (cc (there))
 of-with red k n now (a_block block) s pieces there is all = absurd (cc (there))
 

@@ -8,7 +8,7 @@ use Rattle.ltp_session.specs.Table.{find}
 use Rattle.ltp_laws.specs.View.{IsIn}
 use Rattle.ltp_engine.specs.RedParts.{with_content}
 use Rattle.peer_sessions.specs.Keys.{FaceKeys}
-use Rattle.peer_sessions.specs.Sessions.{Sessions, passes, place_in, is_of_peer}
+use Rattle.peer_sessions.specs.Sessions.{Sessions, passes, admission_in, is_of_peer}
 use Rattle.peer_sessions.specs.Runs.{SessionsEvent, a_datagram, a_tick, a_block}
 use Rattle.peer_once.specs.Runs.{Face, TimedEvent, sessions_in, sessions_at, is_kept, ups_with}
 
@@ -21,7 +21,7 @@ abbrev pub pieces_heard : FaceKeys → ℕ → Sessions → Result SegmentValue 
 pieces_heard k n s (Err refusal) pieces = pieces
 pieces_heard k n s (Ok segment) pieces =
     if is_of_peer k segment.originator && (segment.session == n)
-    then with_content (place_in k s n) (find n (s.engine).receivers) segment.content pieces
+    then with_content (admission_in k s n) (find n (s.engine).receivers) segment.content pieces
     else pieces
 
 -- with an event, of which a datagram finds the sessions once time has passed

@@ -23,7 +23,7 @@ use Rattle.ltp_laws.proofs.DeadlineLemmas.{hears-ahead, begin-ahead, tick-ahead,
 use Rattle.ltp_laws.proofs.DeadlineLemmas.{receiver_tick-ahead}
 use Rattle.session_memory.specs.Memory.{passed}
 use Rattle.peer_sessions.specs.Keys.{FaceKeys}
-use Rattle.peer_sessions.specs.Sessions.{Sessions, answer_to, answers, block_begins, closes, hears, is_opened, left_by, makes_room, passes, peer_replies, place_in, replies, stale, ticks, to_trim}
+use Rattle.peer_sessions.specs.Sessions.{Sessions, answer_to, answers, block_begins, closes, hears, is_opened, left_by, makes_room, passes, peer_replies, admission_in, replies, stale, ticks, to_trim}
 use Rattle.peer_sessions.specs.Sessions.{answered as answered_by}
 
 -- ---- all sessions of a table
@@ -118,7 +118,7 @@ ahead-receiver k x c n s now waits low ahead = by_step (answer_to k x s now) ref
   by_step (Some step) is =
       let gone : Option ℕ = makes_room k x.engine (is_opened (find s.session (x.engine).receivers) step.next) in
       with-receiver c n (without_evicted x.engine gone) s.session step.next
-      (receiver-ahead (k.party).policy (place_in k x s.session) c (find s.session (x.engine).receivers) s.content now step waits low
+      (receiver-ahead (k.party).policy (admission_in k x s.session) c (find s.session (x.engine).receivers) s.content now step waits low
       (hold-find (ReceiverAhead c) s.session (x.engine).receivers ahead.receivers) is)
       (without-evicted c n x.engine gone ahead)
 

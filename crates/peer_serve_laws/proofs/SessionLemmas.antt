@@ -12,16 +12,16 @@ use Rattle.ltp_segment.specs.declared.session.Note.TheVariants as notes
 use Rattle.ltp_segment.specs.Values.{SegmentValue}
 use Rattle.ltp_session.specs.Step.{Change, stays, keeps, ends, StepValue}
 use Rattle.ltp_session.specs.Sender.{Sending, sender_answers}
-use Rattle.ltp_session.specs.Receiver.{Receiving, Place, receiver_answers}
+use Rattle.ltp_session.specs.Receiver.{Receiving, Admission, receiver_answers}
 use Rattle.ltp_session.specs.Table.{find, put, without, then_kept, then_ended, ticked, ended}
 use Rattle.ltp_session.specs.declared.name.SessionName.{SessionName}
-use Rattle.ltp_session.specs.Engine.{Party, Engine, EngineStep, Reply, arrives, closed_runs, datagram_step, evicted_by, evicted_of, is_closed, is_used, list_of, longest_untouched, notes_of, place_of, receiver_changes, receiver_replies, replied_or_stranger, sender_replies, tick_step, to_receiver, to_sender, with_receiver, without_evicted}
+use Rattle.ltp_session.specs.Engine.{Party, Engine, EngineStep, Reply, arrives, closed_runs, datagram_step, evicted_by, evicted_of, is_closed, is_used, list_of, longest_untouched, notes_of, admission_of, receiver_changes, receiver_replies, replied_or_stranger, sender_replies, tick_step, to_receiver, to_sender, with_receiver, without_evicted}
 use Rattle.session_memory.specs.Numbers.{NumberSet, has, no_numbers, runs_in}
 use Rattle.session_memory.specs.Memory.{Memory, closed, forgotten, forgotten_at, forgotten_by, is_due, is_full, is_old, is_remembered, passed, touched, turned, with_place}
 use Rattle.session_memory.specs.Laws.{IsSet64}
 use Rattle.session_memory.proofs.NumberLemmas.{none-among, numbers_have, runless}
 use Rattle.peer_sessions.specs.Keys.{FaceKeys}
-use Rattle.peer_sessions.specs.Sessions.{Sessions, answer_to, answered, answers, closes, evictions, forgets, forgotten_met, hears, hears_after, is_opened, is_touched, left_by, makes_room, memory_met, met, moments_met, passes, peer_replies, place_in, replies, stale, then_noted, ticks, ticks_after, to_trim, with_closed}
+use Rattle.peer_sessions.specs.Sessions.{Sessions, answer_to, answered, answers, closes, evictions, forgets, forgotten_met, hears, hears_after, is_opened, is_touched, left_by, makes_room, memory_met, met, moments_met, passes, peer_replies, admission_in, replies, stale, then_noted, ticks, ticks_after, to_trim, with_closed}
 use Rattle.peer_sessions.proofs.EngineLemmas.{longest-kept}
 use Rattle.peer_sessions.proofs.MemoryLemmas.{AreNumbers, LAST, remembers, set-closed}
 use Rattle.peer_serve_laws.specs.Sessions.{AreOf, HasPlace, HearsFreely, IsSmall, PassesFreely, SessionsAlike, StepsAlike, closing_only, party_with}
@@ -246,11 +246,11 @@ peer-same k runs e n (Some step) most small =
     }
 
 -- what is answered
-abbrev place_with : ℕ → ℕ → Bool → Bool → Place
+abbrev place_with : ℕ → ℕ → Bool → Bool → Admission
 place_with n most over full = record { session = n; most = most; closed = over; full = full }
 
 place-same : (k : FaceKeys) (runs : ℕ) (x : Sessions) (e : Engine) (n : ℕ) → is_remembered x.memory n ≡ is_closed n e.closed → HasPlace (party_with k runs) e
-    → place_in k x n ≡ place_of (party_with k runs) e n
+    → admission_in k x n ≡ admission_of (party_with k runs) e n
 place-same k runs x e n over place = two n (k.party).most (is_remembered x.memory n) (is_closed n e.closed) (nat_le runs (closed_runs e.closed + length e.receivers)) over place where
   two : (n most : ℕ) (a b full : Bool) → a ≡ b → full ≡ false
       → place_with n most a false ≡ place_with n most b full
@@ -274,11 +274,11 @@ replies-same k runs x e s now most small over place =
     by true true peer = sender-same e s.session (sender_answers (k.party).policy (find s.session e.senders) s.content now) small
     by true false peer = tt
     by false used true =
-        subst (λ (p : Place). BothReply e.closed
-        (peer_replies k (closing_only [] e) s.session (receiver_answers (k.party).policy (place_in k (sessions_over e x) s.session) (find s.session e.receivers) s.content now))
+        subst (λ (p : Admission). BothReply e.closed
+        (peer_replies k (closing_only [] e) s.session (receiver_answers (k.party).policy (admission_in k (sessions_over e x) s.session) (find s.session e.receivers) s.content now))
         (receiver_replies (party_with k runs) e s.session (receiver_answers (k.party).policy p (find s.session e.receivers) s.content now)))
         (place-same k runs (sessions_over e x) e s.session over place)
-        (peer-same k runs e s.session (receiver_answers (k.party).policy (place_in k (sessions_over e x) s.session) (find s.session e.receivers) s.content now) most small)
+        (peer-same k runs e s.session (receiver_answers (k.party).policy (admission_in k (sessions_over e x) s.session) (find s.session e.receivers) s.content now) most small)
     by false used false = tt
 
 replied-same : (e : Engine) (name : SessionName) (mine its : Option Reply) → AreSmall e.receivers → BothReply e.closed mine its

@@ -10,7 +10,7 @@ use Rattle.ltp_segment.specs.Values.{ContentValue, SegmentValue, a_piece, a_repo
 use Rattle.ltp_session.specs.declared.name.SessionName.{SessionName}
 use Rattle.ltp_session.specs.Cells.{is_no_part}
 use Rattle.ltp_session.specs.Engine.{Engine, EngineStep, Party, Reply, is_closed, is_used, receiver_changes, receiver_ticks, replied_or_stranger, sender_replies, sender_ticks, tick_segments, tick_step, to_sender, with_receiver, without_evicted}
-use Rattle.ltp_session.specs.Receiver.{Place, Receiving, receiver_answers}
+use Rattle.ltp_session.specs.Receiver.{Admission, Receiving, receiver_answers}
 use Rattle.ltp_session.specs.Sender.{Sending, sender_answers}
 use Rattle.ltp_session.specs.Step.{Change, StepValue, stays, keeps, ends}
 use Rattle.ltp_session.specs.Table.{find, put, ticked, then_kept, without}
@@ -19,7 +19,7 @@ use Rattle.ltp_laws.proofs.ListLemmas.{all-append, both_arms, by_arms}
 use Rattle.session_memory.specs.Memory.{is_remembered, passed}
 use Rattle.session_memory.specs.Numbers.{NumberSet, has}
 use Rattle.peer_sessions.specs.Keys.{FaceKeys}
-use Rattle.peer_sessions.specs.Sessions.{Sessions, answer_to, answered, answers, closes, hears, left_by, makes_room, is_opened, passes, peer_replies, place_in, replies, stale, ticks, to_trim}
+use Rattle.peer_sessions.specs.Sessions.{Sessions, answer_to, answered, answers, closes, hears, left_by, makes_room, is_opened, passes, peer_replies, admission_in, replies, stale, ticks, to_trim}
 use Rattle.peer_sessions.specs.Runs.{SessionsEvent, a_block, a_datagram, a_tick, sessions_then}
 use Rattle.peer_sessions.proofs.MemoryLemmas.{LAST}
 use Rattle.peer_once.specs.Runs.{Face, TimedEvent, sessions_in}
@@ -103,7 +103,7 @@ abbrev RestsIn : Option (StepValue Receiving) → Type 0
 RestsIn None = Unit {0}
 RestsIn (Some t) = Rests t
 
-rest-answers : (policy : PolicyValue) (place : Place) (content : ContentValue) (now : ℕ) → place.closed ≡ true → RestsIn (receiver_answers policy place None content now)
+rest-answers : (policy : PolicyValue) (place : Admission) (content : ContentValue) (now : ℕ) → place.closed ≡ true → RestsIn (receiver_answers policy place None content now)
 unfolding receiver_answers
 rest-answers policy place (a_piece piece) now closed =
     both_arms Rests (not (piece.service == 1)) _ _ (record { next = refl; out = (tt, tt) })
@@ -165,9 +165,9 @@ quiet-answers k s segment now n small over all = by (segment.originator == k.par
         out = quiet-aparts n name small.originator small.session is.other t.out;
       }
 
-  answer_is : (kept : Option Receiving) → kept ≡ None → (m : ℕ) → m ≡ n → RestsIn (receiver_answers k.party.policy (place_in k s m) kept segment.content now)
-  answer_is kept none m here = subst (λ (x : Option Receiving). RestsIn (receiver_answers k.party.policy (place_in k s m) x segment.content now)) (sym none)
-      (rest-answers k.party.policy (place_in k s m) segment.content now (subst (λ (j : ℕ). is_remembered s.memory j ≡ true) (sym here) over))
+  answer_is : (kept : Option Receiving) → kept ≡ None → (m : ℕ) → m ≡ n → RestsIn (receiver_answers k.party.policy (admission_in k s m) kept segment.content now)
+  answer_is kept none m here = subst (λ (x : Option Receiving). RestsIn (receiver_answers k.party.policy (admission_in k s m) x segment.content now)) (sym none)
+      (rest-answers k.party.policy (admission_in k s m) segment.content now (subst (λ (j : ℕ). is_remembered s.memory j ≡ true) (sym here) over))
 
   peer : segment.originator ≡ k.party.peer → (same : Bool) → (segment.session == n) ≡ same → IsSo (peer_replies k e segment.session (answer_to k s segment now))
   peer of_peer true is =

@@ -12,7 +12,7 @@ use Rattle.ltp_segment.specs.Values.{PieceValue, ContentValue, a_piece, a_report
 use Rattle.ltp_session.specs.Cells.{laid_over, filled, is_no_part}
 use Rattle.ltp_session.specs.Claims.{is_whole_claim}
 use Rattle.ltp_session.specs.Step.{Change, stays, keeps, ends, after, StepValue, NoteValue, note_sent, note_failed, note_refused, note_cancelled, note_bad_bounds, note_closed, note_history_full, sending, noting, unreachable, miscoloured, by_system, sent_too_often}
-use Rattle.ltp_session.specs.Receiver.{Receiving, ReceivingPhase, receiver_open, receiver_cancelling, Place, fresh, is_cancelling, rejects, is_outside, is_miscoloured, hands_up_green, takes_green, with_red, report_of, reports, takes_red, piece_step, settles, acknowledged, on_piece, receiver_answers, red_part, with_handed_up, acknowledged_in, receiver_due, receiver_tick}
+use Rattle.ltp_session.specs.Receiver.{Receiving, ReceivingPhase, receiver_open, receiver_cancelling, Admission, fresh, is_cancelling, rejects, is_outside, is_miscoloured, hands_up_green, takes_green, with_red, report_of, reports, takes_red, piece_step, settles, acknowledged, on_piece, receiver_answers, red_part, with_handed_up, acknowledged_in, receiver_due, receiver_tick}
 use Rattle.ltp_session.specs.Timer.{is_due, may_repeat, next_timer, is_past_serials}
 use Rattle.ltp_session.specs.Engine.{list_of, notes_of}
 use Rattle.ltp_session.specs.Views.{note_of}
@@ -21,7 +21,7 @@ use Rattle.peer_sessions.specs.Sessions.{may_open, is_kept_by, is_touched}
 
 -- ---- what a receiving session has to know
 
-abbrev pub place : ℕ → ℕ → Bool → Place
+abbrev pub place : ℕ → ℕ → Bool → Admission
 place n most over = record { session = n; most = most; closed = over; full = false }
 
 -- the answer to a piece, by its tests

@@ -7,10 +7,10 @@ use Rattle.ltp_segment.specs.declared.session.Note.TheVariants as notes
 use Rattle.ltp_segment.specs.Policy.{PolicyValue}
 use Rattle.ltp_segment.specs.Values.{ContentValue, SegmentValue, a_piece, a_report, a_report_ack, a_sender_cancel, a_sender_cancel_ack, a_receiver_cancel, a_receiver_cancel_ack}
 use Rattle.ltp_session.specs.Step.{Change, stays, keeps, ends, after, StepValue}
-use Rattle.ltp_session.specs.Receiver.{Receiving, Place, receiver_answers}
+use Rattle.ltp_session.specs.Receiver.{Receiving, Admission, receiver_answers}
 use Rattle.ltp_session.specs.Sender.{Sending}
 use Rattle.ltp_session.specs.Table.{find, without, AreAscending}
-use Rattle.ltp_session.specs.Engine.{Party, Engine, Reply, EngineStep, list_of, notes_of, is_used, is_closed, closed_runs, with_sender, with_receiver, without_evicted, longest_untouched, evicted_of, evicted_by, receiver_replies, sender_replies, to_sender, to_receiver, place_of, arrives, replied_or_stranger, datagram_step}
+use Rattle.ltp_session.specs.Engine.{Party, Engine, Reply, EngineStep, list_of, notes_of, is_used, is_closed, closed_runs, with_sender, with_receiver, without_evicted, longest_untouched, evicted_of, evicted_by, receiver_replies, sender_replies, to_sender, to_receiver, admission_of, arrives, replied_or_stranger, datagram_step}
 use Rattle.ltp_laws.proofs.TableLemmas.{find-put, find-without, ascending-put, ascending-without}
 use Rattle.ltp_engine.specs.Sessions.{cells_in, is_receiving}
 use Rattle.ltp_engine.proofs.KeepLemmas.{length-put, length-put_found, length-without_found}
@@ -33,7 +33,7 @@ pub record IsOfFace (k : FaceKeys) (e : Engine) : Type 0 where
 two : (n most : ℕ) (a b : Bool) → a ≡ false → b ≡ false → record { session = n; most = most; closed = a; full = b } ≡ place n most false
 two n most a b is_a is_b = rw (is_a, is_b) refl
 
-place-of : (k : FaceKeys) (e : Engine) (n : ℕ) → IsOfFace k e → place_of k.party e n ≡ place n (k.party).most false
+place-of : (k : FaceKeys) (e : Engine) (n : ℕ) → IsOfFace k e → admission_of k.party e n ≡ place n (k.party).most false
 unfolding closed_runs
 place-of k e n face = two n (k.party).most (is_closed n e.closed) (nat_le (k.party).history (closed_runs e.closed + length e.receivers))
     (ap (λ (closed : List ℕ). is_closed n closed) face.none) (rw face.none (never (k.party).history (length e.receivers) face.few)) where
@@ -45,7 +45,7 @@ pub answers-agree : (k : FaceKeys) (s : Sessions) (segment : SegmentValue) (now 
     → (met k s segment ≡ true → is_remembered s.memory segment.session ≡ false)
     → engine_answers k s.engine segment now ≡ answer_to k s segment now
 answers-agree k s segment now face peer new =
-    ap (λ (p : Place). receiver_answers (k.party).policy p (find segment.session (s.engine).receivers) segment.content now) (place-of k s.engine segment.session face)
+    ap (λ (p : Admission). receiver_answers (k.party).policy p (find segment.session (s.engine).receivers) segment.content now) (place-of k s.engine segment.session face)
     ∙ answer-same (k.party).policy segment.session (k.party).most false (is_remembered s.memory segment.session) (find segment.session (s.engine).receivers) segment.content now
     (λ none opens. sym (new (rw (peer, none, opens) refl)))
 
@@ -96,7 +96,7 @@ step-agrees k s segment now face new =
 -- ---- whether the session was touched
 
 -- a content without an answer touches nothing
-silent : (policy : PolicyValue) (p : Place) (kept : Option Receiving) (content : ContentValue) (now : ℕ) → receiver_answers policy p kept content now ≡ None
+silent : (policy : PolicyValue) (p : Admission) (kept : Option Receiving) (content : ContentValue) (now : ℕ) → receiver_answers policy p kept content now ≡ None
     → (left : Bool) → touches_by content left ≡ false
 unfolding receiver_answers
 silent policy p kept (a_piece piece) now none left = absurd (cc (none))
@@ -155,9 +155,9 @@ touch-agrees k e segment now face = by (segment.originator == (k.party).own) ref
   by true is_own false peer = refl
   by false is_own false peer = refl
   by false is_own true peer = touched-by k e segment (engine_answers k e segment now)
-      (λ left none. silent (k.party).policy (place_of k.party e segment.session) (find segment.session e.receivers) segment.content now none left)
+      (λ left none. silent (k.party).policy (admission_of k.party e segment.session) (find segment.session e.receivers) segment.content now none left)
       (λ step is. answer-facts (k.party).policy segment.session (k.party).most false (find segment.session e.receivers) segment.content now step
-      (ap (λ (p : Place). receiver_answers (k.party).policy p (find segment.session e.receivers) segment.content now) (sym (place-of k e segment.session face)) ∙ is))
+      (ap (λ (p : Admission). receiver_answers (k.party).policy p (find segment.session e.receivers) segment.content now) (sym (place-of k e segment.session face)) ∙ is))
 
 -- ---- what is kept then
 
@@ -278,7 +278,7 @@ hear-stepped k s segment now runs full face up places room = by (segment.origina
   peer of_peer (Some told) is =
       let fact : Facts (k.party).most (find segment.session (s.engine).receivers) segment.content told =
       answer-facts (k.party).policy segment.session (k.party).most false (find segment.session (s.engine).receivers) segment.content now told
-      (ap (λ (p : Place). receiver_answers (k.party).policy p (find segment.session (s.engine).receivers) segment.content now) (sym (place-of k s.engine segment.session face)) ∙ is) in
+      (ap (λ (p : Admission). receiver_answers (k.party).policy p (find segment.session (s.engine).receivers) segment.content now) (sym (place-of k s.engine segment.session face)) ∙ is) in
       receiver-stepped k.party s.engine segment.session (k.party).most runs full segment.content told.next (find segment.session (s.engine).receivers) refl
       fact.none_ends fact.octets (λ none kept. room (rw (of_peer, none, fact.opens none kept) refl)) face.none up places
 

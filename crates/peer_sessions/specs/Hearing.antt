@@ -6,7 +6,7 @@ use Rattle.ltp_segment.specs.Values.{SegmentValue}
 use Rattle.ltp_session.specs.Step.{StepValue}
 use Rattle.ltp_session.specs.Receiver.{Receiving, receiver_answers}
 use Rattle.ltp_session.specs.Table.{find}
-use Rattle.ltp_session.specs.Engine.{Engine, EngineStep, place_of, datagram_step}
+use Rattle.ltp_session.specs.Engine.{Engine, EngineStep, admission_of, datagram_step}
 use Rattle.ltp_engine.specs.declared.effects.Effects.{Effects}
 use Rattle.ltp_engine.specs.Effects.{effects_of}
 use Rattle.peer_sessions.specs.declared.parts.Parts.{Parts}
@@ -20,7 +20,7 @@ use Rattle.peer_sessions.specs.Ties.{state_of, keys_in, AreAfter}
 
 abbrev pub engine_answers : FaceKeys → Engine → SegmentValue → ℕ → Option (StepValue Receiving)
 engine_answers k e segment now =
-    receiver_answers (k.party).policy (place_of k.party e segment.session) (find segment.session e.receivers)
+    receiver_answers (k.party).policy (admission_of k.party e segment.session) (find segment.session e.receivers)
     segment.content now
 
 abbrev pub engine_hears : FaceKeys → Engine → SegmentValue → ℕ → EngineStep

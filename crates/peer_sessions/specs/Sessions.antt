@@ -13,7 +13,7 @@ use Rattle.ltp_segment.specs.Values.{ContentValue, SegmentValue, a_piece, a_repo
 use Rattle.ltp_session.specs.Cells.{is_no_part}
 use Rattle.ltp_session.specs.Step.{Change, stays, keeps, ends, StepValue}
 use Rattle.ltp_session.specs.Sender.{Sending, begin}
-use Rattle.ltp_session.specs.Receiver.{Receiving, Place, receiver_answers}
+use Rattle.ltp_session.specs.Receiver.{Receiving, Admission, receiver_answers}
 use Rattle.ltp_session.specs.Table.{find, without}
 use Rattle.ltp_session.specs.Engine.{Engine, Reply, EffectsValue, EngineStep, list_of, notes_of, is_used, with_receiver, without_evicted, longest_untouched, to_sender, replied, replied_or_stranger, noted, begun, tick_step, starts}
 use Rattle.session_memory.specs.Memory.{Memory, is_remembered, passed, with_place, forgotten_by, closed, touched, forgotten_at}
@@ -85,8 +85,8 @@ passes k now s = closes (stale k now s) (record s { memory = passed now s.memory
 
 -- what a receiving session has to know: whether its number is remembered. There is always a place for a new
 -- one, since one is made.
-abbrev pub place_in : FaceKeys → Sessions → ℕ → Place
-place_in k s n = record {
+abbrev pub admission_in : FaceKeys → Sessions → ℕ → Admission
+admission_in k s n = record {
   session = n;
   most = (k.party).most;
   closed = is_remembered s.memory n;
@@ -129,7 +129,7 @@ peer_replies k e n (Some step) =
 
 abbrev pub answer_to : FaceKeys → Sessions → SegmentValue → ℕ → Option (StepValue Receiving)
 answer_to k s segment now =
-    receiver_answers (k.party).policy (place_in k s segment.session) (find segment.session (s.engine).receivers)
+    receiver_answers (k.party).policy (admission_in k s segment.session) (find segment.session (s.engine).receivers)
     segment.content now
 
 -- the other segments are those of a stranger

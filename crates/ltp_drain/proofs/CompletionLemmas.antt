@@ -19,7 +19,7 @@ use Rattle.ltp_drain.specs.Clean.{AreClean, AreCleanFrom, CleanRun, IsDrained, c
 use Rattle.ltp_drain.specs.Clean.{link_deadline, passed, passed_after}
 use Rattle.ltp_drain.specs.Completion.{HasCleanRun, IsComplete, IsReady}
 use Rattle.ltp_drain.specs.Effects.{EndEffects, IsHandedUp, IsNoted, effects_at, effects_in}
-use Rattle.ltp_drain.specs.Hopeful.{IsHanded, IsOpen, AreAlike, cost, session_cost, sum_below}
+use Rattle.ltp_drain.specs.Hopeful.{IsHanded, IsKeptSender, AreAlike, cost, session_cost, sum_below}
 use Rattle.ltp_drain.specs.Hopeful.{view_cost}
 use Rattle.ltp_drain.specs.Standing.{AllAdvance, DrainHolds, setting, sum_of}
 use Rattle.ltp_drain.proofs.CleanSteps.{GoesOn, IsGoing, clean-goes, idle-link, idle-senders}
@@ -98,10 +98,10 @@ advances-on parties w w' v xs ys first later o n = record {
     by_later (inl was) = before was
     by_later (inr up) = inr (handed-later xs ys (other o) n up)
 
-    by_rest : IsOpen (view parties v o n).sender
+    by_rest : IsKeptSender (view parties v o n).sender
         ⊎ (IsNoted ys o (notes.Sent n) × (IsHanded (view parties w' o n).receiver
         ⊎ IsHandedUp ys (other o) n))
-        → IsOpen (view parties v o n).sender ⊎ (IsNoted (xs ++ ys) o (notes.Sent n)
+        → IsKeptSender (view parties v o n).sender ⊎ (IsNoted (xs ++ ys) o (notes.Sent n)
         × (IsHanded (view parties w o n).receiver ⊎ IsHandedUp (xs ++ ys) (other o) n))
     by_rest (inl still) = inl still
     by_rest (inr done) = inr (noted-later xs ys o (notes.Sent n) done.0, by_later done.1)
@@ -111,10 +111,10 @@ advances-on parties w w' v xs ys first later o n = record {
     early (inl was) = inl was
     early (inr up) = inr (handed-first xs ys (other o) n up)
 
-    by_first : IsOpen (view parties w' o n).sender
+    by_first : IsKeptSender (view parties w' o n).sender
         ⊎ (IsNoted xs o (notes.Sent n) × (IsHanded (view parties w o n).receiver
         ⊎ IsHandedUp xs (other o) n))
-        → IsOpen (view parties v o n).sender ⊎ (IsNoted (xs ++ ys) o (notes.Sent n)
+        → IsKeptSender (view parties v o n).sender ⊎ (IsNoted (xs ++ ys) o (notes.Sent n)
         × (IsHanded (view parties w o n).receiver ⊎ IsHandedUp (xs ++ ys) (other o) n))
     by_first (inl still) = by_rest ((later o n).sender still)
     by_first (inr done) = inr (noted-first xs ys o (notes.Sent n) done.0, early done.1)
@@ -266,10 +266,10 @@ clean-completes parties w n v ready drain = record {
     no_sender : (o : End) (m : ℕ) → (view parties v o m).sender ≡ None
     no_sender o m = idle-senders (at_end v.engines o) m (idle-link v (drain.drained).no_timer o)
 
-    never : (o : End) (m : ℕ) → IsOpen (view parties v o m).sender → ⊥
-    never o m is_open = subst IsOpen (no_sender o m) is_open
+    never : (o : End) (m : ℕ) → IsKeptSender (view parties v o m).sender → ⊥
+    never o m is_open = subst IsKeptSender (no_sender o m) is_open
 
-    by_sent : (o : End) (m : ℕ) → IsOpen (view parties v o m).sender
+    by_sent : (o : End) (m : ℕ) → IsKeptSender (view parties v o m).sender
         ⊎ (IsNoted (effects_in parties w drain.events) o (notes.Sent m)
         × (IsHanded (view parties w o m).receiver
         ⊎ IsHandedUp (effects_in parties w drain.events) (other o) m))
@@ -277,7 +277,7 @@ clean-completes parties w n v ready drain = record {
     by_sent o m (inl still) = absurd (never o m still)
     by_sent o m (inr done) = done.0
 
-    by_handed : (o : End) (m : ℕ) → IsOpen (view parties v o m).sender
+    by_handed : (o : End) (m : ℕ) → IsKeptSender (view parties v o m).sender
         ⊎ (IsNoted (effects_in parties w drain.events) o (notes.Sent m)
         × (IsHanded (view parties w o m).receiver
         ⊎ IsHandedUp (effects_in parties w drain.events) (other o) m))

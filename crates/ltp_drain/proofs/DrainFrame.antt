@@ -29,7 +29,7 @@ use Rattle.ltp_laws.proofs.ListLemmas.{by_arms}
 use Rattle.ltp_laws.proofs.RunLemmas.{Linked}
 use Rattle.ltp_drain.specs.Calm.{AreFit, Falls, Given, IsComing, Advances, Setting}
 use Rattle.ltp_drain.specs.Draining.{Oldest, oldest}
-use Rattle.ltp_drain.specs.Hopeful.{IsHanded, IsOpen}
+use Rattle.ltp_drain.specs.Hopeful.{IsHanded, IsKeptSender}
 use Rattle.ltp_drain.specs.Standing.{Idle, Standing, Stands, StandsBy, setting_by}
 use Rattle.ltp_drain.proofs.DrainLists.{new-none, new-said, oldest-from, said-oldest}
 use Rattle.ltp_drain.proofs.DrainLists.{said-oldest_other, said-skip, said-take}
@@ -618,7 +618,7 @@ sender-advances-so : (F : List ℕ → ℕ → View → Type 0) → Gives F
     (new_s new_r : List ContentValue) (m : ℕ) (t : StepValue Sending)
     → 1 ≤ (p.policy).segment → AreFit q.most v.by_sender
     → sender_answers p.policy v.sender e now ≡ Some t
-    → Stands F (setting_by p q n) v new_s (e ∷ new_r) m → IsOpen v.sender → EndsWell v t
+    → Stands F (setting_by p q n) v new_s (e ∷ new_r) m → IsKeptSender v.sender → EndsWell v t
 sender-advances-so F gives p q n v e now new_s new_r m t cuts fit hears stands is_open =
     go (is-begun F (setting_by p q n) v new_s (e ∷ new_r) m stands)
   where
@@ -647,7 +647,7 @@ ReplyAdvances me you p q e f sent origin n (Some r) = AdvancesOn me you p q e f 
 
 same-advances : (S U : Type 0) (v v' : View) → v' ≡ v → Advances v v' S U
 same-advances S U v v' same = record {
-  sender = λ is_open. inl (subst (λ (v : View). IsOpen v.sender) (sym same) is_open);
+  sender = λ is_open. inl (subst (λ (v : View). IsKeptSender v.sender) (sym same) is_open);
   receiver = λ handed. inl (subst (λ (v : View). IsHanded v.receiver) same handed);
 }
 
@@ -717,11 +717,11 @@ own-advances F gives me you p q e f sent new rank_p rank_q o now t r both linked
     }
       where
         by_end : EndsWell (view_by me you p e f sent n) t
-            → IsOpen (view_by me you p (with_sender e n t.next) f
+            → IsKeptSender (view_by me you p (with_sender e n t.next) f
             (sent ++ sent_by me (headed_all (session_of p.own n) t.out)) n).sender
             ⊎ (IsIn (notes.Sent n) (notes_of n t)
             × (IsHanded (view_by me you p e f sent n).receiver ⊎ ⊥))
-        by_end (inl is_open) = inl (subst (λ (v : View). IsOpen v.sender)
+        by_end (inl is_open) = inl (subst (λ (v : View). IsKeptSender v.sender)
             (sym (sender-here me you p e f sent n t both)) is_open)
         by_end (inr done) = inr (noted done.1, inl done.0)
 
@@ -767,7 +767,7 @@ peer-advances me you p q e f sent n content now t r both linked hears is_r = rec
 
     here : To n
     here = record {
-      sender = λ is_open. inl (subst (λ (v : View). IsOpen v.sender)
+      sender = λ is_open. inl (subst (λ (v : View). IsKeptSender v.sender)
           (sym (receiver-here me you q p f e sent n t both)) is_open);
       receiver = λ handed. by_up (hands-up-now p.policy (admission_of p e n) (find n e.receivers)
           content now t hears
@@ -783,7 +783,7 @@ peer-advances me you p q e f sent n content now t r both linked hears is_r = rec
     left-advances : (U : Type 0) (v v' : View) → Left v v' → Advances v v' ⊥ U
     left-advances U v v' (alone same) = same-advances ⊥ U v v' same
     left-advances U v v' (closed_for_room r kept same) = record {
-      sender = λ is_open. inl (subst (λ (v : View). IsOpen v.sender) (sym same) is_open);
+      sender = λ is_open. inl (subst (λ (v : View). IsKeptSender v.sender) (sym same) is_open);
       receiver = λ handed. absurd (subst (λ (v : View). IsHanded v.receiver) same handed);
     }
 

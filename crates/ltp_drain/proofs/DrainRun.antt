@@ -31,7 +31,7 @@ use Rattle.ltp_laws.proofs.TableLemmas.{ascending-settled, ascending-ticked}
 use Rattle.ltp_drain.specs.Calm.{AreFit, Calm, IsComing, Advances}
 use Rattle.ltp_drain.specs.Draining.{Draining, Oldest, oldest, since}
 use Rattle.ltp_drain.specs.Effects.{EndEffects, IsHandedUp, IsNoted}
-use Rattle.ltp_drain.specs.Hopeful.{IsHanded, IsOpen, sum_below}
+use Rattle.ltp_drain.specs.Hopeful.{IsHanded, IsKeptSender, sum_below}
 use Rattle.ltp_drain.specs.Rank.{IsAskedOn, IsReportedOn}
 use Rattle.ltp_drain.specs.Standing.{NextOf, TickedTo, AreKnown, AllAdvance, DrainHolds, IsRoomy}
 use Rattle.ltp_drain.specs.Standing.{IsDueOf, Next, Stands, due_receiver, due_sender, setting}
@@ -959,7 +959,7 @@ advances-weaker S S' U U' v v' sent up on = record {
     by_receiver (inl before) = inl before
     by_receiver (inr now) = inr (up now)
 
-    by_sender : IsOpen v'.sender ⊎ (S × (IsHanded v.receiver ⊎ U)) → IsOpen v'.sender
+    by_sender : IsKeptSender v'.sender ⊎ (S × (IsHanded v.receiver ⊎ U)) → IsKeptSender v'.sender
         ⊎ (S' × (IsHanded v.receiver ⊎ U'))
     by_sender (inl still) = inl still
     by_sender (inr done) = inr (sent done.0, by_receiver done.1)

@@ -22,7 +22,7 @@ use Rattle.ltp_laws.proofs.CheckpointLemmas.{begin-next, checkpoint_at-asks, beg
 use Rattle.ltp_laws.proofs.SerialLemmas.{among-append, among-right}
 use Rattle.ltp_laws.proofs.WholeLemmas.{cut-has}
 use Rattle.ltp_drain.specs.Calm.{AreFit, Calm, Drains, IsPromising, NoCancels, Rests, is_cancel}
-use Rattle.ltp_drain.specs.Hopeful.{IsOpen}
+use Rattle.ltp_drain.specs.Hopeful.{IsKeptSender}
 use Rattle.ltp_drain.specs.Rank.{IsAskedOn, IsReportedOn, RankAtMost, ahead, weights}
 use Rattle.ltp_drain.proofs.RankLemmas.{ahead-append, ahead-round, weights-append, weights-round}
 use Rattle.ltp_drain.proofs.ReceiverDrains.{no_cancels-append}
@@ -283,7 +283,7 @@ no-pieces last (part ∷ parts) c none among = has-last part parts none
 -- a red piece of it is waited for
 begun-open : (policy : PolicyValue) (n : ℕ) (block : List ℕ) (red now : ℕ) (q : PieceValue)
     → IsIn (a_piece q) (begin policy n block red now).out → is_red q.kind ≡ true
-    → IsOpen (after (begin policy n block red now).next None)
+    → IsKeptSender (after (begin policy n block red now).next None)
 begun-open policy n block red now q among red_kind =
     go (among-append (a_piece q) (red_pieces (checkpoint_at (length block) red (first_serial n) 0)
     (segments_of policy.segment 0 (take red block)))
@@ -294,7 +294,7 @@ begun-open policy n block red now q among red_kind =
         (segments_of policy.segment 0 (take red block)) ≡ o
         → IsIn (a_piece q) (red_pieces (checkpoint_at (length block) red (first_serial n) 0)
         (segments_of policy.segment 0 (take red block)))
-        → IsOpen (after (opened policy block red now
+        → IsKeptSender (after (opened policy block red now
         (checkpoint_at (length block) red (first_serial n) 0) o) None)
     by_last None is among = absurd (no-pieces _ (segments_of policy.segment 0 (take red block))
         (a_piece q) is among)
@@ -303,8 +303,8 @@ begun-open policy n block red now q among red_kind =
     go : IsIn (a_piece q) (red_pieces (checkpoint_at (length block) red (first_serial n) 0)
         (segments_of policy.segment 0 (take red block)))
         ⊎ IsIn (a_piece q) (green_pieces (segments_of policy.segment red (drop red block)))
-        → IsOpen (after (begin policy n block red now).next None)
-    go (inl red_one) = subst (λ ch. IsOpen (after ch None))
+        → IsKeptSender (after (begin policy n block red now).next None)
+    go (inl red_one) = subst (λ ch. IsKeptSender (after ch None))
         (sym (begin-next policy n block red now))
         (by_last (last_segment (segments_of policy.segment 0 (take red block))) refl red_one)
     go (inr green_one) = absurd (let colour = green-red
@@ -345,7 +345,7 @@ drain-begins limit_r most policy n block red now v cuts within size unused low =
     reporting = λ r p kept waits. absurd (let both : None ≡ Some r = sym unused.receiver
         ∙ kept in cc);
     unclosed = λ s kept. unused.closed;
-    awaited = λ q among red_kind. inl (subst (λ o. IsOpen
+    awaited = λ q among red_kind. inl (subst (λ o. IsKeptSender
         (after (begin policy n block red now).next o)) (sym unused.sender)
         (begun-open policy n block red now q among red_kind));
     heard_s = λ c among. among-right c v.by_sender (begin policy n block red now).out among;

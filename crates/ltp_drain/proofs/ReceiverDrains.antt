@@ -20,7 +20,7 @@ use Rattle.ltp_laws.proofs.SerialLemmas.{all-among, among-append, among-left}
 use Rattle.ltp_laws.proofs.StepLemmas.{met}
 use Rattle.ltp_drain.specs.Calm.{WaitsOn, Calm, Drains, Falls, Given, HasSerials, IsComing}
 use Rattle.ltp_drain.specs.Calm.{NoCancels, Onward, Setting, is_cancel}
-use Rattle.ltp_drain.specs.Hopeful.{IsHanded, IsOpen}
+use Rattle.ltp_drain.specs.Hopeful.{IsHanded, IsKeptSender}
 use Rattle.ltp_drain.specs.Rank.{weight, weights}
 use Rattle.ltp_drain.proofs.OnwardLemmas.{onward-asking, onward-rank, onward-reporting}
 use Rattle.ltp_drain.proofs.PieceForms.{fills_only, Comes, answers, passes, piece-comes, takes}
@@ -93,8 +93,8 @@ calm-received limit_s limit_r session red v t e new_s new_r calm on goes = recor
   heard_r = among-more new_r t.out v.by_receiver calm.heard_r;
 }
   where
-    awaited : (q : PieceValue) → IsOpen v.sender ⊎ ((v.closed ≡ true) ⊎ IsHanded v.receiver)
-        → IsOpen v.sender ⊎ ((closed_after t.next v.closed ≡ true)
+    awaited : (q : PieceValue) → IsKeptSender v.sender ⊎ ((v.closed ≡ true) ⊎ IsHanded v.receiver)
+        → IsKeptSender v.sender ⊎ ((closed_after t.next v.closed ≡ true)
         ⊎ IsHanded (after t.next v.receiver))
     awaited q (inl is_open) = inl is_open
     awaited q (inr is_done) = inr (goes.done is_done)
@@ -268,7 +268,7 @@ acks-goes block red most session n v t given sent waiting unclosed listening
 -- ---- the rows
 
 -- a red piece of a session that the receiver doesn't know comes from an open sender
-is-coming : (v : View) (q : PieceValue) → IsOpen v.sender
+is-coming : (v : View) (q : PieceValue) → IsKeptSender v.sender
     ⊎ ((v.closed ≡ true) ⊎ IsHanded v.receiver) → v.receiver ≡ None → v.closed ≡ false
     → IsComing v
 is-coming v q (inl is_open) none unclosed = (is_open, none, unclosed)

@@ -23,7 +23,7 @@ use Rattle.ltp_laws.proofs.RunLemmas.{Linked, linked-at, two_ends}
 use Rattle.ltp_laws.proofs.WalkLemmas.{OnPiece, walk-segment}
 use Rattle.ltp_drain.specs.Calm.{IsComing}
 use Rattle.ltp_drain.specs.Draining.{Draining, Oldest, oldest}
-use Rattle.ltp_drain.specs.Hopeful.{IsAmple, IsOpen, HasRoom, Room, coming, is_unknown}
+use Rattle.ltp_drain.specs.Hopeful.{IsAmple, IsKeptSender, HasRoom, Room, coming, is_unknown}
 use Rattle.ltp_drain.specs.Standing.{DrainHolds, IsRoomy, setting_by}
 use Rattle.ltp_drain.proofs.DrainFrame.{AllStand, Begun, Shorter, is-begun, never_begun}
 use Rattle.ltp_drain.proofs.DrainFrame.{opening-same, shorter, stands-so, was_begun}
@@ -108,7 +108,7 @@ comes me you q e f sent n (is_open, none, unclosed) = by_sender (find n f.sender
     unknown = rw (none, unclosed) refl
 
     by_sender : (o : Option Sending) → find n f.senders ≡ o → Comes_to e f n
-    by_sender None is = absurd (subst IsOpen is is_open)
+    by_sender None is = absurd (subst IsKeptSender is is_open)
     by_sender (Some s) is = record { unknown = unknown; sender = s; kept = is }
 
 some-come : (e f : Engine) (n : ℕ) → Comes_to e f n → 1 ≤ coming e f

@@ -37,7 +37,7 @@ use Rattle.ltp_laws.proofs.WholeLemmas.{place-filled}
 use Rattle.ltp_laws.proofs.CompletionLemmas.{all-at}
 use Rattle.ltp_drain.specs.Calm.{WaitsOn, AreFit, Calm, Drains, Falls, Given, HandedUpWhole}
 use Rattle.ltp_drain.specs.Calm.{HasSerials, NoCancels, Onward, Setting, is_cancel}
-use Rattle.ltp_drain.specs.Hopeful.{IsHanded, IsOpen}
+use Rattle.ltp_drain.specs.Hopeful.{IsHanded, IsKeptSender}
 use Rattle.ltp_drain.specs.Rank.{IsAskedOn, IsReportedOn, weights}
 use Rattle.ltp_drain.proofs.OnwardLemmas.{onward-asking, onward-rank, onward-reporting}
 use Rattle.ltp_drain.proofs.RankLemmas.{round-row, weights-append}
@@ -92,9 +92,9 @@ record Sends_on (v : View) (t : StepValue Sending) : Type 0 where
   waits : (s' : Sending) → after t.next v.sender ≡ Some s' → WaitsOn s'
   out : NoCancels t.out
   was : (s' : Sending) → after t.next v.sender ≡ Some s' → (s : Sending) × (v.sender ≡ Some s)
-  done : IsOpen v.sender → IsOpen (after t.next v.sender)
+  done : IsKeptSender v.sender → IsKeptSender (after t.next v.sender)
       ⊎ ((v.closed ≡ true) ⊎ IsHanded v.receiver)
-  pieces : (q : PieceValue) → IsIn (a_piece q) t.out → IsOpen (after t.next v.sender)
+  pieces : (q : PieceValue) → IsIn (a_piece q) t.out → IsKeptSender (after t.next v.sender)
   serial : (s' : Sending) (c' : PieceValue) (timer' : Timer) → after t.next v.sender ≡ Some s'
       → s'.phase ≡ sender_open c' timer'
       → (s : Sending) × (c : PieceValue) × (timer : Timer) × (v.sender ≡ Some s)
@@ -123,12 +123,12 @@ calm-sent limit_s limit_r v t e new_s new_r calm on asking reporting = record {
 }
   where
     go : (q : PieceValue) → is_red q.kind ≡ true → IsIn (a_piece q) new_s ⊎ IsIn (a_piece q) t.out
-        → IsOpen (after t.next v.sender) ⊎ ((v.closed ≡ true) ⊎ IsHanded v.receiver)
+        → IsKeptSender (after t.next v.sender) ⊎ ((v.closed ≡ true) ⊎ IsHanded v.receiver)
     go q red_kind (inr now) = inl (on.pieces q now)
     go q red_kind (inl before) = by (calm.awaited q before red_kind)
       where
-        by : IsOpen v.sender ⊎ ((v.closed ≡ true) ⊎ IsHanded v.receiver)
-            → IsOpen (after t.next v.sender) ⊎ ((v.closed ≡ true) ⊎ IsHanded v.receiver)
+        by : IsKeptSender v.sender ⊎ ((v.closed ≡ true) ⊎ IsHanded v.receiver)
+            → IsKeptSender (after t.next v.sender) ⊎ ((v.closed ≡ true) ⊎ IsHanded v.receiver)
         by (inl is_open) = on.done is_open
         by (inr is_done) = inr is_done
 
@@ -211,13 +211,13 @@ round-fit most last offset body (part ∷ next ∷ parts) all q (inl here) =
 round-fit most last offset body (part ∷ next ∷ parts) all q (inr among) =
     round-fit most last offset body (next ∷ parts) all.1 q among
 
-was-open : (v : View) (t : StepValue Sending) → Sends_on v t → IsOpen (after t.next v.sender)
-    → IsOpen v.sender
+was-open : (v : View) (t : StepValue Sending) → Sends_on v t → IsKeptSender (after t.next v.sender)
+    → IsKeptSender v.sender
 was-open v t on is_open = by_kept (after t.next v.sender) refl is_open
   where
-    by_kept : (o : Option Sending) → after t.next v.sender ≡ o → IsOpen o → IsOpen v.sender
+    by_kept : (o : Option Sending) → after t.next v.sender ≡ o → IsKeptSender o → IsKeptSender v.sender
     by_kept None is is_open = absurd is_open
-    by_kept (Some s') is is_open = subst IsOpen (sym (on.was s' is).1) tt
+    by_kept (Some s') is is_open = subst IsKeptSender (sym (on.was s' is).1) tt
 
 falls-sent : (at : Setting) (v : View) (t : StepValue Sending) (x : ReportValue)
     (new_s new_r : List ContentValue) (n : ℕ)
@@ -249,7 +249,7 @@ falls-sent at v t x new_s new_r n drains on steps out =
 
 -- a sender that is over
 over-sends : (v : View) (t : StepValue Sending) (n : ℕ) → after t.next v.sender ≡ None
-    → t.out ≡ a_report_ack n ∷ [] → (IsOpen v.sender → (v.closed ≡ true) ⊎ IsHanded v.receiver)
+    → t.out ≡ a_report_ack n ∷ [] → (IsKeptSender v.sender → (v.closed ≡ true) ⊎ IsHanded v.receiver)
     → Sends_on v t
 over-sends v t n none out done = record {
   waits = λ s' kept. absurd (never s' kept);
@@ -293,8 +293,8 @@ kept-sends v t s s' c c' timer timer' is_s next out waited waits low = record {
     only s'' kept = let here : Some s' ≡ Some s'' =
         subst (λ ch. after ch v.sender ≡ Some s'') next kept in cc
 
-    open_now : IsOpen (after t.next v.sender)
-    open_now = subst (λ ch. IsOpen (after ch v.sender)) (sym next) tt
+    open_now : IsKeptSender (after t.next v.sender)
+    open_now = subst (λ ch. IsKeptSender (after ch v.sender)) (sym next) tt
 
 -- ---- a round
 
@@ -458,7 +458,7 @@ told-falls at block policy most v s x new_s new_r n t given is_z cuts drains is_
 told-falls at block policy most v s x new_s new_r n t given is_z cuts drains is_s size
     (asks_again s' next on z same_red same_block claimed) =
     round-falls at block most v t s s' x new_s new_r n given cuts
-    (drains.low (subst IsOpen (sym is_s) tt)) drains is_s next on (z
+    (drains.low (subst IsKeptSender (sym is_s) tt)) drains is_s next on (z
     ∙ is_z) same_red same_block
 
 pub sender-falls : (at : Setting) (block : List ℕ) (policy : PolicyValue) (most : ℕ) (v : View)
@@ -479,7 +479,7 @@ sender-falls at block policy most v (a_report x) now new_s new_r n t given is_z 
         answered (λ t. t.out ≡ a_report_ack x.serial ∷ []) _ t hears refl in
         falls-sent at v t x new_s new_r n drains
         (late-report-onward at.red v x new_s new_r t out none)
-        (over-sends v t x.serial none out (λ is_open. absurd (subst IsOpen is is_open))) out
+        (over-sends v t x.serial none out (λ is_open. absurd (subst IsKeptSender is is_open))) out
     by_kept (Some s) is hears =
         told-falls at block policy most v s x new_s new_r n t given is_z cuts drains is
         (length-claims x.lower x.claims s.claimed ∙ size)
@@ -529,20 +529,20 @@ sender-falls at block policy most v a_receiver_cancel_ack now new_s new_r n t gi
 -- ---- a session that is open stays so, or its red part was handed up and it is noted as sent
 
 abbrev pub EndsWell : View → StepValue Sending → Type 0
-EndsWell v t = IsOpen (after t.next v.sender) ⊎ (IsHanded v.receiver × (t.note ≡ Some note_sent))
+EndsWell v t = IsKeptSender (after t.next v.sender) ⊎ (IsHanded v.receiver × (t.note ≡ Some note_sent))
 
 pub sender-advances : (at : Setting) (block : List ℕ) (policy : PolicyValue) (most : ℕ) (v : View)
     (e : ContentValue) (now : ℕ) (new_s new_r : List ContentValue) (n : ℕ) (t : StepValue Sending)
     → Given block at.red most v → policy.segment ≡ at.z → 1 ≤ at.z
     → Drains at v new_s (e ∷ new_r) n → sender_answers policy v.sender e now ≡ Some t
-    → IsOpen v.sender → EndsWell v t
+    → IsKeptSender v.sender → EndsWell v t
 unfolding sender_answers
 sender-advances at block policy most v (a_report x) now new_s new_r n t given is_z cuts drains
     hears is_open = by_kept v.sender refl hears
   where
     by_kept : (o : Option Sending) → v.sender ≡ o → Some (on_report policy o x now) ≡ Some t
         → EndsWell v t
-    by_kept None is hears = absurd (subst IsOpen is is_open)
+    by_kept None is hears = absurd (subst IsKeptSender is is_open)
     by_kept (Some s) is hears =
         by_told (answered (Told policy s x) _ t hears
         (report-told policy s waits.checkpoint waits.timer x now waits.is
@@ -580,9 +580,9 @@ sender-advances at block policy most v (a_report x) now new_s new_r n t given is
           note,
         )
         by_told (adds_only s' c timer next out waited phase same_red same_block claimed apart) =
-            inl (subst (λ ch. IsOpen (after ch v.sender)) (sym next) tt)
+            inl (subst (λ ch. IsKeptSender (after ch v.sender)) (sym next) tt)
         by_told (asks_again s' next on z same_red same_block claimed) =
-            inl (subst (λ ch. IsOpen (after ch v.sender)) (sym next) tt)
+            inl (subst (λ ch. IsKeptSender (after ch v.sender)) (sym next) tt)
 sender-advances at block policy most v (a_receiver_cancel reason) now new_s new_r n t given is_z
     cuts drains hears is_open =
     absurd (let h = (drains.calm).none_r (a_receiver_cancel reason) (inl refl) in cc)

@@ -18,7 +18,7 @@ use Rattle.ltp_laws.specs.View.{Unused, View, said, view_by}
 use Rattle.ltp_laws.proofs.FrameLemmas.{AreTwo, out_of, tick-own, tick-peer}
 use Rattle.ltp_laws.proofs.RunLemmas.{Linked, linked-apart}
 use Rattle.ltp_drain.specs.Calm.{AreFit, Calm, Advances, Setting, Ticked}
-use Rattle.ltp_drain.specs.Hopeful.{IsHanded, IsOpen}
+use Rattle.ltp_drain.specs.Hopeful.{IsHanded, IsKeptSender}
 use Rattle.ltp_drain.specs.Standing.{Stands, setting_by}
 use Rattle.ltp_drain.proofs.DrainFrame.{was_begun, never_begun, Begun, Gives, is-begun}
 use Rattle.ltp_drain.proofs.DrainFrame.{stands-so, stands-used}
@@ -341,7 +341,7 @@ both-advance F p q n v v' m ticks stands = go (is-begun F (setting_by p q n) v [
   where
     go : Begun F (setting_by p q n) v [] [] m → Advances v v' ⊥ ⊥
     go (never_begun unused idle) = record {
-      sender = λ is_open. inl (subst (λ (v : View). IsOpen v.sender)
+      sender = λ is_open. inl (subst (λ (v : View). IsKeptSender v.sender)
           (sym (ticks.idle idle.unused)) is_open);
       receiver = λ handed. inl (subst (λ (v : View). IsHanded v.receiver) (ticks.idle idle.unused)
           handed);

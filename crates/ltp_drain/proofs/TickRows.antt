@@ -29,7 +29,7 @@ use Rattle.ltp_laws.proofs.SerialLemmas.{among-append, among-right}
 use Rattle.ltp_drain.specs.Calm.{sender_rests, Calm, Drains, Given, Advances, ReceiverTicked}
 use Rattle.ltp_drain.specs.Calm.{SenderTicked, Setting, TickFalls, Ticked, WaitsOn, asks}
 use Rattle.ltp_drain.specs.Calm.{is_cancel, sleeps, tells}
-use Rattle.ltp_drain.specs.Hopeful.{IsHanded, IsOpen}
+use Rattle.ltp_drain.specs.Hopeful.{IsHanded, IsKeptSender}
 use Rattle.ltp_drain.specs.Rank.{HasFilled, IsAskedOn, IsReportedOn, Settled, ahead, weight}
 use Rattle.ltp_drain.specs.Rank.{weights}
 use Rattle.ltp_drain.proofs.DrainStarts.{none-asked, none-reported}
@@ -296,10 +296,10 @@ tells-only o o' out (tells r r₂ p p' is₂ waits is' waits' same_report cells 
     go (inr none) = absurd none
 
 sends-open : (o o' : Option Sending) (out : List ContentValue) → SenderTicked o o' out
-    → (c : ContentValue) → IsIn c out → IsOpen o' × (is_cancel c ≡ false)
+    → (c : ContentValue) → IsIn c out → IsKeptSender o' × (is_cancel c ≡ false)
 sends-open o o' out (sender_rests same none) c among = absurd (subst (IsIn c) none among)
 sends-open o o' out (asks s s₂ q timer timer₂ is₂ waited is' waits' same_red same_block sends) c
-    among = (subst IsOpen (sym is') tt, go (subst (IsIn c) sends among))
+    among = (subst IsKeptSender (sym is') tt, go (subst (IsIn c) sends among))
   where
     go : IsIn c (a_piece q ∷ []) → is_cancel c ≡ false
     go (inl here) = ap is_cancel (sym here)
@@ -365,11 +365,11 @@ tick-falls at block most v v' out_s out_r n given drains ticked = record {
     sent_before q (inr now) = asked-before v.by_sender v.by_receiver v.sender v'.sender out_s
         ticked.sender ((given.facts).1).sender (a_piece q) now
 
-    was_open : (o' : Option Sending) → SenderTicked v.sender o' out_s → IsOpen o'
-        → IsOpen v.sender
-    was_open o' (sender_rests same none) is_open = subst IsOpen same is_open
+    was_open : (o' : Option Sending) → SenderTicked v.sender o' out_s → IsKeptSender o'
+        → IsKeptSender v.sender
+    was_open o' (sender_rests same none) is_open = subst IsKeptSender same is_open
     was_open o' (asks s s₂ q timer timer₂ is₂ waited is' waits' same_red same_block sends)
-        is_open = subst IsOpen (sym is₂) tt
+        is_open = subst IsKeptSender (sym is₂) tt
 
     current : (s : Sending) (c : PieceValue) (timer : Timer) → v.sender ≡ Some s
         → s.phase ≡ sender_open c timer → is_checkpoint c.kind ≡ true
@@ -676,11 +676,11 @@ ticked-advances v v' out_s out_r ticked = record {
   receiver = λ handed. inl (by_receiver v'.receiver handed ticked.receiver);
 }
   where
-    by_sender : IsOpen v.sender → (o' : Option Sending) → SenderTicked v.sender o' out_s
-        → IsOpen o'
-    by_sender is_open o' (sender_rests same none) = subst IsOpen (sym same) is_open
+    by_sender : IsKeptSender v.sender → (o' : Option Sending) → SenderTicked v.sender o' out_s
+        → IsKeptSender o'
+    by_sender is_open o' (sender_rests same none) = subst IsKeptSender (sym same) is_open
     by_sender is_open o' (asks s s₂ q timer timer₂ is₂ waited is' waits' same_red same_block
-        sends) = subst IsOpen (sym is') tt
+        sends) = subst IsKeptSender (sym is') tt
 
     by_receiver : (o' : Option Receiving) → IsHanded o' → ReceiverTicked v.receiver o' out_r
         → IsHanded v.receiver

@@ -19,7 +19,7 @@ use Rattle.ltp_laws.specs.Kept.{IfKept}
 use Rattle.ltp_laws.specs.Runs.{AskedFacts}
 use Rattle.ltp_laws.specs.Serials.{pending_of}
 use Rattle.ltp_laws.specs.View.{IsIn, View}
-use Rattle.ltp_drain.specs.Hopeful.{IsHanded, IsOpen}
+use Rattle.ltp_drain.specs.Hopeful.{IsHanded, IsKeptSender}
 use Rattle.ltp_drain.specs.Rank.{IsAskedOn, IsReportedOn, RankAtMost, Settled}
 
 -- ---- the facts of a session that a drain rests on
@@ -67,7 +67,7 @@ NoCancels said = (c : ContentValue) → IsIn c said → is_cancel c ≡ false
 
 -- a session whose sender is open, and of which the receiver knows nothing
 abbrev pub IsComing : View → Type 0
-IsComing v = IsOpen v.sender × (v.receiver ≡ None) × (v.closed ≡ false)
+IsComing v = IsKeptSender v.sender × (v.receiver ≡ None) × (v.closed ≡ false)
 
 -- the checkpoint and the timer that a sender waits with
 pub record WaitsOn (s : Sending) : Type 0 where
@@ -93,7 +93,7 @@ pub record Calm (limit_s limit_r : ℕ) (v : View) (new_s new_r : List ContentVa
   pub unclosed : (s : Sending) → v.sender ≡ Some s → v.closed ≡ false
   -- a red piece on its way is of a session whose sender is open, or whose receiver is done
   pub awaited : (q : PieceValue) → IsIn (a_piece q) new_s → is_red q.kind ≡ true
-      → IsOpen v.sender ⊎ ((v.closed ≡ true) ⊎ IsHanded v.receiver)
+      → IsKeptSender v.sender ⊎ ((v.closed ≡ true) ⊎ IsHanded v.receiver)
   pub heard_s : (c : ContentValue) → IsIn c new_s → IsIn c v.by_sender
   pub heard_r : (c : ContentValue) → IsIn c new_r → IsIn c v.by_receiver
 
@@ -121,7 +121,7 @@ pub record Drains (at : Setting) (v : View) (new_s new_r : List ContentValue)
   pub rank : RankAtMost at.z at.red v new_s new_r n
   pub serials : HasSerials at.session v n
   pub fit : AreFit at.most v.by_sender
-  pub low : IsOpen v.sender → at.red ≤ at.most
+  pub low : IsKeptSender v.sender → at.red ≤ at.most
 
 -- it takes fewer
 pub record Falls (at : Setting) (v : View) (new_s new_r : List ContentValue)
@@ -223,5 +223,5 @@ pub record IsPromising (limit_s limit_r : ℕ) (v : View) : Type 0 where
 -- its red part handed up, before or since; and a red part that has been handed up was so before or
 -- since
 pub record Advances (v v' : View) (Sent Up : Type 0) : Type 0 where
-  pub sender : IsOpen v.sender → IsOpen v'.sender ⊎ (Sent × (IsHanded v.receiver ⊎ Up))
+  pub sender : IsKeptSender v.sender → IsKeptSender v'.sender ⊎ (Sent × (IsHanded v.receiver ⊎ Up))
   pub receiver : IsHanded v'.receiver → IsHanded v.receiver ⊎ Up

@@ -8,7 +8,7 @@ use Rattle.ltp_session.specs.World.{ArePeers, End, Event, World, other, run}
 use Rattle.ltp_laws.specs.View.{view}
 use Rattle.ltp_drain.specs.Clean.{AreCleanFrom, CleanRun}
 use Rattle.ltp_drain.specs.Effects.{IsHandedUp, IsNoted, effects_in}
-use Rattle.ltp_drain.specs.Hopeful.{IsHanded, IsOpen, AreAlike, Hopeful, IsReached, Room, cost}
+use Rattle.ltp_drain.specs.Hopeful.{IsHanded, IsKeptSender, AreAlike, Hopeful, IsReached, Room, cost}
 
 -- a world from which a drain completes its sessions
 pub record IsReady (parties : Party × Party) (w : World) : Type 0 where
@@ -24,10 +24,10 @@ pub record IsReady (parties : Party × Party) (w : World) : Type 0 where
 pub record IsComplete (parties : Party × Party) (w : World) (events : List Event) (v : World)
     : Type 0 where
   pub sent :
-      (o : End) (n : ℕ) → IsOpen (view parties w o n).sender
+      (o : End) (n : ℕ) → IsKeptSender (view parties w o n).sender
       → IsNoted (effects_in parties w events) o (notes.Sent n)
   pub handed :
-      (o : End) (n : ℕ) → IsOpen (view parties w o n).sender
+      (o : End) (n : ℕ) → IsKeptSender (view parties w o n).sender
       → IsHanded (view parties w o n).receiver
       ⊎ IsHandedUp (effects_in parties w events) (other o) n
   pub no_sender : (o : End) (n : ℕ) → (view parties v o n).sender ≡ None

@@ -48,9 +48,9 @@ pub record IsReached (parties : Party × Party) (w : World) : Type 0 where
 -- ---- sessions
 
 -- a sender is kept; where nobody cancels it is open
-abbrev pub IsOpen : Option Sending → Type 0
-IsOpen None = ⊥
-IsOpen (Some s) = Unit {0}
+abbrev pub IsKeptSender : Option Sending → Type 0
+IsKeptSender None = ⊥
+IsKeptSender (Some s) = Unit {0}
 
 -- a receiver is kept, and has handed its red part up
 abbrev pub IsHanded : Option Receiving → Type 0

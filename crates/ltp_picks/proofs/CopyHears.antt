@@ -29,7 +29,7 @@ use Rattle.ltp_laws.proofs.FactLemmas.{session-keep}
 use Rattle.ltp_laws.proofs.ListLemmas.{answered}
 use Rattle.ltp_laws.proofs.SerialLemmas.{all-among}
 use Rattle.ltp_drain.specs.Calm.{AreFit, Drains, Falls, Given, WaitsOn}
-use Rattle.ltp_drain.specs.Hopeful.{IsOpen}
+use Rattle.ltp_drain.specs.Hopeful.{IsKeptSender}
 use Rattle.ltp_drain.specs.Standing.{Standing, setting_by}
 use Rattle.ltp_drain.proofs.ReceiverDrains.{receiver-falls}
 use Rattle.ltp_drain.proofs.SenderDrains.{EndsWell, sender-advances, sender-falls}
@@ -182,7 +182,7 @@ pub sender-ends : (p q : Party) (n red : ℕ) (block : List ℕ) (v : View) (e :
     (now : ℕ) (new_s new_r : List ContentValue) (m : ℕ) (t : StepValue Sending)
     → 1 ≤ p.policy.segment → SessionFacts block red v → AreFit q.most v.by_sender
     → FrontsSender (setting_by p q n red) v e new_s new_r m
-    → IsIn e v.by_receiver → sender_answers p.policy v.sender e now ≡ Some t → IsOpen v.sender
+    → IsIn e v.by_receiver → sender_answers p.policy v.sender e now ≡ Some t → IsKeptSender v.sender
     → EndsWell v t
 unfolding sender_answers
 sender-ends p q n red block v (a_report x) now new_s new_r m t cuts facts fit front sent hears
@@ -193,11 +193,11 @@ sender-ends p q n red block v (a_receiver_cancel reason) now new_s new_r m t cut
     sent hears is_open =
     let acks = acks-cancel v.sender reason t (λ s is. no-cancel-open block red v s reason facts sent
     front.drains.calm.receiving (front.drains.calm.unclosed s is)) hears in
-    inl (subst (λ (ch : Change Sending). IsOpen (after ch v.sender)) (sym acks.0) is_open)
+    inl (subst (λ (ch : Change Sending). IsKeptSender (after ch v.sender)) (sym acks.0) is_open)
 sender-ends p q n red block v a_sender_cancel_ack now new_s new_r m t cuts facts fit front sent hears
     is_open =
     let deaf = deaf-ack v.sender t front.drains.calm.sending hears in
-    inl (subst (λ (ch : Change Sending). IsOpen (after ch v.sender)) (sym deaf.0) is_open)
+    inl (subst (λ (ch : Change Sending). IsKeptSender (after ch v.sender)) (sym deaf.0) is_open)
 sender-ends p q n red block v (a_piece piece) now new_s new_r m t cuts facts fit front sent hears
     is_open = absurd (cc)
 sender-ends p q n red block v (a_report_ack serial) now new_s new_r m t cuts facts fit front sent
@@ -230,11 +230,11 @@ full-noted policy place q now service some within red_kind open_number full =
 -- a sender that sent a cancel isn't open
 cancelled-over : (block : List ℕ) (red : ℕ) (v : View) (reason : ℕ) → SessionFacts block red v
     → IsIn (a_sender_cancel reason) v.by_sender
-    → ((s : Sending) → v.sender ≡ Some s → WaitsOn s) → IsOpen v.sender → ⊥
+    → ((s : Sending) → v.sender ≡ Some s → WaitsOn s) → IsKeptSender v.sender → ⊥
 cancelled-over block red v reason facts sent waiting is_open = by_kept v.sender refl is_open
     (facts.acks.cancels reason sent)
   where
-    by_kept : (o : Option Sending) → v.sender ≡ o → IsOpen o
+    by_kept : (o : Option Sending) → v.sender ≡ o → IsKeptSender o
         → IfKept (λ s. IsSenderCancelling s.phase) o → ⊥
     by_kept None is is_open over = is_open
     by_kept (Some s) is is_open over =
@@ -306,7 +306,7 @@ quiet-receiver : (p q : Party) (n red : ℕ) (block : List ℕ) (v : View) (t : 
     (e : ContentValue) (new_s new_r : List ContentValue) (m : ℕ)
     → DrainsBeside (setting_by p q n red) v e new_s new_r m → (more : List ContentValue)
     → t.next ≡ stays → t.out ≡ more → plain more ≡ [] → echoes more < echo e
-    → (IsOpen v.sender → more ≡ []) → SessionFacts block red (receiver_moves v t)
+    → (IsKeptSender v.sender → more ≡ []) → SessionFacts block red (receiver_moves v t)
     → Heard p q n (receiver_moves v t) new_s (new_r ++ plain t.out) t.out m
 quiet-receiver p q n red block v t e new_s new_r m front more next out quiet fewer none facts =
     still-receiver p q n red block v (record v {
@@ -335,7 +335,7 @@ over-receiver : (p q : Party) (n red : ℕ) (block : List ℕ) (v : View) (t : S
     (e : ContentValue) (new_s new_r : List ContentValue) (m : ℕ)
     → DrainsBeside (setting_by p q n red) v e new_s new_r m → (more : List ContentValue)
     → t.next ≡ ends → t.out ≡ more → plain more ≡ [] → echoes more < echo e
-    → (IsOpen v.sender → ⊥) → SessionFacts block red (receiver_moves v t)
+    → (IsKeptSender v.sender → ⊥) → SessionFacts block red (receiver_moves v t)
     → Heard p q n (receiver_moves v t) new_s (new_r ++ plain t.out) t.out m
 over-receiver p q n red block v t e new_s new_r m front more next out quiet fewer over facts =
     still-receiver p q n red block v (record v {
@@ -405,7 +405,7 @@ receiver-heard p q n red block place v (a_report_ack serial) now new_s new_r m t
 receiver-heard p q n red block place v (a_sender_cancel reason) now new_s new_r m t session closed
     most unnoted facts fit front sent hears = by_kept v.receiver refl hears
   where
-    over : IsOpen v.sender → ⊥
+    over : IsKeptSender v.sender → ⊥
     over = cancelled-over block red v reason facts sent front.drains.calm.sending
 
     facts' : SessionFacts block red (receiver_moves v t)

@@ -22,7 +22,7 @@ use Rattle.ltp_laws.proofs.SerialLemmas.{all-among}
 use Rattle.ltp_drain.specs.Calm.{Advances, HasSerials}
 use Rattle.ltp_drain.specs.Draining.{since}
 use Rattle.ltp_drain.specs.Effects.{EndEffects, IsHandedUp, IsNoted}
-use Rattle.ltp_drain.specs.Hopeful.{IsHanded, IsOpen}
+use Rattle.ltp_drain.specs.Hopeful.{IsHanded, IsKeptSender}
 use Rattle.ltp_drain.specs.Standing.{Standing, setting, setting_by}
 use Rattle.ltp_drain.proofs.DrainFrame.{Begun, is-begun, never_begun, stands-so, stands-used}
 use Rattle.ltp_drain.proofs.DrainFrame.{was_begun}
@@ -220,10 +220,10 @@ own-after parties w w' me s k k' n m Old Old' Again es new new' peers adds keeps
           ap echoes lists_r,
         )
 
-        by_end : EndsWell (view parties w me n) t → IsOpen (view parties w' me n).sender
+        by_end : EndsWell (view parties w me n) t → IsKeptSender (view parties w' me n).sender
             ⊎ (IsNoted es me (notes.Sent n)
             × (IsHanded (view parties w me n).receiver ⊎ IsHandedUp es (other me) n))
-        by_end (inl is_open) = inl (subst (λ (v : View). IsOpen v.sender) (sym same) is_open)
+        by_end (inl is_open) = inl (subst (λ (v : View). IsKeptSender v.sender) (sym same) is_open)
         by_end (inr done) = inr (noted done.1, inl done.0)
 
     by_begun : Begun SessionFacts (setting parties me n) (view parties w me n)
@@ -352,7 +352,7 @@ peer-after parties w w' me s k k' n m Old Old' es new new' o is_me adds places k
             (ap (λ (v : View). v.sender) same) older keeps.asks);
       };
       advances = record {
-        sender = λ is_open. inl (subst (λ (v : View). IsOpen v.sender) (sym same) is_open);
+        sender = λ is_open. inl (subst (λ (v : View). IsKeptSender v.sender) (sym same) is_open);
         receiver = λ was. by_up (hands-up-now (at_end parties me).policy place v.receiver s.content
             w.now t answers (subst (λ (v : View). IsHanded v.receiver) same was));
       };

@@ -21,7 +21,7 @@ use Rattle.ltp_laws.proofs.SerialLemmas.{all-among}
 use Rattle.ltp_laws.proofs.StepLemmas.{met}
 use Rattle.ltp_drain.specs.Calm.{AreFit, Drains, Falls, Given, HasSerials, NoCancels}
 use Rattle.ltp_drain.specs.Calm.{Onward, Setting, WaitsOn}
-use Rattle.ltp_drain.specs.Hopeful.{IsHanded, IsOpen}
+use Rattle.ltp_drain.specs.Hopeful.{IsHanded, IsKeptSender}
 use Rattle.ltp_drain.specs.Rank.{IsAskedOn, IsReportedOn, RankAtMost, Settled, weight, weights}
 use Rattle.ltp_drain.proofs.OnwardLemmas.{RankFalls, onward-asking, onward-rank}
 use Rattle.ltp_drain.proofs.OnwardLemmas.{onward-reporting}
@@ -51,13 +51,13 @@ pub record IsFronted (at : Setting) (v : View) (q : PieceValue)
       ⊎ ((p.timer).times < at.limit_r)
   pub unclosed : (s : Sending) → v.sender ≡ Some s → v.closed ≡ false
   pub awaited : (p : PieceValue) → IsIn (a_piece p) new_s → is_red p.kind ≡ true
-      → IsOpen v.sender ⊎ ((v.closed ≡ true) ⊎ IsHanded v.receiver)
+      → IsKeptSender v.sender ⊎ ((v.closed ≡ true) ⊎ IsHanded v.receiver)
   pub heard_s : (c : ContentValue) → IsIn c new_s → IsIn c v.by_sender
   pub heard_r : (c : ContentValue) → IsIn c new_r → IsIn c v.by_receiver
   pub rank : RankAtMost at.z at.red v (a_piece q ∷ new_s) new_r n
   pub serials : HasSerials at.session v n
   pub fit : AreFit at.most v.by_sender
-  pub low : IsOpen v.sender → at.red ≤ at.most
+  pub low : IsKeptSender v.sender → at.red ≤ at.most
 
 -- a piece that is new
 pub new-fronted : (at : Setting) (v : View) (q : PieceValue) (new_s new_r : List ContentValue)
@@ -288,8 +288,8 @@ piece-falls at block policy place v q now new_s new_r n t given session closed r
         (new_r ++ t.out) n onward (omega (arith, weights-append new_r t.out, kept.lighter))
         front.rank
 
-    awaited : IsOpen v.sender ⊎ ((v.closed ≡ true) ⊎ IsHanded v.receiver)
-        → IsOpen v.sender ⊎ ((closed_after t.next v.closed ≡ true)
+    awaited : IsKeptSender v.sender ⊎ ((v.closed ≡ true) ⊎ IsHanded v.receiver)
+        → IsKeptSender v.sender ⊎ ((closed_after t.next v.closed ≡ true)
         ⊎ IsHanded (after t.next v.receiver))
     awaited (inl is_open) = inl is_open
     awaited (inr was) = inr (kept.done was)

@@ -14,7 +14,7 @@ use Rattle.ltp_laws.specs.View.{IsIn, View}
 use Rattle.ltp_laws.proofs.SerialLemmas.{among-append, among-left}
 use Rattle.ltp_drain.specs.Calm.{Drains, HasSerials, Setting}
 use Rattle.ltp_drain.specs.Calm.{is_cancel}
-use Rattle.ltp_drain.specs.Hopeful.{IsHanded, IsOpen}
+use Rattle.ltp_drain.specs.Hopeful.{IsHanded, IsKeptSender}
 use Rattle.ltp_drain.specs.Rank.{IsAskedOn, IsReportedOn, Settled, ahead, weights}
 
 -- ---- an old report may come before what is new
@@ -138,7 +138,7 @@ old-ack at v m new_s new_r n drains sent serials = record {
     reported serial (inr among) = inr (inr among)
 
     awaited : (q : PieceValue) → IsIn (a_piece q) (a_report_ack m ∷ new_s)
-        → is_red q.kind ≡ true → IsOpen v.sender ⊎ ((v.closed ≡ true) ⊎ IsHanded v.receiver)
+        → is_red q.kind ≡ true → IsKeptSender v.sender ⊎ ((v.closed ≡ true) ⊎ IsHanded v.receiver)
     awaited q (inl here) red_kind = absurd (cc)
     awaited q (inr among) red_kind = drains.calm.awaited q among red_kind
 
@@ -147,7 +147,7 @@ old-ack at v m new_s new_r n drains sent serials = record {
 pub said-more : (at : Setting) (v : View) (new_s new_r more_s more_r : List ContentValue) (n m : ℕ)
     → Drains at v new_s new_r n → n ≤ m → HasSerials at.session v m
     → NoPieces more_s
-    → (IsOpen v.sender → more_r ≡ [])
+    → (IsKeptSender v.sender → more_r ≡ [])
     → Drains at (record v {
       by_sender = v.by_sender ++ more_s;
       by_receiver = v.by_receiver ++ more_r;
@@ -203,12 +203,12 @@ said-more at v new_s new_r more_s more_r n m drains low serials no_pieces quiet 
         by_side : (x : ReportValue) → IsIn (a_report x) v.by_receiver ⊎ IsIn (a_report x) more_r
             → IsIn (a_report x) v.by_receiver
         by_side x (inl old) = old
-        by_side x (inr new) = absurd (subst (IsIn (a_report x)) (quiet (subst IsOpen (sym kept) tt)) new)
+        by_side x (inr new) = absurd (subst (IsIn (a_report x)) (quiet (subst IsKeptSender (sym kept) tt)) new)
 
 -- ---- its receiver is over, for a cancel of its sender, which is over too
 
 pub over-more : (at : Setting) (v : View) (new_s new_r more_r : List ContentValue) (n m : ℕ)
-    → Drains at v new_s new_r n → n ≤ m → HasSerials at.session v m → (IsOpen v.sender → ⊥)
+    → Drains at v new_s new_r n → n ≤ m → HasSerials at.session v m → (IsKeptSender v.sender → ⊥)
     → Drains at (record v {
       receiver = None;
       closed = true;
@@ -222,7 +222,7 @@ over-more at v new_s new_r more_r n m drains low serials over = record {
     none_r = drains.calm.none_r;
     asking = drains.calm.asking;
     reporting = λ r p kept waits. absurd (cc);
-    unclosed = λ s kept. absurd (over (subst IsOpen (sym kept) tt));
+    unclosed = λ s kept. absurd (over (subst IsKeptSender (sym kept) tt));
     awaited = λ q among red_kind. inr (inl refl);
     heard_s = drains.calm.heard_s;
     heard_r = λ c among. among-left c v.by_receiver more_r (drains.calm.heard_r c among);
@@ -234,7 +234,7 @@ over-more at v new_s new_r more_r n m drains low serials over = record {
     sum = omega (arith, drains.rank.sum, low);
     reporting = λ r p kept waits. absurd (cc);
     asking = drains.rank.asking;
-    rounding = λ s c timer kept waits. absurd (over (subst IsOpen (sym kept) tt));
+    rounding = λ s c timer kept waits. absurd (over (subst IsKeptSender (sym kept) tt));
   };
   serials = record {
     sender = serials.sender;

@@ -16,7 +16,7 @@ use Rattle.ltp_laws.proofs.FrameLemmas.{same_self}
 use Rattle.ltp_drain.specs.Calm.{Advances, HasSerials}
 use Rattle.ltp_drain.specs.Draining.{since}
 use Rattle.ltp_drain.specs.Effects.{EndEffects, IsHandedUp, IsNoted}
-use Rattle.ltp_drain.specs.Hopeful.{IsHanded, IsOpen}
+use Rattle.ltp_drain.specs.Hopeful.{IsHanded, IsKeptSender}
 use Rattle.ltp_drain.specs.Standing.{AllAdvance, setting, sum_of}
 use Rattle.ltp_drain.proofs.CleanSteps.{since-arrival}
 use Rattle.ltp_drain.proofs.DrainFrame.{stands-so}
@@ -80,7 +80,7 @@ not-about parties w me s es o n v' apart (yours is moves) = by_moves moves
 
 same-view : (v v' : View) (S U : Type 0) → v' ≡ v → Advances v v' S U
 same-view v v' S U same = record {
-  sender = λ is_open. inl (subst (λ (v : View). IsOpen v.sender) (sym same) is_open);
+  sender = λ is_open. inl (subst (λ (v : View). IsKeptSender v.sender) (sym same) is_open);
   receiver = λ handed. inl (subst (λ (v : View). IsHanded v.receiver) same handed);
 }
 

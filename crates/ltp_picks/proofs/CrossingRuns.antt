@@ -12,7 +12,7 @@ use Rattle.ltp_laws.specs.View.{said, view}
 use Rattle.ltp_drain.specs.Clean.{link_deadline}
 use Rattle.ltp_drain.specs.Completion.{IsComplete, IsReady}
 use Rattle.ltp_drain.specs.Effects.{IsHandedUp, IsNoted, effects_at, effects_in}
-use Rattle.ltp_drain.specs.Hopeful.{AreAlike, IsHanded, IsOpen, cost}
+use Rattle.ltp_drain.specs.Hopeful.{AreAlike, IsHanded, IsKeptSender, cost}
 use Rattle.ltp_drain.specs.Standing.{AllAdvance, DrainHolds, setting, sum_of}
 use Rattle.ltp_drain.proofs.CleanSteps.{idle-link, idle-senders}
 use Rattle.ltp_drain.proofs.CompletionLemmas.{first_rank, starts, starts-low, advances-on}
@@ -177,16 +177,16 @@ over-completes parties w v new rank events holds none advances = record {
     no_sender : (o : End) (n : ℕ) → (view parties v o n).sender ≡ None
     no_sender o n = idle-senders (at_end v.engines o) n (idle-link v none o)
 
-    never : (o : End) (n : ℕ) → IsOpen (view parties v o n).sender → ⊥
-    never o n is_open = subst IsOpen (no_sender o n) is_open
+    never : (o : End) (n : ℕ) → IsKeptSender (view parties v o n).sender → ⊥
+    never o n is_open = subst IsKeptSender (no_sender o n) is_open
 
-    by_sent : (o : End) (n : ℕ) → IsOpen (view parties v o n).sender
+    by_sent : (o : End) (n : ℕ) → IsKeptSender (view parties v o n).sender
         ⊎ (IsNoted (effects_in parties w events) o (notes.Sent n) × Handed o n)
         → IsNoted (effects_in parties w events) o (notes.Sent n)
     by_sent o n (inl still) = absurd (never o n still)
     by_sent o n (inr done) = done.0
 
-    by_handed : (o : End) (n : ℕ) → IsOpen (view parties v o n).sender
+    by_handed : (o : End) (n : ℕ) → IsKeptSender (view parties v o n).sender
         ⊎ (IsNoted (effects_in parties w events) o (notes.Sent n) × Handed o n) → Handed o n
     by_handed o n (inl still) = absurd (never o n still)
     by_handed o n (inr done) = done.1

@@ -12,7 +12,7 @@ use Rattle.ltp_laws.specs.View.{IsIn, view}
 use Rattle.ltp_drain.specs.Clean.{AreCleanFrom, CleanRun, clean_event, passed}
 use Rattle.ltp_drain.specs.Effects.{effects_at}
 use Rattle.ltp_drain.specs.Effects.{EndEffects as LinkEffects}
-use Rattle.ltp_drain.specs.Hopeful.{Hopeful, IsHanded, IsOpen, Room, cost}
+use Rattle.ltp_drain.specs.Hopeful.{Hopeful, IsHanded, IsKeptSender, Room, cost}
 use Rattle.ltp_engine.specs.declared.effects.Up.{Up}
 use Rattle.ltp_engine.specs.Effects.{effects_of}
 use Rattle.ltp_world.specs.declared.effects.Drained.{Drained}
@@ -115,10 +115,10 @@ pub record Completed (parties : Party × Party) (w : World) (drained : Drained) 
   pub clean : CleanRun parties w drained.events end
   pub bound : drained.events ≤ cost parties w end
   pub sent :
-      (o : LinkEnd) (n : ℕ) → IsOpen (view parties w o n).sender
+      (o : LinkEnd) (n : ℕ) → IsKeptSender (view parties w o n).sender
       → TellsNote drained.effects (named o) (notes.Sent n)
   pub handed :
-      (o : LinkEnd) (n : ℕ) → IsOpen (view parties w o n).sender
+      (o : LinkEnd) (n : ℕ) → IsKeptSender (view parties w o n).sender
       → IsHanded (view parties w o n).receiver ⊎ TellsUp drained.effects (named (other o)) n
 
 -- wherever the world stands, hopeful and with room

@@ -9,7 +9,7 @@ use Rattle.ltp_session.specs.Engine.{Party}
 use Rattle.ltp_session.specs.World.{Event, World, first_end, second_end, other}
 use Rattle.ltp_session.specs.World.{End as LinkEnd}
 use Rattle.ltp_laws.specs.View.{view}
-use Rattle.ltp_drain.specs.Hopeful.{Hopeful, IsHanded, IsOpen, Room, cost}
+use Rattle.ltp_drain.specs.Hopeful.{Hopeful, IsHanded, IsKeptSender, Room, cost}
 use Rattle.ltp_picks.specs.Picks.{AreNext, Crossing, Turn, after_picks, after_turns, crosses_at}
 use Rattle.ltp_picks.specs.Picks.{copies, events_of, next_turn, old_copy, oldest_of, pick_turn}
 use Rattle.ltp_picks.specs.Picks.{picked_turns}
@@ -101,10 +101,10 @@ pub record PicksCompleted (parties : Party × Party) (w : World) (picks : List L
   pub run : PickedRun parties w picks drained.events end
   pub bound : drained.events ≤ most end
   pub sent :
-      (o : LinkEnd) (n : ℕ) → IsOpen (view parties w o n).sender
+      (o : LinkEnd) (n : ℕ) → IsKeptSender (view parties w o n).sender
       → TellsNote drained.effects (named o) (notes.Sent n)
   pub handed :
-      (o : LinkEnd) (n : ℕ) → IsOpen (view parties w o n).sender
+      (o : LinkEnd) (n : ℕ) → IsKeptSender (view parties w o n).sender
       → IsHanded (view parties w o n).receiver ⊎ TellsUp drained.effects (named (other o)) n
 
 -- wherever the world stands, hopeful and with room, and no pick is of an old datagram: within what

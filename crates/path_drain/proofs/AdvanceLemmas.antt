@@ -4,7 +4,7 @@ use Rattle.std.proofs.Common.{ℕ, List, [], ◌∷◌, ◌++◌, ◌⊎◌, inl
 use Rattle.ltp_laws.specs.View.{IsIn, View}
 use Rattle.ltp_drain.specs.Calm.{Advances}
 use Rattle.ltp_drain.specs.Effects.{IsHandedUp, IsNoted}
-use Rattle.ltp_drain.specs.Hopeful.{IsHanded, IsOpen}
+use Rattle.ltp_drain.specs.Hopeful.{IsHanded, IsKeptSender}
 use Rattle.ltp_segment.specs.declared.session.Note.{Note}
 use Rattle.ltp_session.specs.World.{End}
 
@@ -33,13 +33,13 @@ advances-both v v' x S S' U U' T V sent sent' up up' first later = record {
     late (inl was) = early (first.receiver was)
     late (inr now) = inr (up' now)
 
-    by_later : IsOpen x.sender ⊎ (S' × (IsHanded v'.receiver ⊎ U'))
-        → IsOpen x.sender ⊎ (T × (IsHanded v.receiver ⊎ V))
+    by_later : IsKeptSender x.sender ⊎ (S' × (IsHanded v'.receiver ⊎ U'))
+        → IsKeptSender x.sender ⊎ (T × (IsHanded v.receiver ⊎ V))
     by_later (inl still) = inl still
     by_later (inr done) = inr (sent' done.0, late done.1)
 
-    by_first : IsOpen v'.sender ⊎ (S × (IsHanded v.receiver ⊎ U))
-        → IsOpen x.sender ⊎ (T × (IsHanded v.receiver ⊎ V))
+    by_first : IsKeptSender v'.sender ⊎ (S × (IsHanded v.receiver ⊎ U))
+        → IsKeptSender x.sender ⊎ (T × (IsHanded v.receiver ⊎ V))
     by_first (inl still) = by_later (later.sender still)
     by_first (inr done) = inr (sent done.0, early done.1)
 
@@ -51,11 +51,11 @@ pub none-handed : (end : End) (n : ℕ) → IsHandedUp [] end n → ⊥
 none-handed end n is = is.among
 
 -- a session that is open stays so where none is noted
-pub open-stays : (v v' : View) (S U : Type 0) → (S → ⊥) → Advances v v' S U → IsOpen v.sender
-    → IsOpen v'.sender
+pub open-stays : (v v' : View) (S U : Type 0) → (S → ⊥) → Advances v v' S U → IsKeptSender v.sender
+    → IsKeptSender v'.sender
 open-stays v v' S U never on is_open = go (on.sender is_open)
   where
-    go : IsOpen v'.sender ⊎ (S × (IsHanded v.receiver ⊎ U)) → IsOpen v'.sender
+    go : IsKeptSender v'.sender ⊎ (S × (IsHanded v.receiver ⊎ U)) → IsKeptSender v'.sender
     go (inl still) = still
     go (inr done) = absurd (never done.0)
 
@@ -71,7 +71,7 @@ advances-shown {v} {v'} {S} {T} {U} {V} on sent up = record {
     by_receiver (inl was) = inl was
     by_receiver (inr now) = inr (up now)
 
-    by_sender : IsOpen v'.sender ⊎ (S × (IsHanded v.receiver ⊎ U))
-        → IsOpen v'.sender ⊎ (T × (IsHanded v.receiver ⊎ V))
+    by_sender : IsKeptSender v'.sender ⊎ (S × (IsHanded v.receiver ⊎ U))
+        → IsKeptSender v'.sender ⊎ (T × (IsHanded v.receiver ⊎ V))
     by_sender (inl still) = inl still
     by_sender (inr done) = inr (sent done.0, by_receiver done.1)

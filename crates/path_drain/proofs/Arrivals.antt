@@ -28,7 +28,7 @@ use Rattle.ltp_laws.proofs.SenderLemmas.{sender-keeps}
 use Rattle.ltp_laws.proofs.StepLemmas.{hears-form, met}
 use Rattle.ltp_drain.specs.Calm.{Calm, Setting}
 use Rattle.ltp_drain.specs.Draining.{Draining, Oldest, oldest}
-use Rattle.ltp_drain.specs.Hopeful.{IsHanded, IsOpen}
+use Rattle.ltp_drain.specs.Hopeful.{IsHanded, IsKeptSender}
 use Rattle.ltp_drain.specs.Standing.{DrainHolds, IsRoomy, Stands, setting, setting_by}
 use Rattle.ltp_drain.proofs.DrainFrame.{AllStand, Begun, Shorter, is-begun, never_begun, shorter}
 use Rattle.ltp_drain.proofs.DrainFrame.{stands-so, was_begun}
@@ -208,7 +208,7 @@ awaited-comes : (me you : End) (p q : Party) (e f : Engine) (sent : List Sent) (
 awaited-comes me you p q e f sent n limit_s limit_r content new_s new_r calm x is_piece red none
     unclosed = by_awaited (calm.awaited x (inl is_piece) red)
   where
-    by_awaited : IsOpen (find n f.senders) ⊎ ((is_closed n e.closed ≡ true)
+    by_awaited : IsKeptSender (find n f.senders) ⊎ ((is_closed n e.closed ≡ true)
         ⊎ IsHanded (find n e.receivers)) → Comes_to e f n
     by_awaited (inl is_open) = comes me you q e f sent n (is_open, none, unclosed)
     by_awaited (inr (inl closed)) = absurd (cc)
@@ -267,9 +267,9 @@ handed-up me you p q e f sent n red block limit_s limit_r policy place content n
     still_open : find n f.senders ≡ None → ⊥
     still_open none = by_awaited (calm.awaited h.piece (inl h.is_piece) h.red_kind)
       where
-        by_awaited : IsOpen (find n f.senders) ⊎ ((is_closed n e.closed ≡ true)
+        by_awaited : IsKeptSender (find n f.senders) ⊎ ((is_closed n e.closed ≡ true)
             ⊎ IsHanded (find n e.receivers)) → ⊥
-        by_awaited (inl is_open) = subst IsOpen none is_open
+        by_awaited (inl is_open) = subst IsKeptSender none is_open
         by_awaited (inr (inl closed)) = open_number closed
         by_awaited (inr (inr handed)) = not_handed handed
 

@@ -4,7 +4,7 @@ use Rattle.std.proofs.Common.{◌≡◌, ℕ, ◌+◌, ◌^◌, ◌≤◌, List,
 use Rattle.std.proofs.Common.{refl, sym, ◌∙◌, ap, arith, subst}
 use Rattle.ltp_laws.specs.View.{IsIn}
 use Rattle.ltp_session.specs.World.{first_end, second_end}
-use Rattle.ltp_drain.specs.Hopeful.{IsOpen, Room}
+use Rattle.ltp_drain.specs.Hopeful.{IsKeptSender, Room}
 use Rattle.gate_cases.specs.declared.face.Face.{Face}
 use Rattle.gate_cases.specs.declared.face.Face.TheVariants as faces
 use Rattle.path_laws.specs.declared.effects.UpAt.{UpAt}
@@ -170,7 +170,7 @@ path-completes laws s w n v ready drain = record {
     none : path_deadline (path_run s w drain.events) ≡ None
     none = ap path_deadline drain.leads ∙ (drain.drained).no_timer
 
-    ends : (place : Place) (m : ℕ) → IsOpen (session_at s w place m).sender
+    ends : (place : Place) (m : ℕ) → IsKeptSender (session_at s w place m).sender
         → SessionEnds s w (notes_in s w drain.events) (ups_in s w drain.events) place m
     ends place m is_open = session-ends s w (path_run s w drain.events)
         (notes_in s w drain.events) (ups_in s w drain.events) place m on.advances none is_open

@@ -18,7 +18,7 @@ use Rattle.ltp_laws.specs.View.{closed_after, session_of}
 use Rattle.ltp_laws.proofs.FrameLemmas.{closed-with_receiver}
 use Rattle.ltp_laws.proofs.RunLemmas.{linked-at, two_ends}
 use Rattle.ltp_drain.specs.Draining.{Draining, Oldest, oldest, since}
-use Rattle.ltp_drain.specs.Hopeful.{IsOpen}
+use Rattle.ltp_drain.specs.Hopeful.{IsKeptSender}
 use Rattle.ltp_drain.specs.Standing.{IsRoomy, NextOf}
 use Rattle.ltp_drain.proofs.DrainRun.{all-stand, delivery-next}
 use Rattle.ltp_drain.proofs.RoomSteps.{Comes_to}
@@ -115,10 +115,10 @@ gone-late parties d rank me o link is t replied ended =
         cc)
 
 is-coming : (e f : Engine) (n : ℕ) → Comes_to e f n
-    → IsOpen (find n f.senders) × (find n e.receivers ≡ None) × (is_closed n e.closed ≡ false)
+    → IsKeptSender (find n f.senders) × (find n e.receivers ≡ None) × (is_closed n e.closed ≡ false)
 is-coming e f n c =
     let of = by_kept (find n e.receivers) (is_closed n e.closed) c.unknown in
-    (subst IsOpen (sym c.kept) tt, of.0, of.1)
+    (subst IsKeptSender (sym c.kept) tt, of.0, of.1)
   where
     by_kept : (kept : Option Receiving) (closed : Bool) → (not (is_some kept) && not closed) ≡ true
         → (kept ≡ None) × (closed ≡ false)

@@ -16,7 +16,7 @@ use Rattle.ltp_laws.proofs.RunLemmas.{in-left, in-right}
 use Rattle.ltp_drain.specs.Clean.{link_deadline}
 use Rattle.ltp_drain.specs.Completion.{IsReady}
 use Rattle.ltp_drain.specs.Draining.{oldest}
-use Rattle.ltp_drain.specs.Hopeful.{IsHanded, IsOpen, IsReached, Room}
+use Rattle.ltp_drain.specs.Hopeful.{IsHanded, IsKeptSender, IsReached, Room}
 use Rattle.ltp_drain.specs.Standing.{setting}
 use Rattle.ltp_drain.proofs.CleanSteps.{IsGoing, drop-end, idle-link, idle-senders}
 use Rattle.ltp_drain.proofs.CompletionLemmas.{first_rank, starts-going, starts-low}
@@ -228,7 +228,7 @@ up-right xs ys place n is = record {
 -- a session is open, or it was noted as sent, and its red part was handed up
 abbrev pub IsDone : PathSetup → Path → List NoteAt → List UpAt → Place → ℕ → Type 0
 IsDone s v ns us place n =
-    IsOpen (session_at s v place n).sender
+    IsKeptSender (session_at s v place n).sender
     ⊎ (IsNotedSent ns place n × IsUpAt us (across place) n)
 
 -- no receiver knows of a number that wasn't given yet
@@ -270,7 +270,7 @@ begun-done s w0 w c rank event v ns us b goes on later is =
     among = in-link (λ (b : BegunAt). b.place) submission_from (link_of b.place)
         (begun_at s w event) b is refl
 
-    opens : IsOpen (session_at s (path_step s w event).path b.place b.session).sender
+    opens : IsKeptSender (session_at s (path_step s w event).path b.place b.session).sender
     opens = (on.begun (link_of b.place)).opens (submission_from b) among
 
     Up : List UpAt → Place → Type 0
@@ -293,7 +293,7 @@ begun-done s w0 w c rank event v ns us b goes on later is =
     by_up (inr up) = up-right (path_step s w event).effects.ups us (across b.place) b.session
         (subst (Up us) (place-here b.place) up)
 
-    by_rest : IsOpen (session_at s v b.place b.session).sender
+    by_rest : IsKeptSender (session_at s v b.place b.session).sender
         ⊎ (IsNotedSent ns (place_at (link_of b.place) (link_end_of b.place)) b.session
         × (IsHanded (session_at s (path_step s w event).path b.place b.session).receiver
         ⊎ IsUpAt us (place_at (link_of b.place) (other (link_end_of b.place))) b.session))
@@ -508,17 +508,17 @@ pub record SessionEnds (s : PathSetup) (w : Path) (ns : List NoteAt) (us : List 
 
 pub session-ends : (s : PathSetup) (w v : Path) (ns : List NoteAt) (us : List UpAt)
     (place : Place) (n : ℕ) → ((face : Face) → FaceAdvance s face w v ns us)
-    → path_deadline v ≡ None → IsOpen (session_at s w place n).sender
+    → path_deadline v ≡ None → IsKeptSender (session_at s w place n).sender
     → SessionEnds s w ns us place n
 session-ends s w v ns us place n advances none is_open =
     by ((advances (link_of place) (link_end_of place) n).sender is_open)
   where
-    by : IsOpen (session_at s v place n).sender
+    by : IsKeptSender (session_at s v place n).sender
         ⊎ (IsNotedSent ns (place_at (link_of place) (link_end_of place)) n
         × (IsHanded (session_at s w place n).receiver
         ⊎ IsUpAt us (place_at (link_of place) (other (link_end_of place))) n))
         → SessionEnds s w ns us place n
-    by (inl still) = absurd (subst IsOpen (none-kept s v none place n) still)
+    by (inl still) = absurd (subst IsKeptSender (none-kept s v none place n) still)
     by (inr done) = record {
       sent = subst (λ (p : Place). IsNotedSent ns p n) (at-place place) done.0;
       handed = subst (λ (p : Place). IsHanded (session_at s w place n).receiver ⊎ IsUpAt us p n)
@@ -530,5 +530,5 @@ pub done-ends : (s : PathSetup) (v : Path) (ns : List NoteAt) (us : List UpAt) (
     (n : ℕ) → path_deadline v ≡ None → IsDone s v ns us place n
     → IsNotedSent ns place n × IsUpAt us (across place) n
 done-ends s v ns us place n none (inl still) =
-    absurd (subst IsOpen (none-kept s v none place n) still)
+    absurd (subst IsKeptSender (none-kept s v none place n) still)
 done-ends s v ns us place n none (inr done) = done

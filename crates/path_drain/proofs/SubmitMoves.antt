@@ -28,7 +28,7 @@ use Rattle.ltp_laws.proofs.RunLemmas.{linked-at, two_ends}
 use Rattle.ltp_laws.proofs.WritableLemmas.{cuts-at}
 use Rattle.ltp_drain.specs.Draining.{since}
 use Rattle.ltp_drain.specs.Effects.{EndEffects}
-use Rattle.ltp_drain.specs.Hopeful.{AreAlike, IsHanded, IsOpen, IsReached, Room, different}
+use Rattle.ltp_drain.specs.Hopeful.{AreAlike, IsHanded, IsKeptSender, IsReached, Room, different}
 use Rattle.ltp_drain.specs.Hopeful.{offsets_of, session_cost}
 use Rattle.ltp_drain.specs.Standing.{AfterSubmit, AllAdvance, DrainHolds, begun_rank}
 use Rattle.ltp_drain.proofs.CleanSteps.{IsGoing, reached-more}
@@ -198,12 +198,12 @@ begin-keeps policy n now (x ∷ block) low =
     by_last None some = absurd (some refl)
     by_last (Some part) some = record { s = _; is = refl }
 
-open-after : (c : Change Sending) (o : Option Sending) → Keeps c → IsOpen (after c o)
-open-after c o kept = subst (λ (c : Change Sending). IsOpen (after c o)) (sym kept.is) tt
+open-after : (c : Change Sending) (o : Option Sending) → Keeps c → IsKeptSender (after c o)
+open-after c o kept = subst (λ (c : Change Sending). IsKeptSender (after c o)) (sym kept.is) tt
 
 -- what is open, and what has been handed up, stays so
 advances-same : (parties : Party × Party) (w w' : World) (es : List EndEffects)
-    → ((o : End) (n : ℕ) → IsOpen (view parties w o n).sender → IsOpen (view parties w' o n).sender)
+    → ((o : End) (n : ℕ) → IsKeptSender (view parties w o n).sender → IsKeptSender (view parties w' o n).sender)
     → ((o : End) (n : ℕ) → (view parties w' o n).receiver ≡ (view parties w o n).receiver)
     → AllAdvance parties w w' es
 advances-same parties w w' es still same o n = record {
@@ -215,7 +215,7 @@ advances-same parties w w' es still same o n = record {
 record Begins (parties : Party × Party) (w : World) (me : End) (t : StepValue Sending) : Type 0
   where
     advances : AllAdvance parties w (begun_world parties w me t) []
-    opens : IsOpen (view parties (begun_world parties w me t) me (at_end w.engines me).next).sender
+    opens : IsKeptSender (view parties (begun_world parties w me t) me (at_end w.engines me).next).sender
 
 begins-all : (parties : Party × Party) (w : World) (me : End) (t : StepValue Sending)
     → BegunViews parties w me t → Keeps t.next → Begins parties w me t
@@ -225,27 +225,27 @@ begins-all parties w me t views kept = record {
   opens = opens;
 }
   where
-    opens : IsOpen (view parties (begun_world parties w me t) me (at_end w.engines me).next).sender
-    opens = subst (λ (v : View). IsOpen v.sender) (sym views.here)
+    opens : IsKeptSender (view parties (begun_world parties w me t) me (at_end w.engines me).next).sender
+    opens = subst (λ (v : View). IsKeptSender v.sender) (sym views.here)
         (open-after t.next (view parties w me (at_end w.engines me).next).sender kept)
 
     at_me : (n : ℕ) (b : Bool) → ((at_end w.engines me).next == n) ≡ b
-        → IsOpen (view parties w me n).sender
-        → IsOpen (view parties (begun_world parties w me t) me n).sender
-    at_me n true is is_open = subst (λ (n : ℕ). IsOpen
+        → IsKeptSender (view parties w me n).sender
+        → IsKeptSender (view parties (begun_world parties w me t) me n).sender
+    at_me n true is is_open = subst (λ (n : ℕ). IsKeptSender
         (view parties (begun_world parties w me t) me n).sender)
         (eqb-true (at_end w.engines me).next n is) opens
-    at_me n false is is_open = subst (λ (v : View). IsOpen v.sender)
+    at_me n false is is_open = subst (λ (v : View). IsKeptSender v.sender)
         (sym (views.others n (eqb-false (at_end w.engines me).next n is))) is_open
 
-    by_end : (o : End) (n : ℕ) → (o ≡ me) ⊎ (o ≡ other me) → IsOpen (view parties w o n).sender
-        → IsOpen (view parties (begun_world parties w me t) o n).sender
-    by_end o n (inl here) is_open = subst (λ (o : End). IsOpen (view parties w o n).sender
-        → IsOpen (view parties (begun_world parties w me t) o n).sender) (sym here)
+    by_end : (o : End) (n : ℕ) → (o ≡ me) ⊎ (o ≡ other me) → IsKeptSender (view parties w o n).sender
+        → IsKeptSender (view parties (begun_world parties w me t) o n).sender
+    by_end o n (inl here) is_open = subst (λ (o : End). IsKeptSender (view parties w o n).sender
+        → IsKeptSender (view parties (begun_world parties w me t) o n).sender) (sym here)
         (at_me n ((at_end w.engines me).next == n) refl) is_open
-    by_end o n (inr there) is_open = subst (λ (o : End). IsOpen (view parties w o n).sender
-        → IsOpen (view parties (begun_world parties w me t) o n).sender) (sym there)
-        (λ is_open. subst (λ (v : View). IsOpen v.sender) (sym (views.there n)) is_open) is_open
+    by_end o n (inr there) is_open = subst (λ (o : End). IsKeptSender (view parties w o n).sender
+        → IsKeptSender (view parties (begun_world parties w me t) o n).sender) (sym there)
+        (λ is_open. subst (λ (v : View). IsKeptSender v.sender) (sym (views.there n)) is_open) is_open
 
     at_mine : (n : ℕ) (b : Bool) → ((at_end w.engines me).next == n) ≡ b
         → (view parties (begun_world parties w me t) me n).receiver ≡ (view parties w me n).receiver
@@ -268,7 +268,7 @@ begins-all parties w me t views kept = record {
 
 -- the sessions of this log are open, and their numbers are new
 pub record AreBegun (parties : Party × Party) (w w' : World) (log : List Submission) : Type 0 where
-  pub opens : (p : Submission) → IsIn p log → IsOpen (view parties w' p.from p.session).sender
+  pub opens : (p : Submission) → IsIn p log → IsKeptSender (view parties w' p.from p.session).sender
   pub fresh : (p : Submission) → IsIn p log → (at_end w.engines p.from).next ≤ p.session
 
 pub record SubmitMoves (parties : Party × Party) (w0 w : World) (c : ℕ) (rank : End → ℕ → ℕ)
@@ -441,7 +441,7 @@ submit-moves parties w0 w c rank me block peers alike going before room =
           red = length block;
         }
 
-        opens : IsOpen (view parties (begun_world parties w me (begins_with parties w me block)) me
+        opens : IsKeptSender (view parties (begun_world parties w me (begins_with parties w me block)) me
             (at_end w.engines me).next).sender → (p : Submission)
             → IsIn p (record {
               from = me;
@@ -449,9 +449,9 @@ submit-moves parties w0 w c rank me block peers alike going before room =
               block = block;
               red = length block;
             } ∷ [])
-            → IsOpen (view parties (begun_world parties w me (begins_with parties w me block))
+            → IsKeptSender (view parties (begun_world parties w me (begins_with parties w me block))
             p.from p.session).sender
-        opens is_open p (inl same) = subst (λ (p : Submission). IsOpen
+        opens is_open p (inl same) = subst (λ (p : Submission). IsKeptSender
             (view parties (begun_world parties w me (begins_with parties w me block)) p.from
             p.session).sender) same is_open
         opens is_open p (inr none) = absurd none
@@ -527,7 +527,7 @@ submit-then parties w0 w v x c rank log more first later = record {
 }
   where
     opens : (p : Submission) → IsIn p log ⊎ IsIn p more
-        → IsOpen (view parties x p.from p.session).sender
+        → IsKeptSender (view parties x p.from p.session).sender
     opens p (inl is) = open-stays (view parties v p.from p.session)
         (view parties x p.from p.session) _ _ (none-noted p.from _)
         (later.advances p.from p.session) ((first.begun).opens p is)

@@ -3,7 +3,7 @@
 use Rattle.std.specs.Prelude.{◌≡◌, ℕ, ◌≤◌, false, List, ◌∷◌, ◌++◌, length, None, Some, ◌⊎◌}
 use Rattle.ltp_session.specs.Receiver.{Receiving, is_cancelling}
 use Rattle.ltp_laws.specs.View.{IsIn}
-use Rattle.ltp_drain.specs.Hopeful.{IsHanded, IsOpen}
+use Rattle.ltp_drain.specs.Hopeful.{IsHanded, IsKeptSender}
 use Rattle.gate_cases.specs.declared.face.Face.{Face}
 use Rattle.path_laws.specs.declared.effects.UpAt.{UpAt}
 use Rattle.path_laws.specs.declared.places.Place.{Place}
@@ -47,11 +47,11 @@ pub record IsPathComplete (s : PathSetup) (w : Path) (events : List PathEvent) (
     : Type 0 where
   -- each that was open at its sender in w was noted there as sent
   pub sent :
-      (place : Place) (n : ℕ) → IsOpen (session_at s w place n).sender
+      (place : Place) (n : ℕ) → IsKeptSender (session_at s w place n).sender
       → IsNotedSent (notes_in s w events) place n
   -- its red part had been handed up in w, or was in an event since
   pub handed :
-      (place : Place) (n : ℕ) → IsOpen (session_at s w place n).sender
+      (place : Place) (n : ℕ) → IsKeptSender (session_at s w place n).sender
       → IsHanded (session_at s w place n).receiver
       ⊎ IsUpAt (ups_in s w events) (across place) n
   -- each that an event began was noted so too, and its block was handed up whole

@@ -4,7 +4,7 @@
 use Rattle.std.specs.Prelude.{◌≡◌, ℕ, ◌≤◌, false, List, ◌++◌, length, None, Some}
 use Rattle.ltp_session.specs.Receiver.{Receiving, is_cancelling}
 use Rattle.ltp_laws.specs.View.{IsIn}
-use Rattle.ltp_drain.specs.Hopeful.{IsOpen}
+use Rattle.ltp_drain.specs.Hopeful.{IsKeptSender}
 use Rattle.gate_cases.specs.declared.face.Face.{Face}
 use Rattle.path_laws.specs.declared.effects.UpAt.{UpAt}
 use Rattle.path_laws.specs.declared.places.Place.{Place}
@@ -38,11 +38,11 @@ pub record IsRunCompleteFrom
   pub bound : length made ≤ path_cost s w v
   -- each session that was open at its sender in w is noted in the drain as sent
   pub sent :
-      (place : Place) (n : ℕ) → IsOpen (session_at s w place n).sender
+      (place : Place) (n : ℕ) → IsKeptSender (session_at s w place n).sender
       → IsNotedSent (notes_in s w made) place n
   -- its block was handed up whole, in the drain or before
   pub handed :
-      (place : Place) (n : ℕ) → IsOpen (session_at s w place n).sender
+      (place : Place) (n : ℕ) → IsKeptSender (session_at s w place n).sender
       → IsHandedWhole (run_begun s start (events ++ made)) (run_ups s start (events ++ made))
       place n
   -- each session that was begun in the drain is noted so too, and handed up whole

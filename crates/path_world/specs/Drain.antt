@@ -4,7 +4,7 @@ use Rattle.std.specs.Prelude.{◌≡◌, ℕ, ◌<◌, ◌≤◌, ◌^◌, true,
 use Rattle.std.specs.Prelude.{Option, None, Some, Result, Ok, Err, ◌⊎◌}
 use Rattle.std.specs.List.{AllByRecursion, flat_map}
 use Rattle.ltp_laws.specs.View.{IsIn}
-use Rattle.ltp_drain.specs.Hopeful.{IsHanded, IsOpen}
+use Rattle.ltp_drain.specs.Hopeful.{IsHanded, IsKeptSender}
 use Rattle.ltp_world.specs.declared.refused.DrainRefused.{DrainRefused}
 use Rattle.ltp_world.specs.declared.refused.DrainRefused.TheVariants as causes
 use Rattle.path_laws.specs.declared.effects.NoteAt.{NoteAt}
@@ -133,10 +133,10 @@ pub record Completed (s : PathSetup) (w : Path) (drained : PathDrained) : Type 0
   pub notes : notes_told drained.effects ≡ notes_in s w clean.events
   pub ups : ups_told drained.effects ≡ ups_in s w clean.events
   pub sent :
-      (place : Place) (n : ℕ) → IsOpen (session_at s w place n).sender
+      (place : Place) (n : ℕ) → IsKeptSender (session_at s w place n).sender
       → IsNotedSent (notes_told drained.effects) place n
   pub handed :
-      (place : Place) (n : ℕ) → IsOpen (session_at s w place n).sender
+      (place : Place) (n : ℕ) → IsKeptSender (session_at s w place n).sender
       → IsHanded (session_at s w place n).receiver
       ⊎ IsUpAt (ups_told drained.effects) (across place) n
   pub begun_sent :

@@ -132,9 +132,9 @@ up_text up = spaced (up_words (up_of up))
 
 -- The text is what is written for the events that the first lines say, and after it what the end of the
 -- run asks for; the lines are those of an input of which at most so many octets are looked at. No line
--- that is answered passes a limit: so a run ends at one exactly where an input passes one. Its `up`
--- lines are exactly the red parts that are handed up with these events, in their order: no session's
--- twice, and each with the event that makes it whole, and with no other.
+-- that is answered passes a limit: so a run that isn't refused ends at one if and only if its input
+-- passes one. Its `up` lines are exactly the red parts that are handed up with these events, in their
+-- order: no session's twice, and each with the event that makes it whole, and with no other.
 pub record AnswersLines (p : Party) (most : ℕ) (input text : List ℕ) (ending : Status) : Type 0 where
   pub events : List NodeEvent
   pub closing : List ℕ

@@ -10,11 +10,11 @@ use Rattle.serve_run.specs.Turns.{Call, clock_read, link_polled, datagram_sent, 
 
 -- ---- what is written
 
--- the line that says of a face's link that a call failed
 abbrev pub is_old : Face → Bool
 is_old Old = true
 is_old New = false
 
+-- the line that says of a face's link that a call failed
 unfoldable pub link_line : Face → Bool → List ℕ
 link_line face send =
     spaced (codes "note" ∷ side_word (is_old face) ∷ call_word send ∷ []) ++ codes "\n"

@@ -1,10 +1,10 @@
 //! Two links, a clock and a sink that stand each by itself, driven as one.
-ghost use Rattle.std.specs.Prelude.{◌≡◌, ◌≤◌, [], ◌∷◌, length};
+ghost use Rattle.std.specs.Prelude.{[], ◌∷◌};
 ghost use Rattle.edge_traits.specs.Outcome.{sink_tells};
 ghost use Rattle.serve_run.specs.Tells.{links_tell};
 
 use crate::edges::Edges;
-use edge_traits::{Clock, Failed, LONGEST_DATAGRAM, Link, Sink, write_all};
+use edge_traits::{Clock, Failed, Link, Sink, write_all};
 use gate_cases::Face;
 
 /// Two links, a clock and a sink, each lent by whoever drives them. What they tell is what each of them

@@ -1,5 +1,5 @@
 //! Sending what a step sends, and writing what is said of it.
-ghost use Rattle.std.specs.Prelude.{◌≡◌, ◌≢◌, ◌≤◌, ◌<◌, ◌+◌, ◌*◌, ◌++◌, [], List, ℕ, Option, length, Err, IfOk, OnErr, true, false};
+ghost use Rattle.std.specs.Prelude.{◌≡◌, ◌≤◌, ◌<◌, ◌+◌, ◌*◌, ◌++◌, [], length, Err, IfOk, OnErr, true, false};
 ghost use Rattle.std.specs.String.{string_bytes, string_len, string_capacity};
 ghost use Rattle.serve_run.specs.Turns.{sends, sends_all, does};
 ghost use Rattle.serve_run.specs.Deeds.{link_line};

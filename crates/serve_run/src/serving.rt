@@ -1,5 +1,5 @@
 //! The gateway as what is driven in turns, and the command.
-ghost use Rattle.std.specs.Prelude.{◌≡◌, ◌≢◌, ◌<◌, ◌^◌, false, IfOk};
+ghost use Rattle.std.specs.Prelude.{◌≡◌, ◌≢◌, ◌<◌, false, IfOk};
 ghost use Rattle.endpoint.specs.Endpoints.{IsEndpoint};
 ghost use Rattle.endpoint.specs.declared.name.Endpoint.TheVariants.{Null};
 ghost use Rattle.edge_traits.specs.Outcome.{sink_tells};
@@ -7,7 +7,7 @@ ghost use Rattle.serve_run.specs.Effects.{effects_in};
 ghost use Rattle.serve_run.specs.Events.{Served};
 ghost use Rattle.serve_run.specs.Serve.{Serving, serving_rules, serving_from, setup_named, serve_turns};
 ghost use Rattle.serve_run.specs.Shows.{ShowsServing};
-ghost use Rattle.serve_run.specs.Tells.{links_tell, RanTurns, StepsTo};
+ghost use Rattle.serve_run.specs.Tells.{links_tell, RanTurns};
 ghost use Rattle.serve_run.specs.WrittenLines.{step_text};
 
 use crate::apart::Apart;

@@ -1,5 +1,5 @@
 //! A run in turns.
-ghost use Rattle.std.specs.Prelude.{◌≡◌, ◌≤◌, ◌<◌, ◌^◌, List, ℕ, Option, length, IfOk, IfSome};
+ghost use Rattle.std.specs.Prelude.{◌≡◌, ◌≤◌, ◌<◌, ◌^◌, Option, length, IfOk, IfSome};
 ghost use Rattle.serve_run.specs.Outside.{Polled};
 ghost use Rattle.serve_run.specs.Turns.{does, polls, answers, half, turn, turns};
 ghost use Rattle.serve_run.specs.Tells.{Goes, PolledAs, RanTurns};

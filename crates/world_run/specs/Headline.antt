@@ -250,8 +250,8 @@ DrainCompletes false s start events made = Unit {0}
 
 -- The text of a script that sets up a path. It is what happens in these events, and in those of a
 -- drain after them, where there is one, with their number; after it at most the line of a refusal
--- follows. No line that is answered passes a limit: so a run ends at one exactly where a script passes
--- one. Its `sent` lines are exactly the datagrams that were sent, with their numbers, its `up` lines
+-- follows. No line that is answered passes a limit: so a run that isn't refused ends at one if and only
+-- if its script passes one. Its `sent` lines are exactly the datagrams that were sent, with their numbers, its `up` lines
 -- the blocks that came whole, its notes those that were made, and its `join` lines what the ends' joiners
 -- answered: those of an end to the fragments among the blocks that came whole there.
 -- After each of the events holds of the blocks all that `HandsOn` says, by what was begun up to then:

@@ -1,8 +1,10 @@
--- What a rank counts: the events that one session of a drain still takes, at most.
+-- What a rank counts: the events that one session of a drain still takes, at most. A drain is the
+-- end of a schedule, in which nothing is lost: each event of it delivers a segment that is on its
+-- way, or, where none is, moves the clock to the next deadline.
 --
 -- Whatever is on its way is delivered, and what it brings about is counted with it. Beside that, a
--- timer whose answer isn't on its way fires once; and a sender whose checkpoint may find octets
--- missing sends them in one more round.
+-- timer fires once, unless what it waits for is on its way; and a sender whose checkpoint may find
+-- octets missing sends them in one more round.
 
 use Rattle.std.specs.Prelude.{◌≡◌, ℕ, ◌+◌, ◌<◌, ◌≤◌, Bool, true, false, not, ◌==◌, ◌&&◌, ◌||◌}
 use Rattle.std.specs.Prelude.{nat_lt, nat_le, List, [], ◌∷◌, length, take, Option, None, Some}
@@ -18,8 +20,9 @@ use Rattle.ltp_laws.specs.Claims.{IsWhole}
 use Rattle.ltp_laws.specs.Serials.{pending_of}
 use Rattle.ltp_laws.specs.View.{IsIn, View}
 
--- a checkpoint is delivered, and so are the report on it and that report's acknowledgement; a
--- report and its acknowledgement; anything else alone
+-- a checkpoint takes 3 deliveries: its own, the report's on it, and that report's
+-- acknowledgement's; a report takes 2; anything else 1. A cancel is answered too, but in a drain
+-- nobody cancels.
 abbrev pub weight : ContentValue → ℕ
 weight (a_piece q) = if is_checkpoint q.kind then 3 else 1
 weight (a_report x) = 2
@@ -39,7 +42,8 @@ abbrev pub is_checkpoint_of : ℕ → ContentValue → Bool
 is_checkpoint_of c (a_piece q) = is_checkpoint q.kind && (q.checkpoint == c)
 is_checkpoint_of c content = false
 
--- octet i comes before the checkpoint with serial c, or with it
+-- The contents come in the order of the list. Octet i comes before the first checkpoint with serial
+-- c, or with it; where no such checkpoint is there, octet i comes at all.
 unfoldable pub ahead : ℕ → ℕ → List ContentValue → Bool
 ahead c i [] = false
 ahead c i (e ∷ es) = has_cell i e || (not (is_checkpoint_of c e) && ahead c i es)
@@ -49,8 +53,9 @@ abbrev pub HasFilled : ℕ → Option Receiving → Type 0
 HasFilled i None = ⊥
 HasFilled i (Some r) = is_some (cell r.cells i) ≡ true
 
--- no more rounds follow the checkpoint with serial c: each report on it is whole, and every octet
--- has come, or comes before it
+-- No more rounds follow the checkpoint with serial c: each report on it that was ever sent claims
+-- the whole red part, and every octet has come, or is `ahead` of it in what is on its way from the
+-- sender (`new`).
 pub record Settled (red : ℕ) (v : View) (c : ℕ) (new : List ContentValue) : Type 0 where
   pub whole : (x : ReportValue) → IsIn (a_report x) v.by_receiver → x.checkpoint ≡ c
       → IsWhole red x
@@ -68,10 +73,14 @@ IsAskedOn c new_s new_r =
     × (q.checkpoint ≡ c))
     ⊎ ((x : ReportValue) × IsIn (a_report x) new_r × (x.checkpoint ≡ c))
 
--- A session takes at most n events more: the weights of what is on its way, and three numbers. A
--- report that is pending takes 3, unless it or its acknowledgement is on its way. A checkpoint that
--- is waited for takes 4, unless it or a report on it is on its way. A round of the sender takes its
--- segments and 2 more, unless no more rounds follow.
+-- The rank is at most n: the weights of what is on its way, and three numbers. That a session takes
+-- no more events than its rank is a law, which stands elsewhere.
+-- `new_s` is what is on its way from the sender, `new_r` what is from the receiver, and z the
+-- greatest number of octets in a segment. A report that is pending takes 3 (timer, report,
+-- acknowledgement), unless it or its acknowledgement is on its way. A checkpoint that is waited for
+-- takes 4 (timer, checkpoint, report, acknowledgement), unless it or a report on it is on its way.
+-- A round of the sender takes 1 for each segment, and 2 more since the last is a checkpoint, unless
+-- no more rounds follow.
 pub record RankAtMost (z red : ℕ) (v : View) (new_s new_r : List ContentValue)
     (n : ℕ) : Type 0 where
   pub report : ℕ

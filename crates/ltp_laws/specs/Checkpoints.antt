@@ -1,5 +1,6 @@
--- A session's checkpoints, and what its sender knows by the reports (RFC 5326, sections 6.12
--- and 6.13).
+-- A session's checkpoints, and what its sender knows by the reports (RFC 5326, sections 3.2.1, 6.11
+-- to 6.13). Each report answers a checkpoint: there are no asynchronous ones. `said`, and a view's
+-- `by_sender` and `by_receiver`, are all that an end ever sent in the session.
 
 use Rattle.std.specs.Prelude.{◌≡◌, ℕ, ◌≤◌, true, false, List, slice_index_or, Some, ◌⊎◌}
 use Rattle.ltp_segment.specs.Kinds.{ends_red_part, is_checkpoint}
@@ -10,7 +11,7 @@ use Rattle.ltp_laws.specs.Claims.{ClaimsPlace}
 use Rattle.ltp_laws.specs.Kept.{IfKept}
 use Rattle.ltp_laws.specs.View.{IsIn, View}
 
--- a report among these claims the place
+-- a report among what was said claims place k
 pub record IsClaimedBy (said : List ContentValue) (k : ℕ) : Type 0 where
   pub report : ReportValue
   pub among : IsIn (a_report report) said
@@ -24,8 +25,9 @@ pub record IsCurrent (said : List ContentValue) (c : PieceValue) : Type 0 where
       (q : PieceValue) → IsIn (a_piece q) said → is_checkpoint q.kind ≡ true
       → q.checkpoint ≤ c.checkpoint
 
--- what a sender has as claimed was claimed by reports; and while it is open, a place isn't claimed
--- yet, and the checkpoint that it waits on is the latest one
+-- Each octet that a sender counts as claimed was claimed by a report that the receiver sent. While
+-- the sender is open, at least one red octet isn't claimed yet, and the checkpoint that it waits on
+-- is the latest one.
 pub record HasAsked (by_sender by_receiver : List ContentValue) (s : Sending) : Type 0 where
   pub claimed : (k : ℕ) → slice_index_or s.claimed k false ≡ true → IsClaimedBy by_receiver k
   pub unclaimed :
@@ -41,13 +43,15 @@ pub record IsAsked (said : List ContentValue) (serial : ℕ) : Type 0 where
   pub asks : is_checkpoint piece.kind ≡ true
   pub named : piece.checkpoint ≡ serial
 
--- a report is among these
+-- a report was said
 pub record SomeReport (said : List ContentValue) : Type 0 where
   pub report : ReportValue
   pub among : IsIn (a_report report) said
 
--- a report names a checkpoint that was sent; a checkpoint that doesn't end the red part was sent
--- after a report; and once a report was sent, a kept receiver knows the red part's length
+-- In every state of a session: `sender`, what its sender knows, where it is kept. `names`: each
+-- report names a checkpoint that was sent. `later`: the first checkpoint ends the red part, so one
+-- that doesn't was sent after a report. `known`: once a report was sent, a kept receiver knows the
+-- length of the red part.
 pub record CheckpointFacts (block : List ℕ) (red : ℕ) (v : View) : Type 0 where
   pub sender : IfKept (HasAsked v.by_sender v.by_receiver) v.sender
   pub names :
@@ -57,7 +61,8 @@ pub record CheckpointFacts (block : List ℕ) (red : ℕ) (v : View) : Type 0 wh
       → ends_red_part q.kind ≡ false → SomeReport v.by_receiver
   pub known : SomeReport v.by_receiver → IfKept (λ r. r.length ≡ Some red) v.receiver
 
--- a checkpoint has the serial of the first one, or was sent after a report
+-- Until the receiver has sent a report, each checkpoint that was sent has the serial `first`, and
+-- so has the one on which an open sender waits.
 pub record FirstFacts (block : List ℕ) (red : ℕ) (v : View) : Type 0 where
   pub first : ℕ
   pub sent :

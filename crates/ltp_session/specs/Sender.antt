@@ -1,5 +1,15 @@
 -- One session of a sender (RFC 5326, section 8.1): each step as a function of the state before it,
 -- of what came, and of the moment.
+--
+-- A piece is what a data segment carries: octets of a block, the offset of the first, and its
+-- colour. A cancel is a cancel segment: CS from the sender of the block, CR from its receiver; CAS
+-- and CAR acknowledge them. A note says what happened to whoever runs the engine, and isn't sent.
+-- An own rule isn't in the RFC; it says where it departs from that. A step keeps a session in a new
+-- state, ends it, or leaves it as it is (`stays`).
+--
+-- Not here: a cancel that the client asks for (section 4.2), and timers that wait while the link is
+-- closed (6.5 and 6.6). A timer starts with the step that sends, and not once its segment leaves
+-- (6.2 and 6.15).
 
 use Rattle.std.specs.Prelude.{ℕ, zero, suc, ◌+◌, Bool, true, false, ◌==◌, ◌&&◌, nat_lt, List, [], ◌∷◌, ◌++◌, length, take, drop, replicate, slice_index_or, Option, None, Some, if◌then◌else◌}
 use Rattle.std.specs.List.{list_all}
@@ -30,20 +40,21 @@ abbrev pub sending_timer : SendingPhase → Timer
 sending_timer (sender_open checkpoint timer) = timer
 sending_timer (sender_cancelling reason timer) = timer
 
--- when its timer is due
+-- when its timer is due; one always runs
 abbrev pub sender_deadline : Sending → Option ℕ
 sender_deadline s = Some (sending_timer s.phase).deadline
 
 -- ---- segments of a block before they are pieces: where each begins in the block, and its octets
 
--- at most n segments of `size` octets, the first from `at` on; the last may be shorter
+-- These octets, of which the first has the place `at`, cut into segments of `size`: at most n of
+-- them, and the last may be shorter.
 unfoldable pub segments_from : ℕ → ℕ → ℕ → List ℕ → List (ℕ × List ℕ)
 segments_from size zero at octets = []
 segments_from size (suc n) at [] = []
 segments_from size (suc n) at (octet ∷ octets) =
     (at, take size (octet ∷ octets)) ∷ segments_from size n (at + size) (drop size (octet ∷ octets))
 
--- a part of a block that begins at a place, cut into segments
+-- all of the octets cut so
 abbrev pub segments_of : ℕ → ℕ → List ℕ → List (ℕ × List ℕ)
 segments_of size at octets = segments_from size (length octets) at octets
 
@@ -73,8 +84,8 @@ piece_at kind checkpoint report segment = record {
   body = segment.1;
 }
 
--- A checkpoint that stops where the red part ends is the end of the red part, and of the block too
--- if that has no green part.
+-- A checkpoint that stops where the red part ends says so (EORP). Where the block has no green part
+-- it says that the block ends too (EOB).
 abbrev pub checkpoint_kind : ℕ → ℕ → ℕ → PieceKind
 checkpoint_kind size red stop =
     if stop == red then (if red == size then kinds.RedEndBlock else kinds.RedEnd)
@@ -99,7 +110,7 @@ green_pieces (segment ∷ []) = a_piece (piece_at kinds.GreenEndBlock 0 0 segmen
 green_pieces (segment ∷ next ∷ segments) =
     a_piece (piece_at kinds.Green 0 0 segment) ∷ green_pieces (next ∷ segments)
 
--- ---- a block is sent (sections 6.1 and 6.2)
+-- ---- a block is sent (sections 4.1 and 6.2)
 
 -- a session is kept, and its first checkpoint is this segment; without a red segment none is kept
 abbrev pub opened :
@@ -113,8 +124,10 @@ opened policy block red now checkpoint (Some segment) = keeps (record {
   phase = sender_open (checkpoint segment) (first_timer policy now);
 })
 
--- all segments are sent in order, and the last red one is the first checkpoint; a block without a
--- red part is sent and noted, and no session is kept
+-- All segments are sent in order. The last red one is the first checkpoint, and the only one, where
+-- the RFC allows earlier ones too. Its serial is computed from the session's number, where the RFC
+-- wants a random one (section 3.2.1; own rule). A block without a red part is sent and noted, and
+-- no session is kept.
 unfoldable pub begin : PolicyValue → ℕ → List ℕ → ℕ → ℕ → StepValue Sending
 begin policy session block red now =
     let segments : List (ℕ × List ℕ) = red_segments policy block red in
@@ -130,7 +143,7 @@ begin policy session block red now =
 
 -- ---- a report (sections 6.13 and 6.12)
 
--- all of so many places from one on are claimed
+-- the n octets from offset `at` on are claimed; an octet past the end of the red part isn't
 unfoldable pub are_claimed : List Bool → ℕ → ℕ → Bool
 are_claimed claimed at zero = true
 are_claimed claimed at (suc n) = slice_index_or claimed at false && are_claimed claimed (at + 1) n
@@ -150,14 +163,15 @@ unclaimed claimed (segment ∷ segments) =
 abbrev pub is_all_claimed : List Bool → Bool
 is_all_claimed claimed = list_all (λ b. b) claimed
 
--- the session is cancelled: after the contents `before` its cancel is sent (section 6.15)
+-- the session is cancelled: after the contents `before` its cancel is sent (section 6.19), its
+-- timer runs (6.15), and the failure is noted
 abbrev pub gives_up : PolicyValue → Sending → ℕ → ℕ → List ContentValue → StepValue Sending
 gives_up policy s reason now before =
     noting (keeps (record s { phase = sender_cancelling reason (first_timer policy now) }))
     (before ++ a_sender_cancel reason ∷ []) (note_failed reason)
 
 -- after the contents `before` these segments are sent, and the last of them is the new checkpoint;
--- without segments only `before` is sent
+-- without segments only `before` is sent, which doesn't happen while an octet isn't claimed
 abbrev pub sends_again :
     PolicyValue → Sending → ℕ → List (ℕ × List ℕ) → (ℕ × List ℕ → PieceValue)
     → Option (ℕ × List ℕ) → List ContentValue → StepValue Sending
@@ -167,9 +181,10 @@ sends_again policy s now segments checkpoint (Some segment) before =
     (keeps (record s { phase = sender_open (checkpoint segment) (first_timer policy now) }))
     (before ++ red_pieces checkpoint segments)
 
--- Each red segment that isn't wholly claimed is sent again, also one outside the report's scope
--- (own rule). The last is a checkpoint with the serial after `serial`, which is the current
--- checkpoint's. Where no serial is left, the session is cancelled.
+-- Each red segment that isn't wholly claimed is sent again whole, also its claimed octets, and also
+-- one outside the report's scope (own rule). The last is a checkpoint with the serial after
+-- `serial`, which is the current checkpoint's. Where no serial is left, the session is cancelled
+-- (SYS_CNCLD, sections 3.2.4 and 6.22); no other limit is set to the number of rounds (own rule).
 abbrev pub next_round :
     PolicyValue → Sending → ℕ → ℕ → ℕ → List ContentValue → StepValue Sending
 next_round policy s serial report now before =
@@ -181,9 +196,10 @@ next_round policy s serial report now before =
     checkpoint_at (length s.block) s.red (serial + 1) report in
     sends_again policy s now segments checkpoint (last_segment segments) before)
 
--- The report's claims are added by now. Where all of the red part is claimed, the block was sent,
--- and the session is closed. Else a report that names the current checkpoint begins another round,
--- and any other is acknowledged and no more (own rule).
+-- The report's claims are added by now, and `acks` is sent in each case. Where all of the red part
+-- is claimed, the block was sent, and the session is closed (section 6.12). Else a report that
+-- names the current checkpoint begins another round. For any other report nothing is sent again,
+-- where the RFC sends what a new report shows to be missing in its scope (section 6.13; own rule).
 abbrev pub goes_on :
     PolicyValue → Sending → PieceValue → ReportValue → ℕ → List ContentValue
     → StepValue Sending
@@ -206,7 +222,8 @@ takes_report policy s (sender_open checkpoint timer) report now acks =
     goes_on policy (with_report s report) checkpoint report now acks
 takes_report policy s (sender_cancelling reason timer) report now acks = sending stays acks
 
--- a report on octets past the red part is noted, and not acknowledged (own rule)
+-- a report with an upper bound past the red part is noted, and not acknowledged, by a cancelling
+-- session neither; the RFC acknowledges each (section 6.13; own rule)
 unfoldable pub report_step : PolicyValue → Sending → ReportValue → ℕ → StepValue Sending
 report_step policy s report now =
     if nat_lt s.red report.upper then noting stays [] note_bad_bounds
@@ -266,7 +283,7 @@ abbrev pub on_sender_tick : PolicyValue → Option Sending → ℕ → StepValue
 on_sender_tick policy None now = sending stays []
 on_sender_tick policy (Some s) now = sender_tick policy s now
 
--- a content that isn't for a sender has no answer
+-- None: what comes is for a receiver's session. A step that changes nothing is still some step.
 unfoldable pub sender_answers :
     PolicyValue → Option Sending → ContentValue → ℕ → Option (StepValue Sending)
 sender_answers policy kept (a_piece piece) now = None

@@ -6,7 +6,6 @@ pub mod RedParts
 -- what public clauses cite besides
 pub mod Config
 pub mod Notes
-pub mod NoteLists
 pub mod Effects
 pub mod Values
 pub mod Shows

@@ -1,6 +1,6 @@
 //! What the gateway does in answer to an event.
 
-ghost use Rattle.std.specs.Prelude.{◌≡◌, ◌≤◌, ◌==◌, ◌&&◌, ◌∷◌, [], map, length, IfOk, OnErr};
+ghost use Rattle.std.specs.Prelude.{◌≡◌, ◌≤◌, ◌==◌, ◌&&◌, [], map, length, IfOk, OnErr};
 ghost use Rattle.gateway_core.specs.Gate.{engine_note_at};
 ghost use Rattle.gateway_core.specs.Effects.{datagram_at, told_at};
 ghost use Rattle.gateway_core.specs.Quiet.{IsQuietTold};
@@ -8,11 +8,9 @@ ghost use Rattle.gateway_core.specs.Quiet.{IsQuietTold};
 use crate::note::GateNote;
 use endpoint::{Listed, Octets};
 use gate_cases::Face;
-use ltp_engine::{Effects, Notes, Up, Ups};
+use ltp_engine::{Effects, Few, Notes, Up, Ups};
 use ltp_segment::{Note, Outs};
 use std::alloc::{AllocError, Global};
-use std::marker::Model;
-use std::slice;
 
 /// A datagram that is to be sent.
 #[derive(Debug, Drop)]
@@ -49,75 +47,8 @@ pub struct FaceNote {
     pub note: GateNote,
 }
 
-/// How notes are kept.
-#[derive(Debug, Drop)]
-enum NoteList {
-    /// A single one, and where memory for more comes from.
-    One(FaceNote, Global),
-    /// Any number of them.
-    Several(Vec<FaceNote>),
-}
-
 /// Notes, in their order. A single one takes no memory.
-#[derive(Debug, Drop)]
-pub struct GateNotes {
-    list: NoteList,
-}
-
-impl Model for GateNotes {
-    ghost use Rattle.std.specs.Prelude.{List};
-    ghost use Rattle.gateway_core.specs.declared.effects.FaceNote.{FaceNote};
-    ghost use Rattle.gateway_core.specs.NoteLists.{notes_in};
-
-    ghost Value = { List FaceNote };
-
-    ghost view = { λ notes. notes_in notes.list };
-}
-
-impl GateNotes {
-    /// A single note. It takes no memory.
-    pub fn one(alloc: Global, note: FaceNote) -> GateNotes
-        ensures { result ≡ note ∷ [] }
-    {
-        GateNotes {
-            list: NoteList::One(note, alloc),
-        }
-    }
-
-    /// These notes, moved and not copied.
-    pub fn from_vec(items: Vec<FaceNote>) -> GateNotes
-        ensures { result ≡ items.items }
-    {
-        GateNotes {
-            list: NoteList::Several(items),
-        }
-    }
-
-    /// The notes as a vector. A single one is put into memory; others are moved and not copied.
-    pub fn into_vec(self) -> Result<Vec<FaceNote>, AllocError>
-        ensures { IfOk result (λ notes. notes.items ≡ self) }
-    {
-        let GateNotes { list } = self;
-        match list {
-            NoteList::One(note, alloc) => {
-                let mut items = Vec::new(alloc);
-                items.push(note)?;
-                Ok(items)
-            }
-            NoteList::Several(items) => Ok(items),
-        }
-    }
-
-    /// The notes, lent.
-    pub fn as_slice(&self) -> &[FaceNote]
-        ensures { result.now ≡ self.now }
-    {
-        match &self.list {
-            NoteList::One(note, _) => slice::from_ref(note),
-            NoteList::Several(items) => items.as_slice(),
-        }
-    }
-}
+pub type GateNotes = Few<FaceNote>;
 
 /// What the gateway does in answer to an event.
 #[derive(Debug, Drop)]

@@ -1,6 +1,6 @@
 -- what public clauses cite
 pub mod Closed
-pub mod NoteLists
+pub mod FewItems
 pub mod Effects
 pub mod Refused
 pub mod Values

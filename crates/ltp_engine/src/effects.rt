@@ -1,15 +1,14 @@
 //! What an engine does in answer to an event.
 
-ghost use Rattle.std.specs.Prelude.{◌≡◌, ◌++◌, ◌∷◌, [], ◌||◌, true, is_some, IfOk, OnErr};
+ghost use Rattle.std.specs.Prelude.{◌≡◌, ◌++◌, ◌||◌, true, is_some, IfOk, OnErr};
 ghost use Rattle.std.specs.Option.{option_map};
 ghost use Rattle.ltp_segment.specs.declared.session.Note.TheVariants as notes;
 ghost use Rattle.ltp_session.specs.Engine.{list_of};
 
+use crate::few::Few;
 use endpoint::{Listed, Octets};
 use ltp_segment::{Green, Note, Outs, Step};
 use std::alloc::{AllocError, Global};
-use std::marker::Model;
-use std::slice;
 
 /// A red part that is handed up.
 #[derive(Debug, Drop)]
@@ -26,92 +25,8 @@ pub type Ups = Listed<Up>;
 /// Pieces of green parts that are handed up, in their order.
 pub type Greens = Listed<Green>;
 
-/// How notes are kept.
-#[derive(Debug, Drop)]
-enum NoteList {
-    /// A single one, and where memory for more comes from.
-    One(Note, Global),
-    /// Any number of them.
-    Several(Vec<Note>),
-}
-
 /// Notes, in their order. A single one takes no memory.
-#[derive(Debug, Drop)]
-pub struct Notes {
-    list: NoteList,
-}
-
-impl Model for Notes {
-    ghost use Rattle.std.specs.Prelude.{List};
-    ghost use Rattle.ltp_segment.specs.declared.session.Note.{Note};
-    ghost use Rattle.ltp_engine.specs.NoteLists.{notes_in};
-
-    ghost Value = { List Note };
-
-    ghost view = { λ notes. notes_in notes.list };
-}
-
-impl Notes {
-    /// A single note. It takes no memory.
-    pub fn one(alloc: Global, note: Note) -> Notes
-        ensures { result ≡ note ∷ [] }
-    {
-        Notes {
-            list: NoteList::One(note, alloc),
-        }
-    }
-
-    /// These notes, moved and not copied.
-    pub fn from_vec(items: Vec<Note>) -> Notes
-        ensures { result ≡ items.items }
-    {
-        Notes {
-            list: NoteList::Several(items),
-        }
-    }
-
-    /// The notes as a vector. A single one is put into memory; others are moved and not copied.
-    pub fn into_vec(self) -> Result<Vec<Note>, AllocError>
-        ensures { IfOk result (λ notes. notes.items ≡ self) }
-    {
-        let Notes { list } = self;
-        match list {
-            NoteList::One(note, alloc) => {
-                let mut items = Vec::new(alloc);
-                items.push(note)?;
-                Ok(items)
-            }
-            NoteList::Several(items) => Ok(items),
-        }
-    }
-
-    /// The notes, lent.
-    pub fn as_slice(&self) -> &[Note]
-        ensures { result.now ≡ self.now }
-    {
-        match &self.list {
-            NoteList::One(note, _) => slice::from_ref(note),
-            NoteList::Several(items) => items.as_slice(),
-        }
-    }
-
-    /// These notes, and one after them, where there is one. Memory is wanted only where there is
-    /// another before it.
-    pub(crate) fn with(self, alloc: Global, note: Option<Note>) -> Result<Notes, AllocError>
-        ensures notes { IfOk result (λ all. all ≡ self ++ list_of note) }
-        ensures wanted { OnErr result (self ≡ [] → ⊥) }
-    {
-        let Some(note) = note else {
-            return Ok(self);
-        };
-        if self.as_slice().is_empty() {
-            return Ok(Notes::one(alloc, note));
-        }
-        let mut items = self.into_vec()?;
-        items.push(note)?;
-        Ok(Notes::from_vec(items))
-    }
-}
+pub type Notes = Few<Note>;
 
 /// What an engine does in answer to an event.
 #[derive(Debug, Drop)]

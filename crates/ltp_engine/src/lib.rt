@@ -20,6 +20,7 @@ mod closed;
 mod deadlines;
 mod effects;
 mod engine;
+mod few;
 mod held;
 mod inbound;
 pub mod laws;
@@ -32,4 +33,5 @@ mod touched;
 
 pub use effects::{Effects, Greens, Notes, Up, Ups};
 pub use engine::{Engine, HISTORY, SESSIONS};
+pub use few::Few;
 pub use refused::SubmitRefused;
